@@ -1,0 +1,48 @@
+-- Elements whose powers are the roots of unity of a field, and tests that show one under a prime modulus.
+use Rattle.std.specs.Prelude.{Bool, true, ◌==◌, ◌&&◌, ◌||◌, not, nat_lt, nat_le, ◌≡◌, ◌≢◌, ℕ, ◌-◌, ◌/◌, ◌%◌, ◌<◌, ◌⊎◌, Option, Some, None}
+use Rattle.ark_math.specs.Field.{FieldOn, power}
+use Rattle.ark_math.specs.Prime.{IsPrime, is_prime_by, power_mod}
+use Rattle.ark_math.specs.Root.{Adicity, IsAdicity, odd_base, odd_most, greatest_size}
+
+-- enough for an element to have roots of each order: a multiple t of the greatest size at which its power is one, and
+-- not at t over 2 or over the odd base, which is a prime
+pub record Generates {F : Type 0} (K : FieldOn F) (s : Adicity) (t : ℕ) (g : F) : Type 0 where
+  pub positive : 0 < t
+  pub divided : t % greatest_size s ≡ 0
+  pub odd : IsAdicity s
+  pub base : (odd_most s.odd ≡ 0) ⊎ IsPrime (odd_base s.odd)
+  pub whole : power K g t ≡ K.one
+  pub half : 0 < s.two → power K g (t / 2) ≢ K.one
+  pub part : 0 < odd_most s.odd → power K g (t / odd_base s.odd) ≢ K.one
+
+-- the roots that it gives
+abbrev pub root_by : {F : Type 0} → FieldOn F → ℕ → F → ℕ → F
+root_by K t g n = power K g (t / n)
+
+-- the same under a prime p below 2 ^ 32, by numbers that compute
+pub record IsGenerator (p : ℕ) (s : Adicity) (g : ℕ) : Type 0 where
+  pub positive : 0 < g
+  pub below : g < p
+  pub divided : (p - 1) % greatest_size s ≡ 0
+  pub odd : IsAdicity s
+  pub base : (odd_most s.odd ≡ 0) ⊎ IsPrime (odd_base s.odd)
+  pub whole : power_mod p 32 g (p - 1) ≡ 1
+  pub half : 0 < s.two → power_mod p 32 g ((p - 1) / 2) ≢ 1
+  pub part : 0 < odd_most s.odd → power_mod p 32 g ((p - 1) / odd_base s.odd) ≢ 1
+
+-- a base is odd and at least 3
+abbrev pub is_odd_base : Option (ℕ × ℕ) → Bool
+is_odd_base None = true
+is_odd_base (Some p) = nat_le 3 p.0 && p.0 % 2 == 1
+
+-- a test that g is a generator
+abbrev pub is_generator : ℕ → Adicity → ℕ → Bool
+is_generator p s g =
+    nat_lt 0 g
+    && (nat_lt g p
+    && ((p - 1) % greatest_size s == 0
+    && (is_odd_base s.odd
+    && ((odd_most s.odd == 0 || is_prime_by (odd_base s.odd - 2) (odd_base s.odd))
+    && (power_mod p 32 g (p - 1) == 1
+    && ((s.two == 0 || not (power_mod p 32 g ((p - 1) / 2) == 1))
+    && (odd_most s.odd == 0 || not (power_mod p 32 g ((p - 1) / odd_base s.odd) == 1))))))))

@@ -1,0 +1,9 @@
+-- The definitions that contracts speak of, each in the words of a textbook, with examples in Rows.
+pub mod Domain
+pub mod Field
+pub mod Generator
+pub mod Module
+pub mod Prime
+pub mod Root
+pub mod Rows
+pub mod Transform

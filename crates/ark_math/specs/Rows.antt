@@ -1,0 +1,36 @@
+-- Examples, computed from the definitions.
+use Rattle.std.specs.Prelude.{◌≡◌, ℕ, ◌+◌, ◌-◌, ◌*◌, ◌%◌, [], ◌∷◌, refl}
+use Rattle.ark_math.specs.Field.{FieldOn}
+use Rattle.ark_math.specs.Module.{itself, listed}
+use Rattle.ark_math.specs.Domain.{Domain, element, radix2, mixed_radix}
+use Rattle.ark_math.specs.Transform.{transform}
+
+abbrev modulo : ℕ → FieldOn ℕ
+modulo p = record { zero = 0; one = 1; plus = λ x y. (x + y) % p; times = λ x y. (x * y) % p; negated = λ x. (p - x) % p }
+
+abbrev four : Domain ℕ
+four = record { kind = radix2; size = 4; root = 2; offset = 1 }
+
+abbrev two : Domain ℕ
+two = record { kind = radix2; size = 2; root = 4; offset = 2 }
+
+over_four : transform (modulo 5) (itself (modulo 5)) four (1 ∷ 2 ∷ 3 ∷ 4 ∷ []) ≡ 0 ∷ 4 ∷ 3 ∷ 2 ∷ []
+over_four = refl
+
+back_over_four : transform (modulo 5) (itself (modulo 5)) four (0 ∷ 3 ∷ 2 ∷ 1 ∷ []) ≡ 1 ∷ 2 ∷ 3 ∷ 4 ∷ []
+back_over_four = refl
+
+over_coset : transform (modulo 5) (itself (modulo 5)) two (1 ∷ 1 ∷ []) ≡ 3 ∷ 4 ∷ []
+over_coset = refl
+
+coset_places : listed 2 (element (modulo 5) two) ≡ 2 ∷ 3 ∷ []
+coset_places = refl
+
+short_list : transform (modulo 65537) (itself (modulo 65537)) (record { kind = radix2; size = 8; root = 4096; offset = 1 }) (1 ∷ 2 ∷ []) ≡ 3 ∷ 8193 ∷ 65026 ∷ 33 ∷ 65536 ∷ 57346 ∷ 513 ∷ 65506 ∷ []
+short_list = refl
+
+long_list_is_cut : transform (modulo 5) (itself (modulo 5)) four (1 ∷ 0 ∷ 0 ∷ 0 ∷ 1 ∷ []) ≡ 1 ∷ 1 ∷ 1 ∷ 1 ∷ []
+long_list_is_cut = refl
+
+over_six : transform (modulo 433) (itself (modulo 433)) (record { kind = mixed_radix; size = 6; root = 199; offset = 1 }) (0 ∷ 1 ∷ []) ≡ 1 ∷ 199 ∷ 198 ∷ 432 ∷ 234 ∷ 235 ∷ []
+over_six = refl
