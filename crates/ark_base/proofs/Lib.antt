@@ -1,0 +1,1 @@
+-- Lemmas of this crate: none yet beside those of `ark_math`.

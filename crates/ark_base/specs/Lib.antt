@@ -1,0 +1,2 @@
+-- The elements of a prime field: the field that they are, and its laws.
+pub mod Element
