@@ -1,1 +1,2 @@
--- Lemmas of this crate: none yet beside those of `ark_math`.
+-- Lemmas of this crate, beside those of `ark_math`.
+pub mod Transfer

@@ -1,2 +1,5 @@
--- The elements of a prime field: the field that they are, and its laws.
+-- What a prime field's elements are, with their laws; what writers do.
 pub mod Element
+pub mod IoSink
+pub mod Transfer
+pub mod Cost

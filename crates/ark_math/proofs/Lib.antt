@@ -16,6 +16,7 @@ pub mod Reversal
 pub mod Ring
 pub mod Roots
 pub mod Signed
+pub mod Sizes
 pub mod Solve
 pub mod Sums
 pub mod Transforms
