@@ -4,8 +4,8 @@ use Rattle.std.proofs.Math.Pow.{pow-lt}
 use Rattle.std.proofs.Math.Nat.{pow-le-pow_right, pow-zero, one-le-pow}
 use Rattle.std.proofs.lemmas.Bool.{cases_lt}
 use Rattle.std.specs.Int.{IsNextPowerOfTwo}
-use Rattle.ark_math.specs.Root.{Adicity, adicity_of, odd_base}
-use Rattle.ark_math.specs.Domain.{radix2, IsSize, IsLeast}
+use Rattle.ark_math.specs.Root.{Adicity, Splits, adicity_of, odd_base}
+use Rattle.ark_math.specs.Domain.{Kind, radix2, mixed_radix, IsSize, IsLeast, IsRadix2}
 
 pub two_of : (two : ℕ) (base most : Option ℕ) → (adicity_of two base most).two ≡ two
 two_of two None most = refl
@@ -88,3 +88,21 @@ module _ (s : Adicity) (k p e : ℕ) where
       let few : b.0 ≤ 63 = omega arith in
       let m : 2 ^ b.0 ≤ 2 ^ 63 = pow-le-pow_right (omega arith) few in
       omega arith
+
+pub even_size : (s : Adicity) (n twos odds : ℕ) → Splits s n twos odds → odds ≡ 0 → IsSize s radix2 n
+even_size s n twos odds h e = (twos, subst (λ o. Splits s n twos o) e h)
+
+pub radix2_sizes : (s : Adicity) (k : ℕ) (kind : Kind) (n : ℕ) → IsRadix2 s k kind n → IsSize s kind n × (k ≤ n)
+radix2_sizes s k radix2 n h = (h.holds, h.above)
+radix2_sizes s k mixed_radix n h = absurd h
+
+one_least : (P : ℕ → Type 0) (k m n : ℕ) → IsLeast P k m → IsLeast P k n → m ≡ n
+one_least P k m n a b =
+    let lo = a.least n b.holds b.above in
+    let hi = b.least m a.holds a.above in
+    omega arith
+
+pub one_radix2_size : (s : Adicity) (k : ℕ) (a b : Kind) (m n : ℕ) → IsRadix2 s k a m → IsRadix2 s k b n → (a ≡ b) × (m ≡ n)
+one_radix2_size s k radix2 radix2 m n f g = (refl, one_least (IsSize s radix2) k m n f g)
+one_radix2_size s k radix2 mixed_radix m n f g = absurd g
+one_radix2_size s k mixed_radix b m n f g = absurd f
