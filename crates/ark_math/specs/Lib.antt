@@ -7,3 +7,4 @@ pub mod Prime
 pub mod Root
 pub mod Rows
 pub mod Transform
+pub mod Univariate
