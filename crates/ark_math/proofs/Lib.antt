@@ -8,8 +8,15 @@ pub mod Order
 pub mod PowerMod
 pub mod Powers
 pub mod Prime
+pub mod Regrouped
 pub mod Ring
 pub mod Roots
 pub mod Signed
 pub mod Solve
 pub mod Sums
+pub mod Univariate
+pub mod UnivariateLists
+pub mod UnivariateLoops
+pub mod UnivariatePairs
+pub mod UnivariateProducts
+pub mod UnivariateValues
