@@ -1,7 +1,9 @@
 -- The definitions that contracts speak of, each in the words of a textbook, with examples in Rows.
+pub mod Cost
 pub mod Domain
 pub mod Field
 pub mod Generator
+pub mod Halves
 pub mod Module
 pub mod Prime
 pub mod Root

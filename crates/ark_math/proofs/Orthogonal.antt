@@ -1,0 +1,144 @@
+-- Sums of the powers of a root of one.
+use Rattle.std.proofs.Common.{◌≡◌, ◌≢◌, ℕ, zero, suc, ◌+◌, ◌*◌, ◌-◌, ◌/◌, ◌%◌, ◌<◌, ◌≤◌, sym, ◌∙◌, ap, refl, arith, ⊎_elim}
+use Rattle.std.proofs.lemmas.Bool.{cases_eq, cases_lt}
+use Rattle.ark_math.specs.Field.{FieldOn, IsField, power, natural}
+use Rattle.ark_math.specs.Module.{ModuleOn, IsModule, itself, sum_below}
+use Rattle.ark_math.specs.Root.{HasOrder}
+use Rattle.ark_math.specs.Halves.{sum_at}
+use Rattle.ark_math.proofs.Groups.{zero_scale}
+use Rattle.ark_math.proofs.Powers.{times_zero, zero_factor, power-one, power-add, power-mul, power_comm, power-times, powers_inverse}
+use Rattle.ark_math.proofs.Sums.{sum_below-same, sum_below-plus, sum_below-scale}
+use Rattle.ark_math.proofs.Solve.{◌⊕◌, ◌⊖◌, ◌⊗◌, unit}
+use Rattle.ark_math.proofs.Ring.{ring1, ring2, ring3}
+
+module _ {F : Type 0} (K : FieldOn F) (N : IsField K) where
+  -- x * (1 + x + .. + x ^ (n - 1)) + 1 = (1 + x + .. + x ^ (n - 1)) + x ^ n
+  geometric : (x : F) (n : ℕ) → K.plus (K.times x (sum_below (itself K) n (power K x))) K.one ≡ K.plus (sum_below (itself K) n (power K x)) (power K x n)
+  geometric x zero = ap (λ t. K.plus t K.one) (times_zero K N x)
+  geometric x (suc n) =
+      ring3 K N (λ x s p. (x ⊗ (s ⊕ p) ⊕ unit, (x ⊗ s ⊕ unit) ⊕ x ⊗ p)) refl x (sum_below (itself K) n (power K x)) (power K x n)
+      ∙ ap (λ t. K.plus t (K.times x (power K x n))) (geometric x n)
+
+  pub geometric_zero : (x : F) (n : ℕ) → power K x n ≡ K.one → x ≢ K.one → sum_below (itself K) n (power K x) ≡ K.zero
+  geometric_zero x n e ne =
+      let s = sum_below (itself K) n (power K x) in
+      let h : K.plus (K.times x s) K.one ≡ K.plus s K.one = geometric x n ∙ ap (K.plus s) e in
+      zero_factor K N (K.plus x (K.negated K.one)) s
+      (λ z. ne (ring1 K N (λ x. (x, (x ⊖ unit) ⊕ unit)) refl x ∙ (ap (λ t. K.plus t K.one) z ∙ (N.plus_comm K.zero K.one ∙ N.plus_zero K.one))))
+      (ring2 K N (λ x s. ((x ⊖ unit) ⊗ s, (x ⊗ s ⊕ unit) ⊖ (s ⊕ unit))) refl x s
+      ∙ (ap (λ t. K.plus t (K.negated (K.plus s K.one))) h ∙ N.plus_negated (K.plus s K.one)))
+
+  pub geometric_one : (x : F) (n : ℕ) → x ≡ K.one → sum_below (itself K) n (power K x) ≡ natural K n
+  geometric_one x zero e = refl
+  geometric_one x (suc n) e =
+      ap (K.plus (sum_below (itself K) n (power K x))) (ap (λ t. power K t n) e ∙ power-one K N n)
+      ∙ ap (λ t. K.plus t K.one) (geometric_one x n e)
+
+  module _ (w : F) (n : ℕ) (o : HasOrder K w n) where
+    sum_of_powers : (j : ℕ) → sum_below (itself K) n (λ i. power K w (i * j)) ≡ sum_below (itself K) n (power K (power K w j))
+    sum_of_powers j = sum_below-same (itself K) n (λ i. power K w (i * j)) (power K (power K w j)) (λ i l. let e : i * j ≡ j * i = omega arith in ap (power K w) e ∙ power-mul K N w j i)
+
+    power_order : (q : ℕ) → power K w (n * q) ≡ K.one
+    power_order q = power-mul K N w n q ∙ (ap (λ t. power K t q) o.one ∙ power-one K N q)
+
+    -- the sum over i < n of w ^ (i * j) is n where n divides j, and else zero
+    pub orthogonal_same : (j : ℕ) → 0 < n → j % n ≡ 0 → sum_below (itself K) n (λ i. power K w (i * j)) ≡ natural K n
+    orthogonal_same j pos e =
+        let p : j ≡ n * (j / n) = omega arith in
+        sum_of_powers j ∙ geometric_one (power K w j) n (ap (power K w) p ∙ power_order (j / n))
+
+    pub orthogonal_other : (j : ℕ) → 0 < n → 0 < j % n → sum_below (itself K) n (λ i. power K w (i * j)) ≡ K.zero
+    orthogonal_other j pos l =
+        let p : j ≡ j % n + n * (j / n) = omega arith in
+        let less : j % n < n = omega arith in
+        let root : power K (power K w j) n ≡ K.one = power_comm K N w j n ∙ (ap (λ t. power K t j) o.one ∙ power-one K N j) in
+        let same : power K w j ≡ power K w (j % n) =
+        ap (power K w) p ∙ (power-add K N w (j % n) (n * (j / n)) ∙ (ap (K.times (power K w (j % n))) (power_order (j / n)) ∙ N.times_one (power K w (j % n)))) in
+        sum_of_powers j ∙ geometric_zero (power K w j) n root (λ e. o.least (j % n) l less (sym same ∙ e))
+
+  module _ (w v : F) (n : ℕ) (o : HasOrder K w n) (inverse : K.times w v ≡ K.one) where
+    inverse_power : (k : ℕ) → power K w k ≡ K.one → power K v k ≡ K.one
+    inverse_power k e = sym (N.times_one (power K v k)) ∙ (N.times_comm (power K v k) K.one ∙ (ap (λ t. K.times t (power K v k)) (sym e) ∙ powers_inverse K N w v k inverse))
+
+    of_inverse : (k : ℕ) → power K v k ≡ K.one → power K w k ≡ K.one
+    of_inverse k e = sym (N.times_one (power K w k)) ∙ (ap (K.times (power K w k)) (sym e) ∙ powers_inverse K N w v k inverse)
+
+    pub order_of_inverse : HasOrder K v n
+    order_of_inverse = record { one = inverse_power n o.one; least = λ k pos l e. o.least k pos l (of_inverse k e) }
+
+    step : (j k : ℕ) → j < k → k < n → (x : F) → K.times (power K w j) x ≡ K.one → K.times (power K w k) x ≢ K.one
+    step j k l m x e f =
+        let p : k ≡ k - j + j = omega arith in
+        o.least (k - j) (omega arith) (omega arith)
+        (sym (N.times_one (power K w (k - j)))
+        ∙ (ap (K.times (power K w (k - j))) (sym e)
+        ∙ (sym (N.times_assoc (power K w (k - j)) (power K w j) x)
+        ∙ (ap (λ t. K.times t x) (sym (ap (power K w) p ∙ power-add K N w (k - j) j)) ∙ f))))
+
+    quotient_not_one : (j k : ℕ) → j < n → k < n → j ≢ k → K.times (power K w j) (power K v k) ≢ K.one
+    quotient_not_one j k a b ne e =
+        ⊎_elim
+        (λ (l : j < k). step j k l b (power K v k) e (powers_inverse K N w v k inverse))
+        (λ (l : k ≤ j). step k j (omega arith) a (power K v k) (powers_inverse K N w v k inverse) e)
+        (cases_lt j k)
+
+    quotient_root : (j k : ℕ) → power K (K.times (power K w j) (power K v k)) n ≡ K.one
+    quotient_root j k =
+        power-times K N (power K w j) (power K v k) n
+        ∙ (ap (λ t. K.times t (power K (power K v k) n)) (power_comm K N w j n ∙ (ap (λ t. power K t j) o.one ∙ power-one K N j))
+        ∙ (ap (K.times K.one) (power_comm K N v k n ∙ (ap (λ t. power K t k) (inverse_power n o.one) ∙ power-one K N k))
+        ∙ N.times_one K.one))
+
+    pub quotients_zero : (j k : ℕ) → j < n → k < n → j ≢ k → sum_below (itself K) n (power K (K.times (power K w j) (power K v k))) ≡ K.zero
+    quotients_zero j k a b ne = geometric_zero (K.times (power K w j) (power K v k)) n (quotient_root j k) (quotient_not_one j k a b ne)
+
+    pub quotients_one : (k : ℕ) → sum_below (itself K) n (power K (K.times (power K w k) (power K v k))) ≡ natural K n
+    quotients_one k = geometric_one (K.times (power K w k) (power K v k)) n (powers_inverse K N w v k inverse)
+
+module _ {F M : Type 0} {K : FieldOn F} {V : ModuleOn F M} (N : IsField K) (L : IsModule K V) where
+  pub sum_below-none : (n : ℕ) → sum_below V n (λ i. V.zero) ≡ V.zero
+  sum_below-none zero = refl
+  sum_below-none (suc n) = L.plus_zero (sum_below V n (λ i. V.zero)) ∙ sum_below-none n
+
+  pub sum_below-swap : (m n : ℕ) (f : ℕ → ℕ → M) → sum_below V m (λ i. sum_below V n (f i)) ≡ sum_below V n (λ j. sum_below V m (λ i. f i j))
+  sum_below-swap zero n f = sym (sum_below-none n)
+  sum_below-swap (suc m) n f =
+      ap (λ t. V.plus t (sum_below V n (f m))) (sum_below-swap m n f)
+      ∙ sym (sum_below-plus L n (λ j. sum_below V m (λ i. f i j)) (f m))
+
+  pub sum_of_scalars : (n : ℕ) (a : ℕ → F) (x : M) → sum_below V n (λ i. V.scale (a i) x) ≡ V.scale (sum_below (itself K) n a) x
+  sum_of_scalars zero a x = sym (zero_scale N L x)
+  sum_of_scalars (suc n) a x =
+      ap (λ t. V.plus t (V.scale (a n) x)) (sum_of_scalars n a x) ∙ sym (L.plus_scale (sum_below (itself K) n a) (a n) x)
+
+  -- all zero but the one at k
+  pub sum_below-single : (n k : ℕ) (f : ℕ → M) → k < n → ((j : ℕ) → j < n → j ≢ k → f j ≡ V.zero) → sum_below V n f ≡ f k
+  sum_below-single zero k f l h = absurd (omega arith)
+  sum_below-single (suc n) k f l h =
+      ⊎_elim
+      (λ (e : k ≡ n).
+      ap (λ t. V.plus t (f n)) (sum_below-same V n f (λ i. V.zero) (λ i b. h i (omega arith) (omega arith)) ∙ sum_below-none n)
+      ∙ (L.plus_comm V.zero (f n) ∙ (L.plus_zero (f n) ∙ ap f (sym e))))
+      (λ (ne : k ≢ n).
+      ap (V.plus (sum_below V n f)) (h n (omega arith) (omega arith))
+      ∙ (L.plus_zero (sum_below V n f) ∙ sum_below-single n k f (omega arith) (λ j b. h j (omega arith))))
+      (cases_eq k n)
+
+  -- back and forth: n times each item
+  pub returned : (w v : F) (n : ℕ) → HasOrder K w n → K.times w v ≡ K.one → (f : ℕ → M) (k : ℕ) → k < n → sum_at K V n v (sum_at K V n w f) k ≡ V.scale (natural K n) (f k)
+  returned w v n o inverse f k l =
+      let x : ℕ → F = λ j. K.times (power K w j) (power K v k) in
+      let inner : (i : ℕ) → V.scale (power K (power K v k) i) (sum_at K V n w f i) ≡ sum_below V n (λ j. V.scale (power K (x j) i) (f j)) = λ i.
+      sym (sum_below-scale L n (power K (power K v k) i) (λ j. V.scale (power K (power K w i) j) (f j)))
+      ∙ sum_below-same V n (λ j. V.scale (power K (power K v k) i) (V.scale (power K (power K w i) j) (f j))) (λ j. V.scale (power K (x j) i) (f j))
+      (λ j b. sym (L.times_scale (power K (power K v k) i) (power K (power K w i) j) (f j))
+      ∙ ap (λ t. V.scale t (f j))
+      (N.times_comm (power K (power K v k) i) (power K (power K w i) j)
+      ∙ (ap (λ t. K.times t (power K (power K v k) i)) (power_comm K N w i j)
+      ∙ sym (power-times K N (power K w j) (power K v k) i)))) in
+      sum_below-same V n (λ i. V.scale (power K (power K v k) i) (sum_at K V n w f i)) (λ i. sum_below V n (λ j. V.scale (power K (x j) i) (f j))) (λ i b. inner i)
+      ∙ (sum_below-swap n n (λ i j. V.scale (power K (x j) i) (f j))
+      ∙ (sum_below-same V n (λ j. sum_below V n (λ i. V.scale (power K (x j) i) (f j))) (λ j. V.scale (sum_below (itself K) n (power K (x j))) (f j)) (λ j b. sum_of_scalars n (power K (x j)) (f j))
+      ∙ (sum_below-single n k (λ j. V.scale (sum_below (itself K) n (power K (x j))) (f j)) l
+      (λ j b ne. ap (λ t. V.scale t (f j)) (quotients_zero K N w v n o inverse j k b l ne) ∙ zero_scale N L (f j))
+      ∙ ap (λ t. V.scale t (f k)) (quotients_one K N w v n o inverse k))))

@@ -1,0 +1,18 @@
+-- The transform by halves: the sums that it finds, the order that it leaves, and the table that it reads.
+use Rattle.std.specs.Prelude.{◌≡◌, ℕ, suc, zero, ◌+◌, ◌-◌, ◌*◌, ◌^◌, ◌<◌, List, length, get_or, nat_lt, if◌then◌else◌}
+use Rattle.ark_math.specs.Field.{FieldOn, power}
+use Rattle.ark_math.specs.Module.{ModuleOn, sum_below}
+
+-- the sum over j < n of w ^ i ^ j times f j: place i of the transform at w of n values
+abbrev pub sum_at : {F M : Type 0} → FieldOn F → ModuleOn F M → ℕ → F → (ℕ → M) → ℕ → M
+sum_at K V n w f i = sum_below V n (λ j. V.scale (power K (power K w i) j) (f j))
+
+-- the place that the index p goes to when its lowest k bits are read backwards
+abbrev pub reversed : ℕ → ℕ → ℕ
+reversed zero p = 0
+reversed (suc k) p = if nat_lt p (2 ^ k) then 2 * reversed k p else 2 * reversed k (p - 2 ^ k) + 1
+
+-- the powers of w from 0 on, half as many as its order. At order one there are none
+pub record IsHalfTable {F : Type 0} (K : FieldOn F) (w : F) (table : List F) : Type 0 where
+  pub powers : (i : ℕ) → i < length table → get_or table i K.zero ≡ power K w i
+  pub half : 0 < length table → power K w (length table) ≡ K.negated K.one
