@@ -1,4 +1,5 @@
 -- Lemmas, each stated once over plain variables. Solve and Ring close equations of fields and modules by computation.
+pub mod Elements
 pub mod Euclid
 pub mod Generator
 pub mod Groups
@@ -26,3 +27,5 @@ pub mod UnivariateLoops
 pub mod UnivariatePairs
 pub mod UnivariateProducts
 pub mod UnivariateValues
+pub mod Weights
+pub mod Zeros

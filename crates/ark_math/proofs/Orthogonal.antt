@@ -14,7 +14,7 @@ use Rattle.ark_math.proofs.Ring.{ring1, ring2, ring3}
 
 module _ {F : Type 0} (K : FieldOn F) (N : IsField K) where
   -- x * (1 + x + .. + x ^ (n - 1)) + 1 = (1 + x + .. + x ^ (n - 1)) + x ^ n
-  geometric : (x : F) (n : ℕ) → K.plus (K.times x (sum_below (itself K) n (power K x))) K.one ≡ K.plus (sum_below (itself K) n (power K x)) (power K x n)
+  pub geometric : (x : F) (n : ℕ) → K.plus (K.times x (sum_below (itself K) n (power K x))) K.one ≡ K.plus (sum_below (itself K) n (power K x)) (power K x n)
   geometric x zero = ap (λ t. K.plus t K.one) (times_zero K N x)
   geometric x (suc n) =
       ring3 K N (λ x s p. (x ⊗ (s ⊕ p) ⊕ unit, (x ⊗ s ⊕ unit) ⊕ x ⊗ p)) refl x (sum_below (itself K) n (power K x)) (power K x n)
