@@ -1,6 +1,8 @@
 -- Lemmas, each stated once over plain variables. Solve and Ring close equations of fields and modules by computation.
+pub mod Contained
 pub mod Elements
 pub mod Euclid
+pub mod Filters
 pub mod Generator
 pub mod Groups
 pub mod Halving

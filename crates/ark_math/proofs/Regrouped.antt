@@ -1,12 +1,12 @@
 -- Sums regrouped: of zeros, of one item, past the last item, reversed, exchanged, over a triangle.
-use Rattle.std.proofs.Common.{◌≡◌, ◌≢◌, ℕ, zero, suc, ◌+◌, ◌-◌, ◌<◌, ◌≤◌, sym, ◌∙◌, ap, ap₂, refl, arith, ⊎_elim}
+use Rattle.std.proofs.Common.{◌≡◌, ◌≢◌, ℕ, zero, suc, ◌+◌, ◌-◌, ◌*◌, ◌<◌, ◌≤◌, sym, ◌∙◌, ap, ap₂, refl, arith, ⊎_elim}
 use Rattle.std.proofs.lemmas.Bool.{cases_eq}
 use Rattle.ark_math.specs.Field.{FieldOn, IsField}
 use Rattle.ark_math.specs.Module.{ModuleOn, IsModule, itself, sum_below}
 use Rattle.ark_math.proofs.Groups.{zero_plus, zero_scale}
 use Rattle.ark_math.proofs.Solve.{◌⊞◌, ◌⊟◌, opposite, origin}
 use Rattle.ark_math.proofs.Ring.{module0_1, module0_2, module0_3}
-use Rattle.ark_math.proofs.Sums.{sum_below-same, sum_below-plus}
+use Rattle.ark_math.proofs.Sums.{sum_below-same, sum_below-plus, sum_below-add}
 
 pub sum_below-more : {F M : Type 0} (V : ModuleOn F M) (n : ℕ) (f : ℕ → M) → sum_below V (n + 1) f ≡ V.plus (sum_below V n f) (f n)
 sum_below-more V n f = let e : n + 1 ≡ suc n = omega arith in ap (λ t. sum_below V t f) e
@@ -72,6 +72,18 @@ module _ {F M : Type 0} {K : FieldOn F} {V : ModuleOn F M} (L : IsModule K V) wh
       (sum_below-same V n (λ i. sum_below V (suc n - i) (f i)) (λ i. V.plus (sum_below V (n - i) (f i)) (f i (n - i))) (λ i l. row i (omega arith))
       ∙ sum_below-plus L n (λ i. sum_below V (n - i) (f i)) (λ i. f i (n - i)))
       (row n (omega arith) ∙ ap (λ t. V.plus (sum_below V t (f n)) (f n (n - n))) none ∙ zero_plus L (f n (n - n))))
+
+  -- all zero but those at the multiples of s
+  pub sum_below-multiples : (s m : ℕ) (f : ℕ → M) → 0 < s → ((k r : ℕ) → k < m → 0 < r → r < s → f (s * k + r) ≡ V.zero) → sum_below V (s * m) f ≡ sum_below V m (λ k. f (s * k))
+  sum_below-multiples s zero f pos h = let e : s * 0 ≡ 0 = omega arith in ap (λ t. sum_below V t f) e
+  sum_below-multiples s (suc m) f pos h =
+      let e : s * suc m ≡ s * m + s = omega arith in
+      let z : s * m + 0 ≡ s * m = omega arith in
+      ap (λ t. sum_below V t f) e
+      ∙ sum_below-add L (s * m) s f
+      ∙ ap₂ V.plus
+      (sum_below-multiples s m f pos (λ k r l. h k r (omega arith)))
+      (sum_below-single s 0 (λ r. f (s * m + r)) pos (λ r l ne. h m r (omega arith) (omega arith) l) ∙ ap f z)
 
 module _ {F M : Type 0} {K : FieldOn F} {V : ModuleOn F M} (N : IsField K) (L : IsModule K V) where
   pub sum_below-negated : (n : ℕ) (f : ℕ → M) → sum_below V n (λ i. V.negated (f i)) ≡ V.negated (sum_below V n f)
