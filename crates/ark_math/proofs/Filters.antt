@@ -46,7 +46,7 @@ module _ {F : Type 0} (K : FieldOn F) (N : IsField K) where
     abbrev y : F → F
     y x = K.times (power K x s.size) ratio
 
-    inner_positive : 0 < s.size
+    pub inner_positive : 0 < s.size
     inner_positive = positive K N s.size (factor_not_zero K N _ _ c.of_inner.size)
 
     outer_positive : 0 < d.size
@@ -68,7 +68,7 @@ module _ {F : Type 0} (K : FieldOn F) (N : IsField K) where
     ratio_inverse : K.times (power K s.offset s.size) ratio ≡ K.one
     ratio_inverse = powers_inverse K N s.offset c.of_inner.of_offset s.size c.of_inner.offset
 
-    outer_power_not_zero : power K d.offset d.size ≢ K.zero
+    pub outer_power_not_zero : power K d.offset d.size ≢ K.zero
     outer_power_not_zero = power_not_zero K N d.offset d.size (factor_not_zero K N _ _ c.of_outer.offset)
 
     y-power : (x : F) → K.times (power K (y x) c.index) (power K d.offset d.size) ≡ power K x d.size
@@ -83,7 +83,7 @@ module _ {F : Type 0} (K : FieldOn F) (N : IsField K) where
         ∙ N.times_one (power K x d.size)
 
     -- at a root of the inner vanishing polynomial
-    row-inside : (a : ℕ → F) (x : F) → IsRow a → power K x s.size ≡ power K s.offset s.size → value_below K d.size a x ≡ K.one
+    pub row-inside : (a : ℕ → F) (x : F) → IsRow a → power K x s.size ≡ power K s.offset s.size → value_below K d.size a x ≡ K.one
     row-inside a x R e =
         row-value a x R
         ∙ ap (K.times start) (geometric_one K N (y x) c.index (ap (λ t. K.times t ratio) e ∙ ratio_inverse))
@@ -103,7 +103,7 @@ module _ {F : Type 0} (K : FieldOn F) (N : IsField K) where
         ∙ times_zero K N start
 
     -- at any point, multiplied out
-    row-anywhere : (a : ℕ → F) (x : F) → IsRow a →
+    pub row-anywhere : (a : ℕ → F) (x : F) → IsRow a →
         K.times (value_below K d.size a x) (K.times (K.times (natural K d.size) (power K d.offset d.size)) (minus K (power K x s.size) (power K s.offset s.size)))
         ≡ K.times (K.times (natural K s.size) (power K s.offset s.size)) (minus K (power K x d.size) (power K d.offset d.size))
     row-anywhere a x R =
@@ -120,7 +120,7 @@ module _ {F : Type 0} (K : FieldOn F) (N : IsField K) where
         ∙ ring5 K N (λ t q a g h. (unit ⊗ (((t ⊕ q) ⊖ (t ⊕ unit)) ⊗ ((a ⊗ g) ⊗ h)), (a ⊗ g) ⊗ (q ⊗ h ⊖ h))) refl t (power K (y x) c.index) (natural K s.size) g h
         ∙ ap (λ w. K.times (K.times (natural K s.size) g) (minus K w h)) (y-power x)
 
-    below : (a : ℕ → F) → IsBelow K (d.size - s.size + 1) a → IsBelow K d.size a
+    pub below : (a : ℕ → F) → IsBelow K (d.size - s.size + 1) a → IsBelow K d.size a
     below a h =
         let p = inner_positive in
         let q = outer_positive in

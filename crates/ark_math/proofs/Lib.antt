@@ -9,6 +9,7 @@ pub mod Halving
 pub mod Inverses
 pub mod Listed
 pub mod Lists
+pub mod OneFilter
 pub mod Order
 pub mod Orthogonal
 pub mod Places
