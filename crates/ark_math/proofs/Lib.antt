@@ -9,6 +9,7 @@ pub mod Halving
 pub mod Inverses
 pub mod Listed
 pub mod Lists
+pub mod Multiples
 pub mod OneFilter
 pub mod Order
 pub mod Orthogonal
@@ -17,6 +18,7 @@ pub mod PowerMod
 pub mod Powers
 pub mod Prime
 pub mod Regrouped
+pub mod Reindexed
 pub mod Reversal
 pub mod Ring
 pub mod Roots
