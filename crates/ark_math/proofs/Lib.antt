@@ -13,6 +13,7 @@ pub mod Multiples
 pub mod OneFilter
 pub mod Order
 pub mod Orthogonal
+pub mod PlaceValues
 pub mod Places
 pub mod PowerMod
 pub mod Powers
