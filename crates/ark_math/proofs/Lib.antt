@@ -18,6 +18,7 @@ pub mod Places
 pub mod PowerMod
 pub mod Powers
 pub mod Prime
+pub mod Quotients
 pub mod Regrouped
 pub mod Reindexed
 pub mod Reversal
