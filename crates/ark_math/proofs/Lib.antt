@@ -1,5 +1,6 @@
 -- Lemmas, each stated once over plain variables. Solve and Ring close equations of fields and modules by computation.
 pub mod Contained
+pub mod Domains
 pub mod Elements
 pub mod Euclid
 pub mod Filters

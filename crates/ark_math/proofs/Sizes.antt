@@ -1,5 +1,5 @@
 -- The sizes of domains: powers of two, and the least one.
-use Rattle.std.proofs.Common.{◌≡◌, ℕ, suc, ◌*◌, ◌/◌, ◌^◌, ◌<◌, ◌≤◌, max, inl, inr, sym, ap, subst, arith, Option, None, Some, refl, pow-suc}
+use Rattle.std.proofs.Common.{◌≡◌, ℕ, suc, ◌*◌, ◌/◌, ◌^◌, ◌<◌, ◌≤◌, max, inl, inr, sym, ap, ◌∙◌, subst, arith, Option, None, Some, refl, pow-suc}
 use Rattle.std.proofs.Math.Pow.{pow-lt}
 use Rattle.std.proofs.Math.Nat.{pow-le-pow_right, pow-zero, one-le-pow}
 use Rattle.std.proofs.lemmas.Bool.{cases_lt}
@@ -44,12 +44,12 @@ next_at_most k p a b e h l = elim (cases_lt b a) [
   | inr above ↦ let m : 2 ^ a ≤ 2 ^ b = pow-le-pow_right (omega arith) above in omega arith
 ]
 
-module _ (s : Adicity) (k p e : ℕ) where
-  pub radix2_size : p ≡ 2 ^ e → e ≤ s.two → p < 2 ^ 64 → IsSize s radix2 p
-  radix2_size is within fits =
+module _ (s : Adicity) where
+  pub radix2_splits : (p e : ℕ) → p ≡ 2 ^ e → e ≤ s.two → p < 2 ^ 64 → Splits s p e 0
+  radix2_splits p e is within fits =
       let one : odd_base s.odd ^ 0 ≡ 1 = pow-zero (odd_base s.odd) in
       let product : 2 ^ e * 1 ≡ 2 ^ e * odd_base s.odd ^ 0 = ap (λ x. 2 ^ e * x) (sym one) in
-      (e, record { product = omega arith; twos_within = within; odds_within = omega arith; fits = fits })
+      record { product = omega arith; twos_within = within; odds_within = omega arith; fits = fits }
 
   pub size_power : (n : ℕ) → IsSize s radix2 n → (b : ℕ) × (n ≡ 2 ^ b) × (b ≤ s.two) × (n < 2 ^ 64)
   size_power n h =
@@ -58,28 +58,40 @@ module _ (s : Adicity) (k p e : ℕ) where
       let f = h.1.product in
       (h.0, omega arith, h.1.twos_within, h.1.fits)
 
-  -- it is the next power of two, where the field has a root of that order
-  pub next_is_least : IsNextPowerOfTwo k p → p ≡ 2 ^ e → e ≤ s.two → p < 2 ^ 64 → IsLeast (IsSize s radix2) k p
-  next_is_least next is within fits = record {
-    holds = radix2_size is within fits;
-    above = next.1;
-    least = λ m size l.
-        let b = size_power m size in
-        subst (λ x. p ≤ x) (sym b.1) (next_at_most k p e b.0 is next.2 (subst (λ x. k ≤ x) b.1 l));
-  }
+  module _ (k p r : ℕ) (next : IsNextPowerOfTwo k p) (lo : 2 ^ r ≤ p) (hi : p < 2 * 2 ^ r) where
+    exponent : p ≡ 2 ^ r
+    exponent =
+        let e = next.0.1 in
+        let f : r ≡ next.0.0 = power_between r next.0.0 (omega arith) (omega arith) in
+        e ∙ ap (λ x. 2 ^ x) (sym f)
 
-  -- there is none where that power is past what the field has
-  pub none_past_adicity : IsNextPowerOfTwo k p → p ≡ 2 ^ e → s.two < e → (n : ℕ) → IsLeast (IsSize s radix2) k n → ⊥
-  none_past_adicity next is past n least =
-      let b = size_power n least.holds in
-      let f = b.1 in
-      let w = b.2 in
-      let l : p ≤ 2 ^ b.0 = next_at_most k p e b.0 is next.2 (subst (λ x. k ≤ x) b.1 least.above) in
-      let m : e ≤ b.0 = power_le e b.0 (subst (λ x. x ≤ 2 ^ b.0) is l) in
-      omega arith
+    pub next_splits : r < 64 → r ≤ s.two → Splits s p r 0
+    next_splits few within =
+        let small : 2 ^ r < 2 ^ 64 = pow-lt few in
+        radix2_splits p r exponent within (subst (λ x. x < 2 ^ 64) (sym exponent) small)
 
-  pub none_past_word : 2 ^ 63 < k → (n : ℕ) → IsLeast (IsSize s radix2) k n → ⊥
-  none_past_word past n least =
+    -- the next power of two is chosen where the field has a root of that order
+    pub next_is_least : r < 64 → r ≤ s.two → IsLeast (IsSize s radix2) k p
+    next_is_least few within =
+        record {
+          holds = (r, next_splits few within);
+          above = next.1;
+          least = λ m size l.
+              let b = size_power m size in
+              subst (λ x. p ≤ x) (sym b.1) (next_at_most k p r b.0 exponent next.2 (subst (λ x. k ≤ x) b.1 l));
+        }
+
+    -- and there is none where it has not
+    pub none_past_adicity : s.two < r → (n : ℕ) → IsLeast (IsSize s radix2) k n → ⊥
+    none_past_adicity past n least =
+        let b = size_power n least.holds in
+        let w = b.2 in
+        let l : p ≤ 2 ^ b.0 = next_at_most k p r b.0 exponent next.2 (subst (λ x. k ≤ x) b.1 least.above) in
+        let m : r ≤ b.0 = power_le r b.0 (subst (λ x. x ≤ 2 ^ b.0) exponent l) in
+        omega arith
+
+  pub none_past_word : (k : ℕ) → 2 ^ 63 < k → (n : ℕ) → IsLeast (IsSize s radix2) k n → ⊥
+  none_past_word k past n least =
       let b = size_power n least.holds in
       let f = b.1 in
       let fits = b.3 in
@@ -95,6 +107,10 @@ even_size s n twos odds h e = (twos, subst (λ o. Splits s n twos o) e h)
 pub radix2_sizes : (s : Adicity) (k : ℕ) (kind : Kind) (n : ℕ) → IsRadix2 s k kind n → IsSize s kind n × (k ≤ n)
 radix2_sizes s k radix2 n h = (h.holds, h.above)
 radix2_sizes s k mixed_radix n h = absurd h
+
+pub radix2_none : (s : Adicity) (k : ℕ) → ((n : ℕ) → IsLeast (IsSize s radix2) k n → ⊥) → (kind : Kind) (n : ℕ) → IsRadix2 s k kind n → ⊥
+radix2_none s k none radix2 n h = none n h
+radix2_none s k none mixed_radix n h = h
 
 one_least : (P : ℕ → Type 0) (k m n : ℕ) → IsLeast P k m → IsLeast P k n → m ≡ n
 one_least P k m n a b =
