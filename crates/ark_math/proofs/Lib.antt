@@ -34,5 +34,6 @@ pub mod UnivariateLoops
 pub mod UnivariatePairs
 pub mod UnivariateProducts
 pub mod UnivariateValues
+pub mod Vanishing
 pub mod Weights
 pub mod Zeros
