@@ -12,6 +12,7 @@ pub mod Places
 pub mod PowerMod
 pub mod Powers
 pub mod Prime
+pub mod Radix2
 pub mod Reversal
 pub mod Ring
 pub mod Roots

@@ -1,0 +1,161 @@
+//! Fields, modules over them, and fields with roots of unity.
+
+ghost use Rattle.std.specs.Prelude.{◌≡◌, ◌≢◌, ℕ, ◌<◌, ◌^◌, Option, Decides, IsNone, IfSome, IsSome, MatchOption};
+ghost use Rattle.ark_math.specs.Field.{FieldOn, IsField, minus, power, natural};
+ghost use Rattle.ark_math.specs.Module.{ModuleOn, IsModule, IsItself};
+ghost use Rattle.ark_math.specs.Root.{Adicity, IsSupported, AreRoots, AreGreatest};
+
+use std::fmt::Debug;
+use std::hash::Hash;
+use std::ops::{Add, AddAssign, Mul, MulAssign, Neg, Sub, SubAssign};
+
+/// A type with a zero.
+pub trait Zero: PartialEq {
+    ghost zero: { Self };
+
+    /// Zero.
+    fn zero() -> Self
+        ensures { result ≡ zero };
+
+    /// Whether the value equals zero, by `==`.
+    fn is_zero(&self) -> bool
+        ensures { result ≡ Self.eq self.now zero };
+}
+
+/// A type with a one.
+pub trait One: PartialEq {
+    ghost one: { Self };
+
+    /// One.
+    fn one() -> Self
+        ensures { result ≡ one };
+
+    /// Whether the value equals one, by `==`.
+    fn is_one(&self) -> bool
+        ensures { result ≡ Self.eq self.now one };
+}
+
+/// A field: a commutative ring with 1 different from 0, in which every value but 0 has an inverse.
+pub trait Field: Copy
+    + Eq
+    + Ord
+    + Hash
+    + Debug
+    + Default
+    + Zero
+    + One
+    + From<u64>
+    + Add<Self, Output = Self>
+    + Sub<Self, Output = Self>
+    + Mul<Self, Output = Self>
+    + AddAssign<Self>
+    + SubAssign<Self>
+    + MulAssign<Self>
+    + Neg<Output = Self> {
+    ghost field: { FieldOn Self };
+
+    /// The inverse, and `None` exactly at zero.
+    fn inverse(&self) -> Option<Self>
+        ensures { MatchOption result (self.now ≡ field.zero) (λ y. field.times self.now y ≡ field.one) };
+
+    ghost field_laws: { IsField field };
+
+    ghost zero_law: { Self.zero ≡ field.zero };
+
+    ghost one_law: { Self.one ≡ field.one };
+
+    ghost equality_law: { (a b : Self) → Decides (Self.eq a b) (a ≡ b) };
+
+    ghost clone_law: { (a b : Self) → Self.is_clone a b → b ≡ a };
+
+    ghost default_law: { (a : Self) → Self.is_default a → a ≡ field.zero };
+
+    ghost from_law: { (n : ℕ) (r : Self) → n < 2 ^ 64 → Self.from_gives n r → r ≡ natural field n };
+
+    ghost can_add_law: { (a b : Self) → Self.can_add a b };
+
+    ghost add_law: { (a b r : Self) → Self.add_gives a b r → r ≡ field.plus a b };
+
+    ghost can_sub_law: { (a b : Self) → Self.can_sub a b };
+
+    ghost sub_law: { (a b r : Self) → Self.sub_gives a b r → r ≡ minus field a b };
+
+    ghost can_mul_law: { (a b : Self) → Self.can_mul a b };
+
+    ghost mul_law: { (a b r : Self) → Self.mul_gives a b r → r ≡ field.times a b };
+
+    ghost can_add_assign_law: { (a b : Self) → Self.can_add_assign a b };
+
+    ghost add_assign_law: { (a b r : Self) → Self.add_assign_gives a b r → r ≡ field.plus a b };
+
+    ghost can_sub_assign_law: { (a b : Self) → Self.can_sub_assign a b };
+
+    ghost sub_assign_law: { (a b r : Self) → Self.sub_assign_gives a b r → r ≡ minus field a b };
+
+    ghost can_mul_assign_law: { (a b : Self) → Self.can_mul_assign a b };
+
+    ghost mul_assign_law: { (a b r : Self) → Self.mul_assign_gives a b r → r ≡ field.times a b };
+
+    ghost can_neg_law: { (a : Self) → Self.can_neg a };
+
+    ghost neg_law: { (a r : Self) → Self.neg_gives a r → r ≡ field.negated a };
+}
+
+/// A module over a field: the values that domains transform. Each value has a meaning, and the laws speak of meanings,
+/// so two values may differ in a part that the meaning ignores.
+pub trait DomainCoeff<F: Field>: Copy
+    + Add<Self, Output = Self>
+    + Sub<Self, Output = Self>
+    + AddAssign<Self>
+    + SubAssign<Self>
+    + Zero
+    + MulAssign<F>
+    + Debug
+    + PartialEq {
+    ghost Meaning: { Type 0 };
+
+    ghost meaning: { Self → Meaning };
+
+    ghost group: { ModuleOn F Meaning };
+
+    ghost module_laws: { IsModule F.field group };
+
+    ghost equality_meaning: { (a b : Self) → Decides (Self.eq a b) (meaning a ≡ meaning b) };
+
+    ghost zero_meaning: { meaning Self.zero ≡ group.zero };
+
+    ghost can_add_meaning: { (a b : Self) → Self.can_add a b };
+
+    ghost add_meaning: { (a b r : Self) → Self.add_gives a b r → meaning r ≡ group.plus (meaning a) (meaning b) };
+
+    ghost can_sub_meaning: { (a b : Self) → Self.can_sub a b };
+
+    ghost sub_meaning: { (a b r : Self) → Self.sub_gives a b r → meaning r ≡ group.plus (meaning a) (group.negated (meaning b)) };
+
+    ghost can_add_assign_meaning: { (a b : Self) → Self.can_add_assign a b };
+
+    ghost add_assign_meaning: { (a b r : Self) → Self.add_assign_gives a b r → meaning r ≡ group.plus (meaning a) (meaning b) };
+
+    ghost can_sub_assign_meaning: { (a b : Self) → Self.can_sub_assign a b };
+
+    ghost sub_assign_meaning: { (a b r : Self) → Self.sub_assign_gives a b r → meaning r ≡ group.plus (meaning a) (group.negated (meaning b)) };
+
+    ghost can_mul_assign_meaning: { (a : Self) (f : F) → Self.can_mul_assign a f };
+
+    ghost mul_assign_meaning: { (a : Self) (f : F) (r : Self) → Self.mul_assign_gives a f r → meaning r ≡ group.scale f (meaning a) };
+}
+
+/// A field with roots of unity of some sizes `2^a * q^b`. As a module over itself it is the field.
+pub trait FftField: Field + DomainCoeff<Self> {
+    ghost adicity: { Adicity };
+
+    ghost root: { ℕ → Self };
+
+    /// The root of unity of order `n`, and `None` exactly at a size that isn't supported.
+    fn get_root_of_unity(n: u64) -> Option<Self>
+        ensures { MatchOption result (IsSupported adicity n → ⊥) (λ r. IsSupported adicity n × (r ≡ root n)) };
+
+    ghost roots_law: { AreRoots Self.field adicity root };
+
+    ghost itself_law: { IsItself Self.field Self.group Self.meaning };
+}
