@@ -7,7 +7,7 @@ use Rattle.ark_math.specs.Domain.{Domain}
 use Rattle.ark_math.specs.Root.{HasOrder}
 use Rattle.ark_math.specs.Transform.{transform, IsInverse}
 use Rattle.ark_math.specs.Halves.{sum_at}
-use Rattle.ark_math.proofs.Powers.{times_zero, powers_inverse}
+use Rattle.ark_math.proofs.Powers.{powers_inverse, times_zero}
 use Rattle.ark_math.proofs.Sums.{sum_below-same, sum_below-scale}
 use Rattle.ark_math.proofs.Listed.{length-listed, is_listed}
 use Rattle.ark_math.proofs.Transforms.{AreShifted, transform-at}
@@ -80,3 +80,9 @@ module _ {F M : Type 0} {K : FieldOn F} {V : ModuleOn F M} (N : IsField K) (L : 
               ∙ (ap (V.scale f) (returned N L v d.root n (order_of_inverse K N d.root v n order root) back (item V c) i l)
               ∙ unscaled f (natural K n) (item V c i) (N.times_comm f (natural K n) ∙ size)))));
         }
+
+-- a root of unity isn't zero
+pub root_not_zero : {F : Type 0} (K : FieldOn F) → IsField K → (w : F) (n : ℕ) → HasOrder K w n → natural K n ≢ K.zero → w ≢ K.zero
+root_not_zero K N w n o ne z =
+    let v = inverse_of_root K w n o.one ne in
+    not_zero K N w v.0 v.1 z

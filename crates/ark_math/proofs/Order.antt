@@ -84,7 +84,7 @@ module _ {F : Type 0} (K : FieldOn F) (laws : IsField K) where
   pub multiple_gives_one : (x : F) (m c : ℕ) → power K x m ≡ K.one → power K x (m * c) ≡ K.one
   multiple_gives_one x m c e = power-mul K laws x m c ∙ ap (λ y. power K y c) e ∙ power-one K laws c
 
-  rest_gives_one : (x : F) (k n : ℕ) → power K x k ≡ K.one → power K x n ≡ K.one → power K x (n % k) ≡ K.one
+  pub rest_gives_one : (x : F) (k n : ℕ) → power K x k ≡ K.one → power K x n ≡ K.one → power K x (n % k) ≡ K.one
   rest_gives_one x k n e f =
       let split : k * (n / k) + n % k ≡ n = omega (arith, mod-add-div n k) in
       sym (one_times K laws (power K x (n % k)))

@@ -1,19 +1,20 @@
 -- Sums of the powers of a root of one.
 use Rattle.std.proofs.Common.{◌≡◌, ◌≢◌, ℕ, zero, suc, ◌+◌, ◌*◌, ◌-◌, ◌/◌, ◌%◌, ◌<◌, ◌≤◌, sym, ◌∙◌, ap, refl, arith, ⊎_elim}
-use Rattle.std.proofs.lemmas.Bool.{cases_eq, cases_lt}
+use Rattle.std.proofs.lemmas.Bool.{cases_lt}
 use Rattle.ark_math.specs.Field.{FieldOn, IsField, power, natural}
 use Rattle.ark_math.specs.Module.{ModuleOn, IsModule, itself, sum_below}
 use Rattle.ark_math.specs.Root.{HasOrder}
 use Rattle.ark_math.specs.Halves.{sum_at}
 use Rattle.ark_math.proofs.Groups.{zero_scale}
 use Rattle.ark_math.proofs.Powers.{times_zero, zero_factor, power-one, power-add, power-mul, power_comm, power-times, powers_inverse}
-use Rattle.ark_math.proofs.Sums.{sum_below-same, sum_below-plus, sum_below-scale}
+use Rattle.ark_math.proofs.Sums.{sum_below-same, sum_below-scale}
+use Rattle.ark_math.proofs.Regrouped.{sum_below-swap, sum_below-single, sum_of_scalars}
 use Rattle.ark_math.proofs.Solve.{◌⊕◌, ◌⊖◌, ◌⊗◌, unit}
 use Rattle.ark_math.proofs.Ring.{ring1, ring2, ring3}
 
 module _ {F : Type 0} (K : FieldOn F) (N : IsField K) where
   -- x * (1 + x + .. + x ^ (n - 1)) + 1 = (1 + x + .. + x ^ (n - 1)) + x ^ n
-  geometric : (x : F) (n : ℕ) → K.plus (K.times x (sum_below (itself K) n (power K x))) K.one ≡ K.plus (sum_below (itself K) n (power K x)) (power K x n)
+  pub geometric : (x : F) (n : ℕ) → K.plus (K.times x (sum_below (itself K) n (power K x))) K.one ≡ K.plus (sum_below (itself K) n (power K x)) (power K x n)
   geometric x zero = ap (λ t. K.plus t K.one) (times_zero K N x)
   geometric x (suc n) =
       ring3 K N (λ x s p. (x ⊗ (s ⊕ p) ⊕ unit, (x ⊗ s ⊕ unit) ⊕ x ⊗ p)) refl x (sum_below (itself K) n (power K x)) (power K x n)
@@ -96,34 +97,6 @@ module _ {F : Type 0} (K : FieldOn F) (N : IsField K) where
     quotients_one k = geometric_one (K.times (power K w k) (power K v k)) n (powers_inverse K N w v k inverse)
 
 module _ {F M : Type 0} {K : FieldOn F} {V : ModuleOn F M} (N : IsField K) (L : IsModule K V) where
-  pub sum_below-none : (n : ℕ) → sum_below V n (λ i. V.zero) ≡ V.zero
-  sum_below-none zero = refl
-  sum_below-none (suc n) = L.plus_zero (sum_below V n (λ i. V.zero)) ∙ sum_below-none n
-
-  pub sum_below-swap : (m n : ℕ) (f : ℕ → ℕ → M) → sum_below V m (λ i. sum_below V n (f i)) ≡ sum_below V n (λ j. sum_below V m (λ i. f i j))
-  sum_below-swap zero n f = sym (sum_below-none n)
-  sum_below-swap (suc m) n f =
-      ap (λ t. V.plus t (sum_below V n (f m))) (sum_below-swap m n f)
-      ∙ sym (sum_below-plus L n (λ j. sum_below V m (λ i. f i j)) (f m))
-
-  pub sum_of_scalars : (n : ℕ) (a : ℕ → F) (x : M) → sum_below V n (λ i. V.scale (a i) x) ≡ V.scale (sum_below (itself K) n a) x
-  sum_of_scalars zero a x = sym (zero_scale N L x)
-  sum_of_scalars (suc n) a x =
-      ap (λ t. V.plus t (V.scale (a n) x)) (sum_of_scalars n a x) ∙ sym (L.plus_scale (sum_below (itself K) n a) (a n) x)
-
-  -- all zero but the one at k
-  pub sum_below-single : (n k : ℕ) (f : ℕ → M) → k < n → ((j : ℕ) → j < n → j ≢ k → f j ≡ V.zero) → sum_below V n f ≡ f k
-  sum_below-single zero k f l h = absurd (omega arith)
-  sum_below-single (suc n) k f l h =
-      ⊎_elim
-      (λ (e : k ≡ n).
-      ap (λ t. V.plus t (f n)) (sum_below-same V n f (λ i. V.zero) (λ i b. h i (omega arith) (omega arith)) ∙ sum_below-none n)
-      ∙ (L.plus_comm V.zero (f n) ∙ (L.plus_zero (f n) ∙ ap f (sym e))))
-      (λ (ne : k ≢ n).
-      ap (V.plus (sum_below V n f)) (h n (omega arith) (omega arith))
-      ∙ (L.plus_zero (sum_below V n f) ∙ sum_below-single n k f (omega arith) (λ j b. h j (omega arith))))
-      (cases_eq k n)
-
   -- back and forth: n times each item
   pub returned : (w v : F) (n : ℕ) → HasOrder K w n → K.times w v ≡ K.one → (f : ℕ → M) (k : ℕ) → k < n → sum_at K V n v (sum_at K V n w f) k ≡ V.scale (natural K n) (f k)
   returned w v n o inverse f k l =
@@ -137,8 +110,8 @@ module _ {F M : Type 0} {K : FieldOn F} {V : ModuleOn F M} (N : IsField K) (L : 
       ∙ (ap (λ t. K.times t (power K (power K v k) i)) (power_comm K N w i j)
       ∙ sym (power-times K N (power K w j) (power K v k) i)))) in
       sum_below-same V n (λ i. V.scale (power K (power K v k) i) (sum_at K V n w f i)) (λ i. sum_below V n (λ j. V.scale (power K (x j) i) (f j))) (λ i b. inner i)
-      ∙ (sum_below-swap n n (λ i j. V.scale (power K (x j) i) (f j))
-      ∙ (sum_below-same V n (λ j. sum_below V n (λ i. V.scale (power K (x j) i) (f j))) (λ j. V.scale (sum_below (itself K) n (power K (x j))) (f j)) (λ j b. sum_of_scalars n (power K (x j)) (f j))
-      ∙ (sum_below-single n k (λ j. V.scale (sum_below (itself K) n (power K (x j))) (f j)) l
+      ∙ (sum_below-swap L n n (λ i j. V.scale (power K (x j) i) (f j))
+      ∙ (sum_below-same V n (λ j. sum_below V n (λ i. V.scale (power K (x j) i) (f j))) (λ j. V.scale (sum_below (itself K) n (power K (x j))) (f j)) (λ j b. sum_of_scalars N L n (power K (x j)) (f j))
+      ∙ (sum_below-single L n k (λ j. V.scale (sum_below (itself K) n (power K (x j))) (f j)) l
       (λ j b ne. ap (λ t. V.scale t (f j)) (quotients_zero K N w v n o inverse j k b l ne) ∙ zero_scale N L (f j))
       ∙ ap (λ t. V.scale t (f k)) (quotients_one K N w v n o inverse k))))

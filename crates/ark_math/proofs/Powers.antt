@@ -4,7 +4,7 @@ use Rattle.ark_math.specs.Field.{FieldOn, IsField, power, natural, minus}
 use Rattle.ark_math.specs.Root.{HasOrder}
 use Rattle.ark_math.proofs.Groups.{itself_is_module, scale_zero, one_times}
 use Rattle.ark_math.proofs.Solve.{◌⊕◌, ◌⊖◌, ◌⊗◌, unit, nought, negative, raised}
-use Rattle.ark_math.proofs.Ring.{ring1, ring1_by, ring3, ring4}
+use Rattle.ark_math.proofs.Ring.{ring1, ring1_by, ring2, ring3, ring4}
 
 module _ {F : Type 0} (K : FieldOn F) (L : IsField K) where
   pub power-one : (n : ℕ) → power K K.one n ≡ K.one
@@ -90,6 +90,17 @@ module _ {F : Type 0} (K : FieldOn F) (L : IsField K) where
   natural-add m (suc n) =
       let e : m + suc n ≡ suc (m + n) = omega arith in
       ap (natural K) e ∙ (ap (λ t. K.plus t K.one) (natural-add m n) ∙ L.plus_assoc (natural K m) (natural K n) K.one)
+
+  pub natural-mul : (m n : ℕ) → natural K (m * n) ≡ K.times (natural K m) (natural K n)
+  natural-mul m zero =
+      let e : m * 0 ≡ 0 = omega arith in
+      ap (natural K) e ∙ sym (times_zero (natural K m))
+  natural-mul m (suc n) =
+      let e : m * suc n ≡ m * n + m = omega arith in
+      ap (natural K) e
+      ∙ natural-add (m * n) m
+      ∙ ap (λ t. K.plus t (natural K m)) (natural-mul m n)
+      ∙ ring2 K L (λ m n. (m ⊗ n ⊕ m, m ⊗ (n ⊕ unit))) refl (natural K m) (natural K n)
 
   square_power : (x : F) (m : ℕ) → power K (K.times x x) m ≡ power K x (2 * m)
   square_power x m = ap (λ y. power K (K.times x y) m) (sym (L.times_one x)) ∙ sym (power-mul x 2 m)

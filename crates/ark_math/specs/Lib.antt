@@ -5,7 +5,9 @@ pub mod Field
 pub mod Generator
 pub mod Halves
 pub mod Module
+pub mod Points
 pub mod Prime
 pub mod Root
 pub mod Rows
 pub mod Transform
+pub mod Univariate

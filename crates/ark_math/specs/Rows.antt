@@ -4,6 +4,8 @@ use Rattle.ark_math.specs.Field.{FieldOn}
 use Rattle.ark_math.specs.Module.{itself, listed}
 use Rattle.ark_math.specs.Domain.{Domain, element, radix2, mixed_radix}
 use Rattle.ark_math.specs.Transform.{transform}
+use Rattle.ark_math.specs.Univariate.{added, product, of_list, of_pairs, value_below}
+use Rattle.ark_math.specs.Points.{vanishing, reindexed}
 
 abbrev modulo : ℕ → FieldOn ℕ
 modulo p = record { zero = 0; one = 1; plus = λ x y. (x + y) % p; times = λ x y. (x * y) % p; negated = λ x. (p - x) % p }
@@ -34,3 +36,25 @@ long_list_is_cut = refl
 
 over_six : transform (modulo 433) (itself (modulo 433)) (record { kind = mixed_radix; size = 6; root = 199; offset = 1 }) (0 ∷ 1 ∷ []) ≡ 1 ∷ 199 ∷ 198 ∷ 432 ∷ 234 ∷ 235 ∷ []
 over_six = refl
+
+product_without_domain : listed 5 (product (modulo 5) (of_list (modulo 5) (1 ∷ 0 ∷ 1 ∷ [])) (of_list (modulo 5) (1 ∷ 0 ∷ 1 ∷ []))) ≡ 1 ∷ 0 ∷ 2 ∷ 0 ∷ 1 ∷ []
+product_without_domain = refl
+
+sum_that_cancels : listed 3 (added (modulo 5) (of_list (modulo 5) (1 ∷ 2 ∷ [])) (of_list (modulo 5) (4 ∷ 3 ∷ []))) ≡ 0 ∷ 0 ∷ 0 ∷ []
+sum_that_cancels = refl
+
+pairs_add_up : listed 3 (of_pairs (modulo 5) ((2, 0) ∷ (1, 1) ∷ (1, 4) ∷ (0, 3) ∷ [])) ≡ 3 ∷ 0 ∷ 0 ∷ []
+pairs_add_up = refl
+
+value_at_three : value_below (modulo 5) 2 (of_list (modulo 5) (1 ∷ 2 ∷ [])) 3 ≡ 2
+value_at_three = refl
+
+coset_vanishing : listed 3 (vanishing (modulo 5) two) ≡ 1 ∷ 0 ∷ 1 ∷ []
+coset_vanishing = refl
+
+-- one at 2 and 3, zero at 1 and 4
+filter_of_coset : listed 4 (λ i. value_below (modulo 5) 3 (of_list (modulo 5) (3 ∷ 0 ∷ 2 ∷ [])) (element (modulo 5) four i)) ≡ 0 ∷ 1 ∷ 0 ∷ 1 ∷ []
+filter_of_coset = refl
+
+reindexed_eight : reindexed 8 2 ≡ 0 ∷ 4 ∷ 1 ∷ 2 ∷ 3 ∷ 5 ∷ 6 ∷ 7 ∷ []
+reindexed_eight = refl

@@ -4,25 +4,7 @@ ghost use Rattle.std.specs.Prelude.{◌≡◌, ◌≢◌, ℕ, ◌^◌, ◌<◌}
 ghost use Rattle.ark_math.specs.Field.{FieldOn, natural};
 ghost use Rattle.ark_math.specs.Root.{HasOrder};
 
-use crate::traits::FftField;
-use std::alloc::AllocError;
-
-/// Why a call gave no answer.
-#[derive(Debug, Drop)]
-pub enum PolyError {
-    Memory,
-}
-
-impl From<AllocError> for PolyError {
-    ghost use Rattle.kernel_draft.specs.declared.domain.PolyError.{PolyError};
-    ghost use Rattle.kernel_draft.specs.declared.domain.PolyError.TheVariants.{Memory};
-
-    ghost from_gives = { λ _ e. e ≡ Memory };
-
-    fn from(_: AllocError) -> PolyError {
-        PolyError::Memory
-    }
-}
+use ark_base::FftField;
 
 /// A subgroup or coset of a size that is a power of two.
 #[derive(Drop)]

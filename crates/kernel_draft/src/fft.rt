@@ -7,11 +7,9 @@ ghost use Rattle.ark_math.specs.Halves.{sum_at, reversed, ArePowers, IsHalfTable
 ghost use Rattle.ark_math.specs.Module.{ModuleOn, item};
 ghost use Rattle.ark_math.specs.Transform.{transform, IsInverse};
 
-use crate::domain::{PolyError, Radix2EvaluationDomain};
-use crate::traits::{DomainCoeff, FftField, Field, One, Zero};
-use crate::work::Work;
+use crate::domain::Radix2EvaluationDomain;
+use ark_base::{DomainCoeff, FftField, Field, One, PolyError, Work, Zero};
 use std::alloc::{AllocError, Global};
-use std::ops::{Add, AddAssign, Mul, MulAssign, Sub};
 
 /// One butterfly: the sum, and the difference times the twiddle.
 fn butterfly<F: FftField, T: DomainCoeff<F>>(work: &mut Work, lo: &mut T, hi: &mut T, twiddle: F)
