@@ -7,7 +7,7 @@ use Rattle.ark_math.specs.Domain.{Domain}
 use Rattle.ark_math.specs.Root.{HasOrder}
 use Rattle.ark_math.specs.Transform.{transform, IsInverse}
 use Rattle.ark_math.specs.Halves.{sum_at}
-use Rattle.ark_math.proofs.Powers.{powers_inverse}
+use Rattle.ark_math.proofs.Powers.{powers_inverse, times_zero}
 use Rattle.ark_math.proofs.Sums.{sum_below-same, sum_below-scale}
 use Rattle.ark_math.proofs.Listed.{length-listed, is_listed}
 use Rattle.ark_math.proofs.Transforms.{AreShifted, transform-at}
@@ -18,6 +18,10 @@ use Rattle.ark_math.proofs.Ring.{module2_1, module3_1}
 inverse_of_root : {F : Type 0} (K : FieldOn F) (w : F) (n : ℕ) → power K w n ≡ K.one → natural K n ≢ K.zero → (v : F) × (K.times w v ≡ K.one)
 inverse_of_root K w zero h ne = absurd (ne refl)
 inverse_of_root K w (suc n) h ne = (power K w n, h)
+
+-- what has an inverse isn't zero
+pub not_zero : {F : Type 0} (K : FieldOn F) → IsField K → (a b : F) → K.times a b ≡ K.one → a ≢ K.zero
+not_zero K N a b e z = N.one_not_zero (sym e ∙ (ap (λ t. K.times t b) z ∙ (N.times_comm K.zero b ∙ times_zero K N b)))
 
 module _ {F M : Type 0} {K : FieldOn F} {V : ModuleOn F M} (N : IsField K) (L : IsModule K V) where
   unscaled : (a b : F) (x : M) → K.times a b ≡ K.one → V.scale a (V.scale b x) ≡ x
@@ -76,3 +80,9 @@ module _ {F M : Type 0} {K : FieldOn F} {V : ModuleOn F M} (N : IsField K) (L : 
               ∙ (ap (V.scale f) (returned N L v d.root n (order_of_inverse K N d.root v n order root) back (item V c) i l)
               ∙ unscaled f (natural K n) (item V c i) (N.times_comm f (natural K n) ∙ size)))));
         }
+
+-- a root of unity isn't zero
+pub root_not_zero : {F : Type 0} (K : FieldOn F) → IsField K → (w : F) (n : ℕ) → HasOrder K w n → natural K n ≢ K.zero → w ≢ K.zero
+root_not_zero K N w n o ne z =
+    let v = inverse_of_root K w n o.one ne in
+    not_zero K N w v.0 v.1 z

@@ -19,12 +19,14 @@ pub mod PowerMod
 pub mod Powers
 pub mod Prime
 pub mod Quotients
+pub mod Radix2
 pub mod Regrouped
 pub mod Reindexed
 pub mod Reversal
 pub mod Ring
 pub mod Roots
 pub mod Signed
+pub mod Sizes
 pub mod Solve
 pub mod Sums
 pub mod Transforms

@@ -1,5 +1,5 @@
 -- Lists made of a function of the index.
-use Rattle.std.proofs.Common.{◌≡◌, ℕ, zero, suc, ◌+◌, ◌<◌, List, length, get_or, sym, ◌∙◌, ap, refl, arith, zero-add}
+use Rattle.std.proofs.Common.{◌≡◌, ℕ, zero, suc, ◌+◌, ◌<◌, List, ◌∷◌, length, get_or, sym, ◌∙◌, ap, refl, arith, zero-add}
 use Rattle.ark_math.specs.Module.{ModuleOn, listed, listed_from, item}
 use Rattle.std.proofs.lemmas.List.{ext_get_or}
 
@@ -34,3 +34,11 @@ is_listed d xs n f e h =
 pub listed-same : {M : Type 0} (n : ℕ) (f g : ℕ → M) → ((i : ℕ) → i < n → f i ≡ g i) → listed n f ≡ listed n g
 listed-same zero f g h = refl
 listed-same (suc n) f g h = is_listed (f 0) (listed (suc n) f) (suc n) g (length-listed (suc n) f) (λ i l. get_or-listed (suc n) f i (f 0) l ∙ h i l)
+
+listed_from-suc : {M : Type 0} (i n : ℕ) (f : ℕ → M) → listed_from (suc i) n f ≡ listed_from i n (λ k. f (suc k))
+listed_from-suc i zero f = refl
+listed_from-suc i (suc n) f = ap (λ t. f (suc i) ∷ t) (listed_from-suc (suc i) n f)
+
+-- the first, and then the others
+pub listed-suc : {M : Type 0} (n : ℕ) (f : ℕ → M) → listed (suc n) f ≡ f 0 ∷ listed n (λ k. f (suc k))
+listed-suc n f = ap (λ t. f 0 ∷ t) (listed_from-suc 0 n f)

@@ -1,6 +1,7 @@
 -- Domains: the n places offset * root ^ i of a subgroup or a coset.
-use Rattle.std.specs.Prelude.{◌≡◌, ◌≢◌, ℕ, ◌*◌, ◌^◌, ◌%◌, ◌<◌, ◌≤◌, IsSome}
+use Rattle.std.specs.Prelude.{◌≡◌, ◌≢◌, ℕ, ◌*◌, ◌^◌, ◌%◌, ◌<◌, ◌≤◌, IsSome, List}
 use Rattle.ark_math.specs.Field.{FieldOn, power}
+use Rattle.ark_math.specs.Module.{listed}
 use Rattle.ark_math.specs.Root.{Adicity, Splits, IsSupported}
 
 -- powers of two alone, or of two and the field's odd base
@@ -29,6 +30,10 @@ pub record IsDomain {F : Type 0} (K : FieldOn F) (s : Adicity) (root : ℕ → F
   pub root_of : d.root ≡ root d.size
   pub offset_not_zero : d.offset ≢ K.zero
 
+-- its n places in order
+abbrev pub elements : {F : Type 0} → FieldOn F → Domain F → List F
+elements K d = listed d.size (element K d)
+
 -- the least number at or above k that is P
 pub record IsLeast (P : ℕ → Type 0) (k n : ℕ) : Type 0 where
   pub holds : P n
@@ -38,6 +43,11 @@ pub record IsLeast (P : ℕ → Type 0) (k n : ℕ) : Type 0 where
 -- no number at or above k is P
 abbrev pub HasNone : (ℕ → Type 0) → ℕ → Type 0
 HasNone P k = (m : ℕ) → P m → m < k
+
+-- what the radix 2 type takes for k: the least supported power of two
+abbrev pub IsRadix2 : Adicity → ℕ → Kind → ℕ → Type 0
+IsRadix2 s k radix2 n = IsLeast (IsSize s radix2) k n
+IsRadix2 s k mixed_radix n = ⊥
 
 -- what the general type takes for k: radix 2 where there is one, else mixed
 abbrev pub IsGeneral : Adicity → ℕ → Kind → ℕ → Type 0

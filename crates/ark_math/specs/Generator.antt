@@ -1,5 +1,5 @@
 -- Elements whose powers are the roots of unity of a field, and tests that show one under a prime modulus.
-use Rattle.std.specs.Prelude.{Bool, true, ◌==◌, ◌&&◌, ◌||◌, not, nat_lt, nat_le, ◌≡◌, ◌≢◌, ℕ, ◌-◌, ◌/◌, ◌%◌, ◌<◌, ◌⊎◌, Option, Some, None}
+use Rattle.std.specs.Prelude.{Bool, true, ◌==◌, ◌&&◌, ◌||◌, not, nat_lt, nat_le, ◌≡◌, ◌≢◌, ℕ, ◌-◌, ◌^◌, ◌/◌, ◌%◌, ◌<◌, ◌⊎◌, Option, Some, None}
 use Rattle.ark_math.specs.Field.{FieldOn, power}
 use Rattle.ark_math.specs.Prime.{IsPrime, is_prime_by, power_mod}
 use Rattle.ark_math.specs.Root.{Adicity, IsAdicity, odd_base, odd_most, greatest_size}
@@ -29,6 +29,21 @@ pub record IsGenerator (p : ℕ) (s : Adicity) (g : ℕ) : Type 0 where
   pub whole : power_mod p 32 g (p - 1) ≡ 1
   pub half : 0 < s.two → power_mod p 32 g ((p - 1) / 2) ≢ 1
   pub part : 0 < odd_most s.odd → power_mod p 32 g ((p - 1) / odd_base s.odd) ≢ 1
+
+-- nothing where there is no odd base
+abbrev pub for_odd : Option (ℕ × ℕ) → ℕ → Option ℕ
+for_odd None x = None
+for_odd (Some p) x = Some x
+
+-- the constants of a prime field of one word: a prime, its generator, the generator's powers that are the roots of the
+-- greatest sizes, and the greatest size
+pub record IsModulus (p : ℕ) (s : Adicity) (g two_adic : ℕ) (large : Option ℕ) (greatest : ℕ) : Type 0 where
+  pub prime : IsPrime p
+  pub small : p < 2 ^ 32
+  pub generator : IsGenerator p s g
+  pub two_adic_is : two_adic ≡ power_mod p 32 g ((p - 1) / 2 ^ s.two)
+  pub large_is : large ≡ for_odd s.odd (power_mod p 32 g ((p - 1) / greatest_size s))
+  pub greatest_is : greatest ≡ greatest_size s
 
 -- a base is odd and at least 3
 abbrev pub is_odd_base : Option (ℕ × ℕ) → Bool

@@ -7,6 +7,12 @@ pub record Adicity : Type 0 where
   pub two : ℕ
   pub odd : Option (ℕ × ℕ)
 
+-- the adicity that three constants tell
+abbrev pub adicity_of : ℕ → Option ℕ → Option ℕ → Adicity
+adicity_of two None most = record { two = two; odd = None }
+adicity_of two (Some base) None = record { two = two; odd = None }
+adicity_of two (Some base) (Some most) = record { two = two; odd = Some (base, most) }
+
 -- a base is odd and at least 3
 abbrev pub IsAdicity : Adicity → Type 0
 IsAdicity s = (p : ℕ × ℕ) → s.odd ≡ Some p → (3 ≤ p.0) × (p.0 % 2 ≡ 1)

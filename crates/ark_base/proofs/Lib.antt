@@ -1,0 +1,2 @@
+-- Lemmas of this crate, beside those of `ark_math`.
+pub mod Transfer

@@ -1,0 +1,8 @@
+use Rattle.ark_math.proofs.Euclid.{Euclid}
+use Rattle.ark_base.proofs.prime_field.PrimeFieldField.inverse.Given as goal
+
+abbrev pub invariant-divide : goal.invariant-divide
+invariant-divide g l = Euclid g.M.PrimeModulus.MODULUS l.self.value l.last l.last_factor l.rest l.factor
+
+abbrev pub decreases-divide : goal.decreases-divide
+decreases-divide g l = l.rest

@@ -1,0 +1,14 @@
+//! Fields and modules with laws, prime fields of one word, and what the crates above share.
+#![tactic(auto)]
+
+mod error;
+mod field;
+mod prime_field;
+mod sink;
+mod work;
+
+pub use error::PolyError;
+pub use field::{DomainCoeff, FftField, Field, One, Zero};
+pub use prime_field::{F5, F433, F65537, Fermat, Five, Mixed, PrimeField, PrimeModulus};
+pub use sink::{Failed, IoSink, Sink};
+pub use work::Work;

@@ -1,0 +1,549 @@
+//! The fields of the integers modulo a prime below 2^32, on one word each.
+
+ghost use Rattle.std.specs.Prelude.{◌≡◌, ℕ, ◌+◌, ◌*◌, ◌-◌, ◌%◌, ◌/◌, ◌<◌, ◌^◌, Option, None, Some, refl};
+ghost use Rattle.std.proofs.Common.{lit<, ◌∙◌};
+ghost use Rattle.ark_math.specs.Field.{FieldOn, minus};
+ghost use Rattle.ark_math.specs.Module.{itself};
+ghost use Rattle.ark_math.specs.Root.{adicity_of};
+ghost use Rattle.ark_math.specs.Generator.{IsModulus};
+ghost use Rattle.ark_math.proofs.Prime.{prime_from_test};
+ghost use Rattle.ark_math.proofs.Generator.{generator_from_test};
+
+use crate::field::{DomainCoeff, FftField, Field, One, Zero};
+use std::alloc::AllocError;
+use std::default::Default;
+use std::marker::PhantomData;
+use std::ops::{Add, AddAssign, Mul, MulAssign, Neg, Sub, SubAssign};
+
+/// A prime below 2^32 and its constants. A field is added by one impl, whose fact `modulus` is a few computed checks.
+pub trait PrimeModulus {
+    ghost MODULUS: { ℕ };
+
+    ghost GENERATOR: { ℕ };
+
+    ghost TWO_ADICITY: { ℕ };
+
+    ghost TWO_ADIC_ROOT_OF_UNITY: { ℕ };
+
+    ghost SMALL_SUBGROUP_BASE: { Option ℕ };
+
+    ghost SMALL_SUBGROUP_BASE_ADICITY: { Option ℕ };
+
+    ghost LARGE_SUBGROUP_ROOT_OF_UNITY: { Option ℕ };
+
+    ghost GREATEST_SIZE: { ℕ };
+
+    ghost modulus: { IsModulus MODULUS (adicity_of TWO_ADICITY SMALL_SUBGROUP_BASE SMALL_SUBGROUP_BASE_ADICITY) GENERATOR TWO_ADIC_ROOT_OF_UNITY LARGE_SUBGROUP_ROOT_OF_UNITY GREATEST_SIZE };
+
+    /// The prime.
+    const MODULUS: u64;
+
+    /// A number whose powers are all but zero, or at least the roots of the supported sizes.
+    const GENERATOR: u64;
+
+    /// The greatest `a` for which there is a root of order `2^a`.
+    const TWO_ADICITY: u32;
+
+    /// The generator's power `(MODULUS - 1) / 2^TWO_ADICITY`.
+    const TWO_ADIC_ROOT_OF_UNITY: u64;
+
+    /// An odd prime `q` of further sizes `2^a * q^b`.
+    const SMALL_SUBGROUP_BASE: Option<u32>;
+
+    /// The greatest `b` of those sizes.
+    const SMALL_SUBGROUP_BASE_ADICITY: Option<u32>;
+
+    /// The generator's power `(MODULUS - 1) / GREATEST_SIZE`, where there is a base.
+    const LARGE_SUBGROUP_ROOT_OF_UNITY: Option<u64>;
+
+    /// `2^a * q^b` with both exponents at their greatest.
+    const GREATEST_SIZE: u64;
+}
+
+/// An integer modulo `M`'s prime.
+#[derive_where(Copy, Debug, PartialEq, Eq, PartialOrd, Ord, Hash)]
+pub struct PrimeField<M: PrimeModulus> {
+    value: u64,
+    marker: PhantomData<M>,
+    ghost reduced: { value < M.MODULUS },
+}
+
+impl<M: PrimeModulus> Clone for PrimeField<M> {
+    ghost is_clone = { λ a b. b ≡ a };
+
+    ghost is_infallible = { λ _. Unit {0} };
+
+    fn clone(&self) -> Result<Self, AllocError> {
+        Ok(*self)
+    }
+}
+
+impl<M: PrimeModulus> PrimeField<M> {
+    /// The number below the modulus.
+    pub fn value(self) -> u64
+        ensures { result ≡ self.value }
+    {
+        self.value
+    }
+
+    fn reduce(value: u64) -> Self
+        ensures { result.value ≡ value % M.MODULUS }
+    {
+        PrimeField {
+            value: value % M::MODULUS,
+            marker: PhantomData,
+        }
+    }
+}
+
+impl<M: PrimeModulus> Zero for PrimeField<M> {
+    ghost use Rattle.ark_base.specs.Element.{prime_field};
+
+    ghost zero = { (prime_field M.modulus.prime).zero };
+
+    fn zero() -> Self {
+        PrimeField {
+            value: 0,
+            marker: PhantomData,
+        }
+    }
+
+    fn is_zero(&self) -> bool {
+        self.value == 0
+    }
+}
+
+impl<M: PrimeModulus> One for PrimeField<M> {
+    ghost use Rattle.ark_base.specs.Element.{prime_field};
+
+    ghost one = { (prime_field M.modulus.prime).one };
+
+    fn one() -> Self {
+        PrimeField {
+            value: 1,
+            marker: PhantomData,
+        }
+    }
+
+    fn is_one(&self) -> bool {
+        self.value == 1
+    }
+}
+
+impl<M: PrimeModulus> Default for PrimeField<M> {
+    ghost use Rattle.ark_base.specs.Element.{prime_field};
+
+    ghost is_default = { λ x. x ≡ (prime_field M.modulus.prime).zero };
+
+    fn default() -> Self {
+        Zero::zero()
+    }
+}
+
+impl<M: PrimeModulus> From<u64> for PrimeField<M> {
+    ghost use Rattle.ark_base.specs.Element.{residue_of};
+
+    ghost from_gives = { λ n r. r ≡ residue_of M.modulus.prime n };
+
+    /// The number modulo the prime.
+    fn from(value: u64) -> Self {
+        PrimeField::reduce(value)
+    }
+}
+
+impl<M: PrimeModulus> Add<PrimeField<M>> for PrimeField<M> {
+    ghost use Rattle.ark_base.specs.Element.{prime_field};
+
+    type Output = PrimeField<M>;
+
+    ghost add_gives = { λ a b r. r ≡ (prime_field M.modulus.prime).plus a b };
+
+    fn add(self, rhs: PrimeField<M>) -> PrimeField<M> {
+        PrimeField::reduce(self.value + rhs.value)
+    }
+}
+
+impl<M: PrimeModulus> AddAssign<PrimeField<M>> for PrimeField<M> {
+    ghost use Rattle.ark_base.specs.Element.{prime_field};
+
+    ghost add_assign_gives = { λ a b r. r ≡ (prime_field M.modulus.prime).plus a b };
+
+    fn add_assign(&mut self, rhs: PrimeField<M>) {
+        *self = *self + rhs;
+    }
+}
+
+impl<M: PrimeModulus> Sub<PrimeField<M>> for PrimeField<M> {
+    ghost use Rattle.ark_base.specs.Element.{prime_field};
+
+    type Output = PrimeField<M>;
+
+    ghost sub_gives = { λ a b r. r ≡ minus (prime_field M.modulus.prime) a b };
+
+    fn sub(self, rhs: PrimeField<M>) -> PrimeField<M> {
+        PrimeField::reduce(self.value + (M::MODULUS - rhs.value))
+    }
+}
+
+impl<M: PrimeModulus> SubAssign<PrimeField<M>> for PrimeField<M> {
+    ghost use Rattle.ark_base.specs.Element.{prime_field};
+
+    ghost sub_assign_gives = { λ a b r. r ≡ minus (prime_field M.modulus.prime) a b };
+
+    fn sub_assign(&mut self, rhs: PrimeField<M>) {
+        *self = *self - rhs;
+    }
+}
+
+impl<M: PrimeModulus> Mul<PrimeField<M>> for PrimeField<M> {
+    ghost use Rattle.ark_base.specs.Element.{prime_field};
+
+    type Output = PrimeField<M>;
+
+    ghost mul_gives = { λ a b r. r ≡ (prime_field M.modulus.prime).times a b };
+
+    fn mul(self, rhs: PrimeField<M>) -> PrimeField<M> {
+        PrimeField::reduce(self.value * rhs.value)
+    }
+}
+
+impl<M: PrimeModulus> MulAssign<PrimeField<M>> for PrimeField<M> {
+    ghost use Rattle.ark_base.specs.Element.{prime_field};
+
+    ghost mul_assign_gives = { λ a b r. r ≡ (prime_field M.modulus.prime).times a b };
+
+    fn mul_assign(&mut self, rhs: PrimeField<M>) {
+        *self = *self * rhs;
+    }
+}
+
+impl<M: PrimeModulus> Neg for PrimeField<M> {
+    ghost use Rattle.ark_base.specs.Element.{prime_field};
+
+    type Output = PrimeField<M>;
+
+    ghost neg_gives = { λ a r. r ≡ (prime_field M.modulus.prime).negated a };
+
+    fn neg(self) -> PrimeField<M> {
+        PrimeField::reduce(M::MODULUS - self.value)
+    }
+}
+
+impl<M: PrimeModulus> Field for PrimeField<M> {
+    ghost use Rattle.ark_base.specs.Element.{prime_field, prime_field_laws, prime_field_equals, natural_residue};
+
+    ghost field = { prime_field M.modulus.prime };
+
+    /// By Euclid's algorithm. At each step a factor times the value leaves the remainder beside it.
+    fn inverse(&self) -> Option<Self> {
+        if self.value == 0 {
+            return None;
+        }
+        let mut last = M::MODULUS;
+        let mut last_factor = 0;
+        let mut rest = self.value;
+        let mut factor = 1;
+        'divide: while rest != 0 {
+            let taken = last / rest * factor % M::MODULUS;
+            let next_factor = (last_factor + M::MODULUS - taken) % M::MODULUS;
+            let next = last % rest;
+            last = rest;
+            last_factor = factor;
+            rest = next;
+            factor = next_factor;
+        }
+        Some(PrimeField {
+            value: last_factor,
+            marker: PhantomData,
+        })
+    }
+
+    ghost field_laws = { prime_field_laws M.modulus.prime };
+
+    ghost zero_law = { refl };
+
+    ghost one_law = { refl };
+
+    ghost equality_law = { prime_field_equals };
+
+    ghost clone_law = { λ a b e. e };
+
+    ghost default_law = { λ a e. e };
+
+    ghost from_law = { λ n r fits e. natural_residue M.modulus.prime n r e };
+
+    ghost can_add_law = { λ a b. tt };
+
+    ghost add_law = { λ a b r e. e };
+
+    ghost can_sub_law = { λ a b. tt };
+
+    ghost sub_law = { λ a b r e. e };
+
+    ghost can_mul_law = { λ a b. tt };
+
+    ghost mul_law = { λ a b r e. e };
+
+    ghost can_add_assign_law = { λ a b. tt };
+
+    ghost add_assign_law = { λ a b r e. e };
+
+    ghost can_sub_assign_law = { λ a b. tt };
+
+    ghost sub_assign_law = { λ a b r e. e };
+
+    ghost can_mul_assign_law = { λ a b. tt };
+
+    ghost mul_assign_law = { λ a b r e. e };
+
+    ghost can_neg_law = { λ a. tt };
+
+    ghost neg_law = { λ a r e. e };
+}
+
+impl<M: PrimeModulus> DomainCoeff<PrimeField<M>> for PrimeField<M> {
+    ghost use Rattle.ark_base.specs.Element.{prime_field, prime_field_laws, prime_module_laws, prime_field_equals};
+
+    ghost Meaning = { Self };
+
+    ghost meaning = { λ x. x };
+
+    ghost group = { itself (prime_field M.modulus.prime) };
+
+    ghost module_laws = { prime_module_laws M.modulus.prime };
+
+    ghost equality_meaning = { prime_field_equals };
+
+    ghost zero_meaning = { refl };
+
+    ghost can_add_meaning = { λ a b. tt };
+
+    ghost add_meaning = { λ a b r e. e };
+
+    ghost can_sub_meaning = { λ a b. tt };
+
+    ghost sub_meaning = { λ a b r e. e };
+
+    ghost can_add_assign_meaning = { λ a b. tt };
+
+    ghost add_assign_meaning = { λ a b r e. e };
+
+    ghost can_sub_assign_meaning = { λ a b. tt };
+
+    ghost sub_assign_meaning = { λ a b r e. e };
+
+    ghost can_mul_assign_meaning = { λ a f. tt };
+
+    ghost mul_assign_meaning = { λ a f r e. e ∙ (prime_field_laws M.modulus.prime).times_comm a f };
+}
+
+impl<M: PrimeModulus> FftField for PrimeField<M> {
+    ghost use Rattle.ark_base.specs.Element.{prime_root, prime_roots, generator_of, generator_not_zero, two_adic_root, large_root, prime_greatest, prime_itself};
+
+    ghost adicity = { adicity_of M.TWO_ADICITY M.SMALL_SUBGROUP_BASE M.SMALL_SUBGROUP_BASE_ADICITY };
+
+    ghost root = { prime_root M.modulus };
+
+    const GENERATOR: Self = PrimeField {
+        value: M::GENERATOR,
+        marker: PhantomData,
+    };
+
+    ghost GENERATOR = { generator_of M.modulus };
+
+    const TWO_ADICITY: u32 = M::TWO_ADICITY;
+
+    ghost TWO_ADICITY = { M.TWO_ADICITY };
+
+    const TWO_ADIC_ROOT_OF_UNITY: Self = PrimeField {
+        value: M::TWO_ADIC_ROOT_OF_UNITY,
+        marker: PhantomData,
+    };
+
+    ghost TWO_ADIC_ROOT_OF_UNITY = { two_adic_root M.modulus };
+
+    const SMALL_SUBGROUP_BASE: Option<u32> = M::SMALL_SUBGROUP_BASE;
+
+    ghost SMALL_SUBGROUP_BASE = { M.SMALL_SUBGROUP_BASE };
+
+    const SMALL_SUBGROUP_BASE_ADICITY: Option<u32> = M::SMALL_SUBGROUP_BASE_ADICITY;
+
+    ghost SMALL_SUBGROUP_BASE_ADICITY = { M.SMALL_SUBGROUP_BASE_ADICITY };
+
+    const LARGE_SUBGROUP_ROOT_OF_UNITY: Option<Self> = match M::LARGE_SUBGROUP_ROOT_OF_UNITY {
+        Some(value) => Some(PrimeField {
+            value,
+            marker: PhantomData,
+        }),
+        None => None,
+    };
+
+    ghost LARGE_SUBGROUP_ROOT_OF_UNITY = { large_root M.modulus };
+
+    fn get_root_of_unity(n: u64) -> Option<Self> {
+        if n == 0 {
+            return None;
+        }
+        if M::GREATEST_SIZE % n != 0 {
+            return None;
+        }
+        Some(Self::GENERATOR.pow((M::MODULUS - 1) / n))
+    }
+
+    ghost adicity_law = { refl };
+
+    ghost roots_law = { prime_roots _ _ M.modulus };
+
+    ghost greatest_law = { prime_greatest _ _ M.modulus };
+
+    ghost generator_law = { generator_not_zero _ _ M.modulus };
+
+    ghost itself_law = { prime_itself _ _ M.modulus };
+}
+
+/// The prime 5.
+pub struct Five;
+
+impl PrimeModulus for Five {
+    const MODULUS: u64 = 5;
+
+    ghost MODULUS = { 5 };
+
+    const GENERATOR: u64 = 2;
+
+    ghost GENERATOR = { 2 };
+
+    const TWO_ADICITY: u32 = 2;
+
+    ghost TWO_ADICITY = { 2 };
+
+    const TWO_ADIC_ROOT_OF_UNITY: u64 = 2;
+
+    ghost TWO_ADIC_ROOT_OF_UNITY = { 2 };
+
+    const SMALL_SUBGROUP_BASE: Option<u32> = None;
+
+    ghost SMALL_SUBGROUP_BASE = { None };
+
+    const SMALL_SUBGROUP_BASE_ADICITY: Option<u32> = None;
+
+    ghost SMALL_SUBGROUP_BASE_ADICITY = { None };
+
+    const LARGE_SUBGROUP_ROOT_OF_UNITY: Option<u64> = None;
+
+    ghost LARGE_SUBGROUP_ROOT_OF_UNITY = { None };
+
+    const GREATEST_SIZE: u64 = 4;
+
+    ghost GREATEST_SIZE = { 4 };
+
+    ghost modulus = { record {
+      prime = prime_from_test 1 5 refl;
+      small = lit< tt;
+      generator = generator_from_test 5 (adicity_of 2 None None) 2 refl;
+      two_adic_is = refl;
+      large_is = refl;
+      greatest_is = refl;
+    } };
+}
+
+/// The prime 433, which is one more than 2^4 * 3^3.
+pub struct Mixed;
+
+impl PrimeModulus for Mixed {
+    const MODULUS: u64 = 433;
+
+    ghost MODULUS = { 433 };
+
+    const GENERATOR: u64 = 5;
+
+    ghost GENERATOR = { 5 };
+
+    const TWO_ADICITY: u32 = 4;
+
+    ghost TWO_ADICITY = { 4 };
+
+    const TWO_ADIC_ROOT_OF_UNITY: u64 = 238;
+
+    ghost TWO_ADIC_ROOT_OF_UNITY = { 238 };
+
+    const SMALL_SUBGROUP_BASE: Option<u32> = Some(3);
+
+    ghost SMALL_SUBGROUP_BASE = { Some 3 };
+
+    const SMALL_SUBGROUP_BASE_ADICITY: Option<u32> = Some(3);
+
+    ghost SMALL_SUBGROUP_BASE_ADICITY = { Some 3 };
+
+    const LARGE_SUBGROUP_ROOT_OF_UNITY: Option<u64> = Some(5);
+
+    ghost LARGE_SUBGROUP_ROOT_OF_UNITY = { Some 5 };
+
+    const GREATEST_SIZE: u64 = 432;
+
+    ghost GREATEST_SIZE = { 432 };
+
+    ghost modulus = { record {
+      prime = prime_from_test 19 433 refl;
+      small = lit< tt;
+      generator = generator_from_test 433 (adicity_of 4 (Some 3) (Some 3)) 5 refl;
+      two_adic_is = refl;
+      large_is = refl;
+      greatest_is = refl;
+    } };
+}
+
+/// The prime 65537, which is one more than 2^16.
+pub struct Fermat;
+
+impl PrimeModulus for Fermat {
+    const MODULUS: u64 = 65537;
+
+    ghost MODULUS = { 65537 };
+
+    const GENERATOR: u64 = 3;
+
+    ghost GENERATOR = { 3 };
+
+    const TWO_ADICITY: u32 = 16;
+
+    ghost TWO_ADICITY = { 16 };
+
+    const TWO_ADIC_ROOT_OF_UNITY: u64 = 3;
+
+    ghost TWO_ADIC_ROOT_OF_UNITY = { 3 };
+
+    const SMALL_SUBGROUP_BASE: Option<u32> = None;
+
+    ghost SMALL_SUBGROUP_BASE = { None };
+
+    const SMALL_SUBGROUP_BASE_ADICITY: Option<u32> = None;
+
+    ghost SMALL_SUBGROUP_BASE_ADICITY = { None };
+
+    const LARGE_SUBGROUP_ROOT_OF_UNITY: Option<u64> = None;
+
+    ghost LARGE_SUBGROUP_ROOT_OF_UNITY = { None };
+
+    const GREATEST_SIZE: u64 = 65536;
+
+    ghost GREATEST_SIZE = { 65536 };
+
+    ghost modulus = { record {
+      prime = prime_from_test 255 65537 refl;
+      small = lit< tt;
+      generator = generator_from_test 65537 (adicity_of 16 None None) 3 refl;
+      two_adic_is = refl;
+      large_is = refl;
+      greatest_is = refl;
+    } };
+}
+
+/// The field of 5 elements.
+pub type F5 = PrimeField<Five>;
+
+/// The field of 433 elements, with mixed radix sizes `2^a * 3^b`.
+pub type F433 = PrimeField<Mixed>;
+
+/// The field of 65537 elements.
+pub type F65537 = PrimeField<Fermat>;
