@@ -12,6 +12,15 @@ use Rattle.ark_math.proofs.Solve.{◌⊖◌, ◌⊗◌, nought}
 use Rattle.ark_math.proofs.Ring.{ring2_by, ring3_by}
 use Rattle.ark_math.proofs.UnivariateValues.{value-difference, value-monomial}
 
+-- the inverses of what a domain is made of
+pub record Inverses {F : Type 0} (K : FieldOn F) (d : Domain F) : Type 0 where
+  pub of_root : F
+  pub of_offset : F
+  pub of_size : F
+  pub root : K.times d.root of_root ≡ K.one
+  pub offset : K.times d.offset of_offset ≡ K.one
+  pub size : K.times (natural K d.size) of_size ≡ K.one
+
 module _ {F : Type 0} (K : FieldOn F) (N : IsField K) where
   pub power_not_zero : (x : F) (n : ℕ) → x ≢ K.zero → power K x n ≢ K.zero
   power_not_zero x zero ne e = N.one_not_zero e
@@ -43,15 +52,6 @@ module _ {F : Type 0} (K : FieldOn F) (N : IsField K) where
   minus_same a b e = ap (λ t. minus K t b) e ∙ N.plus_negated b
 
   module _ (d : Domain F) where
-    -- the inverses of what a domain is made of
-    pub record Inverses : Type 0 where
-      pub of_root : F
-      pub of_offset : F
-      pub of_size : F
-      pub root : K.times d.root of_root ≡ K.one
-      pub offset : K.times d.offset of_offset ≡ K.one
-      pub size : K.times (natural K d.size) of_size ≡ K.one
-
     pub value-vanishing : (x : F) → IsValue K (vanishing K d) x (minus K (power K x d.size) (power K d.offset d.size))
     value-vanishing x =
         subst (IsValue K (vanishing K d) x) (ap₂ (minus K) (N.times_one (power K x d.size)) (one_times K N (power K d.offset d.size)))
@@ -75,7 +75,7 @@ module _ {F : Type 0} (K : FieldOn F) (N : IsField K) where
     pub element-vanishes : (i : ℕ) → IsValue K (vanishing K d) (element K d i) K.zero
     element-vanishes i = subst (IsValue K (vanishing K d) (element K d i)) (minus_same _ _ (element-power i)) (value-vanishing d (element K d i))
 
-    pub has_inverses : natural K d.size ≢ K.zero → d.offset ≢ K.zero → Inverses d
+    pub has_inverses : natural K d.size ≢ K.zero → d.offset ≢ K.zero → Inverses K d
     has_inverses ne off =
         let u = N.inverts d.root (root_not_zero (positive d.size ne)) in
         let p = N.inverts d.offset off in

@@ -32,6 +32,12 @@ half_strides n s t pos whole =
     let w : 2 ^ (n - 1) * s * 2 / 2 ≡ t = ap (λ u. u / 2) (sym e) ∙ whole in
     (omega arith, ap (λ u. u / 2) f ∙ w)
 
+pub stride_within : (s h n : ℕ) → 0 < h → s * h ≡ n → n < 2 ^ 63 → s * 2 < 2 ^ 64
+stride_within s (suc h) n pos e l =
+    let f : s * suc h ≡ s * h + s = omega arith in
+    omega arith
+stride_within s zero n pos e l = absurd (omega arith)
+
 -- the butterflies of a level, and those of its halves
 pub count_level : (n : ℕ) → 0 < n → 2 ^ n / 2 * n ≡ 2 ^ (n - 1) + (2 ^ (n - 1) / 2 * (n - 1) + 2 ^ (n - 1) / 2 * (n - 1))
 count_level zero pos = absurd (omega arith)

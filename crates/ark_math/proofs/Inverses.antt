@@ -19,6 +19,10 @@ inverse_of_root : {F : Type 0} (K : FieldOn F) (w : F) (n : ℕ) → power K w n
 inverse_of_root K w zero h ne = absurd (ne refl)
 inverse_of_root K w (suc n) h ne = (power K w n, h)
 
+-- what has an inverse isn't zero
+pub not_zero : {F : Type 0} (K : FieldOn F) → IsField K → (a b : F) → K.times a b ≡ K.one → a ≢ K.zero
+not_zero K N a b e z = N.one_not_zero (sym e ∙ (ap (λ t. K.times t b) z ∙ (N.times_comm K.zero b ∙ times_zero K N b)))
+
 module _ {F M : Type 0} {K : FieldOn F} {V : ModuleOn F M} (N : IsField K) (L : IsModule K V) where
   unscaled : (a b : F) (x : M) → K.times a b ≡ K.one → V.scale a (V.scale b x) ≡ x
   unscaled a b x e =
@@ -81,4 +85,4 @@ module _ {F M : Type 0} {K : FieldOn F} {V : ModuleOn F M} (N : IsField K) (L : 
 pub root_not_zero : {F : Type 0} (K : FieldOn F) → IsField K → (w : F) (n : ℕ) → HasOrder K w n → natural K n ≢ K.zero → w ≢ K.zero
 root_not_zero K N w n o ne z =
     let v = inverse_of_root K w n o.one ne in
-    N.one_not_zero (sym v.1 ∙ ap (λ t. K.times t v.0) z ∙ N.times_comm K.zero v.0 ∙ times_zero K N v.0)
+    not_zero K N w v.0 v.1 z

@@ -20,6 +20,7 @@ pub mod PowerMod
 pub mod Powers
 pub mod Prime
 pub mod Quotients
+pub mod Radix2
 pub mod Regrouped
 pub mod Reindexed
 pub mod Reversal
@@ -36,5 +37,6 @@ pub mod UnivariateLoops
 pub mod UnivariatePairs
 pub mod UnivariateProducts
 pub mod UnivariateValues
+pub mod Vanishing
 pub mod Weights
 pub mod Zeros

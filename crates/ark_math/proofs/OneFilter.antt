@@ -18,7 +18,7 @@ use Rattle.ark_math.proofs.Contained.{search_below, contained_size, contained_of
 use Rattle.ark_math.proofs.Filters.{Inside, IsRow, start, ratio, below, inner_positive, outer_power_not_zero, row_is_filter, row-inside, row-anywhere, row-degree}
 
 module _ {F : Type 0} (K : FieldOn F) (N : IsField K) (s d : Domain F) where
-  pub inside_from : HasOrder K s.root s.size → HasOrder K d.root d.size → natural K d.size ≢ K.zero → s.offset ≢ K.zero → d.offset ≢ K.zero → d.size % s.size ≡ 0 → power K s.offset d.size ≡ power K d.offset d.size → Inside K N s d
+  pub inside_from : HasOrder K s.root s.size → HasOrder K d.root d.size → natural K d.size ≢ K.zero → s.offset ≢ K.zero → d.offset ≢ K.zero → d.size % s.size ≡ 0 → power K s.offset d.size ≡ power K d.offset d.size → Inside K s d
   inside_from p o ne a b z e =
       let k : s.size * (d.size / s.size) ≡ d.size = omega (arith, mod-add-div d.size s.size) in
       let some : natural K s.size ≢ K.zero =
@@ -33,14 +33,14 @@ module _ {F : Type 0} (K : FieldOn F) (N : IsField K) (s d : Domain F) where
         of_outer = has_inverses K N d o ne b;
       }
 
-  pub contained_inside : HasOrder K s.root s.size → HasOrder K d.root d.size → natural K d.size ≢ K.zero → s.offset ≢ K.zero → d.offset ≢ K.zero → 0 < s.size → IsContained K s d → Inside K N s d
+  pub contained_inside : HasOrder K s.root s.size → HasOrder K d.root d.size → natural K d.size ≢ K.zero → s.offset ≢ K.zero → d.offset ≢ K.zero → 0 < s.size → IsContained K s d → Inside K s d
   contained_inside p o ne a b pos c = inside_from p o ne a b (contained_size K N s d p o pos b c) (contained_offset K N s d p o pos c)
 
-  module _ (c : Inside K N s d) where
+  module _ (c : Inside K s d) where
     -- ---- there is one
 
     abbrev all_items : ℕ → F
-    all_items i = cond (eqb (i % s.size) 0) (K.times (start K N s d c) (power K (ratio K N s d c) (i / s.size))) K.zero
+    all_items i = cond (eqb (i % s.size) 0) (K.times (start K s d c) (power K (ratio K s d c) (i / s.size))) K.zero
 
     abbrev row : ℕ → F
     row = cut K (d.size - s.size + 1) all_items
@@ -51,7 +51,7 @@ module _ {F : Type 0} (K : FieldOn F) (N : IsField K) (s d : Domain F) where
     at_multiple : (k : ℕ) → s.size * k / s.size ≡ k
     at_multiple k = let e : s.size * k ≡ k * s.size + 0 = omega arith in ap (λ t. t / s.size) e ∙ div-mul-add k s.size 0 (inner_positive K N s d c)
 
-    pub row_is_row : IsRow K N s d c row
+    pub row_is_row : IsRow K s d c row
     row_is_row = record {
       short = cut-outside K (d.size - s.size + 1) all_items;
       at = λ k l.
@@ -59,7 +59,7 @@ module _ {F : Type 0} (K : FieldOn F) (N : IsField K) (s d : Domain F) where
           let z : s.size * k + 0 ≡ s.size * k = omega arith in
           cut-inside K (d.size - s.size + 1) all_items (s.size * k) (omega (arith, c.whole))
           ∙ cond-true _ _ _ (eq-eqb _ 0 (ap (λ t. t % s.size) (sym z) ∙ at_step k 0 (inner_positive K N s d c)))
-          ∙ ap (λ t. K.times (start K N s d c) (power K (ratio K N s d c) t)) (at_multiple k);
+          ∙ ap (λ t. K.times (start K s d c) (power K (ratio K s d c) t)) (at_multiple k);
       apart = λ k r l a b.
           let i = s.size * k + r in
           let none : all_items i ≡ K.zero = cond-false _ _ _ (ne_eqb (i % s.size) 0 (λ e. let f = at_step k r b in omega arith)) in

@@ -25,7 +25,7 @@ module _ {F : Type 0} (K : FieldOn F) (N : IsField K) where
   same_from_difference : (q p : ℕ → F) → difference K q p ≡ nothing K → q ≡ p
   same_from_difference q p none = fun_ext (λ i. ring2_by K N (λ x y. (x, y, x ⊖ y, nought)) refl (q i) (p i) (ap (λ t. t i) none))
 
-  one_leading : (d : ℕ → F) (k j : ℕ) → d k ≢ K.zero → d j ≢ K.zero → IsBelow K (k + 1) d → IsBelow K (j + 1) d → k ≡ j
+  pub one_leading : (d : ℕ → F) (k j : ℕ) → d k ≢ K.zero → d j ≢ K.zero → IsBelow K (k + 1) d → IsBelow K (j + 1) d → k ≡ j
   one_leading d k j p q f g =
       ⊎_elim
       (λ (h : k ≡ j). h)

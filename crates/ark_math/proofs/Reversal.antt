@@ -20,6 +20,10 @@ reversed_high k p q e =
     let h : reversed (suc k) q ≡ 2 * reversed k (q - 2 ^ k) + 1 = grind (arith, nat_tests) in
     h ∙ ap (λ t. 2 * reversed k t + 1) s
 
+pub reversed_none : (k : ℕ) → reversed k 0 ≡ 0
+reversed_none zero = refl
+reversed_none (suc k) = reversed_low k 0 (pow_pos k) ∙ (let h = reversed_none k in omega arith)
+
 -- an index below 2 ^ suc k is p, or 2 ^ k + p, for a p below 2 ^ k
 pub data Half (k : ℕ) : ℕ → Type 0 where
   low : (p : ℕ) → p < 2 ^ k → Half k p

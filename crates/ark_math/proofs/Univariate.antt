@@ -1,5 +1,5 @@
 -- Coefficient functions are a module; what is below a bound; the degree.
-use Rattle.std.proofs.Common.{◌≡◌, ◌≢◌, ℕ, suc, ◌-◌, ◌<◌, ◌≤◌, sym, ◌∙◌, ap, ap₂, refl, arith, ⊎_elim, eqb}
+use Rattle.std.proofs.Common.{◌≡◌, ◌≢◌, ℕ, suc, ◌-◌, ◌<◌, ◌≤◌, sym, ◌∙◌, ap, ap₂, refl, subst, arith, ⊎_elim, eqb}
 use mathlib.Core.Path.{fun_ext}
 use Rattle.std.proofs.lemmas.Bool.{cases_eq, cases_lt, cases_order, cond-true, cond-false, eq-eqb, ne_eqb}
 use Rattle.ark_math.specs.Field.{FieldOn, IsField}
@@ -80,3 +80,9 @@ module _ {F : Type 0} (K : FieldOn F) (N : IsField K) (n : ℕ) (a : ℕ → F) 
 
   pub scaled-below : (c : F) → IsBelow K n a → IsBelow K n (scaled K c a)
   scaled-below c f i l = ap (K.times c) (f i l) ∙ scale_zero (itself_is_module K N) c
+
+pub monomial-opposite : {F : Type 0} (K : FieldOn F) (N : IsField K) (n : ℕ) (c : F) → monomial K n (K.negated c) ≡ opposite K (monomial K n c)
+monomial-opposite K N n c = fun_ext (λ i. ⊎_elim
+    (λ (e : n ≡ i). subst (λ t. monomial K n (K.negated c) t ≡ K.negated (monomial K n c t)) e (monomial-same K n (K.negated c) ∙ ap K.negated (sym (monomial-same K n c))))
+    (λ (ne : n ≢ i). monomial-other K n (K.negated c) i ne ∙ ring1 K N (λ x. (nought, negative nought)) refl K.one ∙ ap K.negated (sym (monomial-other K n c i ne)))
+    (cases_eq n i))

@@ -17,6 +17,11 @@ use Rattle.ark_math.proofs.UnivariateProducts.{product-added, added-product, pro
 abbrev pub cut : {F : Type 0} → FieldOn F → ℕ → (ℕ → F) → ℕ → F
 cut K n a i = cond (nat_lt i n) (a i) K.zero
 
+-- a product by rows: all that the first coefficient gives, then what the second adds, and so on; after i rows, and j
+-- items of row i
+abbrev pub rows : {F : Type 0} → FieldOn F → (ℕ → F) → (ℕ → F) → ℕ → ℕ → ℕ → F
+rows K a b i j = added K (product K (cut K i a) b) (product K (monomial K i (a i)) (cut K j b))
+
 module _ {F : Type 0} (K : FieldOn F) where
   pub cut-inside : (n : ℕ) (a : ℕ → F) (i : ℕ) → i < n → cut K n a i ≡ a i
   cut-inside n a i l = cond-true (nat_lt i n) (a i) K.zero (lt-ltb i n l)
@@ -44,11 +49,7 @@ module _ {F : Type 0} (K : FieldOn F) (N : IsField K) where
       (cases_eq n i))
       (cases_lt i n))
 
-  -- ---- rows: all that the first coefficient gives, then what the second adds, and so on
-
-  -- after i rows, and j items of row i
-  abbrev pub rows : (ℕ → F) → (ℕ → F) → ℕ → ℕ → ℕ → F
-  rows a b i j = added K (product K (cut K i a) b) (product K (monomial K i (a i)) (cut K j b))
+  -- ---- rows
 
   pub rows-none : (a b : ℕ → F) → product K (cut K 0 a) b ≡ nothing K
   rows-none a b = ap (λ t. product K t b) (cut-none K a) ∙ nothing-product K N b
@@ -57,15 +58,15 @@ module _ {F : Type 0} (K : FieldOn F) (N : IsField K) where
   pub rows-row : (a b : ℕ → F) (i : ℕ) → added K (product K (cut K i a) b) (product K (monomial K i (a i)) b) ≡ product K (cut K (i + 1) a) b
   rows-row a b i = sym (ap (λ t. product K t b) (cut-more i a) ∙ added-product K N (cut K i a) (monomial K i (a i)) b)
 
-  pub rows-begin : (a b : ℕ → F) (i : ℕ) → rows a b i 0 ≡ product K (cut K i a) b
+  pub rows-begin : (a b : ℕ → F) (i : ℕ) → rows K a b i 0 ≡ product K (cut K i a) b
   rows-begin a b i =
       ap (added K (product K (cut K i a) b)) (ap (product K (monomial K i (a i))) (cut-none K b) ∙ product-nothing K N (monomial K i (a i)))
       ∙ (coefficients_are_module K N).plus_zero (product K (cut K i a) b)
 
-  pub rows-end : (a b : ℕ → F) (i n : ℕ) → IsBelow K n b → rows a b i n ≡ product K (cut K (i + 1) a) b
+  pub rows-end : (a b : ℕ → F) (i n : ℕ) → IsBelow K n b → rows K a b i n ≡ product K (cut K (i + 1) a) b
   rows-end a b i n f = ap (λ t. added K (product K (cut K i a) b) (product K (monomial K i (a i)) t)) (cut-all K n b f) ∙ rows-row a b i
 
-  pub rows-more : (a b : ℕ → F) (i j : ℕ) → rows a b i (j + 1) ≡ added K (rows a b i j) (monomial K (i + j) (K.times (a i) (b j)))
+  pub rows-more : (a b : ℕ → F) (i j : ℕ) → rows K a b i (j + 1) ≡ added K (rows K a b i j) (monomial K (i + j) (K.times (a i) (b j)))
   rows-more a b i j =
       let m = monomial K i (a i) in
       ap (added K (product K (cut K i a) b))
@@ -74,19 +75,19 @@ module _ {F : Type 0} (K : FieldOn F) (N : IsField K) where
       ∙ ap (added K (product K m (cut K j b))) (monomial-monomial K N i j (a i) (b j)))
       ∙ sym ((coefficients_are_module K N).plus_assoc (product K (cut K i a) b) (product K m (cut K j b)) (monomial K (i + j) (K.times (a i) (b j))))
 
-  pub rows-same : (a b : ℕ → F) (i j : ℕ) → rows a b i (j + 1) (i + j) ≡ K.plus (rows a b i j (i + j)) (K.times (a i) (b j))
-  rows-same a b i j = ap (λ t. t (i + j)) (rows-more a b i j) ∙ ap (K.plus (rows a b i j (i + j))) (monomial-same K (i + j) (K.times (a i) (b j)))
+  pub rows-same : (a b : ℕ → F) (i j : ℕ) → rows K a b i (j + 1) (i + j) ≡ K.plus (rows K a b i j (i + j)) (K.times (a i) (b j))
+  rows-same a b i j = ap (λ t. t (i + j)) (rows-more a b i j) ∙ ap (K.plus (rows K a b i j (i + j))) (monomial-same K (i + j) (K.times (a i) (b j)))
 
-  pub rows-other : (a b : ℕ → F) (i j k : ℕ) → k ≢ i + j → rows a b i (j + 1) k ≡ rows a b i j k
+  pub rows-other : (a b : ℕ → F) (i j k : ℕ) → k ≢ i + j → rows K a b i (j + 1) k ≡ rows K a b i j k
   rows-other a b i j k ne =
       ap (λ t. t k) (rows-more a b i j)
-      ∙ ap (K.plus (rows a b i j k)) (monomial-other K (i + j) (K.times (a i) (b j)) k (λ e. ne (sym e)))
-      ∙ N.plus_zero (rows a b i j k)
+      ∙ ap (K.plus (rows K a b i j k)) (monomial-other K (i + j) (K.times (a i) (b j)) k (λ e. ne (sym e)))
+      ∙ N.plus_zero (rows K a b i j k)
 
   -- one item of a row, as a list is written
-  pub rows-set : (a b : ℕ → F) (i j : ℕ) (c : List F) → i + j < length c → of_list K c ≡ rows a b i j → of_list K (set c (i + j) (K.plus (get_or c (i + j) K.zero) (K.times (a i) (b j)))) ≡ rows a b i (j + 1)
+  pub rows-set : (a b : ℕ → F) (i j : ℕ) (c : List F) → i + j < length c → of_list K c ≡ rows K a b i j → of_list K (set c (i + j) (K.plus (get_or c (i + j) K.zero) (K.times (a i) (b j)))) ≡ rows K a b i (j + 1)
   rows-set a b i j c l e =
-      of_list-set K c (i + j) (K.plus (get_or c (i + j) K.zero) (K.times (a i) (b j))) (rows a b i (j + 1)) l
+      of_list-set K c (i + j) (K.plus (get_or c (i + j) K.zero) (K.times (a i) (b j))) (rows K a b i (j + 1)) l
       (rows-same a b i j ∙ ap (λ t. K.plus (t (i + j)) (K.times (a i) (b j))) (sym e))
       (λ k ne. rows-other a b i j k ne ∙ ap (λ t. t k) (sym e))
 

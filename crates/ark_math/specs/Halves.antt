@@ -12,6 +12,11 @@ abbrev pub reversed : ℕ → ℕ → ℕ
 reversed zero p = 0
 reversed (suc k) p = if nat_lt p (2 ^ k) then 2 * reversed k p else 2 * reversed k (p - 2 ^ k) + 1
 
+-- the first n powers of w
+pub record ArePowers {F : Type 0} (K : FieldOn F) (w : F) (n : ℕ) (table : List F) : Type 0 where
+  pub len : length table ≡ n
+  pub powers : (i : ℕ) → i < n → get_or table i K.zero ≡ power K w i
+
 -- the powers of w from 0 on, half as many as its order. At order one there are none
 pub record IsHalfTable {F : Type 0} (K : FieldOn F) (w : F) (table : List F) : Type 0 where
   pub powers : (i : ℕ) → i < length table → get_or table i K.zero ≡ power K w i

@@ -1,7 +1,7 @@
 -- Examples, computed from the definitions.
 use Rattle.std.specs.Prelude.{◌≡◌, ℕ, ◌+◌, ◌-◌, ◌*◌, ◌%◌, [], ◌∷◌, refl}
 use Rattle.ark_math.specs.Field.{FieldOn}
-use Rattle.ark_math.specs.Module.{itself, listed}
+use Rattle.ark_math.specs.Module.{itself, listed, sum_below}
 use Rattle.ark_math.specs.Domain.{Domain, element, radix2, mixed_radix}
 use Rattle.ark_math.specs.Transform.{transform}
 use Rattle.ark_math.specs.Univariate.{added, product, of_list, of_pairs, value_below}
@@ -51,6 +51,10 @@ value_at_three = refl
 
 coset_vanishing : listed 3 (vanishing (modulo 5) two) ≡ 1 ∷ 0 ∷ 1 ∷ []
 coset_vanishing = refl
+
+-- the values of 1 + 2x + 3x^2, weighted by 4, 4, 4, 4, give its value at zero
+weights_at_zero : sum_below (itself (modulo 5)) 4 (λ i. (modulo 5).times 4 (value_below (modulo 5) 3 (of_list (modulo 5) (1 ∷ 2 ∷ 3 ∷ [])) (element (modulo 5) four i))) ≡ 1
+weights_at_zero = refl
 
 -- one at 2 and 3, zero at 1 and 4
 filter_of_coset : listed 4 (λ i. value_below (modulo 5) 3 (of_list (modulo 5) (3 ∷ 0 ∷ 2 ∷ [])) (element (modulo 5) four i)) ≡ 0 ∷ 1 ∷ 0 ∷ 1 ∷ []

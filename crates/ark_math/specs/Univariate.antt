@@ -1,6 +1,7 @@
 -- Polynomials by their coefficients: a form denotes a function from exponents (or from terms) to coefficients, and two
 -- polynomials are equal if all their coefficients are.
-use Rattle.std.specs.Prelude.{◌≡◌, ◌≢◌, ℕ, suc, ◌+◌, ◌-◌, ◌<◌, ◌≤◌, List, [], ◌∷◌, length, get_or, ◌==◌, if◌then◌else◌}
+use Rattle.std.specs.Prelude.{◌≡◌, ◌≢◌, ℕ, suc, ◌+◌, ◌-◌, ◌<◌, ◌≤◌, List, [], ◌∷◌, length, get_or, All, ◌==◌, if◌then◌else◌}
+use Rattle.std.specs.List.{AllPairs}
 use Rattle.ark_math.specs.Field.{FieldOn, power, minus}
 use Rattle.ark_math.specs.Module.{sum_below, itself}
 
@@ -69,3 +70,8 @@ IsTrimmed K c = 0 < length c → of_list K c (length c - 1) ≢ K.zero
 abbrev pub of_pairs : {F : Type 0} → FieldOn F → List (ℕ × F) → ℕ → F
 of_pairs K [] = nothing K
 of_pairs K (p ∷ ps) = added K (monomial K p.0 p.1) (of_pairs K ps)
+
+-- exponents strictly rising, no coefficient zero
+pub record IsSparse {F : Type 0} (K : FieldOn F) (ps : List (ℕ × F)) : Type 0 where
+  pub rising : AllPairs (λ p q. p.0 < q.0) ps
+  pub some : All (λ p. p.1 ≢ K.zero) ps
