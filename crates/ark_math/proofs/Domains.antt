@@ -1,5 +1,5 @@
 -- Domains by their sizes and offsets, and lists cut before a transform.
-use Rattle.std.proofs.Common.{◌≡◌, ◌≢◌, ℕ, ◌<◌, ◌==◌, ◌&&◌, Bool, true, Decides, List, take, get_or, length, refl, sym, ap, subst, ◌∙◌, arith}
+use Rattle.std.proofs.Common.{◌≡◌, ◌≢◌, ℕ, ◌==◌, ◌&&◌, Bool, Decides, List, take, sym, ap, subst, ◌∙◌}
 use Rattle.std.proofs.lemmas.Bool.{and_parts, and_from, eqb-true, eq-eqb}
 use Rattle.std.proofs.lemmas.List.{get_or-take}
 use Rattle.ark_math.specs.Field.{FieldOn, natural}
@@ -14,14 +14,14 @@ use Rattle.ark_math.proofs.Sizes.{even_size}
 pub same_domain : {F : Type 0} (kind : Kind) (root : ℕ → F) (m n : ℕ) (v w o p : F) (t : Bool) → v ≡ root m → w ≡ root n → Decides t (o ≡ p) →
     Decides ((m == n) && t) (◌≡◌ {A = Domain F} (record { kind = kind; size = m; root = v; offset = o }) (record { kind = kind; size = n; root = w; offset = p }))
 same_domain kind root m n v w o p t e f d = (
-    (λ h.
-        let parts = and_parts (m == n) t h in
-        let size : m ≡ n = eqb-true m n parts.0 in
-        let roots : v ≡ w = e ∙ ap root size ∙ sym f in
-        let offsets : o ≡ p = d.0 parts.1 in
-        λ i. record { kind = kind; size = size i; root = roots i; offset = offsets i }),
-    λ h.
-        and_from (m == n) t (eq-eqb m n (ap (λ x. x.size) h)) (d.1 (ap (λ x. x.offset) h)),
+  (λ h.
+      let parts = and_parts (m == n) t h in
+      let size : m ≡ n = eqb-true m n parts.0 in
+      let roots : v ≡ w = e ∙ ap root size ∙ sym f in
+      let offsets : o ≡ p = d.0 parts.1 in
+      λ i. record { kind = kind; size = size i; root = roots i; offset = offsets i }),
+  λ h.
+      and_from (m == n) t (eq-eqb m n (ap (λ x. x.size) h)) (d.1 (ap (λ x. x.offset) h)),
 )
 
 pub size_supported : (s : Adicity) (kind : Kind) (n : ℕ) → IsSize s kind n → IsSupported s n

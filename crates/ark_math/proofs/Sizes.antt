@@ -1,5 +1,5 @@
 -- The sizes of domains: powers of two, and the least one.
-use Rattle.std.proofs.Common.{◌≡◌, ℕ, suc, ◌*◌, ◌/◌, ◌^◌, ◌<◌, ◌≤◌, max, inl, inr, sym, ap, ◌∙◌, subst, arith, Option, None, Some, refl, pow-suc}
+use Rattle.std.proofs.Common.{◌≡◌, ℕ, suc, ◌*◌, ◌/◌, ◌^◌, ◌<◌, ◌≤◌, max, inl, inr, sym, ap, ◌∙◌, subst, arith, Option, None, Some, refl, pow-suc, mul-one}
 use Rattle.std.proofs.Math.Pow.{pow-lt}
 use Rattle.std.proofs.Math.Nat.{pow-le-pow_right, pow-zero, one-le-pow}
 use Rattle.std.proofs.lemmas.Bool.{cases_lt}
@@ -103,6 +103,11 @@ module _ (s : Adicity) where
 
 pub even_size : (s : Adicity) (n twos odds : ℕ) → Splits s n twos odds → odds ≡ 0 → IsSize s radix2 n
 even_size s n twos odds h e = (twos, subst (λ o. Splits s n twos o) e h)
+
+pub power_of_two : (s : Adicity) (n twos odds : ℕ) → n ≡ 2 ^ twos * odd_base s.odd ^ odds → odds ≡ 0 → n ≡ 2 ^ twos
+power_of_two s n twos odds h e =
+    let one : odd_base s.odd ^ odds ≡ 1 = ap (λ o. odd_base s.odd ^ o) e ∙ pow-zero (odd_base s.odd) in
+    h ∙ ap (λ x. 2 ^ twos * x) one ∙ mul-one (2 ^ twos)
 
 pub radix2_sizes : (s : Adicity) (k : ℕ) (kind : Kind) (n : ℕ) → IsRadix2 s k kind n → IsSize s kind n × (k ≤ n)
 radix2_sizes s k radix2 n h = (h.holds, h.above)

@@ -1,0 +1,40 @@
+use Rattle.std.proofs.Common.{◌≡◌, ◌<◌, ◌≤◌, ℕ, map, length, get_or, sym, ap, ◌∙◌, arith, rules, refl, add-one}
+use Rattle.ark_math.specs.Field.{power}
+use Rattle.ark_math.specs.Module.{item}
+use Rattle.ark_math.proofs.Lists.{read_at, written_more, written_rest}
+use Rattle.ark_math.proofs.Solve.{◌⊗◌}
+use Rattle.ark_math.proofs.Ring.{ring3}
+use Rattle.ark_math.proofs.Radix2.{scaled_by_one}
+use Rattle.ark_poly.proofs.domain.radix2.fft.scale_by_powers.Goals as goal
+
+pub loop-i-preserved : goal.loop-i-preserved
+loop-i-preserved g c =
+    let K = g.F.Field.field in
+    let V = g.T.DomainCoeff.group in
+    let m = g.T.DomainCoeff.meaning in
+    let i = c.loop-i.i in
+    let v = c.loop-i.invariant in
+    let in_xs : i < length c.loop-i.xs = omega arith in
+    let here : i ≤ i = omega arith in
+    let old = λ (k : ℕ). item V (map m c.args.xs.now) k in
+    let scales = λ (k : ℕ). K.times c.args.start (power K c.args.factor k) in
+    let e = g.met.T.DomainCoeff.mul_assign_meaning _ _ _ c.scale.ensures.product in
+    record {
+      butterflies = omega arith;
+      products = omega arith;
+      steps = omega arith;
+      next_scale =
+          let q : c.mul-next.result ≡ K.times c.loop-i.next c.args.factor = search rules in
+          q
+          ∙ (ap (λ t. K.times t c.args.factor) v.next_scale
+          ∙ (ring3 K g.met.F.Field.field_laws (λ s p f. ((s ⊗ p) ⊗ f, s ⊗ (f ⊗ p))) refl c.args.start (power K c.args.factor i) c.args.factor
+          ∙ ap scales (sym (add-one i))));
+      before = written_more m V.zero (λ k. V.scale (scales k) (old k)) c.loop-i.xs i c.scale.new.value in_xs v.before
+          (e ∙ (ap (λ t. V.scale t (m (get_or c.loop-i.xs i c.index-xs-i.result))) v.next_scale ∙ ap (V.scale (scales i)) (read_at m V.zero c.loop-i.xs i c.index-xs-i.result in_xs ∙ v.rest i here)));
+      rest = written_rest m V.zero old c.loop-i.xs i c.scale.new.value v.rest;
+    }
+
+pub returns-then-is_one-clause-items : goal.returns-then-is_one-clause-items
+returns-then-is_one-clause-items g c = λ i l.
+    let one : c.args.factor ≡ g.F.Field.field.one = (g.met.F.Field.equality_law c.args.factor g.F.One.one).0 (sym c.is_one.ensures ∙ c.if-is_one.true) ∙ g.met.F.Field.one_law in
+    c.scale_each.ensures.items i l ∙ scaled_by_one g.T.DomainCoeff.group g.met.F.Field.field_laws c.args.factor c.args.start i _ one

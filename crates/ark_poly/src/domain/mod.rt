@@ -1,0 +1,206 @@
+//! Domains: the places `offset * root^i` of a subgroup or a coset, and transforms over them.
+
+ghost use Rattle.std.specs.Prelude.{◌≡◌, ◌≢◌, ◌↔◌, ◌⊎◌, ℕ, ◌<◌, ◌≤◌, true, false, take, map, length, Decides, IsNone, IfSome, IfOk, OnOk, OnErr, IsOkUnless};
+ghost use Rattle.std.specs.Iterator.{IsFinite, AlwaysYields};
+ghost use Rattle.ark_math.specs.Field.{power, natural};
+ghost use Rattle.ark_math.specs.Domain.{Kind, Domain, IsDomain, IsSize, IsExponentOfTwo, element, elements};
+ghost use Rattle.ark_math.specs.Transform.{transform, IsInverse, IsOnlyInverse};
+ghost use Rattle.ark_base.specs.Cost.{GrowsByCost};
+
+mod coset;
+pub mod radix2;
+pub mod utils;
+
+pub use ark_base::DomainCoeff;
+use ark_base::{FftField, PolyError, Work};
+pub use radix2::Radix2EvaluationDomain;
+use std::alloc::{AllocError, Global};
+use std::fmt::Debug;
+use std::hash::Hash;
+pub use utils::Elements;
+
+/// A subgroup of roots of unity or a coset of one, and the transforms over it.
+///
+/// A domain has a size `n`, a root of unity of order `n`, and an offset; its element `i` is `offset * root^i`.
+pub trait EvaluationDomain<F: FftField>: Copy + Eq + Hash + Debug {
+    /// The iterator over the elements.
+    type Elements: Iterator<Item = F>;
+
+    ghost domain: { Self → Domain F };
+
+    // The kind and the size of `new(k)`.
+    ghost chooses: { ℕ → Kind → ℕ → Type 0 };
+
+    /// The subgroup of the least size at or above `num_coeffs` that the type allows, and `None` exactly where there is
+    /// none.
+    fn new(num_coeffs: usize) -> Option<Self>
+        ensures chosen { IfSome result (λ d. chooses num_coeffs (domain d).kind (domain d).size) }
+        ensures subgroup { IfSome result (λ d. (domain d).offset ≡ F.field.one) }
+        ensures none { IsNone result ↔ ((kind : Kind) (n : ℕ) → chooses num_coeffs kind n → ⊥) };
+
+    /// The coset with this offset of `new(num_coeffs)`, and `None` exactly where that is none or the offset is zero.
+    fn new_coset(num_coeffs: usize, offset: F) -> Option<Self>
+        ensures chosen { IfSome result (λ d. chooses num_coeffs (domain d).kind (domain d).size) }
+        ensures coset { IfSome result (λ d. (domain d).offset ≡ offset) }
+        ensures none { IsNone result ↔ (offset ≡ F.field.zero) ⊎ ((kind : Kind) (n : ℕ) → chooses num_coeffs kind n → ⊥) }
+    {
+        Self::new(num_coeffs)?.get_coset(offset)
+    }
+
+    /// The same domain with this offset in place of its own, and `None` exactly for zero.
+    fn get_coset(&self, offset: F) -> Option<Self>
+        ensures coset { IfSome result (λ d. domain d ≡ record (domain self.now) { offset = offset }) }
+        ensures none { IsNone result ↔ (offset ≡ F.field.zero) };
+
+    /// The size of `new(num_coeffs)`, and `None` exactly where that is none.
+    fn compute_size_of_domain(num_coeffs: usize) -> Option<usize>
+        ensures size { IfSome result (λ n. (kind : Kind) × chooses num_coeffs kind n) }
+        ensures none { IsNone result ↔ ((kind : Kind) (n : ℕ) → chooses num_coeffs kind n → ⊥) };
+
+    /// The number of elements.
+    fn size(&self) -> usize
+        ensures { result ≡ (domain self.now).size };
+
+    /// The exponent of two in the size.
+    fn log_size_of_group(&self) -> u64
+        ensures { IsExponentOfTwo (domain self.now).size result };
+
+    /// The size, as the sum of that many ones.
+    fn size_as_field_element(&self) -> F
+        ensures { result ≡ natural F.field (domain self.now).size };
+
+    /// The inverse of the size.
+    fn size_inv(&self) -> F
+        ensures { F.field.times (natural F.field (domain self.now).size) result ≡ F.field.one };
+
+    /// The root of unity whose powers are the subgroup.
+    fn group_gen(&self) -> F
+        ensures { result ≡ (domain self.now).root };
+
+    /// The inverse of the root.
+    fn group_gen_inv(&self) -> F
+        ensures { F.field.times (domain self.now).root result ≡ F.field.one };
+
+    /// The offset; one for a subgroup.
+    fn coset_offset(&self) -> F
+        ensures { result ≡ (domain self.now).offset };
+
+    /// The inverse of the offset.
+    fn coset_offset_inv(&self) -> F
+        ensures { F.field.times (domain self.now).offset result ≡ F.field.one };
+
+    /// The offset to the power of the size.
+    fn coset_offset_pow_size(&self) -> F
+        ensures { result ≡ power F.field (domain self.now).offset (domain self.now).size };
+
+    /// Element `i`, for every `i`: past the size they come again.
+    fn element(&self, i: usize) -> F
+        ensures { result ≡ element F.field (domain self.now) i }
+    {
+        self.coset_offset() * self.group_gen().pow(i as u64)
+    }
+
+    /// The elements in order, and then the end. They are all different.
+    fn elements(&self) -> Self::Elements
+        ensures can { Self.Elements.can_next result }
+        ensures finite { IsFinite (Self.Elements.remaining result) }
+        ensures yields { AlwaysYields Self.Elements.next_gives (λ x. x) result (elements F.field (domain self.now)) }
+        ensures different { (i j : ℕ) → i < (domain self.now).size → j < (domain self.now).size → element F.field (domain self.now) i ≡ element F.field (domain self.now) j → i ≡ j };
+
+    /// The values at the elements of the polynomial with these coefficients, cut to the domain's size or filled with
+    /// zeros: place `i` has the sum over `j` of coefficient `j` times `element(i)^j`.
+    fn fft<T: DomainCoeff<F>>(&self, alloc: Global, coeffs: &[T]) -> Result<Vec<T>, PolyError>
+        ensures transform { IfOk result (λ values. map T.meaning values.items ≡ transform F.field T.group (domain self.now) (map T.meaning coeffs.now)) }
+        ensures memory { IsOkUnless result PolyError.Memory }
+    {
+        let mut values = first_items(alloc, coeffs, self.size())?;
+        self.fft_in_place(alloc, &mut values)?;
+        Ok(values)
+    }
+
+    /// The same in place. All memory is taken before the list is touched, and after an error it is as it was.
+    fn fft_in_place<T: DomainCoeff<F>>(
+        &self,
+        alloc: Global,
+        coeffs: &mut Vec<T>,
+    ) -> Result<(), PolyError>
+        ensures transform { OnOk result (map T.meaning coeffs.new.items ≡ transform F.field T.group (domain self.now) (map T.meaning coeffs.old.items)) }
+        ensures kept { OnErr result (coeffs.new.items ≡ coeffs.old.items) }
+        ensures memory { IsOkUnless result PolyError.Memory }
+    {
+        self.fft_counted(alloc, coeffs, &mut Work::new())
+    }
+
+    /// The same with its cost told. After an error the counts are as they were.
+    fn fft_counted<T: DomainCoeff<F>>(
+        &self,
+        alloc: Global,
+        coeffs: &mut Vec<T>,
+        work: &mut Work,
+    ) -> Result<(), PolyError>
+        ensures transform { OnOk result (map T.meaning coeffs.new.items ≡ transform F.field T.group (domain self.now) (map T.meaning coeffs.old.items)) }
+        ensures cost { OnOk result (GrowsByCost F.adicity (domain self.now) (length coeffs.old.items) true work.old work.new) }
+        ensures kept { OnErr result (coeffs.new.items ≡ coeffs.old.items) }
+        ensures uncounted { OnErr result (work.new ≡ work.old) }
+        ensures memory { IsOkUnless result PolyError.Memory };
+
+    /// The list of `size` items whose transform is the given one, cut to the domain's size or filled with zeros. There
+    /// is only one.
+    fn ifft<T: DomainCoeff<F>>(&self, alloc: Global, evals: &[T]) -> Result<Vec<T>, PolyError>
+        ensures inverse { IfOk result (λ coeffs. IsInverse F.field T.group (domain self.now) (map T.meaning evals.now) (map T.meaning coeffs.items)) }
+        ensures only { IfOk result (λ coeffs. IsOnlyInverse F.field T.group (domain self.now) (map T.meaning evals.now) (map T.meaning coeffs.items)) }
+        ensures memory { IsOkUnless result PolyError.Memory }
+    {
+        let mut coeffs = first_items(alloc, evals, self.size())?;
+        self.ifft_in_place(alloc, &mut coeffs)?;
+        Ok(coeffs)
+    }
+
+    /// The same in place. All memory is taken before the list is touched, and after an error it is as it was.
+    fn ifft_in_place<T: DomainCoeff<F>>(
+        &self,
+        alloc: Global,
+        evals: &mut Vec<T>,
+    ) -> Result<(), PolyError>
+        ensures inverse { OnOk result (IsInverse F.field T.group (domain self.now) (map T.meaning evals.old.items) (map T.meaning evals.new.items)) }
+        ensures only { OnOk result (IsOnlyInverse F.field T.group (domain self.now) (map T.meaning evals.old.items) (map T.meaning evals.new.items)) }
+        ensures kept { OnErr result (evals.new.items ≡ evals.old.items) }
+        ensures memory { IsOkUnless result PolyError.Memory }
+    {
+        self.ifft_counted(alloc, evals, &mut Work::new())
+    }
+
+    /// The same with its cost told. After an error the counts are as they were.
+    fn ifft_counted<T: DomainCoeff<F>>(
+        &self,
+        alloc: Global,
+        evals: &mut Vec<T>,
+        work: &mut Work,
+    ) -> Result<(), PolyError>
+        ensures inverse { OnOk result (IsInverse F.field T.group (domain self.now) (map T.meaning evals.old.items) (map T.meaning evals.new.items)) }
+        ensures only { OnOk result (IsOnlyInverse F.field T.group (domain self.now) (map T.meaning evals.old.items) (map T.meaning evals.new.items)) }
+        ensures cost { OnOk result (GrowsByCost F.adicity (domain self.now) (length evals.old.items) false work.old work.new) }
+        ensures kept { OnErr result (evals.new.items ≡ evals.old.items) }
+        ensures uncounted { OnErr result (work.new ≡ work.old) }
+        ensures memory { IsOkUnless result PolyError.Memory };
+
+    // A domain is one that the constructors give.
+    ghost lawful: { (d : Self) → IsDomain F.field F.adicity F.root (domain d) };
+
+    // Domains are equal exactly where kind, size and offset are; the root is the size's.
+    ghost equality: { (a b : Self) → Decides (Self.eq a b) (domain a ≡ domain b) };
+
+    // A chosen size is one of the kind's, and the only one.
+    ghost sizes: { (k : ℕ) (kind : Kind) (n : ℕ) → chooses k kind n → IsSize F.adicity kind n × (k ≤ n) };
+
+    ghost one_size: { (k : ℕ) (a b : Kind) (m n : ℕ) → chooses k a m → chooses k b n → (a ≡ b) × (m ≡ n) };
+}
+
+/// A copy of at most `count` items, with room for `count`.
+fn first_items<T: Copy>(alloc: Global, items: &[T], count: usize) -> Result<Vec<T>, AllocError>
+    ensures { IfOk result (λ first. first.items ≡ take count items.now) }
+{
+    let mut first = Vec::with_capacity(alloc, count)?;
+    first.extend_from_slice(&items[..items.len().min(count)])?;
+    Ok(first)
+}

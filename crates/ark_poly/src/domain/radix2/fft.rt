@@ -1,0 +1,236 @@
+//! The radix 2 transform by halves, and its inverse.
+
+ghost use Rattle.std.specs.Prelude.{◌≡◌, ℕ, true, false, IsOkUnless, IfOk, OnOk, OnErr, List, map, length, get_or, ◌+◌, ◌-◌, ◌*◌, ◌/◌, ◌≤◌, ◌<◌, ◌^◌, vec_len};
+ghost use Rattle.ark_math.specs.Domain.{Domain, radix2};
+ghost use Rattle.ark_math.specs.Field.{FieldOn, power};
+ghost use Rattle.ark_math.specs.Halves.{sum_at, reversed, ArePowers, IsHalfTable};
+ghost use Rattle.ark_math.specs.Module.{ModuleOn, item};
+ghost use Rattle.ark_math.specs.Transform.{transform, IsInverse, IsOnlyInverse};
+ghost use Rattle.ark_base.specs.Cost.{GrowsByCost};
+
+use super::Radix2EvaluationDomain;
+use ark_base::{DomainCoeff, FftField, PolyError, Work};
+use std::alloc::{AllocError, Global};
+
+/// One butterfly: the sum, and the difference times the twiddle.
+fn butterfly<F: FftField, T: DomainCoeff<F>>(work: &mut Work, lo: &mut T, hi: &mut T, twiddle: F)
+    ensures sum { T.meaning lo.new ≡ T.group.plus (T.meaning lo.old) (T.meaning hi.old) }
+    ensures difference { T.meaning hi.new ≡ T.group.scale twiddle (T.group.plus (T.meaning lo.old) (T.group.negated (T.meaning hi.old))) }
+    ensures butterflies { work.new.butterflies ≡ work.old.butterflies + 1 }
+    ensures products { work.new.products ≡ work.old.products + 1 }
+    ensures steps { work.new.steps ≡ work.old.steps }
+{
+    let mut difference = *lo - *hi;
+    work.scale(&mut difference, twiddle);
+    *lo += *hi;
+    *hi = difference;
+    work.butterfly();
+}
+
+/// Butterflies across two halves.
+fn across<F: FftField, T: DomainCoeff<F>>(
+    work: &mut Work,
+    lo: &mut [T],
+    hi: &mut [T],
+    table: &[F],
+    stride: usize,
+)
+    requires same { length lo.old ≡ length hi.old }
+    requires enough { length lo.old * stride ≤ length table.now }
+    requires some { 0 < stride }
+    ensures sums { (i : ℕ) → i < length lo.old → item T.group (map T.meaning lo.new) i ≡ T.group.plus (item T.group (map T.meaning lo.old) i) (item T.group (map T.meaning hi.old) i) }
+    ensures differences { (i : ℕ) → i < length lo.old → item T.group (map T.meaning hi.new) i ≡ T.group.scale (get_or table.now (i * stride) F.field.zero) (T.group.plus (item T.group (map T.meaning lo.old) i) (T.group.negated (item T.group (map T.meaning hi.old) i))) }
+    ensures butterflies { work.new.butterflies ≡ work.old.butterflies + length lo.old }
+    ensures products { work.new.products ≡ work.old.products + length lo.old }
+    ensures steps { work.new.steps ≡ work.old.steps }
+{
+    for i in 0..lo.len() {
+        butterfly(work, &mut lo[i], &mut hi[i], table[i * stride]);
+    }
+}
+
+/// The transform at the table's root to the stride, in place. Place i of it is left at the index that has the bits of i
+/// backwards.
+fn halves<F: FftField, T: DomainCoeff<F>>(
+    work: &mut Work,
+    xs: &mut [T],
+    table: &[F],
+    stride: usize,
+    levels: u32,
+)
+    requires size { length xs.old ≡ 2 ^ levels }
+    requires whole { 2 ^ levels * stride / 2 ≡ length table.now }
+    requires small { length table.now < 2 ^ 63 }
+    requires some { 0 < stride }
+    ensures sums { (w : F) → IsHalfTable F.field w table.now → (p : ℕ) → p < 2 ^ levels → item T.group (map T.meaning xs.new) p ≡ sum_at F.field T.group (2 ^ levels) (power F.field w stride) (item T.group (map T.meaning xs.old)) (reversed levels p) }
+    ensures butterflies { work.new.butterflies ≡ work.old.butterflies + 2 ^ levels / 2 * levels }
+    ensures products { work.new.products ≡ work.old.products + 2 ^ levels / 2 * levels }
+    ensures steps { work.new.steps ≡ work.old.steps }
+{
+    if levels > 0 {
+        let half = xs.len() / 2;
+        let (lo, hi) = xs.split_at_mut(half);
+        across(work, lo, hi, table, stride);
+        halves(work, lo, table, stride * 2, levels - 1);
+        halves(work, hi, table, stride * 2, levels - 1);
+    }
+}
+
+/// The index with the lowest bits of i backwards.
+fn reversed_index(i: usize, levels: u32) -> usize
+    requires some { 0 < levels }
+    requires few { levels ≤ 64 }
+    requires within { i < 2 ^ levels }
+    ensures { result ≡ reversed levels i }
+{
+    i.reverse_bits() >> (64 - levels)
+}
+
+/// Puts each item at the index that has the bits of its own backwards.
+fn restore_order<T>(xs: &mut [T], levels: u32)
+    requires few { levels < 64 }
+    requires size { length xs.old ≡ 2 ^ levels }
+    ensures { (p : ℕ) (d : T) → p < 2 ^ levels → get_or xs.new p d ≡ get_or xs.old (reversed levels p) d }
+{
+    for i in 1..xs.len() {
+        let j = reversed_index(i, levels);
+        if i < j {
+            xs.swap(i, j);
+        }
+    }
+}
+
+/// The transform at the table's root, in place and in order.
+fn in_order<F: FftField, T: DomainCoeff<F>>(work: &mut Work, xs: &mut [T], table: &[F], levels: u32)
+    requires size { length xs.old ≡ 2 ^ levels }
+    requires fits { length xs.old < 2 ^ 64 }
+    requires half { length table.now ≡ length xs.old / 2 }
+    ensures sums { (w : F) → IsHalfTable F.field w table.now → (i : ℕ) → i < length xs.old → item T.group (map T.meaning xs.new) i ≡ sum_at F.field T.group (length xs.old) w (item T.group (map T.meaning xs.old)) i }
+    ensures butterflies { work.new.butterflies ≡ work.old.butterflies + length xs.old / 2 * levels }
+    ensures products { work.new.products ≡ work.old.products + length xs.old / 2 * levels }
+    ensures steps { work.new.steps ≡ work.old.steps }
+{
+    halves(work, xs, table, 1, levels);
+    restore_order(xs, levels);
+}
+
+/// Scales each item.
+fn scale_each<F: FftField, T: DomainCoeff<F>>(work: &mut Work, xs: &mut [T], factor: F)
+    ensures items { (i : ℕ) → i < length xs.old → item T.group (map T.meaning xs.new) i ≡ T.group.scale factor (item T.group (map T.meaning xs.old) i) }
+    ensures butterflies { work.new.butterflies ≡ work.old.butterflies }
+    ensures products { work.new.products ≡ work.old.products + length xs.old }
+    ensures steps { work.new.steps ≡ work.old.steps }
+{
+    for i in 0..xs.len() {
+        work.scale(&mut xs[i], factor);
+    }
+}
+
+/// Scales item i by start times the factor to the i.
+fn scale_by_powers<F: FftField, T: DomainCoeff<F>>(
+    work: &mut Work,
+    xs: &mut [T],
+    start: F,
+    factor: F,
+)
+    ensures items { (i : ℕ) → i < length xs.old → item T.group (map T.meaning xs.new) i ≡ T.group.scale (F.field.times start (power F.field factor i)) (item T.group (map T.meaning xs.old) i) }
+    ensures butterflies { work.new.butterflies ≡ work.old.butterflies }
+    ensures products { work.new.products ≡ work.old.products + length xs.old }
+    ensures steps { work.new.steps ≡ work.old.steps }
+{
+    if factor.is_one() {
+        scale_each(work, xs, start);
+    } else {
+        let mut next = start;
+        for i in 0..xs.len() {
+            work.scale(&mut xs[i], next);
+            next = next * factor;
+        }
+    }
+}
+
+/// The powers of a root from 0 on.
+fn powers<F: FftField>(alloc: Global, root: F, count: usize) -> Result<Vec<F>, AllocError>
+    ensures { IfOk result (λ t. ArePowers F.field root count t.items) }
+{
+    let mut powers = Vec::with_capacity(alloc, count)?;
+    let mut next = F::one();
+    for _ in 0..count {
+        powers.push(next)?;
+        next = next * root;
+    }
+    Ok(powers)
+}
+
+/// Takes all memory, for the first half of a root's powers and for n items, and cuts the list or fills it with zeros.
+fn prepare<F: FftField, T: DomainCoeff<F>>(
+    alloc: Global,
+    root: F,
+    n: usize,
+    coeffs: &mut Vec<T>,
+) -> Result<Vec<F>, PolyError>
+    ensures table { IfOk result (λ t. ArePowers F.field root (n / 2) t.items) }
+    ensures fitted { OnOk result ((j : ℕ) → j < n → item T.group (map T.meaning coeffs.new.items) j ≡ item T.group (map T.meaning coeffs.old.items) j) }
+    ensures len { OnOk result (vec_len coeffs.new ≡ n) }
+    ensures kept { OnErr result (coeffs.new.items ≡ coeffs.old.items) }
+    ensures memory { IsOkUnless result PolyError.Memory }
+{
+    let table = powers(alloc, root, n / 2)?;
+    coeffs.resize(n, T::zero())?;
+    Ok(table)
+}
+
+impl<F: FftField> Radix2EvaluationDomain<F> {
+    /// The transform in place, by n/2 * log2(n) butterflies and a scaling a place where there is an offset.
+    pub(super) fn fft_in_order<T: DomainCoeff<F>>(
+        &self,
+        alloc: Global,
+        coeffs: &mut Vec<T>,
+        work: &mut Work,
+    ) -> Result<(), PolyError>
+        ensures transform { OnOk result (map T.meaning coeffs.new.items ≡ transform F.field T.group (record { kind = radix2; size = self.now.coset.size; root = self.now.coset.group_gen; offset = self.now.coset.offset }) (map T.meaning coeffs.old.items)) }
+        ensures cost { OnOk result (GrowsByCost F.adicity (record { kind = radix2; size = self.now.coset.size; root = self.now.coset.group_gen; offset = self.now.coset.offset }) (length coeffs.old.items) true work.old work.new) }
+        ensures kept { OnErr result (coeffs.new.items ≡ coeffs.old.items) }
+        ensures uncounted { OnErr result (work.new ≡ work.old) }
+        ensures memory { IsOkUnless result PolyError.Memory }
+    {
+        let table = prepare(
+            alloc,
+            self.coset.group_gen,
+            self.coset.size as usize,
+            coeffs,
+        )?;
+        let xs = coeffs.as_mut_slice();
+        if !self.coset.offset.is_one() {
+            scale_by_powers(work, xs, F::one(), self.coset.offset);
+        }
+        in_order(work, xs, table.as_slice(), self.coset.log_size_of_group);
+        Ok(())
+    }
+
+    /// Its inverse in place, by as many butterflies at the inverse root and one scaling a place.
+    pub(super) fn ifft_in_order<T: DomainCoeff<F>>(
+        &self,
+        alloc: Global,
+        evals: &mut Vec<T>,
+        work: &mut Work,
+    ) -> Result<(), PolyError>
+        ensures inverse { OnOk result (IsInverse F.field T.group (record { kind = radix2; size = self.now.coset.size; root = self.now.coset.group_gen; offset = self.now.coset.offset }) (map T.meaning evals.old.items) (map T.meaning evals.new.items)) }
+        ensures only { OnOk result (IsOnlyInverse F.field T.group (record { kind = radix2; size = self.now.coset.size; root = self.now.coset.group_gen; offset = self.now.coset.offset }) (map T.meaning evals.old.items) (map T.meaning evals.new.items)) }
+        ensures cost { OnOk result (GrowsByCost F.adicity (record { kind = radix2; size = self.now.coset.size; root = self.now.coset.group_gen; offset = self.now.coset.offset }) (length evals.old.items) false work.old work.new) }
+        ensures kept { OnErr result (evals.new.items ≡ evals.old.items) }
+        ensures uncounted { OnErr result (work.new ≡ work.old) }
+        ensures memory { IsOkUnless result PolyError.Memory }
+    {
+        let table = prepare(
+            alloc,
+            self.coset.group_gen_inv,
+            self.coset.size as usize,
+            evals,
+        )?;
+        let xs = evals.as_mut_slice();
+        in_order(work, xs, table.as_slice(), self.coset.log_size_of_group);
+        scale_by_powers(work, xs, self.coset.size_inv, self.coset.offset_inv);
+        Ok(())
+    }
+}

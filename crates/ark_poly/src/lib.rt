@@ -1,0 +1,6 @@
+//! Domains with their transforms, evaluations over them, and polynomials.
+#![tactic(auto)]
+
+pub mod domain;
+
+pub use domain::{EvaluationDomain, Radix2EvaluationDomain};
