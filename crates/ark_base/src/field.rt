@@ -1,6 +1,6 @@
 //! Fields, modules over them, and fields with roots of unity.
 
-ghost use Rattle.std.specs.Prelude.{◌≡◌, ◌≢◌, ℕ, ◌<◌, ◌^◌, Option, Decides, IsNone, IfSome, IsSome, MatchOption};
+ghost use Rattle.std.specs.Prelude.{◌≡◌, ◌≢◌, ◌↔◌, ℕ, ◌<◌, ◌^◌, Option, Decides, IsSome, MatchOption};
 ghost use Rattle.ark_math.specs.Field.{FieldOn, IsField, minus, power, natural};
 ghost use Rattle.ark_math.specs.Module.{ModuleOn, IsModule, IsItself};
 ghost use Rattle.ark_math.specs.Root.{Adicity, IsSupported, AreRoots, AreGreatest};
@@ -211,6 +211,8 @@ pub trait FftField: Field + DomainCoeff<Self> {
         ensures { MatchOption result (IsSupported adicity n → ⊥) (λ r. IsSupported adicity n × (r ≡ root n)) };
 
     ghost adicity_law: { adicity ≡ adicity_of TWO_ADICITY SMALL_SUBGROUP_BASE SMALL_SUBGROUP_BASE_ADICITY };
+
+    ghost together_law: { IsSome SMALL_SUBGROUP_BASE ↔ IsSome SMALL_SUBGROUP_BASE_ADICITY };
 
     ghost roots_law: { AreRoots Self.field adicity root };
 

@@ -1,6 +1,6 @@
 //! The fields of the integers modulo a prime below 2^32, on one word each.
 
-ghost use Rattle.std.specs.Prelude.{◌≡◌, ℕ, ◌+◌, ◌*◌, ◌-◌, ◌%◌, ◌/◌, ◌<◌, ◌^◌, Option, None, Some, refl};
+ghost use Rattle.std.specs.Prelude.{◌≡◌, ℕ, ◌+◌, ◌*◌, ◌-◌, ◌%◌, ◌/◌, ◌<◌, ◌^◌, ◌↔◌, Option, None, Some, IsSome, refl};
 ghost use Rattle.std.proofs.Common.{lit<, ◌∙◌};
 ghost use Rattle.ark_math.specs.Field.{FieldOn, minus};
 ghost use Rattle.ark_math.specs.Module.{itself};
@@ -34,6 +34,8 @@ pub trait PrimeModulus {
     ghost GREATEST_SIZE: { ℕ };
 
     ghost modulus: { IsModulus MODULUS (adicity_of TWO_ADICITY SMALL_SUBGROUP_BASE SMALL_SUBGROUP_BASE_ADICITY) GENERATOR TWO_ADIC_ROOT_OF_UNITY LARGE_SUBGROUP_ROOT_OF_UNITY GREATEST_SIZE };
+
+    ghost together: { IsSome SMALL_SUBGROUP_BASE ↔ IsSome SMALL_SUBGROUP_BASE_ADICITY };
 
     /// The prime.
     const MODULUS: u64;
@@ -392,6 +394,8 @@ impl<M: PrimeModulus> FftField for PrimeField<M> {
 
     ghost adicity_law = { refl };
 
+    ghost together_law = { M.together };
+
     ghost roots_law = { prime_roots _ _ M.modulus };
 
     ghost greatest_law = { prime_greatest _ _ M.modulus };
@@ -445,6 +449,8 @@ impl PrimeModulus for Five {
       large_is = refl;
       greatest_is = refl;
     } };
+
+    ghost together = { ((λ h. h), (λ h. h)) };
 }
 
 /// The prime 433, which is one more than 2^4 * 3^3.
@@ -491,6 +497,8 @@ impl PrimeModulus for Mixed {
       large_is = refl;
       greatest_is = refl;
     } };
+
+    ghost together = { ((λ h. h), (λ h. h)) };
 }
 
 /// The prime 65537, which is one more than 2^16.
@@ -537,6 +545,8 @@ impl PrimeModulus for Fermat {
       large_is = refl;
       greatest_is = refl;
     } };
+
+    ghost together = { ((λ h. h), (λ h. h)) };
 }
 
 /// The field of 5 elements.
