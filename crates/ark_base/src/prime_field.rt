@@ -96,6 +96,21 @@ impl<M: PrimeModulus> PrimeField<M> {
             marker: PhantomData,
         }
     }
+
+    /// The same of a number below twice the modulus, without a division.
+    fn reduce_once(value: u64) -> Self
+        requires { value < 2 * M.MODULUS }
+        ensures { result.value ≡ value % M.MODULUS }
+    {
+        PrimeField {
+            value: if value < M::MODULUS {
+                value
+            } else {
+                value - M::MODULUS
+            },
+            marker: PhantomData,
+        }
+    }
 }
 
 impl<M: PrimeModulus> Zero for PrimeField<M> {
@@ -161,7 +176,7 @@ impl<M: PrimeModulus> Add<PrimeField<M>> for PrimeField<M> {
     ghost add_gives = { λ a b r. r ≡ (prime_field M.modulus.prime).plus a b };
 
     fn add(self, rhs: PrimeField<M>) -> PrimeField<M> {
-        PrimeField::reduce(self.value + rhs.value)
+        PrimeField::reduce_once(self.value + rhs.value)
     }
 }
 
@@ -183,7 +198,7 @@ impl<M: PrimeModulus> Sub<PrimeField<M>> for PrimeField<M> {
     ghost sub_gives = { λ a b r. r ≡ minus (prime_field M.modulus.prime) a b };
 
     fn sub(self, rhs: PrimeField<M>) -> PrimeField<M> {
-        PrimeField::reduce(self.value + (M::MODULUS - rhs.value))
+        PrimeField::reduce_once(self.value + (M::MODULUS - rhs.value))
     }
 }
 
@@ -227,7 +242,7 @@ impl<M: PrimeModulus> Neg for PrimeField<M> {
     ghost neg_gives = { λ a r. r ≡ (prime_field M.modulus.prime).negated a };
 
     fn neg(self) -> PrimeField<M> {
-        PrimeField::reduce(M::MODULUS - self.value)
+        PrimeField::reduce_once(M::MODULUS - self.value)
     }
 }
 

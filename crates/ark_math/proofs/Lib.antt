@@ -1,4 +1,5 @@
 -- Lemmas, each stated once over plain variables. Solve and Ring close equations of fields and modules by computation.
+pub mod Carries
 pub mod Contained
 pub mod Domains
 pub mod Elements

@@ -76,14 +76,20 @@ fn halves<F: FftField, T: DomainCoeff<F>>(
     }
 }
 
-/// The index with the lowest bits of i backwards.
-fn reversed_index(i: usize, levels: u32) -> usize
-    requires some { 0 < levels }
-    requires few { levels ≤ 64 }
-    requires within { i < 2 ^ levels }
-    ensures { result ≡ reversed levels i }
+/// The index with the lowest bits of i + 1 backwards, from the one with those of i.
+fn next_reversed(_i: usize, before: usize, levels: u32) -> usize
+    requires few { levels < 64 }
+    requires within { _i + 1 < 2 ^ levels }
+    requires backwards { before ≡ reversed levels _i }
+    ensures { result ≡ reversed levels (_i + 1) }
 {
-    i.reverse_bits() >> (64 - levels)
+    let mut left = before;
+    let mut bit = 1 << (levels - 1);
+    'carry: while bit <= left {
+        left -= bit;
+        bit /= 2;
+    }
+    left + bit
 }
 
 /// Puts each item at the index that has the bits of its own backwards.
@@ -92,8 +98,9 @@ fn restore_order<T>(xs: &mut [T], levels: u32)
     requires size { length xs.old ≡ 2 ^ levels }
     ensures { (p : ℕ) (d : T) → p < 2 ^ levels → get_or xs.new p d ≡ get_or xs.old (reversed levels p) d }
 {
+    let mut j = 0;
     for i in 1..xs.len() {
-        let j = reversed_index(i, levels);
+        j = next_reversed(i - 1, j, levels);
         if i < j {
             xs.swap(i, j);
         }

@@ -2,4 +2,4 @@ use Rattle.ark_base.specs.Element.{same_from_value}
 use Rattle.ark_base.proofs.prime_field.PrimeFieldAdd.add.Goals as goal
 
 pub returns : goal.returns
-returns g c = same_from_value _ _ c.reduce.ensures
+returns g c = same_from_value _ _ c.reduce_once.ensures

@@ -1,0 +1,74 @@
+//! Calls in batches of some 20 milliseconds, of which the least counts.
+
+use ark_base::{F65537, PolyError};
+use std::alloc::Global;
+use std::io::Print;
+use std::time::{Clock, Instant};
+
+/// A call to be timed, whose results all go into the checksum.
+pub trait Benchmark {
+    fn name(&self) -> &'static str;
+
+    fn size(&self) -> usize;
+
+    /// One call, on an input that the last one changed.
+    fn call(&mut self, alloc: Global) -> Result<(), PolyError>;
+
+    /// Of the results so far.
+    fn checksum(&self) -> u64;
+}
+
+/// A number in which each value of the list counts by its place.
+pub fn mixed(values: &[F65537]) -> u64 {
+    let mut sum: u64 = 0;
+    for value in values {
+        sum = sum.wrapping_mul(31).wrapping_add(value.value());
+    }
+    sum
+}
+
+/// Prints a benchmark's line: its checksum after one call or, timed, the nanoseconds of a call.
+pub fn report<B: Benchmark>(
+    rt: &(impl Print + Clock),
+    alloc: Global,
+    timed: bool,
+    benchmark: &mut B,
+) -> anyhow::Result<()> {
+    if timed {
+        let nanos = least(rt, alloc, benchmark)?;
+        println!(rt; "# checksum {}", benchmark.checksum())?;
+        println!(rt; "{}\t{}\t{nanos}", benchmark.name(), benchmark.size())?;
+    } else {
+        benchmark.call(alloc)?;
+        println!(rt; "{}\t{}\t{}", benchmark.name(), benchmark.size(), benchmark.checksum())?;
+    }
+    Ok(())
+}
+
+const BATCHES: u32 = 30;
+const BATCH_NANOS: u64 = 20_000_000;
+
+/// The nanoseconds of a call in the quickest batch.
+fn least<B: Benchmark>(rt: &impl Clock, alloc: Global, benchmark: &mut B) -> anyhow::Result<u64> {
+    let once = batch(rt, alloc, benchmark, 1)?;
+    let calls = (BATCH_NANOS / once.max(1)).clamp(1, 1_000_000);
+    let mut least = once;
+    for _ in 0..BATCHES {
+        least = least.min(batch(rt, alloc, benchmark, calls)? / calls);
+    }
+    Ok(least)
+}
+
+/// The nanoseconds of some calls.
+fn batch<B: Benchmark>(
+    rt: &impl Clock,
+    alloc: Global,
+    benchmark: &mut B,
+    calls: u64,
+) -> anyhow::Result<u64> {
+    let start = Instant::now(rt)?;
+    for _ in 0..calls {
+        benchmark.call(alloc)?;
+    }
+    Ok(u64::try_from(start.elapsed(rt)?.as_nanos()).unwrap_or(u64::MAX))
+}

@@ -1,0 +1,31 @@
+//! Inputs, the same at each run.
+
+use ark_base::F65537;
+use rand_core::Rng;
+use rand_pcg::Pcg64;
+use std::alloc::{AllocError, Global};
+
+#[derive(Drop)]
+pub struct Draws {
+    rng: Pcg64,
+}
+
+impl Draws {
+    pub fn new() -> Draws {
+        Draws {
+            rng: Pcg64::new(1, 1),
+        }
+    }
+
+    pub fn element(&mut self) -> F65537 {
+        F65537::from(self.rng.next_u64())
+    }
+
+    pub fn list(&mut self, alloc: Global, len: usize) -> Result<Vec<F65537>, AllocError> {
+        let mut list = Vec::with_capacity(alloc, len)?;
+        for _ in 0..len {
+            list.push(self.element())?;
+        }
+        Ok(list)
+    }
+}

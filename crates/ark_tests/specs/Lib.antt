@@ -1,0 +1,2 @@
+-- Modules of the tests' own.
+pub mod Nothing

@@ -1,0 +1,18 @@
+//! What the tests of several crates share, and the tests: rows of known answers, the kernels beside plain bodies, and
+//! modules whose meaning is a part of the value.
+#![tactic(auto)]
+
+pub mod calls;
+pub mod nothing;
+pub mod plain;
+
+#[cfg(test)]
+mod domains;
+#[cfg(test)]
+mod errors;
+#[cfg(test)]
+mod fields;
+#[cfg(test)]
+mod sinks;
+#[cfg(test)]
+mod transforms;

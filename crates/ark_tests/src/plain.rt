@@ -1,0 +1,75 @@
+//! Plain bodies to compare the kernels with.
+
+use ark_base::{Field, One, F65537, Zero};
+use ark_poly::{EvaluationDomain, Radix2EvaluationDomain};
+use std::alloc::{AllocError, Global};
+
+/// A sum for each place, term by term.
+pub fn sums(
+    alloc: Global,
+    domain: &Radix2EvaluationDomain<F65537>,
+    items: &[F65537],
+) -> Result<Vec<F65537>, AllocError> {
+    let mut sums = Vec::with_capacity(alloc, domain.size())?;
+    for place in domain.elements() {
+        let mut sum = F65537::zero();
+        let mut power = F65537::one();
+        for j in 0..items.len().min(domain.size()) {
+            sum = sum + power * items[j];
+            power = power * place;
+        }
+        sums.push(sum)?;
+    }
+    Ok(sums)
+}
+
+/// The transform of as many items as the domain has places, by passes in place.
+pub fn forward(domain: &Radix2EvaluationDomain<F65537>, items: &mut [F65537]) {
+    scale(items, F65537::one(), domain.coset_offset());
+    passes(items, domain.group_gen());
+}
+
+/// Its inverse.
+pub fn inverse(domain: &Radix2EvaluationDomain<F65537>, values: &mut [F65537]) {
+    passes(values, domain.group_gen_inv());
+    scale(values, domain.size_inv(), domain.coset_offset_inv());
+}
+
+/// Multiplies item `i` by `start * factor^i`.
+fn scale(items: &mut [F65537], start: F65537, factor: F65537) {
+    let mut next = start;
+    for i in 0..items.len() {
+        items[i] = items[i] * next;
+        next = next * factor;
+    }
+}
+
+/// Pairs first, then fours, and so on, over items in the order of their places' bits read backwards.
+fn passes(items: &mut [F65537], root: F65537) {
+    let len = items.len();
+    if len < 2 {
+        return;
+    }
+    for i in 0..len {
+        let j = i.reverse_bits() >> (len.leading_zeros() + 1).min(63);
+        if i < j && j < len {
+            items.swap(i, j);
+        }
+    }
+    let mut size: usize = 2;
+    for _ in 0..len.ilog2() {
+        let step = root.pow((len / size.max(1)) as u64);
+        for block in items.chunks_mut(size.max(1)) {
+            let half = block.len() / 2;
+            let (lo, hi) = block.split_at_mut(half);
+            let mut twiddle = F65537::one();
+            for i in 0..lo.len().min(hi.len()) {
+                let turned = hi[i] * twiddle;
+                hi[i] = lo[i] - turned;
+                lo[i] = lo[i] + turned;
+                twiddle = twiddle * step;
+            }
+        }
+        size = size.saturating_mul(2);
+    }
+}
