@@ -32,6 +32,9 @@ module _ {F M : Type 0} {K : FieldOn F} {V : ModuleOn F M} (L : IsModule K V) wh
   pub negated_unique : (x a : M) → V.plus x a ≡ V.zero → a ≡ V.negated x
   negated_unique x a h = cancel_left x a (V.negated x) (h ∙ sym (L.plus_negated x))
 
+  pub minus_zero : (x : M) → V.plus x (V.negated V.zero) ≡ x
+  minus_zero x = ap (V.plus x) (sym (negated_unique V.zero V.zero (L.plus_zero V.zero))) ∙ L.plus_zero x
+
   pub zero_unique : (a : M) → V.plus a a ≡ a → a ≡ V.zero
   zero_unique a h = cancel_left a a V.zero (h ∙ sym (L.plus_zero a))
 

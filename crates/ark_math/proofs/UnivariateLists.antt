@@ -1,11 +1,18 @@
 -- What dense lists denote, and lists whose last item isn't zero.
-use Rattle.std.proofs.Common.{◌≡◌, ◌≢◌, ℕ, ◌+◌, ◌-◌, ◌<◌, ◌≤◌, List, [], ◌∷◌, ◌++◌, length, get_or, set, take, drop, map, replicate, sym, ◌∙◌, ap, refl, subst, arith, ⊎_elim, get_or-set_same, get_or-set_other}
+use Rattle.std.proofs.Common.{◌≡◌, ◌≢◌, ℕ, ◌+◌, ◌-◌, ◌<◌, ◌≤◌, List, [], ◌∷◌, ◌++◌, length, get_or, set, take, drop, map, replicate, Bool, Decides, ◌==◌, sym, ◌∙◌, ap, refl, subst, arith, ⊎_elim, get_or-set_same, get_or-set_other}
 use mathlib.Core.Path.{fun_ext}
 use Rattle.std.proofs.lemmas.Bool.{cases_eq, cases_lt}
-use Rattle.std.proofs.lemmas.List.{get_or_past, get_or-take, get_or-drop, get_or-map, get_or_push, get_or_append_left, length_push, length-map, length-take, length-take-le, length-replicate, ext_get_or, get_or-replicate}
+use Rattle.std.proofs.lemmas.Slice.Eq.{slice_eq-Decides}
+use Rattle.std.specs.Cmp.Lexicographic.{pointwise}
+use Rattle.std.proofs.lemmas.List.{take_all, get_or-append-add, get_or_past, get_or-take, get_or-drop, get_or-map, get_or_push, get_or_append_left, length_push, length-map, length-take, length-take-le, length-replicate, ext_get_or, get_or-replicate}
+use Rattle.std.proofs.lemmas.Bool.Decides.{Decides-eqb}
 use Rattle.ark_math.specs.Field.{FieldOn}
 use Rattle.ark_math.specs.Univariate.{nothing, IsBelow, IsDegree, of_list, IsTrimmed}
 use Rattle.ark_math.proofs.Univariate.{same_below, one_degree}
+
+no_items : {F : Type 0} (c : List F) → length c ≡ 0 → c ≡ []
+no_items [] e = refl
+no_items (x ∷ c) e = absurd (omega arith)
 
 module _ {F : Type 0} (K : FieldOn F) where
   pub of_list-past : (c : List F) (i : ℕ) → length c ≤ i → of_list K c i ≡ K.zero
@@ -64,6 +71,20 @@ module _ {F : Type 0} (K : FieldOn F) where
       of_list-past (map f c) i m ∙ sym (ap f (of_list-past c i l) ∙ e))
       (cases_lt i (length c)))
 
+  -- cut or filled up to n
+  pub of_list-padded : (c : List F) (n k : ℕ) (x : F) → length c ≤ n → x ≡ K.zero → of_list K (take n c ++ replicate k x) ≡ of_list K c
+  of_list-padded c n k x h e =
+      ap (λ t. of_list K (t ++ replicate k x)) (take_all n c h)
+      ∙ fun_ext (λ i. ⊎_elim
+      (λ (l : i < length c). get_or_append_left c (replicate k x) K.zero i l)
+      (λ (l : length c ≤ i).
+      ap (λ t. get_or (c ++ replicate k t) i K.zero) e
+      ∙ ap (λ t. get_or (c ++ replicate k K.zero) t K.zero) (let d : i ≡ length c + (i - length c) = omega arith in d)
+      ∙ get_or-append-add c (replicate k K.zero) (i - length c) K.zero
+      ∙ ap (λ t. t (i - length c)) (of_list-replicate k)
+      ∙ sym (of_list-past c i l))
+      (cases_lt i (length c)))
+
   -- a written item
   pub of_list-set : (c : List F) (k : ℕ) (x : F) (a : ℕ → F) → k < length c → a k ≡ x → ((i : ℕ) → i ≢ k → a i ≡ of_list K c i) → of_list K (set c k x) ≡ a
   of_list-set c k x a l e h = fun_ext (λ i. ⊎_elim
@@ -93,8 +114,19 @@ module _ {F : Type 0} (K : FieldOn F) where
       let g : length d ≤ length c = trimmed_length d (length c) t (subst (IsBelow K (length c)) e (of_list-below c)) in
       ext_get_or K.zero c d (omega arith) (λ i l. ap (λ a. a i) e)
 
+  -- so a test of their items tells whether what they denote is equal
+  pub trimmed_Decides : {eq : F → F → Bool} → ((a b : F) → Decides (eq a b) (a ≡ b)) → (c d : List F) → IsTrimmed K c → IsTrimmed K d → Decides (pointwise eq c d) (of_list K c ≡ of_list K d)
+  trimmed_Decides decides c d s t =
+      let same = slice_eq-Decides decides c d _ refl in
+      (λ e. ap (of_list K) (same.0 e), λ e. same.1 (same_trimmed c d s t e))
+
   pub trimmed_nothing : (c : List F) → IsTrimmed K c → of_list K c ≡ nothing K → c ≡ []
   trimmed_nothing c t e = same_trimmed c [] t trimmed-nil e
+
+  pub trimmed_none_Decides : (c : List F) (r : Bool) → IsTrimmed K c → r ≡ (length c == 0) → Decides r (of_list K c ≡ nothing K)
+  trimmed_none_Decides c r t e =
+      let d = Decides-eqb (length c) 0 in
+      (λ h. ap (of_list K) (no_items c (d.0 (sym e ∙ h))), λ h. e ∙ d.1 (ap length (trimmed_nothing c t h)))
 
   -- its degree is its length less one
   pub trimmed_degree : (c : List F) → IsTrimmed K c → IsDegree K (of_list K c) (length c - 1)

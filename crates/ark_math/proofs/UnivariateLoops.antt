@@ -17,6 +17,10 @@ use Rattle.ark_math.proofs.UnivariateProducts.{product-added, added-product, pro
 abbrev pub cut : {F : Type 0} → FieldOn F → ℕ → (ℕ → F) → ℕ → F
 cut K n a i = cond (nat_lt i n) (a i) K.zero
 
+-- the coefficients of two by an operation, where the second's count below n alone
+abbrev pub merged : {F : Type 0} → FieldOn F → (F → F → F) → ℕ → (ℕ → F) → (ℕ → F) → ℕ → F
+merged K f n a b i = f (a i) (cut K n b i)
+
 -- a product by rows: all that the first coefficient gives, then what the second adds, and so on; after i rows, and j
 -- items of row i
 abbrev pub rows : {F : Type 0} → FieldOn F → (ℕ → F) → (ℕ → F) → ℕ → ℕ → ℕ → F
@@ -34,6 +38,28 @@ module _ {F : Type 0} (K : FieldOn F) where
 
   pub cut-all : (n : ℕ) (a : ℕ → F) → IsBelow K n a → cut K n a ≡ a
   cut-all n a b = same_below K n (cut K n a) a (cut-outside n a) b (cut-inside n a)
+
+  pub cut-other : (n : ℕ) (a : ℕ → F) (i : ℕ) → i ≢ n → cut K (n + 1) a i ≡ cut K n a i
+  cut-other n a i ne =
+      ⊎_elim
+      (λ (l : i < n). cut-inside (n + 1) a i (omega arith) ∙ sym (cut-inside n a i l))
+      (λ (l : n ≤ i). cut-outside (n + 1) a i (omega arith) ∙ sym (cut-outside n a i l))
+      (cases_lt i n)
+
+  -- ---- one item after the other, by an operation that zero doesn't change
+
+  pub merged-begin : (f : F → F → F) (a b : ℕ → F) → ((x : F) → f x K.zero ≡ x) → a ≡ merged K f 0 a b
+  merged-begin f a b z = fun_ext (λ i. sym (ap (f (a i)) (cut-outside 0 b i (omega arith)) ∙ z (a i)))
+
+  pub merged-end : (f : F → F → F) (a b : ℕ → F) (n : ℕ) → IsBelow K n b → merged K f n a b ≡ (λ i. f (a i) (b i))
+  merged-end f a b n h = ap (λ t i. f (a i) (t i)) (cut-all n b h)
+
+  pub merged-set : (f : F → F → F) (a b : ℕ → F) (i : ℕ) (c : List F) (x : F) → ((x : F) → f x K.zero ≡ x) → i < length c → of_list K c ≡ merged K f i a b → x ≡ f (of_list K c i) (b i) → of_list K (set c i x) ≡ merged K f (i + 1) a b
+  merged-set f a b i c x z l e h =
+      let old : of_list K c i ≡ a i = ap (λ t. t i) e ∙ ap (f (a i)) (cut-outside i b i (omega arith)) ∙ z (a i) in
+      of_list-set K c i x (merged K f (i + 1) a b) l
+      (ap (f (a i)) (cut-inside (i + 1) b i (omega arith)) ∙ sym (h ∙ ap (λ t. f t (b i)) old))
+      (λ k ne. ap (f (a k)) (cut-other i b k ne) ∙ sym (ap (λ t. t k) e))
 
 module _ {F : Type 0} (K : FieldOn F) (N : IsField K) where
   pub cut-more : (n : ℕ) (a : ℕ → F) → cut K (n + 1) a ≡ added K (cut K n a) (monomial K n (a n))

@@ -2,5 +2,7 @@
 #![tactic(auto)]
 
 pub mod domain;
+pub mod polynomial;
 
 pub use domain::{EvaluationDomain, Radix2EvaluationDomain};
+pub use polynomial::{DenseUVPolynomial, Polynomial, univariate};

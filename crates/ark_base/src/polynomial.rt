@@ -1,0 +1,111 @@
+//! What all forms of polynomials share.
+
+ghost use Rattle.std.specs.Prelude.{◌≡◌, ℕ, Decides, IfOk, IsOkUnless};
+
+use crate::error::PolyError;
+use crate::field::Field;
+use std::alloc::Global;
+use std::fmt::Debug;
+use std::hash::Hash;
+
+/// A polynomial over a field, in any number of variables. Two of them are equal exactly where the polynomials that they
+/// denote are.
+///
+/// A point fits where it has the variables that the polynomial needs. Two polynomials can be added where their forms
+/// have a sum of the same kind.
+pub trait Polynomial<F: Field>: Clone + Debug + Hash + Eq + Drop {
+    /// The points at which it is evaluated.
+    type Point: Clone + Ord + Debug + Hash;
+
+    ghost Meaning: { Type 0 };
+
+    // The polynomial that a value denotes.
+    ghost meaning: { Self → Meaning };
+
+    ghost has_degree: { Meaning → ℕ → Type 0 };
+
+    ghost fits: { Self → Self.Point → Type 0 };
+
+    ghost has_value: { Meaning → Self.Point → F → Type 0 };
+
+    ghost addable: { Meaning → Meaning → Type 0 };
+
+    ghost zero: { Meaning };
+
+    ghost sum: { Meaning → Meaning → Meaning };
+
+    ghost negated: { Meaning → Meaning };
+
+    /// The total degree; 0 for zero.
+    fn degree(&self) -> usize
+        ensures { has_degree (meaning self.now) result };
+
+    /// Whether it can be evaluated at this point.
+    fn point_fits(&self, point: &Self::Point) -> bool
+        ensures { Decides result (fits self.now point.now) };
+
+    /// The value at a point that fits.
+    fn evaluate(&self, alloc: Global, point: &Self::Point) -> Result<F, PolyError>
+        requires { fits self.now point.now }
+        ensures value { IfOk result (λ y. has_value (meaning self.now) point.now y) }
+        ensures memory { IsOkUnless result PolyError.Memory };
+
+    /// The zero polynomial.
+    fn zero(alloc: Global) -> Result<Self, PolyError>
+        ensures zero { IfOk result (λ p. meaning p ≡ zero) }
+        ensures memory { IsOkUnless result PolyError.Memory };
+
+    /// Whether it is the zero polynomial.
+    fn is_zero(&self) -> bool
+        ensures { Decides result (meaning self.now ≡ zero) };
+
+    /// Whether it has a sum with the other one.
+    fn addable(&self, other: &Self) -> bool
+        ensures { Decides result (addable (meaning self.now) (meaning other.now)) };
+
+    /// The sum of two polynomials that can be added. A point that fits both fits it.
+    fn add(&self, alloc: Global, other: &Self) -> Result<Self, PolyError>
+        requires { addable (meaning self.now) (meaning other.now) }
+        ensures sum { IfOk result (λ p. meaning p ≡ sum (meaning self.now) (meaning other.now)) }
+        ensures fits { IfOk result (λ p. (x : Self.Point) → fits self.now x → fits other.now x → fits p x) }
+        ensures memory { IsOkUnless result PolyError.Memory };
+
+    /// The difference of two polynomials that can be added. A point that fits both fits it.
+    fn sub(&self, alloc: Global, other: &Self) -> Result<Self, PolyError>
+        requires { addable (meaning self.now) (meaning other.now) }
+        ensures difference { IfOk result (λ p. meaning p ≡ sum (meaning self.now) (negated (meaning other.now))) }
+        ensures fits { IfOk result (λ p. (x : Self.Point) → fits self.now x → fits other.now x → fits p x) }
+        ensures memory { IsOkUnless result PolyError.Memory };
+
+    /// The opposite, which the same points fit.
+    fn neg(&self, alloc: Global) -> Result<Self, PolyError>
+        ensures opposite { IfOk result (λ p. meaning p ≡ negated (meaning self.now)) }
+        ensures fits { IfOk result (λ p. (x : Self.Point) → fits self.now x → fits p x) }
+        ensures memory { IsOkUnless result PolyError.Memory };
+
+    ghost equality_law: { (a b : Self) → Decides (Self.eq a b) (meaning a ≡ meaning b) };
+
+    ghost clone_law: { (a b : Self) → Self.is_clone a b → meaning b ≡ meaning a };
+
+    ghost clone_fits: { (a b : Self) → Self.is_clone a b → (x : Self.Point) → fits a x → fits b x };
+
+    ghost degree_law: { (a : Meaning) (d e : ℕ) → has_degree a d → has_degree a e → d ≡ e };
+
+    ghost value_law: { (a : Meaning) (x : Self.Point) (y z : F) → has_value a x y → has_value a x z → y ≡ z };
+
+    ghost addable_zero: { (a : Meaning) → addable a zero };
+
+    ghost addable_comm: { (a b : Meaning) → addable a b → addable b a };
+
+    ghost addable_negated: { (a b : Meaning) → addable a b → addable a (negated b) };
+
+    ghost sum_zero: { (a : Meaning) → sum a zero ≡ a };
+
+    ghost sum_comm: { (a b : Meaning) → addable a b → sum a b ≡ sum b a };
+
+    ghost sum_assoc: { (a b c : Meaning) → addable a b → addable b c → sum (sum a b) c ≡ sum a (sum b c) };
+
+    ghost value_sum: { (a b : Meaning) (x : Self.Point) (y z : F) → addable a b → has_value a x y → has_value b x z → has_value (sum a b) x (F.field.plus y z) };
+
+    ghost value_negated: { (a : Meaning) (x : Self.Point) (y : F) → has_value a x y → has_value (negated a) x (F.field.negated y) };
+}

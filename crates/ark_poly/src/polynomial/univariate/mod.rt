@@ -1,0 +1,5 @@
+//! Polynomials in one variable.
+
+mod dense;
+
+pub use dense::DensePolynomial;
