@@ -40,12 +40,18 @@ pub fn report<B: Benchmark>(
         println!(rt; "{}\t{}\t{nanos}", benchmark.name(), benchmark.size())?;
     } else {
         benchmark.call(alloc)?;
-        println!(rt; "{}\t{}\t{}", benchmark.name(), benchmark.size(), benchmark.checksum())?;
+        println!(rt;
+            "{}\t{}\t{}",
+            benchmark.name(),
+            benchmark.size(),
+            benchmark.checksum()
+        )?;
     }
     Ok(())
 }
 
 const BATCHES: u32 = 30;
+
 const BATCH_NANOS: u64 = 20_000_000;
 
 /// The nanoseconds of a call in the quickest batch.

@@ -6,8 +6,7 @@ mod batches;
 mod draws;
 mod transforms;
 
-use ark_base::F65537;
-use ark_base::FftField;
+use ark_base::{F65537, FftField};
 use ark_poly::{EvaluationDomain, Radix2EvaluationDomain};
 use batches::{Benchmark, report};
 use draws::Draws;
@@ -37,7 +36,9 @@ fn report_transforms(rt: &(impl Print + Clock), alloc: Global, timed: bool) -> a
         let items = draws.list(alloc, size)?;
         let mut inverse = Transform::inverse("radix2_ifft_in_place", domain, items);
         report(rt, alloc, timed, &mut inverse)?;
-        if size == 1 << 16 && let Some(coset) = domain.get_coset(F65537::GENERATOR) {
+        if size == 1 << 16
+            && let Some(coset) = domain.get_coset(F65537::GENERATOR)
+        {
             let items = draws.list(alloc, size)?;
             let mut forward = Transform::forward("coset_fft_in_place", coset, items);
             report(rt, alloc, timed, &mut forward)?;

@@ -49,7 +49,7 @@ carried_more n i left bit c above =
     let e : p + 1 ≡ 2 * (p / 2 + 1) = omega arith in
     let b : p / 2 + 1 < 2 ^ k = omega (arith, pow_suc k) in
     more n i left bit k (p / 2) b c.bit_is (c.left_is ∙ odd_left k p h o)
-        (c.same ∙ ap (reversed (suc k)) e ∙ reversed_even k (p / 2 + 1) b))
+    (c.same ∙ ap (reversed (suc k)) e ∙ reversed_even k (p / 2 + 1) b))
     (cases_lt (p % 2) 1)
 
 pub carried_last : (n i left bit : ℕ) → IsCarried n i left bit → left < bit → left + bit ≡ reversed n (i + 1)

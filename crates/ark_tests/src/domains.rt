@@ -12,11 +12,25 @@ fn size<F: FftField>(num_coeffs: usize) -> Option<usize> {
 
 #[test]
 fn sizes(rt: HostRuntime) -> Result<(), Fail> {
-    for (asked, got) in [(0, Some(1)), (1, Some(1)), (3, Some(4)), (4, Some(4)), (5, None)] {
+    for (asked, got) in [
+        (0, Some(1)),
+        (1, Some(1)),
+        (3, Some(4)),
+        (4, Some(4)),
+        (5, None),
+    ] {
         assert_eq!(rt; size::<F5>(asked), got);
-        assert_eq!(rt; Radix2EvaluationDomain::<F5>::compute_size_of_domain(asked), got);
+        assert_eq!(rt;
+            Radix2EvaluationDomain::<F5>::compute_size_of_domain(asked),
+            got
+        );
     }
-    for (asked, got) in [(9, Some(16)), (16, Some(16)), (17, None), (usize::MAX, None)] {
+    for (asked, got) in [
+        (9, Some(16)),
+        (16, Some(16)),
+        (17, None),
+        (usize::MAX, None),
+    ] {
         assert_eq!(rt; size::<F433>(asked), got);
     }
     for (asked, got) in [(65536, Some(65536)), (65537, None)] {
@@ -35,7 +49,10 @@ fn getters(rt: HostRuntime) -> Result<(), Fail> {
     for element in domain.elements() {
         elements.push(element)?;
     }
-    assert_eq!(rt; numbers(alloc, elements.as_slice())?.as_slice(), [2, 3].as_slice());
+    assert_eq!(rt;
+        numbers(alloc, elements.as_slice())?.as_slice(),
+        [2, 3].as_slice()
+    );
     assert_eq!(rt; domain.element(1).value(), 3);
     assert_eq!(rt; domain.element(usize::MAX).value(), 3);
     assert_eq!(rt; domain.size(), 2);

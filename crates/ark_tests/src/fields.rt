@@ -1,4 +1,6 @@
-use ark_base::{F5, F433, F65537, Fermat, FftField, Field, Five, Mixed, One, PrimeField, PrimeModulus, Zero};
+use ark_base::{
+    F5, F433, F65537, Fermat, FftField, Field, Five, Mixed, One, PrimeField, PrimeModulus, Zero,
+};
 use std::test::Fail;
 
 fn root<M: PrimeModulus>(n: u64) -> Option<u64> {
@@ -109,7 +111,10 @@ fn arithmetic(rt: HostRuntime) -> Result<(), Fail> {
 #[test]
 fn inverses(rt: HostRuntime) -> Result<(), Fail> {
     for (value, inverse) in [(1, 1), (2, 3), (3, 2), (4, 4)] {
-        assert!(rt; F5::from(value).inverse() == Some(F5::from(inverse)), "{value}");
+        assert!(rt;
+            F5::from(value).inverse() == Some(F5::from(inverse)),
+            "{value}"
+        );
     }
     assert!(rt; F433::from(2).inverse() == Some(F433::from(217)));
     assert!(rt; F65537::from(3).inverse() == Some(F65537::from(21846)));

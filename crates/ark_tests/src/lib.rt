@@ -3,15 +3,16 @@
 #![tactic(auto)]
 
 pub mod calls;
-pub mod nothing;
-pub mod plain;
-
 #[cfg(test)]
 mod domains;
 #[cfg(test)]
 mod errors;
 #[cfg(test)]
 mod fields;
+pub mod nothing;
+pub mod plain;
+#[cfg(test)]
+mod recorded;
 #[cfg(test)]
 mod sinks;
 #[cfg(test)]

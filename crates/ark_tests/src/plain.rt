@@ -1,6 +1,6 @@
 //! Plain bodies to compare the kernels with.
 
-use ark_base::{Field, One, F65537, Zero};
+use ark_base::{F65537, Field, One, Zero};
 use ark_poly::{EvaluationDomain, Radix2EvaluationDomain};
 use std::alloc::{AllocError, Global};
 

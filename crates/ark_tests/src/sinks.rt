@@ -5,8 +5,7 @@ ghost use Rattle.ark_base.specs.Transfer.{AppendsBeginning, CountsFailure};
 use ark_base::{Failed, IoSink, Sink};
 use std::alloc::Global;
 use std::io;
-use std::io::Write;
-use std::io::ErrorKind;
+use std::io::{ErrorKind, Write};
 use std::test::Fail;
 
 #[derive(Clone, Copy)]

@@ -11,17 +11,47 @@ use std::test::Fail;
 #[test]
 fn rows(rt: HostRuntime) -> Result<(), Fail> {
     let alloc = rt.alloc();
-    assert_eq!(rt; fft::<Five>(alloc, 4, 1, &[1, 2, 3, 4])?.as_slice(), [0, 4, 3, 2].as_slice());
-    assert_eq!(rt; ifft::<Five>(alloc, 4, 1, &[1, 2, 3, 4])?.as_slice(), [0, 3, 2, 1].as_slice());
-    assert_eq!(rt; fft::<Five>(alloc, 2, 2, &[1, 1])?.as_slice(), [3, 4].as_slice());
-    assert_eq!(rt; ifft::<Five>(alloc, 2, 2, &[3, 4])?.as_slice(), [1, 1].as_slice());
-    assert_eq!(rt; fft::<Five>(alloc, 4, 1, &[1, 0, 0, 0, 1])?.as_slice(), [1, 1, 1, 1].as_slice());
-    assert_eq!(rt; fft::<Five>(alloc, 3, 1, &[1])?.as_slice(), [1, 1, 1, 1].as_slice());
-    assert_eq!(rt; fft::<Five>(alloc, 1, 1, &[3, 1])?.as_slice(), [3].as_slice());
+    assert_eq!(rt;
+        fft::<Five>(alloc, 4, 1, &[1, 2, 3, 4])?.as_slice(),
+        [0, 4, 3, 2].as_slice()
+    );
+    assert_eq!(rt;
+        ifft::<Five>(alloc, 4, 1, &[1, 2, 3, 4])?.as_slice(),
+        [0, 3, 2, 1].as_slice()
+    );
+    assert_eq!(rt;
+        fft::<Five>(alloc, 2, 2, &[1, 1])?.as_slice(),
+        [3, 4].as_slice()
+    );
+    assert_eq!(rt;
+        ifft::<Five>(alloc, 2, 2, &[3, 4])?.as_slice(),
+        [1, 1].as_slice()
+    );
+    assert_eq!(rt;
+        fft::<Five>(alloc, 4, 1, &[1, 0, 0, 0, 1])?.as_slice(),
+        [1, 1, 1, 1].as_slice()
+    );
+    assert_eq!(rt;
+        fft::<Five>(alloc, 3, 1, &[1])?.as_slice(),
+        [1, 1, 1, 1].as_slice()
+    );
+    assert_eq!(rt;
+        fft::<Five>(alloc, 1, 1, &[3, 1])?.as_slice(),
+        [3].as_slice()
+    );
     assert_eq!(rt; ifft::<Five>(alloc, 1, 1, &[3])?.as_slice(), [3].as_slice());
-    assert_eq!(rt; fft::<Mixed>(alloc, 4, 1, &[1, 2, 3, 4])?.as_slice(), [10, 73, 431, 356].as_slice());
-    assert_eq!(rt; ifft::<Mixed>(alloc, 4, 1, &[10, 73, 431, 356])?.as_slice(), [1, 2, 3, 4].as_slice());
-    assert_eq!(rt; fft::<Five>(alloc, 4, 1, &[])?.as_slice(), [0, 0, 0, 0].as_slice());
+    assert_eq!(rt;
+        fft::<Mixed>(alloc, 4, 1, &[1, 2, 3, 4])?.as_slice(),
+        [10, 73, 431, 356].as_slice()
+    );
+    assert_eq!(rt;
+        ifft::<Mixed>(alloc, 4, 1, &[10, 73, 431, 356])?.as_slice(),
+        [1, 2, 3, 4].as_slice()
+    );
+    assert_eq!(rt;
+        fft::<Five>(alloc, 4, 1, &[])?.as_slice(),
+        [0, 0, 0, 0].as_slice()
+    );
     assert!(rt; matches!(fft::<Five>(alloc, 5, 1, &[1]), Err(PolyError::NoDomain)));
     Ok(())
 }
@@ -49,7 +79,10 @@ fn plain_bodies_agree(rt: HostRuntime) -> Result<(), Fail> {
         for domain in [subgroup, coset] {
             let items = drawn(alloc, &mut rng, size)?;
             let values = domain.fft(alloc, items.as_slice())?;
-            assert!(rt; values == plain::sums(alloc, &domain, items.as_slice())?, "size {size}");
+            assert!(rt;
+                values == plain::sums(alloc, &domain, items.as_slice())?,
+                "size {size}"
+            );
             let mut passed = items.clone()?;
             plain::forward(&domain, passed.as_mut_slice());
             assert!(rt; values == passed, "size {size}");
@@ -60,7 +93,10 @@ fn plain_bodies_agree(rt: HostRuntime) -> Result<(), Fail> {
             for len in [0, 1, size / 4, size / 4 + 1, size + 3] {
                 let items = drawn(alloc, &mut rng, len)?;
                 let values = domain.fft(alloc, items.as_slice())?;
-                assert!(rt; values == plain::sums(alloc, &domain, items.as_slice())?, "{len} items at size {size}");
+                assert!(rt;
+                    values == plain::sums(alloc, &domain, items.as_slice())?,
+                    "{len} items at size {size}"
+                );
             }
         }
     }
