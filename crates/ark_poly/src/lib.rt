@@ -2,7 +2,9 @@
 #![tactic(auto)]
 
 pub mod domain;
+pub mod evaluations;
 pub mod polynomial;
 
 pub use domain::{EvaluationDomain, Radix2EvaluationDomain};
+pub use evaluations::univariate::Evaluations;
 pub use polynomial::{DenseUVPolynomial, Polynomial, univariate};

@@ -1,11 +1,14 @@
 //! Polynomials in one variable by the list of their coefficients.
 
-ghost use Rattle.std.specs.Prelude.{◌≡◌, ◌≢◌, ◌↔◌, ℕ, ◌+◌, ◌-◌, ◌<◌, ◌≤◌, length, ◌⊎◌, IfOk, IfErr, IsOk, replicate};
+ghost use Rattle.std.specs.Prelude.{◌≡◌, ◌≢◌, ◌↔◌, ℕ, ◌+◌, ◌-◌, ◌<◌, ◌≤◌, length, ◌⊎◌, IfOk, IfErr, IsOk, IsOkUnless, replicate};
 ghost use Rattle.std.proofs.Props.{props};
+ghost use Rattle.ark_math.specs.Points.{AreValues};
 ghost use Rattle.ark_math.specs.Univariate.{IsTrimmed, IsBelow, IsDegree, IsValue, of_list, nothing, added, opposite, product};
 
+use crate::domain::EvaluationDomain;
+use crate::evaluations::univariate::Evaluations;
 use crate::polynomial::{DenseUVPolynomial, Polynomial};
-use ark_base::{Field, PolyError};
+use ark_base::{FftField, Field, PolyError};
 use std::alloc::{AllocError, Global};
 use std::fmt::{self, Debug, Formatter, Write};
 
@@ -264,5 +267,38 @@ impl<F: Field> DensePolynomial<F> {
         coeffs.resize(len, F::zero())?;
         add_product(coeffs.as_mut_slice(), &self.coeffs, &other.coeffs);
         Ok(Self::from_coefficients_vec(coeffs))
+    }
+}
+
+impl<F: FftField> DensePolynomial<F> {
+    /// Its values at the elements of the domain, no coefficient cut off.
+    pub fn evaluate_over_domain<D: EvaluationDomain<F>>(
+        self,
+        alloc: Global,
+        domain: D,
+    ) -> Result<Evaluations<F, D>, PolyError>
+        ensures values { IfOk result (λ v. AreValues F.field (D.domain domain) (⟦<DensePolynomial<F> as Polynomial<F>>⟧.meaning self) v.evals.items) }
+        ensures domain { IfOk result (λ v. v.domain ≡ domain) }
+        ensures memory { IsOkUnless result PolyError.Memory }
+    {
+        self.evaluate_over_domain_by_ref(alloc, domain)
+    }
+
+    /// The same, and the polynomial stays.
+    pub fn evaluate_over_domain_by_ref<D: EvaluationDomain<F>>(
+        &self,
+        alloc: Global,
+        domain: D,
+    ) -> Result<Evaluations<F, D>, PolyError>
+        ensures values { IfOk result (λ v. AreValues F.field (D.domain domain) (⟦<DensePolynomial<F> as Polynomial<F>>⟧.meaning self.now) v.evals.items) }
+        ensures domain { IfOk result (λ v. v.domain ≡ domain) }
+        ensures memory { IsOkUnless result PolyError.Memory }
+    {
+        let mut evals = Vec::with_capacity(alloc, domain.size())?;
+        for i in 0..domain.size() {
+            let value = self.evaluate(alloc, &domain.element(i))?;
+            evals.push(value)?;
+        }
+        Ok(Evaluations::from_vec_and_domain(evals, domain))
     }
 }
