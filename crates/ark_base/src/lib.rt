@@ -3,12 +3,14 @@
 
 mod error;
 mod field;
+mod inversion;
 mod prime_field;
 mod sink;
 mod work;
 
 pub use error::PolyError;
 pub use field::{DomainCoeff, FftField, Field, One, Zero};
+pub use inversion::batch_inversion;
 pub use prime_field::{F5, F433, F65537, Fermat, Five, Mixed, PrimeField, PrimeModulus};
 pub use sink::{Failed, IoSink, Sink};
 pub use work::Work;

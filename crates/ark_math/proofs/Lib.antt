@@ -8,6 +8,7 @@ pub mod Generator
 pub mod Groups
 pub mod Halving
 pub mod Inverses
+pub mod Inversions
 pub mod Listed
 pub mod Lists
 pub mod Multiples
