@@ -6,6 +6,7 @@ ghost use Rattle.ark_math.specs.Module.{ModuleOn, IsModule, IsItself};
 ghost use Rattle.ark_math.specs.Root.{Adicity, IsSupported, AreRoots, AreGreatest};
 ghost use Rattle.ark_math.specs.Root.{adicity_of};
 
+use rand::Rng;
 use std::fmt::Debug;
 use std::hash::Hash;
 use std::ops::{Add, AddAssign, Mul, MulAssign, Neg, Sub, SubAssign};
@@ -82,6 +83,9 @@ pub trait Field: Copy
         }
         result
     }
+
+    /// A value drawn from the generator. Which one is left open.
+    fn rand<R: Rng>(rng: &mut R) -> Self;
 
     ghost field_laws: { IsField field };
 

@@ -3,6 +3,7 @@
 
 mod error;
 mod field;
+mod inversion;
 mod polynomial;
 mod prime_field;
 mod sink;
@@ -10,6 +11,7 @@ mod work;
 
 pub use error::PolyError;
 pub use field::{DomainCoeff, FftField, Field, One, Zero};
+pub use inversion::batch_inversion;
 pub use polynomial::Polynomial;
 pub use prime_field::{F5, F433, F65537, Fermat, Five, Mixed, PrimeField, PrimeModulus};
 pub use sink::{Failed, IoSink, Sink};

@@ -10,6 +10,7 @@ ghost use Rattle.ark_math.proofs.Prime.{prime_from_test};
 ghost use Rattle.ark_math.proofs.Generator.{generator_from_test};
 
 use crate::field::{DomainCoeff, FftField, Field, One, Zero};
+use rand::{Rng, RngExt};
 use std::alloc::AllocError;
 use std::default::Default;
 use std::marker::PhantomData;
@@ -273,6 +274,14 @@ impl<M: PrimeModulus> Field for PrimeField<M> {
             value: last_factor,
             marker: PhantomData,
         })
+    }
+
+    /// A number below the prime, each as likely as the others.
+    fn rand<R: Rng>(rng: &mut R) -> Self {
+        PrimeField {
+            value: rng.random_range(0..M::MODULUS),
+            marker: PhantomData,
+        }
     }
 
     ghost field_laws = { prime_field_laws M.modulus.prime };

@@ -9,6 +9,8 @@ pub mod Generator
 pub mod Groups
 pub mod Halving
 pub mod Inverses
+pub mod Inversions
+pub mod LawfulDomains
 pub mod Listed
 pub mod Lists
 pub mod Multiples
@@ -30,6 +32,7 @@ pub mod Roots
 pub mod Signed
 pub mod Sizes
 pub mod Solve
+pub mod SortedPairs
 pub mod Sums
 pub mod Transforms
 pub mod Univariate

@@ -26,6 +26,10 @@ pub record AreWeights {F : Type 0} (K : FieldOn F) (d : Domain F) (tau : F) (l :
       sum_below (itself K) d.size (λ i. K.times (of_list K l i) (value_below K d.size a (element K d i)))
       ≡ value_below K d.size a tau
 
+-- x is a place of d
+abbrev pub IsElement : {F : Type 0} → FieldOn F → Domain F → F → Type 0
+IsElement K d x = (i : ℕ) × (i < d.size) × (x ≡ element K d i)
+
 -- each place of s is one of d
 abbrev pub IsContained : {F : Type 0} → FieldOn F → Domain F → Domain F → Type 0
 IsContained K s d = (i : ℕ) → i < s.size → (j : ℕ) × (j < d.size) × (element K s i ≡ element K d j)

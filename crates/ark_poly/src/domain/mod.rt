@@ -1,10 +1,13 @@
 //! Domains: the places `offset * root^i` of a subgroup or a coset, and transforms over them.
 
-ghost use Rattle.std.specs.Prelude.{◌≡◌, ◌≢◌, ◌↔◌, ◌⊎◌, ℕ, ◌<◌, ◌≤◌, true, false, take, map, length, Decides, IsNone, IfSome, IfOk, OnOk, OnErr, IsOkUnless};
+ghost use Rattle.std.specs.Prelude.{◌≡◌, ◌≢◌, ◌↔◌, ◌⊎◌, ℕ, ◌%◌, ◌<◌, ◌≤◌, true, false, List, take, map, length, get_or, Decides, IsNone, IfSome, IsTrue, IfOk, OnOk, OnErr, IsOkUnless};
 ghost use Rattle.std.specs.Iterator.{IsFinite, AlwaysYields};
-ghost use Rattle.ark_math.specs.Field.{power, natural};
+ghost use Rattle.ark_math.specs.Field.{power, natural, minus};
+ghost use Rattle.ark_math.specs.Module.{item};
 ghost use Rattle.ark_math.specs.Domain.{Kind, Domain, IsDomain, IsSize, IsExponentOfTwo, element, elements};
 ghost use Rattle.ark_math.specs.Transform.{transform, IsInverse, IsOnlyInverse};
+ghost use Rattle.ark_math.specs.Univariate.{IsValue, of_list};
+ghost use Rattle.ark_math.specs.Points.{vanishing, AreWeights, IsElement, IsContained, IsFilter, reindexed};
 ghost use Rattle.ark_base.specs.Cost.{GrowsByCost};
 
 mod coset;
@@ -12,8 +15,9 @@ pub mod radix2;
 pub mod utils;
 
 pub use ark_base::DomainCoeff;
-use ark_base::{FftField, PolyError, Work};
+use ark_base::{FftField, Field, PolyError, Work, batch_inversion};
 pub use radix2::Radix2EvaluationDomain;
+use rand::Rng;
 use std::alloc::{AllocError, Global};
 use std::fmt::Debug;
 use std::hash::Hash;
@@ -184,6 +188,126 @@ pub trait EvaluationDomain<F: FftField>: Copy + Eq + Hash + Debug {
         ensures uncounted { OnErr result (work.new ≡ work.old) }
         ensures memory { IsOkUnless result PolyError.Memory };
 
+    /// Multiplies item `i` by `g^i`.
+    fn distribute_powers<T: DomainCoeff<F>>(coeffs: &mut [T], g: F)
+        ensures { (i : ℕ) → i < length coeffs.old → item T.group (map T.meaning coeffs.new) i ≡ T.group.scale (power F.field g i) (item T.group (map T.meaning coeffs.old) i) }
+    {
+        Self::distribute_powers_and_mul_by_const(coeffs, g, F::one());
+    }
+
+    /// Multiplies item `i` by `c * g^i`.
+    fn distribute_powers_and_mul_by_const<T: DomainCoeff<F>>(coeffs: &mut [T], g: F, c: F)
+        ensures { (i : ℕ) → i < length coeffs.old → item T.group (map T.meaning coeffs.new) i ≡ T.group.scale (F.field.times c (power F.field g i)) (item T.group (map T.meaning coeffs.old) i) }
+    {
+        let mut factor = c;
+        for i in 0..coeffs.len() {
+            coeffs[i] *= factor;
+            factor *= g;
+        }
+    }
+
+    /// The weights by which the values at the elements give the value at `tau`, for every polynomial of a degree below
+    /// the size: the values at `tau` of the Lagrange polynomials. At an element they are one at its place and zero
+    /// elsewhere; at any other point they take one batch inversion.
+    fn evaluate_all_lagrange_coefficients(&self, alloc: Global, tau: F) -> Result<Vec<F>, PolyError>
+        ensures weights { IfOk result (λ l. AreWeights F.field (domain self.now) tau l.items) }
+        ensures only { IfOk result (λ l. (other : List F) → AreWeights F.field (domain self.now) tau other → other ≡ l.items) }
+        ensures memory { IsOkUnless result PolyError.Memory }
+    {
+        let vanishing = self.evaluate_vanishing_polynomial(tau);
+        match vanishing.inverse() {
+            None => Ok(indicator(
+                alloc,
+                self.size(),
+                self.coset_offset(),
+                self.group_gen(),
+                tau,
+            )?),
+            Some(inverse) => {
+                let constant = self.size_as_field_element()
+                    * self.coset_offset_pow_size()
+                    * inverse;
+                let first = tau * constant * self.coset_offset_inv();
+                let mut weights = geometric_row_less(
+                    alloc,
+                    self.size(),
+                    first,
+                    self.group_gen_inv(),
+                    constant,
+                )?;
+                batch_inversion(alloc, weights.as_mut_slice())?;
+                Ok(weights)
+            }
+        }
+    }
+
+    /// The value of the vanishing polynomial: zero exactly at the elements.
+    fn evaluate_vanishing_polynomial(&self, tau: F) -> F
+        ensures value { IsValue F.field (vanishing F.field (domain self.now)) tau result }
+        ensures zero { (result ≡ F.field.zero) ↔ IsElement F.field (domain self.now) tau }
+    {
+        tau.pow(self.size() as u64) - self.coset_offset_pow_size()
+    }
+
+    /// Whether each element of the other domain is one of this domain.
+    fn contains_subdomain(&self, subdomain: &Self) -> bool
+        ensures { IsTrue result ↔ IsContained F.field (domain subdomain.now) (domain self.now) }
+    {
+        self.size() % subdomain.size() == 0
+            && subdomain.coset_offset().pow(self.size() as u64) == self.coset_offset_pow_size()
+    }
+
+    /// The value of the polynomial that is one at the subdomain's elements and zero at the others, of the least degree,
+    /// and `None` exactly where the subdomain isn't contained.
+    fn evaluate_filter_polynomial(&self, subdomain: &Self, tau: F) -> Option<F>
+        ensures value { IfSome result (λ y. (a : ℕ → F) × IsFilter F.field (domain subdomain.now) (domain self.now) a × IsValue F.field a tau y) }
+        ensures none { IsNone result ↔ (IsContained F.field (domain subdomain.now) (domain self.now) → ⊥) }
+    {
+        if !self.contains_subdomain(subdomain) {
+            return None;
+        }
+        let vanishing = subdomain.evaluate_vanishing_polynomial(tau);
+        if vanishing.is_zero() {
+            return Some(F::one());
+        }
+        let divisor = self.size_as_field_element() * self.coset_offset_pow_size() * vanishing;
+        Some(
+            subdomain.size_as_field_element()
+                * subdomain.coset_offset_pow_size()
+                * self.evaluate_vanishing_polynomial(tau)
+                * divisor.inverse().unwrap(),
+        )
+    }
+
+    /// Item `i` of the order of this domain's indices that has those of the subdomain's elements first: the multiples
+    /// of the sizes' quotient, and then the others.
+    fn reindex_by_subdomain(&self, other: Self, i: usize) -> usize
+        requires divides { (domain self.now).size % (domain other).size ≡ 0 }
+        requires within { i < (domain self.now).size }
+        ensures { result ≡ get_or (reindexed (domain self.now).size (domain other).size) i 0 }
+    {
+        let step = self.size() / other.size();
+        if i < other.size() {
+            i * step
+        } else {
+            let rest = i - other.size();
+            rest + rest / (step - 1) + 1
+        }
+    }
+
+    /// The first of at most `tries` draws that is no element of the domain, and `None` where all of them are.
+    fn sample_element_outside_domain<R: Rng>(&self, rng: &mut R, tries: usize) -> Option<F>
+        ensures { IfSome result (λ x. IsElement F.field (domain self.now) x → ⊥) }
+    {
+        for _ in 0..tries {
+            let drawn = F::rand(rng);
+            if !self.evaluate_vanishing_polynomial(drawn).is_zero() {
+                return Some(drawn);
+            }
+        }
+        None
+    }
+
     // A domain is one that the constructors give.
     ghost lawful: { (d : Self) → IsDomain F.field F.adicity F.root (domain d) };
 
@@ -203,4 +327,45 @@ fn first_items<T: Copy>(alloc: Global, items: &[T], count: usize) -> Result<Vec<
     let mut first = Vec::with_capacity(alloc, count)?;
     first.extend_from_slice(&items[..items.len().min(count)])?;
     Ok(first)
+}
+
+/// One where the element `offset * root^i` is `tau`, and zero elsewhere, for the `i` below `size`.
+fn indicator<F: Field>(
+    alloc: Global,
+    size: usize,
+    offset: F,
+    root: F,
+    tau: F,
+) -> Result<Vec<F>, AllocError>
+    ensures len { IfOk result (λ l. length l.items ≡ size) }
+    ensures here { IfOk result (λ l. (i : ℕ) → i < size → F.field.times offset (power F.field root i) ≡ tau → of_list F.field l.items i ≡ F.field.one) }
+    ensures elsewhere { IfOk result (λ l. (i : ℕ) → i < size → F.field.times offset (power F.field root i) ≢ tau → of_list F.field l.items i ≡ F.field.zero) }
+{
+    let mut items = Vec::with_capacity(alloc, size)?;
+    let mut element = offset;
+    for _ in 0..size {
+        items.push(if element == tau { F::one() } else { F::zero() })?;
+        element *= root;
+    }
+    Ok(items)
+}
+
+/// The items `first * ratio^i - constant` for the `i` below `size`.
+fn geometric_row_less<F: Field>(
+    alloc: Global,
+    size: usize,
+    first: F,
+    ratio: F,
+    constant: F,
+) -> Result<Vec<F>, AllocError>
+    ensures len { IfOk result (λ l. length l.items ≡ size) }
+    ensures items { IfOk result (λ l. (i : ℕ) → i < size → of_list F.field l.items i ≡ minus F.field (F.field.times first (power F.field ratio i)) constant) }
+{
+    let mut items = Vec::with_capacity(alloc, size)?;
+    let mut next = first;
+    for _ in 0..size {
+        items.push(next - constant)?;
+        next *= ratio;
+    }
+    Ok(items)
 }
