@@ -1,4 +1,5 @@
 -- Lemmas, each stated once over plain variables. Solve and Ring close equations of fields and modules by computation.
+pub mod Blocks
 pub mod Contained
 pub mod Domains
 pub mod Elements
@@ -10,10 +11,13 @@ pub mod Halving
 pub mod Inverses
 pub mod Listed
 pub mod Lists
+pub mod Mixed
+pub mod MixedSizes
 pub mod Multiples
 pub mod OneFilter
 pub mod Order
 pub mod Orthogonal
+pub mod Parts
 pub mod PlaceValues
 pub mod Places
 pub mod PowerMod
@@ -29,6 +33,7 @@ pub mod Roots
 pub mod Signed
 pub mod Sizes
 pub mod Solve
+pub mod Split
 pub mod Sums
 pub mod Transforms
 pub mod Univariate

@@ -3,4 +3,4 @@
 
 pub mod domain;
 
-pub use domain::{EvaluationDomain, Radix2EvaluationDomain};
+pub use domain::{EvaluationDomain, MixedRadixEvaluationDomain, Radix2EvaluationDomain};

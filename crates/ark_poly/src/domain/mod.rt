@@ -8,11 +8,13 @@ ghost use Rattle.ark_math.specs.Transform.{transform, IsInverse, IsOnlyInverse};
 ghost use Rattle.ark_base.specs.Cost.{GrowsByCost};
 
 mod coset;
+pub mod mixed_radix;
 pub mod radix2;
 pub mod utils;
 
 pub use ark_base::DomainCoeff;
 use ark_base::{FftField, PolyError, Work};
+pub use mixed_radix::MixedRadixEvaluationDomain;
 pub use radix2::Radix2EvaluationDomain;
 use std::alloc::{AllocError, Global};
 use std::fmt::Debug;
