@@ -1,5 +1,5 @@
 -- A block of a list written anew, and the blocks joined.
-use Rattle.std.proofs.Common.{◌≡◌, ◌≢◌, ℕ, zero, suc, ◌+◌, ◌*◌, ◌-◌, ◌/◌, ◌%◌, ◌^◌, [], ◌∷◌, ◌<◌, ◌≤◌, List, length, get_or, take, drop, map, ◌++◌, sym, ◌∙◌, ap, refl, arith, subst, ⊎_elim, length-take-le, length-drop}
+use Rattle.std.proofs.Common.{◌≡◌, ◌≢◌, ℕ, zero, suc, ◌+◌, ◌*◌, ◌-◌, ◌/◌, ◌%◌, ◌^◌, [], ◌∷◌, ◌<◌, ◌≤◌, List, length, get_or, take, drop, map, ◌++◌, sym, ◌∙◌, ap, arith, subst, ⊎_elim, length-take-le, length-drop}
 use Rattle.std.proofs.lemmas.List.{get_or-map, get_or-take, get_or-drop, get_or_append_left, get_or-append-add, map-append, length-map, drop-map}
 use Rattle.std.specs.List.{take-map}
 use Rattle.std.proofs.lemmas.Bool.{cases_eq}

@@ -1,5 +1,5 @@
 -- The mixed radix transform and its inverse, from what the parts of the kernel leave; its sizes and counts.
-use Rattle.std.proofs.Common.{◌≡◌, ℕ, zero, suc, ◌+◌, ◌*◌, ◌-◌, ◌/◌, ◌^◌, ◌<◌, ◌≤◌, List, length, get_or, take, map, sym, ◌∙◌, ap, refl, arith, subst}
+use Rattle.std.proofs.Common.{◌≡◌, ℕ, zero, suc, ◌+◌, ◌*◌, ◌-◌, ◌/◌, ◌^◌, ◌<◌, ◌≤◌, List, length, get_or, take, map, sym, ◌∙◌, ap, arith, subst}
 use Rattle.std.proofs.lemmas.List.{get_or-take, length-take-le, length-map}
 use Rattle.std.proofs.lemmas.Nat.{div-mul-add, mul-lt}
 use Rattle.std.proofs.Math.Nat.{pow-suc, pow-zero}

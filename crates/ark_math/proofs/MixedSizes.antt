@@ -1,6 +1,5 @@
 -- The least size of a mixed domain: the least of those with each power of the base.
-use Rattle.std.proofs.Common.{◌≡◌, ℕ, suc, zero, ◌+◌, ◌-◌, ◌*◌, ◌/◌, ◌%◌, ◌^◌, ◌<◌, ◌≤◌, max, min, inl, inr, sym, ap, ap₂, ◌∙◌, subst, arith, Option, None, Some, IsSome, IfSome, IfNone, MatchOption, refl}
-use Rattle.std.proofs.Math.Pow.{pow-lt}
+use Rattle.std.proofs.Common.{◌≡◌, ℕ, suc, zero, ◌+◌, ◌*◌, ◌%◌, ◌^◌, ◌<◌, ◌≤◌, min, inl, inr, sym, ap, ap₂, ◌∙◌, subst, arith, Option, None, Some, IsSome, IfSome, IfNone, MatchOption, refl}
 use Rattle.std.proofs.Math.Nat.{pow-zero, pow-suc, pow-le-pow_right, pow-le-pow_left, one-le-pow, mul-le-mul_left, mul-le-mul_right}
 use Rattle.std.proofs.lemmas.Bool.{cases_lt, cases_eq}
 use Rattle.std.proofs.lemmas.Nat.{mul-mod}

@@ -1,8 +1,8 @@
 -- A sum of q * m items by q sums of m items.
-use Rattle.std.proofs.Common.{◌≡◌, ℕ, zero, suc, ◌+◌, ◌*◌, ◌-◌, ◌%◌, ◌/◌, ◌<◌, ◌≤◌, List, length, get_or, map, sym, ◌∙◌, ap, refl, arith}
+use Rattle.std.proofs.Common.{◌≡◌, ℕ, zero, suc, ◌+◌, ◌*◌, ◌%◌, ◌/◌, sym, ◌∙◌, ap, arith}
 use Rattle.std.proofs.lemmas.Nat.{div-add-mod'}
 use Rattle.ark_math.specs.Field.{FieldOn, IsField, power}
-use Rattle.ark_math.specs.Module.{ModuleOn, IsModule, sum_below, item}
+use Rattle.ark_math.specs.Module.{ModuleOn, IsModule, sum_below}
 use Rattle.ark_math.specs.Halves.{sum_at}
 use Rattle.ark_math.proofs.Powers.{power-add, power-mul, power_comm, power-one}
 use Rattle.ark_math.proofs.Regrouped.{sum_below-none}

@@ -1,7 +1,7 @@
-use Rattle.std.proofs.Common.{◌≡◌, ℕ, ◌+◌, ◌<◌, ◌≤◌, arith, min, Some, IsSome, true, sym, ap, subst, refl}
+use Rattle.std.proofs.Common.{◌≡◌, ◌+◌, arith, Some, IsSome, sym, ap, subst, refl}
 use Rattle.std.proofs.lemmas.Bool.Decides.{not_from_Decides}
-use Rattle.ark_math.specs.Root.{odd_base, odd_most}
-use Rattle.ark_math.proofs.MixedSizes.{IsLeastBelow, IsImproved, base_above, least_below-none, least_below-more, least_below-kept, least_below-same, least_of_all, none_of_all}
+use Rattle.ark_math.specs.Root.{odd_most}
+use Rattle.ark_math.proofs.MixedSizes.{IsLeastBelow, base_above, least_below-none, least_below-more, least_below-kept, least_below-same, least_of_all, none_of_all}
 use Rattle.ark_poly.proofs.domain.mixed_radix.least_size.Goals as goal
 use Rattle.ark_poly.proofs.domain.mixed_radix.least_size.Goals.{in-Some+then-improves, in-Some+else-improves, in_default}
 

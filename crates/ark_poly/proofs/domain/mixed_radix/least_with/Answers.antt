@@ -1,6 +1,5 @@
-use Rattle.std.proofs.Common.{◌≡◌, ℕ, ◌+◌, ◌*◌, ◌^◌, ◌<◌, ◌≤◌, inl, inr, sym, ap, ◌∙◌, subst, arith}
+use Rattle.std.proofs.Common.{◌≡◌, ℕ, ◌^◌, ◌<◌, ◌≤◌, inl, inr, sym, ap, ◌∙◌, subst, arith}
 use Rattle.std.proofs.lemmas.Bool.{cases_lt}
-use Rattle.std.specs.Int.{IsNextPowerOfTwo, div_ceil}
 use Rattle.ark_math.specs.Root.{Splits, odd_base}
 use Rattle.ark_math.specs.Domain.{IsLeast, IsSizeWith}
 use Rattle.ark_math.proofs.MixedSizes.{base_positive, none_past_power, none_past_word, none_past_adicity, none_past_product, least_with, splits_with}

@@ -1,4 +1,4 @@
-use Rattle.std.proofs.Common.{◌≡◌, ℕ, map, length, ◌-◌, ◌*◌, ◌/◌, Some, ◌^◌, ◌<◌, arith, sym, ap, subst, ◌∙◌}
+use Rattle.std.proofs.Common.{◌≡◌, ℕ, map, length, ◌-◌, ◌*◌, ◌/◌, Some, ◌<◌, arith, sym, ap, subst, ◌∙◌}
 use Rattle.ark_math.specs.Domain.{Domain, mixed_radix}
 use Rattle.ark_math.specs.Field.{natural}
 use Rattle.ark_math.specs.Halves.{ArePowers}

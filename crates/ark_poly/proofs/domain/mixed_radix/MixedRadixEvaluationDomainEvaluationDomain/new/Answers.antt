@@ -1,4 +1,4 @@
-use Rattle.std.proofs.Common.{subst, sym, ap, refl}
+use Rattle.std.proofs.Common.{subst, sym, ap}
 use Rattle.std.specs.Option.{is_some}
 use Rattle.ark_math.specs.Domain.{mixed_radix, IsLeast, IsSize}
 use Rattle.ark_math.proofs.MixedSizes.{mixed_none}

@@ -1,11 +1,8 @@
-use Rattle.std.proofs.Common.{rules, ◌≡◌, ◌≢◌, ℕ, suc, map, take, drop, length, get_or, ◌+◌, ◌-◌, ◌*◌, ◌/◌, ◌%◌, ◌≤◌, ◌<◌, ◌^◌, ap, sym, ◌∙◌, arith, subst}
+use Rattle.std.proofs.Common.{rules, ◌≡◌, map, take, drop, length, ◌+◌, ◌-◌, ◌*◌, ◌/◌, ◌<◌, sym, ◌∙◌, arith}
 use Rattle.std.proofs.lemmas.Nat.{mul-lt}
-use Rattle.ark_math.specs.Mixed.{IsPowerTable}
 use Rattle.ark_math.specs.Field.{power}
 use Rattle.ark_math.specs.Module.{item}
-use Rattle.ark_math.proofs.Lists.{read_at}
-use Rattle.ark_math.proofs.Parts.{place_below}
-use Rattle.ark_math.proofs.Mixed.{part_size, parts_whole, part_positive, level_steps, level_products, counted_more, joined_more, stepped_more, level_joins, nothing_counted}
+use Rattle.ark_math.proofs.Mixed.{part_size, parts_whole, part_positive, level_steps, level_products, counted_more, joined_more, stepped_more, level_joins}
 use Rattle.ark_math.proofs.Blocks.{block_within, part_length, sub_whole, table_size, stride_small, block_done, block_after, mixed_joined, dealt_items}
 use Rattle.ark_poly.proofs.domain.mixed_radix.kernel.+mixed.Goals as goal
 

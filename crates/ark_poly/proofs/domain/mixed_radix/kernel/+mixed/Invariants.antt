@@ -1,8 +1,8 @@
-use Rattle.std.proofs.Common.{◌≡◌, ◌≢◌, ℕ, map, length, get_or, ◌+◌, ◌-◌, ◌*◌, ◌/◌, ◌%◌, ◌≤◌, ◌<◌, ◌^◌}
+use Rattle.std.proofs.Common.{◌≡◌, ℕ, map, ◌+◌, ◌-◌, ◌*◌, ◌/◌, ◌≤◌, ◌<◌}
 use Rattle.ark_math.specs.Halves.{sum_at}
-use Rattle.ark_math.specs.Mixed.{IsPowerTable, joined}
+use Rattle.ark_math.specs.Mixed.{IsPowerTable}
 use Rattle.ark_math.specs.Field.{power}
-use Rattle.ark_math.specs.Module.{item, sum_below}
+use Rattle.ark_math.specs.Module.{item}
 use Rattle.ark_poly.proofs.domain.mixed_radix.kernel.+mixed.Given as goal
 
 abbrev pub decreases-mixed : goal.decreases-mixed

@@ -1,12 +1,7 @@
-use Rattle.std.proofs.Common.{rules, ◌≡◌, ◌≢◌, ℕ, suc, map, take, length, get_or, ◌+◌, ◌-◌, ◌*◌, ◌/◌, ◌%◌, ◌≤◌, ◌<◌, ◌^◌, ap, sym, ◌∙◌, arith, subst, ⊎_elim, add-one, get_or-set_same, get_or-set_other, set}
+use Rattle.std.proofs.Common.{rules, ◌≡◌, ◌≢◌, length, get_or, ◌+◌, ◌*◌, ◌<◌, ap, sym, ◌∙◌, arith, subst, ⊎_elim, get_or-set_same, get_or-set_other, set}
 use Rattle.std.proofs.lemmas.Bool.{cases_eq}
 use Rattle.std.proofs.lemmas.List.{get_or_read}
-use Rattle.ark_math.specs.Halves.{sum_at}
-use Rattle.ark_math.specs.Mixed.{IsPowerTable, joined}
-use Rattle.ark_math.specs.Field.{power}
-use Rattle.ark_math.specs.Module.{item, sum_below}
-use Rattle.ark_math.proofs.Lists.{read_at, written_same, written_other}
-use Rattle.ark_math.proofs.Parts.{place_below, twist_below, root_below, columns_differ, rows_differ, joined_same, joined_twisted, first_term, joined_is}
+use Rattle.ark_math.proofs.Parts.{place_below, columns_differ, rows_differ}
 use Rattle.ark_poly.proofs.domain.mixed_radix.kernel.deal.Goals as goal
 
 pub offset_bounds-parts-r : goal.offset_bounds-parts-r

@@ -1,4 +1,4 @@
-use Rattle.std.proofs.Common.{◌≡◌, ℕ, suc, ◌+◌, ◌-◌, ◌∙◌, take, length, ◌*◌, ◌/◌, ◌<◌, ◌^◌, ap, arith}
+use Rattle.std.proofs.Common.{◌≡◌, ℕ, suc, ◌+◌, ◌-◌, ◌∙◌, length, ◌*◌, ◌<◌, ◌^◌, ap, arith}
 use Rattle.ark_math.specs.Field.{power}
 use Rattle.ark_math.proofs.Halving.{few_levels}
 use Rattle.ark_math.proofs.Mixed.{even_half, length-half, half_table, even_transformed, one_transformed, power_butterflies}

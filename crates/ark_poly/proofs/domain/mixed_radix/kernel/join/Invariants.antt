@@ -1,8 +1,6 @@
-use Rattle.std.proofs.Common.{◌≡◌, ◌≢◌, ℕ, map, length, get_or, ◌+◌, ◌-◌, ◌*◌, ◌/◌, ◌%◌, ◌≤◌, ◌<◌, ◌^◌}
-use Rattle.ark_math.specs.Halves.{sum_at}
-use Rattle.ark_math.specs.Mixed.{IsPowerTable, joined}
-use Rattle.ark_math.specs.Field.{power}
-use Rattle.ark_math.specs.Module.{item, sum_below}
+use Rattle.std.proofs.Common.{◌≡◌, ℕ, map, get_or, ◌+◌, ◌-◌, ◌*◌, ◌≤◌, ◌<◌}
+use Rattle.ark_math.specs.Mixed.{joined}
+use Rattle.ark_math.specs.Module.{item}
 use Rattle.ark_poly.proofs.domain.mixed_radix.kernel.join.Given as goal
 
 abbrev pub invariant-loop-i : goal.invariant-loop-i

@@ -1,7 +1,4 @@
-use Rattle.std.proofs.Common.{◌≡◌, ◌≢◌, ℕ, map, length, get_or, ◌+◌, ◌-◌, ◌*◌, ◌/◌, ◌%◌, ◌≤◌, ◌<◌, ◌^◌}
-use Rattle.ark_math.specs.Halves.{sum_at}
-use Rattle.ark_math.specs.Mixed.{IsPowerTable, joined}
-use Rattle.ark_math.specs.Field.{power}
+use Rattle.std.proofs.Common.{◌≡◌, map, get_or, ◌+◌, ◌-◌, ◌*◌, ◌%◌, ◌≤◌}
 use Rattle.ark_math.specs.Module.{item, sum_below}
 use Rattle.ark_poly.proofs.domain.mixed_radix.kernel.rooted_sum.Given as goal
 
