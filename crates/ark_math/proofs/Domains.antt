@@ -1,5 +1,5 @@
 -- Domains by their sizes and offsets, and lists cut before a transform.
-use Rattle.std.proofs.Common.{◌≡◌, ◌≢◌, ℕ, ◌==◌, ◌&&◌, Bool, Decides, List, take, sym, ap, subst, ◌∙◌}
+use Rattle.std.proofs.Common.{◌≡◌, ◌≢◌, ℕ, ◌==◌, ◌&&◌, Bool, Decides, IsSome, List, take, sym, ap, subst, ◌∙◌}
 use Rattle.std.proofs.lemmas.Bool.{and_parts, and_from, eqb-true, eq-eqb}
 use Rattle.std.proofs.lemmas.List.{get_or-take}
 use Rattle.ark_math.specs.Field.{FieldOn, natural}
@@ -31,6 +31,9 @@ size_supported s mixed_radix n h = h.1
 module _ {F : Type 0} (K : FieldOn F) (s : Adicity) (root : ℕ → F) where
   pub radix2_domain : (n twos odds : ℕ) (w o : F) → Splits s n twos odds → odds ≡ 0 → w ≡ root n → o ≢ K.zero → IsDomain K s root (record { kind = radix2; size = n; root = w; offset = o })
   radix2_domain n twos odds w o h e f off = record { size_of = even_size s n twos odds h e; root_of = f; offset_not_zero = off }
+
+  pub mixed_domain : (n twos odds : ℕ) (w o : F) → Splits s n twos odds → IsSome s.odd → w ≡ root n → o ≢ K.zero → IsDomain K s root (record { kind = mixed_radix; size = n; root = w; offset = o })
+  mixed_domain n twos odds w o h based f off = record { size_of = (based, (twos, odds, h)); root_of = f; offset_not_zero = off }
 
   pub root_order : (d : Domain F) → AreRoots K s root → IsDomain K s root d → HasOrder K d.root d.size
   root_order d R D = subst (λ w. HasOrder K w d.size) (sym D.root_of) (R.order d.size (size_supported s d.kind d.size D.size_of))

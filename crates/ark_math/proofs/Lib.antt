@@ -1,4 +1,5 @@
 -- Lemmas, each stated once over plain variables. Solve and Ring close equations of fields and modules by computation.
+pub mod Blocks
 pub mod Carries
 pub mod Contained
 pub mod Domains
@@ -13,10 +14,13 @@ pub mod Inversions
 pub mod LawfulDomains
 pub mod Listed
 pub mod Lists
+pub mod Mixed
+pub mod MixedSizes
 pub mod Multiples
 pub mod OneFilter
 pub mod Order
 pub mod Orthogonal
+pub mod Parts
 pub mod PlaceValues
 pub mod Places
 pub mod PowerMod
@@ -33,6 +37,7 @@ pub mod Signed
 pub mod Sizes
 pub mod Solve
 pub mod SortedPairs
+pub mod Split
 pub mod Sums
 pub mod Transforms
 pub mod Univariate

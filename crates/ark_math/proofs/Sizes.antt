@@ -34,7 +34,7 @@ power_between r k lo hi =
     omega arith
 
 -- the next power of two is at or below each power of two that is at or above
-next_at_most : (k p a b : ℕ) → p ≡ 2 ^ a → p / 2 < max 1 k → k ≤ 2 ^ b → p ≤ 2 ^ b
+pub next_at_most : (k p a b : ℕ) → p ≡ 2 ^ a → p / 2 < max 1 k → k ≤ 2 ^ b → p ≤ 2 ^ b
 next_at_most k p a b e h l = elim (cases_lt b a) [
   | inl below ↦
       let m : 2 ^ suc b ≤ 2 ^ a = pow-le-pow_right (omega arith) below in
@@ -117,7 +117,7 @@ pub radix2_none : (s : Adicity) (k : ℕ) → ((n : ℕ) → IsLeast (IsSize s r
 radix2_none s k none radix2 n h = none n h
 radix2_none s k none mixed_radix n h = h
 
-one_least : (P : ℕ → Type 0) (k m n : ℕ) → IsLeast P k m → IsLeast P k n → m ≡ n
+pub one_least : (P : ℕ → Type 0) (k m n : ℕ) → IsLeast P k m → IsLeast P k n → m ≡ n
 one_least P k m n a b =
     let lo = a.least n b.holds b.above in
     let hi = b.least m a.holds a.above in

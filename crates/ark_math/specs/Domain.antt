@@ -24,6 +24,10 @@ abbrev pub IsSize : Adicity → Kind → ℕ → Type 0
 IsSize s radix2 n = (twos : ℕ) × Splits s n twos 0
 IsSize s mixed_radix n = IsSome s.odd × IsSupported s n
 
+-- the sizes with this power of the base
+abbrev pub IsSizeWith : Adicity → ℕ → ℕ → Type 0
+IsSizeWith s odds n = (twos : ℕ) × Splits s n twos odds
+
 -- the domains that there are
 pub record IsDomain {F : Type 0} (K : FieldOn F) (s : Adicity) (root : ℕ → F) (d : Domain F) : Type 0 where
   pub size_of : IsSize s d.kind d.size
@@ -48,6 +52,11 @@ HasNone P k = (m : ℕ) → P m → m < k
 abbrev pub IsRadix2 : Adicity → ℕ → Kind → ℕ → Type 0
 IsRadix2 s k radix2 n = IsLeast (IsSize s radix2) k n
 IsRadix2 s k mixed_radix n = ⊥
+
+-- what the mixed radix type takes for k: the least supported size of all, over a field with a base
+abbrev pub IsMixedRadix : Adicity → ℕ → Kind → ℕ → Type 0
+IsMixedRadix s k radix2 n = ⊥
+IsMixedRadix s k mixed_radix n = IsLeast (IsSize s mixed_radix) k n
 
 -- what the general type takes for k: radix 2 where there is one, else mixed
 abbrev pub IsGeneral : Adicity → ℕ → Kind → ℕ → Type 0

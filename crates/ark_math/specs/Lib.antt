@@ -4,6 +4,7 @@ pub mod Domain
 pub mod Field
 pub mod Generator
 pub mod Halves
+pub mod Mixed
 pub mod Module
 pub mod Points
 pub mod Prime

@@ -51,7 +51,7 @@ fn across<F: FftField, T: DomainCoeff<F>>(
 
 /// The transform at the table's root to the stride, in place. Place i of it is left at the index that has the bits of i
 /// backwards.
-fn halves<F: FftField, T: DomainCoeff<F>>(
+pub(crate) fn halves<F: FftField, T: DomainCoeff<F>>(
     work: &mut Work,
     xs: &mut [T],
     table: &[F],
@@ -93,7 +93,7 @@ fn next_reversed(_i: usize, before: usize, levels: u32) -> usize
 }
 
 /// Puts each item at the index that has the bits of its own backwards.
-fn restore_order<T>(xs: &mut [T], levels: u32)
+pub(crate) fn restore_order<T>(xs: &mut [T], levels: u32)
     requires few { levels < 64 }
     requires size { length xs.old ≡ 2 ^ levels }
     ensures { (p : ℕ) (d : T) → p < 2 ^ levels → get_or xs.new p d ≡ get_or xs.old (reversed levels p) d }
@@ -134,7 +134,7 @@ fn scale_each<F: FftField, T: DomainCoeff<F>>(work: &mut Work, xs: &mut [T], fac
 }
 
 /// Scales item i by start times the factor to the i.
-fn scale_by_powers<F: FftField, T: DomainCoeff<F>>(
+pub(crate) fn scale_by_powers<F: FftField, T: DomainCoeff<F>>(
     work: &mut Work,
     xs: &mut [T],
     start: F,
@@ -157,7 +157,11 @@ fn scale_by_powers<F: FftField, T: DomainCoeff<F>>(
 }
 
 /// The powers of a root from 0 on.
-fn powers<F: FftField>(alloc: Global, root: F, count: usize) -> Result<Vec<F>, AllocError>
+pub(crate) fn powers<F: FftField>(
+    alloc: Global,
+    root: F,
+    count: usize,
+) -> Result<Vec<F>, AllocError>
     ensures { IfOk result (λ t. ArePowers F.field root count t.items) }
 {
     let mut powers = Vec::with_capacity(alloc, count)?;

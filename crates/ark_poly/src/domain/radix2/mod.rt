@@ -4,7 +4,7 @@ ghost use Rattle.std.specs.Prelude.{◌≡◌, ℕ, ◌↔◌, IfSome, IsNone};
 ghost use Rattle.ark_math.specs.Domain.{radix2, IsRadix2, IsLeast, IsSize};
 ghost use Rattle.ark_math.specs.Root.{Splits};
 
-mod fft;
+pub(crate) mod fft;
 
 use crate::domain::EvaluationDomain;
 use crate::domain::coset::Coset;

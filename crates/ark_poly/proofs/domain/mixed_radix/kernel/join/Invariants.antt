@@ -1,0 +1,16 @@
+use Rattle.std.proofs.Common.{◌≡◌, ℕ, map, get_or, ◌+◌, ◌-◌, ◌*◌, ◌≤◌, ◌<◌}
+use Rattle.ark_math.specs.Mixed.{joined}
+use Rattle.ark_math.specs.Module.{item}
+use Rattle.ark_poly.proofs.domain.mixed_radix.kernel.join.Given as goal
+
+abbrev pub invariant-loop-i : goal.invariant-loop-i
+invariant-loop-i g l =
+    let V = g.T.DomainCoeff.group in
+    let m = g.T.DomainCoeff.meaning in
+    record {
+      products : l.work.products ≡ l.fn.work.products + l.i * (l.base * l.base - 1);
+      butterflies : l.work.butterflies ≡ l.fn.work.butterflies;
+      steps : l.work.steps ≡ l.fn.work.steps + l.i;
+      done : get_or l.table 0 g.F.Field.field.zero ≡ g.F.Field.field.one → (j i : ℕ) → j < l.base → i < l.i → item V (map m l.whole) (j * l.m + i) ≡ joined g.F.Field.field V l.table l.base l.m l.stride (item V (map m l.fn.parts)) j i;
+      rest : (r k : ℕ) → l.i ≤ k → k < l.m → item V (map m l.parts) (r * l.m + k) ≡ item V (map m l.fn.parts) (r * l.m + k);
+    }

@@ -1,0 +1,110 @@
+use Rattle.std.proofs.Common.{rules, ◌≡◌, ◌≢◌, ℕ, set, map, length, get_or, ◌+◌, ◌-◌, ◌*◌, ◌≤◌, ◌<◌, ap, sym, ◌∙◌, arith, subst, ⊎_elim}
+use Rattle.std.proofs.lemmas.Bool.{cases_eq}
+use Rattle.std.proofs.lemmas.List.{get_or_read}
+use Rattle.ark_math.specs.Mixed.{joined}
+use Rattle.ark_math.specs.Module.{item}
+use Rattle.ark_math.proofs.Lists.{read_at, written_same, written_other}
+use Rattle.ark_math.proofs.Parts.{place_below, twist_below, columns_differ, rows_differ, joined_twisted, step_row}
+use Rattle.ark_poly.proofs.domain.mixed_radix.kernel.step.Goals as goal
+
+pub offset_bounds-parts-r : goal.offset_bounds-parts-r
+offset_bounds-parts-r g c =
+    let l = place_below c.args.base c.args.m c.loop-r.r c.args.i c.loop-r-test.true c.requires.place in
+    let b : c.loop-r.r * c.args.m + c.args.i < length c.loop-r.parts = omega arith in
+    search rules
+
+pub overflow_mul-r-in-loop-r-2 : goal.overflow_mul-r-in-loop-r-2
+overflow_mul-r-in-loop-r-2 g c =
+    let l = twist_below c.args.base c.args.m c.args.stride c.loop-r.r c.args.i c.loop-r-test.true c.requires.place c.requires.some in
+    omega arith
+
+pub offset_bounds-table-r : goal.offset_bounds-table-r
+offset_bounds-table-r g c =
+    let l = twist_below c.args.base c.args.m c.args.stride c.loop-r.r c.args.i c.loop-r-test.true c.requires.place c.requires.some in
+    let b : c.loop-r.r * c.args.i * c.args.stride < length c.args.table.now = omega arith in
+    search rules
+
+pub bounds-table-r : goal.bounds-table-r
+bounds-table-r g c =
+    let l = twist_below c.args.base c.args.m c.args.stride c.loop-r.r c.args.i c.loop-r-test.true c.requires.place c.requires.some in
+    omega arith
+
+pub loop-r-preserved : goal.loop-r-preserved
+loop-r-preserved g c =
+    let K = g.F.Field.field in
+    let V = g.T.DomainCoeff.group in
+    let m = g.T.DomainCoeff.meaning in
+    let r0 = c.loop-r.r in
+    let i0 = c.args.i in
+    let s = c.args.stride in
+    let xs = c.loop-r.parts in
+    let v = c.loop-r.invariant in
+    let at = r0 * c.args.m + i0 in
+    let l = place_below c.args.base c.args.m r0 i0 c.loop-r-test.true c.requires.place in
+    let b : at < length xs = omega arith in
+    let k = twist_below c.args.base c.args.m s r0 i0 c.loop-r-test.true c.requires.place c.requires.some in
+    let a : r0 * i0 * s < length c.args.table.now = omega arith in
+    let root : c.index-table-r.result ≡ get_or c.args.table.now (r0 * i0 * s) K.zero = get_or_read c.args.table.now _ _ a c.index-table-r.is K.zero in
+    let times = g.met.T.DomainCoeff.mul_assign_meaning _ _ _ c.scale.ensures.product in
+    let old = λ (k : ℕ). item V (map m c.args.parts.now) k in
+    let new = c.scale.new.value in
+    let here : r0 ≤ r0 = omega arith in
+    let value : m new ≡ V.scale (get_or c.args.table.now (r0 * i0 * s) K.zero) (old at) =
+    times
+    ∙ (ap (λ t. V.scale t (m (get_or xs at c.index-parts-r.result))) root
+    ∙ ap (V.scale (get_or c.args.table.now (r0 * i0 * s) K.zero)) (read_at m V.zero xs at c.index-parts-r.result b ∙ v.rest r0 here)) in
+    record {
+      from = omega arith;
+      products = omega arith;
+      butterflies = omega arith;
+      steps = omega arith;
+      done = λ one r rl.
+          ⊎_elim
+          (λ (e : r ≡ r0).
+          subst (λ t. item V (map m (set xs at new)) (t * c.args.m + i0) ≡ V.scale (get_or c.args.table.now (t * i0 * s) K.zero) (old (t * c.args.m + i0))) (sym e)
+          (written_same m V.zero xs at new b ∙ value))
+          (λ (ne : r ≢ r0). written_other m V.zero xs at (r * c.args.m + i0) new (rows_differ c.args.m r0 i0 r i0 c.requires.place c.requires.place ne) ∙ v.done one r (omega arith))
+          (cases_eq r r0);
+      rest = λ r rl.
+          let ne : r ≢ r0 = omega arith in
+          written_other m V.zero xs at (r * c.args.m + i0) new (rows_differ c.args.m r0 i0 r i0 c.requires.place c.requires.place ne) ∙ v.rest r (omega arith);
+      others = λ r k kl ne.
+          written_other m V.zero xs at (r * c.args.m + k) new (columns_differ c.args.m r0 i0 r k c.requires.place kl ne) ∙ v.others r k kl ne;
+    }
+
+pub offset_bounds-whole-j : goal.offset_bounds-whole-j
+offset_bounds-whole-j g c =
+    let l = place_below c.args.base c.args.m c.loop-j.j c.args.i c.loop-j-test.true c.requires.place in
+    let b : c.loop-j.j * c.args.m + c.args.i < length c.loop-j.whole = omega arith in
+    search rules
+
+pub loop-j-preserved : goal.loop-j-preserved
+loop-j-preserved g c =
+    let K = g.F.Field.field in
+    let V = g.T.DomainCoeff.group in
+    let m = g.T.DomainCoeff.meaning in
+    let j0 = c.loop-j.j in
+    let i0 = c.args.i in
+    let xs = c.loop-j.whole in
+    let v = c.loop-j.invariant in
+    let at = j0 * c.args.m + i0 in
+    let l = place_below c.args.base c.args.m j0 i0 c.loop-j-test.true c.requires.place in
+    let b : at < length xs = omega arith in
+    let old = λ (k : ℕ). item V (map m c.args.parts.now) k in
+    let new = c.rooted_sum.result in
+    record {
+      products = omega (arith, step_row c.loop-j.j (c.args.base - 1));
+      butterflies = omega arith;
+      steps = omega arith;
+      done = λ one j jl.
+          ⊎_elim
+          (λ (e : j ≡ j0).
+          subst (λ t. item V (map m (set xs at new)) (t * c.args.m + i0) ≡ joined K V c.args.table.now c.args.base c.args.m c.args.stride old t i0) (sym e)
+          (written_same m V.zero xs at new b
+          ∙ (c.rooted_sum.ensures.sum one
+          ∙ joined_twisted K V c.args.table.now c.args.base c.args.m c.args.stride (item V (map m c.loop-r.parts)) old j0 i0 (λ r rl. c.loop-r.invariant.done one r (omega arith)))))
+          (λ (ne : j ≢ j0). written_other m V.zero xs at (j * c.args.m + i0) new (rows_differ c.args.m j0 i0 j i0 c.requires.place c.requires.place ne) ∙ v.done one j (omega arith))
+          (cases_eq j j0);
+      others = λ j k kl ne.
+          written_other m V.zero xs at (j * c.args.m + k) new (columns_differ c.args.m j0 i0 j k c.requires.place kl ne) ∙ v.others j k kl ne;
+    }
