@@ -121,8 +121,7 @@ module _ {F : Type 0} (K : FieldOn F) (N : IsField K) (s : Adicity) (root : ℕ 
         let a = has_filter K N e d (inside h) in
         let inner = vanishing_value K N e x w f in
         let m = K.times (natural K d.size) (power K d.offset d.size) in
-        let n = K.times (natural K e.size) (power K e.offset e.size) in
-        (
+        let n = K.times (natural K e.size) (power K e.offset e.size) in (
           a.0,
           a.1,
           filter-value_elsewhere K N e d (inside h) h a.0 a.1 x y
