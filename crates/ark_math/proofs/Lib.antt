@@ -1,4 +1,5 @@
 -- Lemmas, each stated once over plain variables. Solve and Ring close equations of fields and modules by computation.
+pub mod Carried
 pub mod Contained
 pub mod Domains
 pub mod Elements
@@ -8,6 +9,7 @@ pub mod Generator
 pub mod Groups
 pub mod Halving
 pub mod Inverses
+pub mod Inversion
 pub mod Listed
 pub mod Lists
 pub mod Multiples
