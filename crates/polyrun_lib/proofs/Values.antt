@@ -1,5 +1,5 @@
 -- An element's value carries a prime field's operations to those of the numbers below its prime, and so every answer.
-use Rattle.std.proofs.Common.{◌≡◌, ◌≢◌, ◌⊎◌, ◌-◌, ◌/◌, ◌%◌, ℕ, List, [], ◌∷◌, map, inl, inr, refl, sym, ap, ap₂, subst, ◌∙◌, mod-eq_of_lt, zero-mod}
+use Rattle.std.proofs.Common.{◌≡◌, ◌≢◌, ◌⊎◌, ◌-◌, ◌/◌, ◌%◌, ℕ, List, [], ◌∷◌, map, inl, inr, refl, sym, ap, ap₂, subst, ◌∙◌, mod-eq_of_lt}
 use Rattle.ark_math.specs.Field.{FieldOn, natural}
 use Rattle.ark_math.specs.Module.{itself}
 use Rattle.ark_math.specs.Domain.{Kind, Domain, IsDomain}
@@ -56,9 +56,9 @@ module _ (M : Type 0) (g : Ghosts M) (S : Shown g) where
     carried value d,
     is_domain_for d k h chosen lawful offset,
     ap line_of
-    (ap (map value) (sym (map-id after) ∙ e ∙ ap (transform K (itself K) d) (map-id items))
-    ∙ transform-carried value_carries d items
-    ∙ ap (transform (operations (shown_field g)) (itself (operations (shown_field g))) (carried value d)) same),
+        (ap (map value) (sym (map-id after) ∙ e ∙ ap (transform K (itself K) d) (map-id items))
+        ∙ transform-carried value_carries d items
+        ∙ ap (transform (operations (shown_field g)) (itself (operations (shown_field g))) (carried value d)) same),
   )
 
   -- values are below the prime
@@ -72,8 +72,7 @@ module _ (M : Type 0) (g : Ghosts M) (S : Shown g) where
   gives_back d k h xs items after chosen lawful offset same inverse =
       let L = operations (shown_field g) in
       let inverse_of : List (PrimeField M g) → List (PrimeField M g) → Type 0 = λ v u. IsInverse K (itself K) d v u in
-      let plain = subst (λ u. inverse_of items u) (map-id after) (subst (λ v. inverse_of v (map (λ x. x) after)) (map-id items) inverse) in
-      (
+      let plain = subst (λ u. inverse_of items u) (map-id after) (subst (λ v. inverse_of v (map (λ x. x) after)) (map-id items) inverse) in (
         carried value d,
         map value after,
         is_domain_for d k h chosen lawful offset,
@@ -99,11 +98,10 @@ module _ (M : Type 0) (g : Ghosts M) (S : Shown g) where
       let roots = prime_roots M g S in
       let inverse = inverse_exists (prime_field_laws S.prime) (prime_module_laws S.prime) d (root_order K (adicity g) (prime_root S) d roots lawful) (size_not_zero K (adicity g) (prime_root S) d roots lawful) lawful.offset_not_zero (elements_of xs) in
       let same : map (λ (x : PrimeField M g). x) inverse.0 ≡ inverse.0 = map-id inverse.0 in
-      let also : map (λ (x : PrimeField M g). x) (elements_of xs) ≡ elements_of xs = map-id (elements_of xs) in
-      (
+      let also : map (λ (x : PrimeField M g). x) (elements_of xs) ≡ elements_of xs = map-id (elements_of xs) in (
         _,
         gives_back d k h xs (elements_of xs) inverse.0 chosen lawful offset (values_of_elements xs)
-        (subst (λ v. IsInverse K (itself K) d v (map (λ x. x) inverse.0)) (sym also) (subst (λ u. IsInverse K (itself K) d (elements_of xs) u) (sym same) inverse.1)),
+            (subst (λ v. IsInverse K (itself K) d v (map (λ x. x) inverse.0)) (sym also) (subst (λ u. IsInverse K (itself K) d (elements_of xs) u) (sym same) inverse.1)),
       )
 
   pub gives_at : (xs : List ℕ) (x : ℕ) (items : List (PrimeField M g)) (at_x y : PrimeField M g) → map (value {M = M} {g = g}) items ≡ reduced (shown_field g) xs → at_x ≡ residue_of S.prime x → y ≡ value_at K (itself K) items at_x

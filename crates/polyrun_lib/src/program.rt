@@ -11,7 +11,9 @@ ghost use Rattle.polyrun_lib.specs.Outcome.{IsOutcome};
 
 use crate::lines::{line, refusal_line, usage_line};
 use crate::words::{is_list, list, number};
-use ark_base::{Fermat, FftField, Field, Five, Mixed, PolyError, PrimeField, PrimeModulus, Sink, Work};
+use ark_base::{
+    Fermat, FftField, Field, Five, Mixed, PolyError, PrimeField, PrimeModulus, Sink, Work,
+};
 use ark_poly::{EvaluationDomain, Radix2EvaluationDomain};
 use std::alloc::{AllocError, Global};
 
@@ -117,7 +119,11 @@ fn transformed(words: &[String]) -> Option<(u64, u64, &str)>
     let size = number(size.as_str())?;
     let offset = number(offset.as_str())?;
     let list = list.as_str();
-    if is_list(list) { Some((size, offset, list)) } else { None }
+    if is_list(list) {
+        Some((size, offset, list))
+    } else {
+        None
+    }
 }
 
 /// The list and the point of a value.
@@ -192,10 +198,7 @@ fn value_of<F: Field>(coeffs: &[F], x: F) -> F
 }
 
 /// The elements of a list.
-fn elements<M: PrimeModulus>(
-    alloc: Global,
-    word: &str,
-) -> Result<Vec<PrimeField<M>>, AllocError>
+fn elements<M: PrimeModulus>(alloc: Global, word: &str) -> Result<Vec<PrimeField<M>>, AllocError>
     requires { SpellsList word.now }
     ensures { IfOk result (λ elements. (xs : List ℕ) → IsList word.now xs → map (λ x. x.value) elements.items ≡ map (λ x. x % M.MODULUS) xs) }
 {
