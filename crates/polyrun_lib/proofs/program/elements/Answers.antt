@@ -1,6 +1,12 @@
-use Rattle.std.proofs.Common.{rules, ◌≡◌, ◌⊎◌, ℕ, List, map, IfOk, IfErr, IsOkUnless, string_bytes, take, length, refl, sym, ap, ap₂, ◌∙◌, subst, arith, inl, inr}
-use Rattle.polyrun_lib.specs.Words.{IsList, SpellsList}
+use Rattle.std.proofs.Common.{◌≡◌, ◌%◌, map, take, length, ap, ◌∙◌}
+use Rattle.std.proofs.lemmas.List.{take_all}
+use Rattle.polyrun_lib.proofs.Reading.{IsList-same}
 use Rattle.polyrun_lib.proofs.program.elements.Goals as goal
 
 pub returns : goal.returns
-returns g c xs spelled = ?
+returns g c xs spelled =
+    c.loop-number.invariant
+    ∙ ap (map (λ x. x % g.M.PrimeModulus.MODULUS))
+    (take_all c.loop-number.number-index c.deref-number-items.result.now c.loop-number-test.false
+    ∙ c.deref-number-items.ensures.value
+    ∙ IsList-same c.args.word.now c.in_ok-numbers.numbers.items xs c.in_ok-numbers.ensures spelled)
