@@ -1,5 +1,5 @@
 -- An element's value carries a prime field's operations to those of the numbers below its prime, and so every answer.
-use Rattle.std.proofs.Common.{◌≡◌, ◌≢◌, ◌⊎◌, ◌-◌, ◌/◌, ◌%◌, ℕ, List, [], ◌∷◌, map, inl, inr, refl, sym, ap, ap₂, subst, ◌∙◌, mod-eq_of_lt}
+use Rattle.std.proofs.Common.{◌≡◌, ◌≢◌, ◌⊎◌, ◌-◌, ◌/◌, ◌%◌, ℕ, List, [], ◌∷◌, Result, Ok, Err, map, IfOk, IsOkUnless, string_bytes, inl, inr, refl, sym, ap, ap₂, subst, ◌∙◌, mod-eq_of_lt}
 use Rattle.ark_math.specs.Field.{FieldOn, natural}
 use Rattle.ark_math.specs.Module.{itself}
 use Rattle.ark_math.specs.Domain.{Kind, Domain, IsDomain}
@@ -10,10 +10,15 @@ use Rattle.ark_math.proofs.Domains.{root_order, size_not_zero}
 use Rattle.std.proofs.lemmas.List.{map-id}
 use Rattle.ark_base.specs.declared.prime_field.PrimeField.{PrimeField}
 use Rattle.ark_base.specs.declared.prime_field.PrimeModulus.{Ghosts}
-use Rattle.ark_base.specs.declared.error.PolyError.TheVariants.{NoDomain}
+use Rattle.std.specs.Result.{IsErrAnd}
+use Rattle.std.specs.declared.string.String.{String}
+use Rattle.std.specs.declared.alloc.Global.{Global}
+use Rattle.ark_base.specs.declared.error.PolyError.{PolyError}
+use Rattle.ark_base.specs.declared.error.PolyError.TheVariants.{Memory}
 use Rattle.ark_base.specs.Element.{Shown, adicity, prime_field, prime_field_laws, prime_module_laws, prime_root, prime_roots, residue_of, generator_of, same_from_value}
 use Rattle.polyrun_lib.specs.Lines.{line_of}
-use Rattle.polyrun_lib.specs.Answer.{Known, known, operations, reduced, forward, back, at, domain_of, IsChosen, IsDomainFor, HasNoDomain, Gives, Refuses}
+use Rattle.polyrun_lib.specs.Answer.{Known, known, Command, operations, reduced, forward, back, at, domain_of, IsChosen, IsDomainFor, HasNoDomain, Gives}
+use Rattle.polyrun_lib.specs.Outcome.{MayRefuse, IsOutcome}
 
 -- the field that a modulus shows
 abbrev pub shown_field : {M : Type 0} → Ghosts M → Known
@@ -21,6 +26,15 @@ shown_field g = known g.MODULUS g.TWO_ADICITY g.SMALL_SUBGROUP_BASE g.SMALL_SUBG
 
 abbrev pub value : {M : Type 0} {g : Ghosts M} → PrimeField M g → ℕ
 value x = x.value
+
+-- a line that is what the command gives, or want of memory for it
+pub outcome_line : (f : Known) (c : Command) (outcome : Result (String Global) PolyError) (line : List ℕ) → Gives f c line → IfOk outcome (λ text. string_bytes text ≡ line) → IsOkUnless outcome Memory → IsOutcome f c outcome
+outcome_line f c (Ok text) line gives same memory = subst (Gives f c) (sym same) gives
+outcome_line f c (Err refusal) line gives same memory = inr ((line, gives), memory)
+
+pub outcome_error : (f : Known) (c : Command) (outcome : Result (String Global) PolyError) (refusal : PolyError) → IsErrAnd outcome (λ e. e ≡ refusal) → MayRefuse f c refusal → IsOutcome f c outcome
+outcome_error f c (Ok text) refusal same refused = absurd same
+outcome_error f c (Err e) refusal same refused = subst (MayRefuse f c) (sym same) refused
 
 module _ (M : Type 0) (g : Ghosts M) (S : Shown g) where
   abbrev K : FieldOn (PrimeField M g)
@@ -45,9 +59,9 @@ module _ (M : Type 0) (g : Ghosts M) (S : Shown g) where
   is_domain_for d k h chosen lawful e =
       (d.kind, d.size, chosen, (λ z. lawful.offset_not_zero (e ∙ zero_offset h z)), domain_carried d h lawful e)
 
-  pub has_no_domain : (k h : ℕ) → (residue_of {M = M} {g = g} S.prime h ≡ (prime_field {M = M} {g = g} S.prime).zero) ⊎ ((kind : Kind) (n : ℕ) → IsChosen (adicity g) k kind n → ⊥) → HasNoDomain (shown_field g) k h
-  has_no_domain k h (inl zero) = inr (ap (value {M = M} {g = g}) zero)
-  has_no_domain k h (inr none) = inl none
+  pub has_no_domain : (k h : ℕ) (offset : PrimeField M g) → offset ≡ residue_of S.prime h → (offset ≡ (prime_field {M = M} {g = g} S.prime).zero) ⊎ ((kind : Kind) (n : ℕ) → IsChosen (adicity g) k kind n → ⊥) → HasNoDomain (shown_field g) k h
+  has_no_domain k h offset e (inl zero) = inr (ap (value {M = M} {g = g}) (sym e ∙ zero))
+  has_no_domain k h offset e (inr none) = inl none
 
   pub gives_forward : (d : Domain (PrimeField M g)) (k h : ℕ) (xs : List ℕ) (items after : List (PrimeField M g)) → IsChosen (adicity g) k d.kind d.size → IsOurs d → d.offset ≡ residue_of S.prime h
       → map (value {M = M} {g = g}) items ≡ reduced (shown_field g) xs → map (λ x. x) after ≡ transform K (itself K) d (map (λ x. x) items)
