@@ -1,6 +1,6 @@
 -- An element's value carries a prime field's operations to those of the numbers below its prime, and so every answer.
-use Rattle.std.proofs.Common.{◌≡◌, ◌≢◌, ◌⊎◌, ◌-◌, ◌/◌, ◌%◌, ℕ, List, [], ◌∷◌, Result, Ok, Err, map, IfOk, IsOkUnless, string_bytes, inl, inr, refl, sym, ap, ap₂, subst, ◌∙◌, mod-eq_of_lt}
-use Rattle.ark_math.specs.Field.{FieldOn, natural}
+use Rattle.std.proofs.Common.{◌≡◌, ◌⊎◌, ◌-◌, ◌/◌, ◌%◌, ℕ, List, [], ◌∷◌, Result, Ok, Err, map, IfOk, IsOkUnless, string_bytes, inl, inr, refl, sym, ap, ap₂, subst, ◌∙◌, mod-eq_of_lt}
+use Rattle.ark_math.specs.Field.{FieldOn}
 use Rattle.ark_math.specs.Module.{itself}
 use Rattle.ark_math.specs.Domain.{Kind, Domain, IsDomain}
 use Rattle.ark_math.specs.Transform.{transform, value_at, IsInverse}

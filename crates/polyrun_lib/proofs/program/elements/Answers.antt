@@ -1,4 +1,4 @@
-use Rattle.std.proofs.Common.{◌≡◌, ◌%◌, map, take, length, ap, ◌∙◌}
+use Rattle.std.proofs.Common.{◌%◌, map, ap, ◌∙◌}
 use Rattle.std.proofs.lemmas.List.{take_all}
 use Rattle.polyrun_lib.proofs.Reading.{IsList-same}
 use Rattle.polyrun_lib.proofs.program.elements.Goals as goal

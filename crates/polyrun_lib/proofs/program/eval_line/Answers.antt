@@ -8,5 +8,5 @@ returns g c xs spelled =
     let S = g.M.PrimeModulus.modulus in
     outcome_line (shown_field g.M.PrimeModulus) (at xs c.args.x) _ _
     (gives_at g.row.M.Denot g.M.PrimeModulus S xs c.args.x c.deref.result.now c.from.result c.value_of-value.result
-        (ap (map value) c.deref.ensures.value ∙ c.in_ok-coeffs.ensures xs spelled) c.from.ensures c.value_of-value.ensures)
+    (ap (map value) c.deref.ensures.value ∙ c.in_ok-coeffs.ensures xs spelled) c.from.ensures c.value_of-value.ensures)
     c.element_line.ensures.text c.element_line.ensures.memory

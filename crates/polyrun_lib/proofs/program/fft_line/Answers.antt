@@ -30,6 +30,6 @@ returns g c xs spelled =
     let chosen = c.in_ok-domain.ensures.some in
     outcome_line _ (forward c.args.size c.args.offset xs) _ _
     (gives_forward g.row.M.Denot g.M.PrimeModulus S _ c.args.size c.args.offset xs c.in_ok-items.items.items c.deref.result.now chosen.0 chosen.2 (chosen.1 ∙ c.from.ensures)
-        (c.in_ok-items.ensures xs spelled)
-        (ap (map (λ x. x)) c.deref.ensures.value ∙ c.in_ok-fft_counted.ensures.transform))
+    (c.in_ok-items.ensures xs spelled)
+    (ap (map (λ x. x)) c.deref.ensures.value ∙ c.in_ok-fft_counted.ensures.transform))
     c.element_line.ensures.text c.element_line.ensures.memory

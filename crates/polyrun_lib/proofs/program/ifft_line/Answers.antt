@@ -1,4 +1,4 @@
-use Rattle.std.proofs.Common.{ap, ◌∙◌, refl, inl, inr}
+use Rattle.std.proofs.Common.{◌∙◌, refl, inl, inr}
 use Rattle.polyrun_lib.specs.Answer.{back}
 use Rattle.polyrun_lib.proofs.Values.{outcome_line, outcome_error, has_no_domain, gives_back, some_back}
 use Rattle.polyrun_lib.proofs.program.ifft_line.Goals as goal
@@ -30,6 +30,6 @@ returns g c xs spelled =
     let chosen = c.in_ok-domain.ensures.some in
     outcome_line _ (back c.args.size c.args.offset xs) _ _
     (gives_back g.row.M.Denot g.M.PrimeModulus S _ c.args.size c.args.offset xs c.in_ok-items.items.items c.deref.result.now chosen.0 chosen.2 (chosen.1 ∙ c.from.ensures)
-        (c.in_ok-items.ensures xs spelled)
-        (rw c.deref.ensures.value c.in_ok-ifft_counted.ensures.inverse))
+    (c.in_ok-items.ensures xs spelled)
+    (rw c.deref.ensures.value c.in_ok-ifft_counted.ensures.inverse))
     c.element_line.ensures.text c.element_line.ensures.memory

@@ -17,8 +17,8 @@ loop-i-preserved g c =
     let before : i ≡ i - 1 + 1 = omega (arith, c.loop-i-test.true) in
     g.met.F.Field.add_law _ _ _ c.add-value.ensures
     ∙ ap₂ K.plus
-        (g.met.F.Field.mul_law _ _ _ c.mul.ensures ∙ N.times_comm _ _
-        ∙ ap (K.times x) (c.loop-i.invariant ∙ ap (λ j. value_at K (itself K) (drop j coeffs) x) before))
-        (get_or_read coeffs _ _ inside c.index-coeffs-i.is K.zero)
+    (g.met.F.Field.mul_law _ _ _ c.mul.ensures ∙ N.times_comm _ _
+    ∙ ap (K.times x) (c.loop-i.invariant ∙ ap (λ j. value_at K (itself K) (drop j coeffs) x) before))
+    (get_or_read coeffs _ _ inside c.index-coeffs-i.is K.zero)
     ∙ N.plus_comm _ _
     ∙ sym (value_at-drop (itself_is_module K N) coeffs (i - 1) x inside)

@@ -1,4 +1,4 @@
-use Rattle.std.proofs.Common.{◌≡◌, ◌-◌, length, drop}
+use Rattle.std.proofs.Common.{◌≡◌, drop}
 use Rattle.ark_math.specs.Module.{itself}
 use Rattle.ark_math.specs.Transform.{value_at}
 use Rattle.polyrun_lib.proofs.program.value_of.Given as goal
