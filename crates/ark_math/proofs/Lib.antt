@@ -1,5 +1,6 @@
 -- Lemmas, each stated once over plain variables. Solve and Ring close equations of fields and modules by computation.
 pub mod Blocks
+pub mod Carried
 pub mod Carries
 pub mod Contained
 pub mod Domains
@@ -10,6 +11,7 @@ pub mod Generator
 pub mod Groups
 pub mod Halving
 pub mod Inverses
+pub mod Inversion
 pub mod Inversions
 pub mod LawfulDomains
 pub mod Listed

@@ -1,0 +1,5 @@
+-- A word spells one number or list at most, which `split` finds; a line grows number by number; values carry answers; words are read as commands.
+pub mod Commands
+pub mod Reading
+pub mod Values
+pub mod Writing

@@ -1,0 +1,89 @@
+-- Words that spell a number or a list, words that spell none, and lines, all computed from the definitions.
+use Rattle.std.specs.Prelude.{◌≡◌, ℕ, ◌<◌, ◌^◌, [], ◌∷◌, ◌++◌, codes}
+use Rattle.std.specs.Fmt.{digits}
+use Rattle.std.proofs.Common.{refl, subst, inr, lit<, lit≤, lt→ltb}
+use Rattle.ark_math.specs.Domain.{radix2}
+use Rattle.ark_base.specs.declared.error.PolyError.TheVariants.{NoDomain}
+use Rattle.polyrun_lib.specs.Words.{IsNumber, IsList}
+use Rattle.polyrun_lib.specs.Lines.{line_of}
+use Rattle.polyrun_lib.specs.Answer.{field_5, forward, back, at, domain_of, IsDomainFor, Gives, Refuses}
+
+-- zeros may stand first
+zeros : IsNumber (codes "007") 7
+zeros = record { digits = (lit< tt, (lit< tt, (lit< tt, (lit< tt, tt)))); value = refl; fits = lit< tt }
+
+nothing : (n : ℕ) → IsNumber (codes "") n → ⊥
+nothing n number = lt→ltb _ _ number.digits.0
+
+plus : (n : ℕ) → IsNumber (codes "+1") n → ⊥
+plus n number = lt→ltb _ _ number.digits.1.0
+
+minus : (n : ℕ) → IsNumber (codes "-1") n → ⊥
+minus n number = lt→ltb _ _ number.digits.1.0
+
+space : (n : ℕ) → IsNumber (codes " 1") n → ⊥
+space n number = lt→ltb _ _ number.digits.1.0
+
+letter : (n : ℕ) → IsNumber (codes "1a") n → ⊥
+letter n number = lt→ltb _ _ number.digits.1.1.0
+
+-- the first number that is too large
+too_large : (n : ℕ) → IsNumber (codes "18446744073709551616") n → ⊥
+too_large n number = let P : ℕ → Type 0 = λ m. m < 2 ^ 64 in lt→ltb _ _ (subst P number.value number.fits)
+
+-- the empty word is the empty list
+no_numbers : IsList (codes "") []
+no_numbers = ([], refl, tt)
+
+two_numbers : IsList (codes "5,12") (5 ∷ 12 ∷ [])
+two_numbers = (
+  codes "5" ∷ codes "12" ∷ [],
+  refl,
+  (
+    record { digits = (lit< tt, (lit< tt, tt)); value = refl; fits = lit< tt },
+    (record { digits = (lit< tt, (lit< tt, (lit< tt, tt))); value = refl; fits = lit< tt }, tt),
+  ),
+)
+
+-- a list's line ends in a newline, and an empty list has an empty line
+some_line : line_of (5 ∷ 0 ∷ 12 ∷ []) ≡ codes "5,0,12" ++ 10 ∷ []
+unfolding digits
+some_line = refl
+
+empty_line : line_of [] ≡ 10 ∷ []
+empty_line = refl
+
+-- ---- answers over the field of 5 elements
+
+domain_of_4 : IsDomainFor field_5 4 1 (domain_of field_5 radix2 4 1)
+domain_of_4 = (
+  radix2,
+  4,
+  record {
+    holds = (2, record { product = refl; twos_within = lit≤ tt; odds_within = lit≤ tt; fits = lit< tt });
+    above = lit≤ tt;
+    least = λ m is above. above;
+  },
+  (λ e. let P : ℕ → Type 0 = λ n. 0 < n in lt→ltb _ _ (subst P e (lit< tt))),
+  refl,
+)
+
+some_transform : Gives field_5 (forward 4 1 (1 ∷ 2 ∷ 3 ∷ 4 ∷ [])) (codes "0,4,3,2" ++ 10 ∷ [])
+unfolding digits
+some_transform = (domain_of field_5 radix2 4 1, domain_of_4, refl)
+
+some_inverse : Gives field_5 (back 4 1 (1 ∷ 2 ∷ 3 ∷ 4 ∷ [])) (codes "0,3,2,1" ++ 10 ∷ [])
+unfolding digits
+some_inverse = (domain_of field_5 radix2 4 1, 0 ∷ 3 ∷ 2 ∷ 1 ∷ [], domain_of_4, record { size = refl; values = refl }, refl, refl)
+
+-- the numbers are reduced
+some_value : Gives field_5 (at (1 ∷ 2 ∷ []) 8) (codes "2" ++ 10 ∷ [])
+unfolding digits
+some_value = refl
+
+no_value : Gives field_5 (at [] 4) (codes "0" ++ 10 ∷ [])
+unfolding digits
+no_value = refl
+
+zero_offset : Refuses field_5 (forward 4 0 (1 ∷ [])) NoDomain
+zero_offset = (inr refl, refl)

@@ -1,0 +1,33 @@
+-- Which words spell a number, and which a list of numbers.
+use Rattle.std.specs.Prelude.{◌≡◌, ℕ, ◌^◌, ◌<◌, List, [], ◌∷◌}
+use Rattle.std.specs.List.{join_with_byte}
+use Rattle.std.specs.Str.Parse.{IsNumeral, digits_value}
+
+-- the byte between two numbers of a list
+abbrev pub comma : ℕ
+comma = 44
+
+-- the words in a row, with a comma between each two
+abbrev pub joined : List (List ℕ) → List ℕ
+joined words = join_with_byte comma words
+
+-- one decimal digit or more, and nothing else, whose value fits 64 bits; zeros may stand first
+pub record IsNumber (word : List ℕ) (number : ℕ) : Type 0 where
+  pub digits : IsNumeral 10 word
+  pub value : number ≡ digits_value 10 word
+  pub fits : number < 2 ^ 64
+
+-- each word spells the number at its place, and there are as many of both
+abbrev pub AreNumbers : List (List ℕ) → List ℕ → Type 0
+AreNumbers [] [] = Unit {0}
+AreNumbers (word ∷ words) (number ∷ numbers) = IsNumber word number × AreNumbers words numbers
+AreNumbers [] (number ∷ numbers) = ⊥
+AreNumbers (word ∷ words) [] = ⊥
+
+-- the numbers, joined by commas: the empty word is the empty list
+abbrev pub IsList : List ℕ → List ℕ → Type 0
+IsList word numbers = (words : List (List ℕ)) × (word ≡ joined words) × AreNumbers words numbers
+
+-- some list
+abbrev pub SpellsList : List ℕ → Type 0
+SpellsList word = (numbers : List ℕ) × IsList word numbers

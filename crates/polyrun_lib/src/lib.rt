@@ -1,0 +1,9 @@
+//! The program's answers: it reads the words of a command line, and writes the lines of an answer.
+#![tactic(auto)]
+
+mod lines;
+mod program;
+mod words;
+
+pub use lines::{refusal_line, usage_line};
+pub use program::{run, write};
