@@ -1,18 +1,24 @@
 -- How words are read, and what an outcome of theirs may write.
-use Rattle.std.proofs.Common.{◌≡◌, ◌≢◌, ◌⊎◌, ℕ, ◌<◌, List, [], ◌∷◌, length, get_or, map, drop, inl, inr, refl, sym, ap, ap₂, subst, ◌∙◌, arith}
-use Rattle.std.specs.Prelude.{codes}
-use Rattle.std.proofs.lemmas.List.{length-map}
+use Rattle.std.proofs.Common.{◌≡◌, ◌≢◌, ◌⊎◌, ℕ, ◌-◌, ◌<◌, List, [], ◌∷◌, length, get_or, map, take, drop, inl, inr, refl, sym, ap, ap₂, subst, ◌∙◌, arith}
+use Rattle.std.specs.Prelude.{Option, Some, None, Result, IfNone, codes}
+use Rattle.std.specs.declared.string.String.{String}
+use Rattle.std.specs.declared.alloc.Global.{Global}
+use Rattle.std.proofs.lemmas.List.{length-map, take_all}
 use Rattle.ark_base.specs.declared.error.PolyError.{PolyError}
 use Rattle.polyrun_lib.specs.Words.{IsNumber, IsList, SpellsList}
 use Rattle.polyrun_lib.specs.Lines.{refusal_line_of, usage_text}
 use Rattle.polyrun_lib.specs.Answer.{Known, Names, Command, forward, back, at, command_name, AreTransformed, AreEvaluated, Reads, IsCommand, Gives, MayWrite}
-use Rattle.polyrun_lib.specs.Outcome.{MayRefuse}
+use Rattle.polyrun_lib.specs.Outcome.{MayRefuse, IsOutcome}
+
+pub IfNone-weaker : {T : Type 0} (o : Option T) {P Q : Type 0} → IfNone o P → (P → Q) → IfNone o Q
+IfNone-weaker None p f = f p
+IfNone-weaker (Some x) p f = tt
 
 -- ---- lists of a known length
 
-pub map-first : {A B : Type 0} (f : A → B) (xs : List A) (x : A) → 0 < length xs → x ≡ get_or xs 0 x → map f xs ≡ f x ∷ map f (drop 1 xs)
+pub map-first : {A B : Type 0} (f : A → B) (xs : List A) (x : A) → 0 < length xs → x ≡ get_or xs 0 x → map f xs ≡ f x ∷ map f (take (length xs - 1) (drop 1 xs))
 map-first f [] x some e = absurd (omega arith)
-map-first f (y ∷ ys) x some e = ap (λ t. f t ∷ map f ys) (sym e)
+map-first f (y ∷ ys) x some e = ap₂ (λ t rest. f t ∷ map f rest) (sym e) (sym (take_all (length (y ∷ ys) - 1) ys (omega arith)))
 
 pub map-two : {A B : Type 0} (f : A → B) (xs : List A) (a b : A) → length xs ≡ 2 → a ≡ get_or xs 0 a → b ≡ get_or xs 1 b → map f xs ≡ f a ∷ f b ∷ []
 map-two f [] a b n d e = absurd (omega arith)
@@ -91,6 +97,18 @@ not_at words name rest e is none (back k h xs) r = let t = ap (λ l. get_or l 0 
 not_at words name rest e is none (at xs x) r =
     none xs x (subst (λ w. AreEvaluated w xs x) (rest_of words name rest (at xs x) e r).1 r.2)
 
+pub reads_forward : (words : List (List ℕ)) (name : List ℕ) (rest : List (List ℕ)) (f : Known) (outcome : Result (String Global) PolyError) → words ≡ name ∷ rest → name ≡ codes "fft"
+    → ((k : ℕ) × (h : ℕ) × (xs : List ℕ) × AreTransformed rest k h xs × IsOutcome f (forward k h xs) outcome) → (c : Command) × Reads words c × IsOutcome f c outcome
+reads_forward words name rest f outcome e is t = (forward t.0 t.1 t.2, (rest, e ∙ ap (λ n. n ∷ rest) is, t.3), t.4)
+
+pub reads_back : (words : List (List ℕ)) (name : List ℕ) (rest : List (List ℕ)) (f : Known) (outcome : Result (String Global) PolyError) → words ≡ name ∷ rest → name ≡ codes "ifft"
+    → ((k : ℕ) × (h : ℕ) × (xs : List ℕ) × AreTransformed rest k h xs × IsOutcome f (back k h xs) outcome) → (c : Command) × Reads words c × IsOutcome f c outcome
+reads_back words name rest f outcome e is t = (back t.0 t.1 t.2, (rest, e ∙ ap (λ n. n ∷ rest) is, t.3), t.4)
+
+pub reads_at : (words : List (List ℕ)) (name : List ℕ) (rest : List (List ℕ)) (f : Known) (outcome : Result (String Global) PolyError) → words ≡ name ∷ rest → name ≡ codes "eval"
+    → ((xs : List ℕ) × (x : ℕ) × AreEvaluated rest xs x × IsOutcome f (at xs x) outcome) → (c : Command) × Reads words c × IsOutcome f c outcome
+reads_at words name rest f outcome e is t = (at t.0 t.1, (rest, e ∙ ap (λ n. n ∷ rest) is, t.2), t.3)
+
 pub no_command : (words : List (List ℕ)) (name : List ℕ) (rest : List (List ℕ)) → words ≡ name ∷ rest → name ≢ codes "fft" → name ≢ codes "ifft" → name ≢ codes "eval" → (c : Command) → Reads words c → ⊥
 no_command words name rest e x y z (forward k h xs) r = x (rest_of words name rest (forward k h xs) e r).0
 no_command words name rest e x y z (back k h xs) r = y (rest_of words name rest (back k h xs) e r).0
@@ -100,6 +118,10 @@ no_command words name rest e x y z (at xs p) r = z (rest_of words name rest (at 
 
 pub no_words : (f : Known) (c : Command) → IsCommand [] f c → ⊥
 no_words f c h = absurd (omega (arith, ap length h.2))
+
+pub is_command : (words : List (List ℕ)) (word : List ℕ) (rest : List (List ℕ)) (f : Known) (outcome : Result (String Global) PolyError) → words ≡ word ∷ rest → Names word f
+    → ((c : Command) × Reads rest c × IsOutcome f c outcome) → (f : Known) × (c : Command) × IsCommand words f c × IsOutcome f c outcome
+is_command words word rest f outcome e names t = (f, t.0, (word, rest, e, names, t.1), t.2)
 
 pub no_reading : (words : List (List ℕ)) (word : List ℕ) (rest : List (List ℕ)) → words ≡ word ∷ rest → ((c : Command) → Reads rest c → ⊥) → (f : Known) (c : Command) → IsCommand words f c → ⊥
 no_reading words word rest e none f c h =
