@@ -8,8 +8,7 @@ use Rattle.polyrun_lib.proofs.program.run.Goals as goal
 pub returns-in-Some-Err : goal.returns-in-Some-Err
 returns-in-Some-Err g c =
     let words = map string_bytes c.args.words.now in
-    let of = c.in-Some-Err.ensures.some in
-    (
+    let of = c.in-Some-Err.ensures.some in (
       c.refusal_line.result.now,
       1,
       subst (λ text. MayWrite words text 1) (sym c.refusal_line.ensures) (may_write_refusal words of.0 of.1 c.in-Some-Err.refusal of.2 (subst (IsOutcome of.0 of.1) c.in-Some-Err.field-0-is of.3)),
@@ -18,8 +17,7 @@ returns-in-Some-Err g c =
 
 pub returns-in-None : goal.returns-in-None
 returns-in-None g c =
-    let words = map string_bytes c.args.words.now in
-    (
+    let words = map string_bytes c.args.words.now in (
       c.usage_line.result.now,
       2,
       subst (λ text. MayWrite words text 2) (sym c.usage_line.ensures) (may_write_usage words c.in-None.ensures.none),
