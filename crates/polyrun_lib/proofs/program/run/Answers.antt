@@ -1,4 +1,4 @@
-use Rattle.std.proofs.Common.{List, ℕ, map, sym, subst}
+use Rattle.std.proofs.Common.{map, sym, subst}
 use Rattle.std.specs.Prelude.{string_bytes}
 use Rattle.polyrun_lib.specs.Answer.{MayWrite}
 use Rattle.polyrun_lib.specs.Outcome.{IsOutcome}
