@@ -3,9 +3,8 @@
 
 use ark_base::{IoSink, PolyError};
 use polyrun_lib::{refusal_line, run, usage_line, write};
-use std::env;
-use std::io;
 use std::process::ExitCode;
+use std::{env, io};
 
 fn main(rt: HostRuntime) -> ExitCode {
     let mut out = IoSink::new(rt.stdout());

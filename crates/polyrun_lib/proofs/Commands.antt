@@ -1,71 +1,23 @@
 -- How words are read, and what an outcome of theirs may write.
-use Rattle.std.proofs.Common.{◌≡◌, ◌≢◌, ◌⊎◌, ℕ, ◌<◌, List, [], ◌∷◌, length, get_or, map, drop, inl, inr, refl, sym, ap, ap₂, subst, ◌∙◌, arith}
-use Rattle.std.specs.Prelude.{codes}
-use Rattle.std.proofs.lemmas.List.{length-map}
+use Rattle.std.proofs.Common.{◌≡◌, ℕ, ◌-◌, ◌<◌, List, [], ◌∷◌, length, get_or, map, take, drop, inl, inr, refl, sym, ap, ap₂, subst, ◌∙◌, arith}
+use Rattle.std.specs.Prelude.{Option, Some, None, Result, IfNone, codes}
+use Rattle.std.specs.declared.string.String.{String}
+use Rattle.std.specs.declared.alloc.Global.{Global}
+use Rattle.std.proofs.lemmas.List.{take_all}
 use Rattle.ark_base.specs.declared.error.PolyError.{PolyError}
-use Rattle.polyrun_lib.specs.Words.{IsNumber, IsList, SpellsList}
 use Rattle.polyrun_lib.specs.Lines.{refusal_line_of, usage_text}
 use Rattle.polyrun_lib.specs.Answer.{Known, Names, Command, forward, back, at, command_name, AreTransformed, AreEvaluated, Reads, IsCommand, Gives, MayWrite}
-use Rattle.polyrun_lib.specs.Outcome.{MayRefuse}
+use Rattle.polyrun_lib.specs.Outcome.{MayRefuse, IsOutcome}
 
--- ---- lists of a known length
+pub IfNone-weaker : {T : Type 0} (o : Option T) {P Q : Type 0} → IfNone o P → (P → Q) → IfNone o Q
+IfNone-weaker None p f = f p
+IfNone-weaker (Some x) p f = tt
 
-pub map-first : {A B : Type 0} (f : A → B) (xs : List A) (x : A) → 0 < length xs → x ≡ get_or xs 0 x → map f xs ≡ f x ∷ map f (drop 1 xs)
+pub map-first : {A B : Type 0} (f : A → B) (xs : List A) (x : A) → 0 < length xs → x ≡ get_or xs 0 x → map f xs ≡ f x ∷ map f (take (length xs - 1) (drop 1 xs))
 map-first f [] x some e = absurd (omega arith)
-map-first f (y ∷ ys) x some e = ap (λ t. f t ∷ map f ys) (sym e)
+map-first f (y ∷ ys) x some e = ap₂ (λ t rest. f t ∷ map f rest) (sym e) (sym (take_all (length (y ∷ ys) - 1) ys (omega arith)))
 
-pub map-two : {A B : Type 0} (f : A → B) (xs : List A) (a b : A) → length xs ≡ 2 → a ≡ get_or xs 0 a → b ≡ get_or xs 1 b → map f xs ≡ f a ∷ f b ∷ []
-map-two f [] a b n d e = absurd (omega arith)
-map-two f (x ∷ []) a b n d e = absurd (omega arith)
-map-two f (x ∷ y ∷ []) a b n d e = ap₂ (λ s t. f s ∷ f t ∷ []) (sym d) (sym e)
-map-two f (x ∷ y ∷ z ∷ zs) a b n d e = absurd (omega arith)
-
-pub map-three : {A B : Type 0} (f : A → B) (xs : List A) (a b c : A) → length xs ≡ 3 → a ≡ get_or xs 0 a → b ≡ get_or xs 1 b → c ≡ get_or xs 2 c → map f xs ≡ f a ∷ f b ∷ f c ∷ []
-map-three f [] a b c n d e h = absurd (omega arith)
-map-three f (x ∷ []) a b c n d e h = absurd (omega arith)
-map-three f (x ∷ y ∷ []) a b c n d e h = absurd (omega arith)
-map-three f (x ∷ y ∷ z ∷ []) a b c n d e h = ap₂ (λ s t. f s ∷ t) (sym d) (ap₂ (λ s t. f s ∷ f t ∷ []) (sym e) (sym h))
-map-three f (x ∷ y ∷ z ∷ w ∷ ws) a b c n d e h = absurd (omega arith)
-
--- ---- the words of a transform
-
-pub other_transformed : {A : Type 0} (f : A → List ℕ) (words : List A) → length words ≢ 3 → (k h : ℕ) (xs : List ℕ) → AreTransformed (map f words) k h xs → ⊥
-other_transformed f words ne k h xs t = ne (sym (length-map words f) ∙ ap length t.3)
-
-pub no_size : (words : List (List ℕ)) (a b c : List ℕ) → words ≡ a ∷ b ∷ c ∷ [] → ((n : ℕ) → IsNumber a n → ⊥) → (k h : ℕ) (xs : List ℕ) → AreTransformed words k h xs → ⊥
-no_size words a b c e none k h xs t =
-    let both : t.0 ∷ t.1 ∷ t.2 ∷ [] ≡ a ∷ b ∷ c ∷ [] = sym t.3 ∙ e in
-    none k (subst (λ w. IsNumber w k) (ap (λ l. get_or l 0 []) both) t.4)
-
-pub no_offset : (words : List (List ℕ)) (a b c : List ℕ) → words ≡ a ∷ b ∷ c ∷ [] → ((n : ℕ) → IsNumber b n → ⊥) → (k h : ℕ) (xs : List ℕ) → AreTransformed words k h xs → ⊥
-no_offset words a b c e none k h xs t =
-    let both : t.0 ∷ t.1 ∷ t.2 ∷ [] ≡ a ∷ b ∷ c ∷ [] = sym t.3 ∙ e in
-    none h (subst (λ w. IsNumber w h) (ap (λ l. get_or l 1 []) both) t.5)
-
-pub no_list : (words : List (List ℕ)) (a b c : List ℕ) → words ≡ a ∷ b ∷ c ∷ [] → (SpellsList c → ⊥) → (k h : ℕ) (xs : List ℕ) → AreTransformed words k h xs → ⊥
-no_list words a b c e none k h xs t =
-    let both : t.0 ∷ t.1 ∷ t.2 ∷ [] ≡ a ∷ b ∷ c ∷ [] = sym t.3 ∙ e in
-    none (xs, subst (λ w. IsList w xs) (ap (λ l. get_or l 2 []) both) t.6)
-
--- ---- the words of a value
-
-pub other_evaluated : {A : Type 0} (f : A → List ℕ) (words : List A) → length words ≢ 2 → (xs : List ℕ) (x : ℕ) → AreEvaluated (map f words) xs x → ⊥
-other_evaluated f words ne xs x t = ne (sym (length-map words f) ∙ ap length t.2)
-
-pub no_point : (words : List (List ℕ)) (a b : List ℕ) → words ≡ a ∷ b ∷ [] → ((n : ℕ) → IsNumber b n → ⊥) → (xs : List ℕ) (x : ℕ) → AreEvaluated words xs x → ⊥
-no_point words a b e none xs x t =
-    let both : t.0 ∷ t.1 ∷ [] ≡ a ∷ b ∷ [] = sym t.2 ∙ e in
-    none x (subst (λ w. IsNumber w x) (ap (λ l. get_or l 1 []) both) t.4)
-
-pub no_coefficients : (words : List (List ℕ)) (a b : List ℕ) → words ≡ a ∷ b ∷ [] → (SpellsList a → ⊥) → (xs : List ℕ) (x : ℕ) → AreEvaluated words xs x → ⊥
-no_coefficients words a b e none xs x t =
-    let both : t.0 ∷ t.1 ∷ [] ≡ a ∷ b ∷ [] = sym t.2 ∙ e in
-    none (xs, subst (λ w. IsList w xs) (ap (λ l. get_or l 0 []) both) t.3)
-
--- ---- commands
-
-pub not_of_none : (c : Command) → Reads [] c → ⊥
-not_of_none c r = absurd (omega (arith, ap length r.1))
+-- ---- commands over one field
 
 -- the words after the name of a command
 pub rest_of : (words : List (List ℕ)) (name : List ℕ) (rest : List (List ℕ)) (c : Command) → words ≡ name ∷ rest → (r : Reads words c) → (name ≡ command_name c) × (r.0 ≡ rest)
@@ -91,36 +43,30 @@ not_at words name rest e is none (back k h xs) r = let t = ap (λ l. get_or l 0 
 not_at words name rest e is none (at xs x) r =
     none xs x (subst (λ w. AreEvaluated w xs x) (rest_of words name rest (at xs x) e r).1 r.2)
 
-pub no_command : (words : List (List ℕ)) (name : List ℕ) (rest : List (List ℕ)) → words ≡ name ∷ rest → name ≢ codes "fft" → name ≢ codes "ifft" → name ≢ codes "eval" → (c : Command) → Reads words c → ⊥
-no_command words name rest e x y z (forward k h xs) r = x (rest_of words name rest (forward k h xs) e r).0
-no_command words name rest e x y z (back k h xs) r = y (rest_of words name rest (back k h xs) e r).0
-no_command words name rest e x y z (at xs p) r = z (rest_of words name rest (at xs p) e r).0
+pub reads_forward : (words : List (List ℕ)) (name : List ℕ) (rest : List (List ℕ)) (f : Known) (outcome : Result (String Global) PolyError) → words ≡ name ∷ rest → name ≡ codes "fft"
+    → ((k : ℕ) × (h : ℕ) × (xs : List ℕ) × AreTransformed rest k h xs × IsOutcome f (forward k h xs) outcome) → (c : Command) × Reads words c × IsOutcome f c outcome
+reads_forward words name rest f outcome e is t = (forward t.0 t.1 t.2, (rest, e ∙ ap (λ n. n ∷ rest) is, t.3), t.4)
 
--- ---- fields
+pub reads_back : (words : List (List ℕ)) (name : List ℕ) (rest : List (List ℕ)) (f : Known) (outcome : Result (String Global) PolyError) → words ≡ name ∷ rest → name ≡ codes "ifft"
+    → ((k : ℕ) × (h : ℕ) × (xs : List ℕ) × AreTransformed rest k h xs × IsOutcome f (back k h xs) outcome) → (c : Command) × Reads words c × IsOutcome f c outcome
+reads_back words name rest f outcome e is t = (back t.0 t.1 t.2, (rest, e ∙ ap (λ n. n ∷ rest) is, t.3), t.4)
 
-pub no_words : (f : Known) (c : Command) → IsCommand [] f c → ⊥
-no_words f c h = absurd (omega (arith, ap length h.2))
+pub reads_at : (words : List (List ℕ)) (name : List ℕ) (rest : List (List ℕ)) (f : Known) (outcome : Result (String Global) PolyError) → words ≡ name ∷ rest → name ≡ codes "eval"
+    → ((xs : List ℕ) × (x : ℕ) × AreEvaluated rest xs x × IsOutcome f (at xs x) outcome) → (c : Command) × Reads words c × IsOutcome f c outcome
+reads_at words name rest f outcome e is t = (at t.0 t.1, (rest, e ∙ ap (λ n. n ∷ rest) is, t.2), t.3)
+
+-- ---- a field and a command
+
+pub is_command : (words : List (List ℕ)) (word : List ℕ) (rest : List (List ℕ)) (f : Known) (outcome : Result (String Global) PolyError) → words ≡ word ∷ rest → Names word f
+    → ((c : Command) × Reads rest c × IsOutcome f c outcome) → (f : Known) × (c : Command) × IsCommand words f c × IsOutcome f c outcome
+is_command words word rest f outcome e names t = (f, t.0, (word, rest, e, names, t.1), t.2)
 
 pub no_reading : (words : List (List ℕ)) (word : List ℕ) (rest : List (List ℕ)) → words ≡ word ∷ rest → ((c : Command) → Reads rest c → ⊥) → (f : Known) (c : Command) → IsCommand words f c → ⊥
 no_reading words word rest e none f c h =
     let both : h.0 ∷ h.1 ≡ word ∷ rest = sym h.2 ∙ e in
     none c (subst (λ w. Reads w c) (ap (λ l. drop 1 l) both) h.4)
 
-pub no_field : (words : List (List ℕ)) (word : List ℕ) (rest : List (List ℕ)) → words ≡ word ∷ rest → word ≢ codes "5" → word ≢ codes "433" → word ≢ codes "65537" → (f : Known) (c : Command) → IsCommand words f c → ⊥
-no_field words word rest e x y z f c h = by_name h.3
-  where
-    same : word ≡ h.0
-    same = let both : word ∷ rest ≡ h.0 ∷ h.1 = sym e ∙ h.2 in ap (λ l. get_or l 0 []) both
-
-    by_name : Names h.0 f → ⊥
-    by_name (inl n) = x (same ∙ n.0)
-    by_name (inr (inl n)) = y (same ∙ n.0)
-    by_name (inr (inr n)) = z (same ∙ n.0)
-
 -- ---- what may be written
-
-pub may_write_text : (words : List (List ℕ)) (f : Known) (c : Command) (text : List ℕ) → IsCommand words f c → Gives f c text → MayWrite words text 0
-may_write_text words f c text h gives = inl (inl (f, c, h, inl (gives, refl)))
 
 pub may_write_refusal : (words : List (List ℕ)) (f : Known) (c : Command) (refusal : PolyError) → IsCommand words f c → MayRefuse f c refusal → MayWrite words (refusal_line_of refusal) 1
 may_write_refusal words f c refusal h (inl refuses) = inl (inl (f, c, h, inr (refusal, refuses, refl, refl)))
