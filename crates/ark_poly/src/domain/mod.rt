@@ -194,7 +194,8 @@ pub trait EvaluationDomain<F: FftField>: Copy + Eq + Hash + Debug {
     fn distribute_powers<T: DomainCoeff<F>>(coeffs: &mut [T], g: F)
         ensures { (i : ℕ) → i < length coeffs.old → item T.group (map T.meaning coeffs.new) i ≡ T.group.scale (power F.field g i) (item T.group (map T.meaning coeffs.old) i) }
     {
-        Self::distribute_powers_and_mul_by_const(coeffs, g, F::one());
+        let one = F::one();
+        Self::distribute_powers_and_mul_by_const(coeffs, g, one);
     }
 
     /// Multiplies item `i` by `c * g^i`.
