@@ -14,7 +14,7 @@ use std::alloc::{AllocGlobal, Global};
 use std::env;
 use std::io::Print;
 use std::time::Clock;
-use transforms::Transform;
+use transforms::{ShortTransform, Transform};
 
 fn main(rt: HostRuntime) -> anyhow::Result<()> {
     let timed = match env::args(&rt)?.nth(1) {
@@ -42,6 +42,9 @@ fn report_transforms(rt: &(impl Print + Clock), alloc: Global, timed: bool) -> a
             let items = draws.list(alloc, size)?;
             let mut forward = Transform::forward("coset_fft_in_place", coset, items);
             report(rt, alloc, timed, &mut forward)?;
+            let items = draws.list(alloc, 1 << 10)?;
+            let mut short = ShortTransform::forward("degree_aware_fft_1024_over", domain, items);
+            report(rt, alloc, timed, &mut short)?;
         }
     }
     Ok(())
