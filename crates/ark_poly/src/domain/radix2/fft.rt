@@ -68,7 +68,7 @@ pub(crate) fn halves<F: FftField, T: DomainCoeff<F>>(
     ensures products { work.new.products ≡ work.old.products + 2 ^ levels / 2 * levels }
     ensures steps { work.new.steps ≡ work.old.steps }
 {
-    if levels > 0 {
+    if xs.len() > 1 {
         let half = xs.len() / 2;
         let (lo, hi) = xs.split_at_mut(half);
         across(work, lo, hi, table, stride);
