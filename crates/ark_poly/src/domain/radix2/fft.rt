@@ -277,7 +277,7 @@ fn scale_each<F: FftField, T: DomainCoeff<F>>(work: &mut Work, xs: &mut [T], fac
     }
 }
 
-/// Scales item i by start times the factor to the i.
+/// Scales item i by start times the factor to the i. Two rows of powers take turns, so that no product waits for the last.
 pub(crate) fn scale_by_powers<F: FftField, T: DomainCoeff<F>>(
     work: &mut Work,
     xs: &mut [T],
@@ -292,10 +292,14 @@ pub(crate) fn scale_by_powers<F: FftField, T: DomainCoeff<F>>(
     if factor.is_one() {
         scale_each(work, xs, start);
     } else {
+        let square = factor * factor;
         let mut next = start;
+        let mut after = start * factor;
         for i in 0..xs.len() {
             work.scale(&mut xs[i], next);
-            next = next * factor;
+            let later = next * square;
+            next = after;
+            after = later;
         }
     }
 }
