@@ -11,11 +11,11 @@ use Rattle.std.proofs.lemmas.Option.{get_or_from_slice_get, slice_get_cases}
 use Rattle.std.proofs.lemmas.List.{length_push, get_or_push, get_or_append_left}
 use Rattle.std.proofs.lemmas.List.Quantifiers.{all_pairs_push}
 use Rattle.ark_math.specs.Field.{FieldOn, IsField, power}
-use Rattle.ark_math.specs.Univariate.{nothing, added, monomial, IsDegree, IsValue, of_pairs, IsSparse}
+use Rattle.ark_math.specs.Univariate.{nothing, added, difference, monomial, IsDegree, IsValue, of_pairs, IsSparse}
 use Rattle.ark_math.proofs.Groups.{itself_is_module, zero_plus, cancel_left}
 use Rattle.ark_math.proofs.Solve.{◌⊞◌}
 use Rattle.ark_math.proofs.Ring.{module0_3}
-use Rattle.ark_math.proofs.Univariate.{coefficients_are_module, monomial-same, monomial-other}
+use Rattle.ark_math.proofs.Univariate.{coefficients_are_module, monomial-same, monomial-other, monomial-opposite}
 use Rattle.ark_math.proofs.UnivariateValues.{value-added, value-monomial}
 
 -- ---- sums of pairs in any order
@@ -58,6 +58,14 @@ module _ {F : Type 0} (K : FieldOn F) (N : IsField K) where
   value-of_pairs_push x p y z h =
       subst (λ t. IsValue K t y (K.plus z (K.times (power K y x.0) x.1))) (sym (of_pairs-push p x))
       (value-added K N (of_pairs K p) (monomial K x.0 x.1) y z (K.times (power K y x.0) x.1) h (value-monomial K N x.0 x.1 y))
+
+  -- two terms
+  pub of_pairs-difference : (n : ℕ) (c h : F) → of_pairs K ((0, K.negated h) ∷ (n, c) ∷ []) ≡ difference K (monomial K n c) (monomial K 0 h)
+  of_pairs-difference n c h =
+      let M = coefficients_are_module {I = ℕ} K N in
+      ap (added K (monomial K 0 (K.negated h))) (M.plus_zero (monomial K n c))
+      ∙ M.plus_comm (monomial K 0 (K.negated h)) (monomial K n c)
+      ∙ ap (added K (monomial K n c)) (monomial-opposite K N 0 h)
 
   -- the first pairs, and the next one
   pub take_next : (p : List (ℕ × F)) (i : ℕ) (x : ℕ × F) → i < length p → x ≡ get_or p i x → take (i + 1) p ≡ take i p ++ x ∷ []
