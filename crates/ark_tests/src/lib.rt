@@ -12,8 +12,12 @@ mod fields;
 pub mod nothing;
 pub mod plain;
 #[cfg(test)]
+mod points;
+#[cfg(test)]
 mod recorded;
 #[cfg(test)]
 mod sinks;
+#[cfg(test)]
+mod sparse;
 #[cfg(test)]
 mod transforms;
