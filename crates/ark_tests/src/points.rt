@@ -198,6 +198,20 @@ fn has_weights<D: EvaluationDomain<F433>>(alloc: Global, domain: &D) -> Result<b
     Ok(same)
 }
 
+// Whether the vanishing polynomial is zero exactly at the elements, and its value the one that is told without it.
+fn has_vanishing<D: EvaluationDomain<F433>>(alloc: Global, domain: &D) -> Result<bool, PolyError> {
+    let places = places(alloc, domain)?;
+    let vanishing = domain.vanishing_polynomial(alloc)?;
+    let mut same = vanishing.degree() == domain.size();
+    for number in 0..433 {
+        let point = F433::from(number);
+        let value = vanishing.evaluate(alloc, &point)?;
+        same = same && value == domain.evaluate_vanishing_polynomial(point);
+        same = same && value.is_zero() == places.contains(&point);
+    }
+    Ok(same)
+}
+
 // Whether the filter of the coset of so many elements that has element `first` is one at its elements and zero at the
 // others, and no longer than it has to be.
 fn has_filter<D: EvaluationDomain<F433>>(
@@ -252,7 +266,8 @@ fn holds_at<D: EvaluationDomain<F433>>(
     let mut right = true;
     for offset in [1, 5] {
         let domain = D::new_coset(size, F433::from(offset)).ok_or(PolyError::NoDomain)?;
-        right = right && domain.size() == size && has_weights(alloc, &domain)?;
+        right = right && domain.size() == size;
+        right = right && has_weights(alloc, &domain)? && has_vanishing(alloc, &domain)?;
         for part in sizes {
             if size % (*part).max(1) == 0 {
                 right = right && has_order(alloc, &domain, *part)?;
