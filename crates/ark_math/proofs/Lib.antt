@@ -8,6 +8,7 @@ pub mod Elements
 pub mod Euclid
 pub mod Filters
 pub mod Generator
+pub mod GreatestPowers
 pub mod Groups
 pub mod Halving
 pub mod Inverses
