@@ -40,6 +40,7 @@ pub mod Signed
 pub mod Sizes
 pub mod Solve
 pub mod SortedPairs
+pub mod Spaced
 pub mod Split
 pub mod Sums
 pub mod Transforms

@@ -12,6 +12,8 @@ mod fields;
 pub mod nothing;
 pub mod plain;
 #[cfg(test)]
+mod points;
+#[cfg(test)]
 mod polynomials;
 #[cfg(test)]
 mod program;
@@ -19,6 +21,8 @@ mod program;
 mod recorded;
 #[cfg(test)]
 mod sinks;
+#[cfg(test)]
+mod sparse;
 pub mod traced;
 #[cfg(test)]
 mod traces;
