@@ -11,12 +11,14 @@ ghost use Rattle.ark_math.specs.Points.{vanishing, AreWeights, IsElement, IsCont
 ghost use Rattle.ark_base.specs.Cost.{GrowsByCost};
 
 mod coset;
+pub mod general;
 pub mod mixed_radix;
 pub mod radix2;
 pub mod utils;
 
 pub use ark_base::DomainCoeff;
 use ark_base::{FftField, Field, PolyError, Work, batch_inversion};
+pub use general::GeneralEvaluationDomain;
 pub use mixed_radix::MixedRadixEvaluationDomain;
 pub use radix2::Radix2EvaluationDomain;
 use rand::Rng;
