@@ -9,6 +9,7 @@ pub mod Euclid
 pub mod Filters
 pub mod GeneralSizes
 pub mod Generator
+pub mod GreatestPowers
 pub mod Groups
 pub mod Halving
 pub mod Inverses

@@ -12,8 +12,15 @@ mod fields;
 pub mod nothing;
 pub mod plain;
 #[cfg(test)]
+mod polynomials;
+#[cfg(test)]
+mod program;
+#[cfg(test)]
 mod recorded;
 #[cfg(test)]
 mod sinks;
+pub mod traced;
+#[cfg(test)]
+mod traces;
 #[cfg(test)]
 mod transforms;

@@ -2,6 +2,8 @@
 
 use ark_base::{F65537, Field, One, Zero};
 use ark_poly::{EvaluationDomain, Radix2EvaluationDomain};
+use rand_core::Rng;
+use rand_pcg::Pcg64;
 use std::alloc::{AllocError, Global};
 
 /// A sum for each place, term by term.
@@ -21,6 +23,34 @@ pub fn sums(
         sums.push(sum)?;
     }
     Ok(sums)
+}
+
+/// All products of two coefficients, summed by the places' sums. Of empty lists it is empty.
+pub fn product(
+    alloc: Global,
+    left: &[F65537],
+    right: &[F65537],
+) -> Result<Vec<F65537>, AllocError> {
+    let mut product = Vec::new(alloc);
+    product.resize(
+        left.len().saturating_add(right.len()).saturating_sub(1),
+        F65537::zero(),
+    )?;
+    for (i, x) in left.iter().enumerate() {
+        for (place, y) in product.iter_mut().skip(i).zip(right) {
+            *place = *place + *x * *y;
+        }
+    }
+    Ok(product)
+}
+
+/// So many elements of a generator.
+pub fn drawn(alloc: Global, rng: &mut Pcg64, len: usize) -> Result<Vec<F65537>, AllocError> {
+    let mut list = Vec::with_capacity(alloc, len)?;
+    for _ in 0..len {
+        list.push(F65537::from(rng.next_u64()))?;
+    }
+    Ok(list)
 }
 
 /// The transform of as many items as the domain has places, by passes in place.
