@@ -2,7 +2,7 @@
 use Rattle.std.proofs.Common.{◌≡◌, ℕ, suc, zero, ◌<◌, ◌≤◌, inl, inr, arith, refl}
 use Rattle.std.proofs.lemmas.Bool.{cases_lt}
 use Rattle.ark_math.specs.Root.{Adicity}
-use Rattle.ark_math.specs.Domain.{Kind, radix2, mixed_radix, IsSize, IsLeast, HasNone, IsRadix2, IsMixedRadix, IsGeneral}
+use Rattle.ark_math.specs.Domain.{Kind, radix2, mixed_radix, IsSize, IsLeast, HasNone, HasNoSize, IsRadix2, IsMixedRadix, IsGeneral}
 use Rattle.ark_math.proofs.Sizes.{one_least}
 
 -- where there is no least one there is none at all
@@ -33,11 +33,11 @@ general_from_radix2 s k radix2 n h = h
 general_from_radix2 s k mixed_radix n h = absurd h
 
 -- where radix 2 has none, it takes what the mixed one does
-pub general_from_mixed : (s : Adicity) (k : ℕ) → ((kind : Kind) (n : ℕ) → IsRadix2 s k kind n → ⊥) → (kind : Kind) (n : ℕ) → IsMixedRadix s k kind n → IsGeneral s k kind n
+pub general_from_mixed : (s : Adicity) (k : ℕ) → HasNoSize (IsRadix2 s) k → (kind : Kind) (n : ℕ) → IsMixedRadix s k kind n → IsGeneral s k kind n
 general_from_mixed s k none radix2 n h = absurd h
 general_from_mixed s k none mixed_radix n h = (h, none_from_no_least (IsSize s radix2) k (none radix2))
 
-pub general_none : (s : Adicity) (k : ℕ) → ((kind : Kind) (n : ℕ) → IsRadix2 s k kind n → ⊥) → ((kind : Kind) (n : ℕ) → IsMixedRadix s k kind n → ⊥) → (kind : Kind) (n : ℕ) → IsGeneral s k kind n → ⊥
+pub general_none : (s : Adicity) (k : ℕ) → HasNoSize (IsRadix2 s) k → HasNoSize (IsMixedRadix s) k → HasNoSize (IsGeneral s) k
 general_none s k even mixed radix2 n h = even radix2 n h
 general_none s k even mixed mixed_radix n h = mixed mixed_radix n h.0
 

@@ -4,7 +4,7 @@ use Rattle.std.specs.Io.KnownBytes.{Appends}
 use Rattle.ark_math.specs.Field.{FieldOn, power}
 use Rattle.ark_math.specs.Module.{itself}
 use Rattle.ark_math.specs.Root.{Adicity, adicity_of}
-use Rattle.ark_math.specs.Domain.{Kind, Domain, IsGeneral}
+use Rattle.ark_math.specs.Domain.{Kind, Domain, HasNoSize, IsGeneral}
 use Rattle.ark_math.specs.Transform.{transform, value_at, IsInverse}
 use Rattle.ark_base.specs.declared.error.PolyError.{PolyError}
 use Rattle.ark_base.specs.declared.error.PolyError.TheVariants.{Memory, NoDomain}
@@ -104,20 +104,16 @@ Gives f (back k h xs) text = (d : Domain ℕ) × (u : List ℕ) × IsDomainFor f
 Gives f (at xs x) text = text ≡ line_of (value_at (operations f) (itself (operations f)) (reduced f xs) (x % f.modulus) ∷ [])
 Gives f (size_for k) text = (kind : Kind) × (n : ℕ) × IsChosen f.adicity k kind n × (text ≡ line_of (n ∷ []))
 
--- no domain is as long as k
-abbrev pub HasNoSize : Known → ℕ → Type 0
-HasNoSize f k = (kind : Kind) (n : ℕ) → IsChosen f.adicity k kind n → ⊥
-
--- the same, or the offset is zero
+-- no domain is as long as k, or the offset is zero
 abbrev pub HasNoDomain : Known → ℕ → ℕ → Type 0
-HasNoDomain f k h = HasNoSize f k ⊎ (h % f.modulus ≡ 0)
+HasNoDomain f k h = HasNoSize (IsChosen f.adicity) k ⊎ (h % f.modulus ≡ 0)
 
 -- and where it refuses
 abbrev pub Refuses : Known → Command → PolyError → Type 0
 Refuses f (forward k h xs) refusal = HasNoDomain f k h × (refusal ≡ NoDomain)
 Refuses f (back k h xs) refusal = HasNoDomain f k h × (refusal ≡ NoDomain)
 Refuses f (at xs x) refusal = ⊥
-Refuses f (size_for k) refusal = HasNoSize f k × (refusal ≡ NoDomain)
+Refuses f (size_for k) refusal = HasNoSize (IsChosen f.adicity) k × (refusal ≡ NoDomain)
 
 abbrev pub Writes : Known → Command → List ℕ → ℕ → Type 0
 Writes f c text status = (Gives f c text × (status ≡ 0)) ⊎ ((refusal : PolyError) × Refuses f c refusal × (text ≡ refusal_line_of refusal) × (status ≡ 1))

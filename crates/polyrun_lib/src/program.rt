@@ -1,7 +1,7 @@
 //! The answer to the words of a command line.
 
 ghost use Rattle.std.specs.Prelude.{◌≡◌, ◌⊎◌, ◌%◌, ℕ, List, map, IfOk, IfSome, IfNone, IfErr, IsOkUnless, string_bytes};
-ghost use Rattle.ark_math.specs.Domain.{Kind, IsDomain};
+ghost use Rattle.ark_math.specs.Domain.{HasNoSize, IsDomain};
 ghost use Rattle.polyrun_lib.specs.Words.{IsList, SpellsList};
 ghost use Rattle.polyrun_lib.specs.Lines.{line_of};
 ghost use Rattle.polyrun_lib.specs.Answer.{Known, known, Command, forward, back, at, size_for, AreTransformed, AreEvaluated, AreSized, Reads, IsCommand, MayWrite, IsWritten};
@@ -198,7 +198,7 @@ fn size_line<M: PrimeModulus>(alloc: Global, num_coeffs: u64) -> Result<String, 
 /// The coset of the size that the type of domain takes for `size`.
 fn coset<F: FftField, D: EvaluationDomain<F>>(size: u64, offset: F) -> Result<D, PolyError>
     ensures some { IfOk result (λ d. D.chooses size (D.domain d).kind (D.domain d).size × ((D.domain d).offset ≡ offset) × IsDomain F.field F.adicity F.root (D.domain d)) }
-    ensures none { IfErr result (λ refusal. (refusal ≡ PolyError.NoDomain) × ((offset ≡ F.field.zero) ⊎ ((kind : Kind) (n : ℕ) → D.chooses size kind n → ⊥))) }
+    ensures none { IfErr result (λ refusal. (refusal ≡ PolyError.NoDomain) × ((offset ≡ F.field.zero) ⊎ HasNoSize D.chooses size)) }
 {
     D::new_coset(size as usize, offset).ok_or(PolyError::NoDomain)
 }
