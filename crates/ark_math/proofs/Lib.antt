@@ -7,6 +7,7 @@ pub mod Domains
 pub mod Elements
 pub mod Euclid
 pub mod Filters
+pub mod GeneralSizes
 pub mod Generator
 pub mod GreatestPowers
 pub mod Groups

@@ -9,6 +9,8 @@ mod domains;
 mod errors;
 #[cfg(test)]
 mod fields;
+#[cfg(test)]
+mod kinds;
 pub mod nothing;
 pub mod plain;
 #[cfg(test)]

@@ -1,7 +1,8 @@
 // How many distinct products are behind the answers of the kernels, seen from outside.
 
+use crate::plain;
 use crate::traced::{Numbered, Products, Traced};
-use ark_base::{DomainCoeff, F433, F65537, FftField, Field, One, PolyError, Zero};
+use ark_base::{F433, F65537, FftField, PolyError};
 use ark_poly::{EvaluationDomain, MixedRadixEvaluationDomain, Radix2EvaluationDomain};
 use std::alloc::{AllocError, Global};
 use std::test::Fail;
@@ -22,27 +23,6 @@ fn behind<F: Numbered>(answers: &[Traced<F>]) -> Option<usize> {
         all.join(&answer.products);
     }
     all.count()
-}
-
-// A sum for each place, term by term.
-fn plain_sums<F: FftField, T: DomainCoeff<F>, D: EvaluationDomain<F>>(
-    alloc: Global,
-    domain: &D,
-    items: &[T],
-) -> Result<Vec<T>, AllocError> {
-    let mut sums = Vec::with_capacity(alloc, domain.size())?;
-    for place in domain.elements() {
-        let mut sum = T::zero();
-        let mut power = F::one();
-        for item in items {
-            let mut term = *item;
-            term *= power;
-            sum += term;
-            power *= place;
-        }
-        sums.push(sum)?;
-    }
-    Ok(sums)
 }
 
 // The products behind a transform of this many items, and behind its inverse, over the subgroup and a coset.
@@ -90,7 +70,7 @@ fn plain_sums_are_seen(rt: HostRuntime) -> Result<(), Fail> {
         return Err(Fail::from(PolyError::NoDomain));
     };
     let items = items::<F65537>(alloc, 64)?;
-    let sums = plain_sums(alloc, &domain, &items)?;
+    let sums = plain::sums(alloc, &domain, &items)?;
     assert!(rt; sums == domain.fft(alloc, &items)?);
     assert_eq!(rt; behind(&sums), None);
     Ok(())

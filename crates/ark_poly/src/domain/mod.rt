@@ -12,6 +12,7 @@ ghost use Rattle.ark_base.specs.Cost.{GrowsByCost};
 ghost use Rattle.ark_poly.specs.Sparse.{denoted};
 
 mod coset;
+pub mod general;
 pub mod mixed_radix;
 pub mod radix2;
 pub mod utils;
@@ -20,6 +21,7 @@ use crate::polynomial::univariate::{DensePolynomial, SparsePolynomial};
 use crate::polynomial::{DenseUVPolynomial, Polynomial};
 pub use ark_base::DomainCoeff;
 use ark_base::{FftField, Field, PolyError, Work, batch_inversion};
+pub use general::GeneralEvaluationDomain;
 pub use mixed_radix::MixedRadixEvaluationDomain;
 pub use radix2::Radix2EvaluationDomain;
 use rand::Rng;
