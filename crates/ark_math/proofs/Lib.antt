@@ -15,6 +15,7 @@ pub mod Halving
 pub mod Inverses
 pub mod Inversion
 pub mod Inversions
+pub mod Joining
 pub mod LawfulDomains
 pub mod Listed
 pub mod Lists

@@ -118,7 +118,7 @@ impl<F: FftField> EvaluationDomain<F> for Radix2EvaluationDomain<F> {
         coeffs: &mut Vec<T>,
         work: &mut Work,
     ) -> Result<(), PolyError> {
-        self.fft_in_order(alloc, coeffs, work)
+        self.fft_by_length(alloc, coeffs, work)
     }
 
     fn ifft_counted<T: DomainCoeff<F>>(
