@@ -9,6 +9,7 @@ mod domains;
 mod errors;
 #[cfg(test)]
 mod fields;
+pub mod four;
 #[cfg(test)]
 mod kinds;
 pub mod nothing;
