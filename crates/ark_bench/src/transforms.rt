@@ -1,25 +1,22 @@
-//! Transforms in place, over and over on one list.
+//! Transforms.
 
 use crate::batches::{Benchmark, mixed};
-use ark_base::{F65537, PolyError};
-use ark_poly::{EvaluationDomain, Radix2EvaluationDomain};
+use ark_base::{PolyError, PrimeField, PrimeModulus};
+use ark_poly::EvaluationDomain;
 use std::alloc::Global;
 
+/// In place, over and over on one list.
 #[derive(Drop)]
-pub struct Transform {
+pub struct InPlace<M: PrimeModulus, D: EvaluationDomain<PrimeField<M>>> {
     name: &'static str,
-    domain: Radix2EvaluationDomain<F65537>,
+    domain: D,
     inverse: bool,
-    items: Vec<F65537>,
+    items: Vec<PrimeField<M>>,
 }
 
-impl Transform {
-    pub fn forward(
-        name: &'static str,
-        domain: Radix2EvaluationDomain<F65537>,
-        items: Vec<F65537>,
-    ) -> Transform {
-        Transform {
+impl<M: PrimeModulus, D: EvaluationDomain<PrimeField<M>>> InPlace<M, D> {
+    pub fn forward(name: &'static str, domain: D, items: Vec<PrimeField<M>>) -> Self {
+        InPlace {
             name,
             domain,
             inverse: false,
@@ -27,12 +24,8 @@ impl Transform {
         }
     }
 
-    pub fn inverse(
-        name: &'static str,
-        domain: Radix2EvaluationDomain<F65537>,
-        items: Vec<F65537>,
-    ) -> Transform {
-        Transform {
+    pub fn inverse(name: &'static str, domain: D, items: Vec<PrimeField<M>>) -> Self {
+        InPlace {
             name,
             domain,
             inverse: true,
@@ -41,7 +34,7 @@ impl Transform {
     }
 }
 
-impl Benchmark for Transform {
+impl<M: PrimeModulus, D: EvaluationDomain<PrimeField<M>>> Benchmark for InPlace<M, D> {
     fn name(&self) -> &'static str {
         self.name
     }
@@ -60,5 +53,47 @@ impl Benchmark for Transform {
 
     fn checksum(&self) -> u64 {
         mixed(self.items.as_slice())
+    }
+}
+
+/// Of a list much shorter than the domain, whose first item the last call's values give.
+#[derive(Drop)]
+pub struct OfShortList<M: PrimeModulus, D: EvaluationDomain<PrimeField<M>>> {
+    name: &'static str,
+    domain: D,
+    items: Vec<PrimeField<M>>,
+    values: Vec<PrimeField<M>>,
+}
+
+impl<M: PrimeModulus, D: EvaluationDomain<PrimeField<M>>> OfShortList<M, D> {
+    pub fn new(alloc: Global, name: &'static str, domain: D, items: Vec<PrimeField<M>>) -> Self {
+        OfShortList {
+            name,
+            domain,
+            items,
+            values: Vec::new(alloc),
+        }
+    }
+}
+
+impl<M: PrimeModulus, D: EvaluationDomain<PrimeField<M>>> Benchmark for OfShortList<M, D> {
+    fn name(&self) -> &'static str {
+        self.name
+    }
+
+    fn size(&self) -> usize {
+        self.domain.size()
+    }
+
+    fn call(&mut self, alloc: Global) -> Result<(), PolyError> {
+        self.values = self.domain.fft(alloc, &self.items)?;
+        if let (Some(first), Some(value)) = (self.items.first_mut(), self.values.last()) {
+            *first = *value;
+        }
+        Ok(())
+    }
+
+    fn checksum(&self) -> u64 {
+        mixed(self.values.as_slice())
     }
 }

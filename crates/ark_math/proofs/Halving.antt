@@ -38,18 +38,21 @@ stride_within s (suc h) n pos e l =
     omega arith
 stride_within s zero n pos e l = absurd (omega arith)
 
--- the butterflies of a level, and those of its halves
-pub count_level : (n : ℕ) → 0 < n → 2 ^ n / 2 * n ≡ 2 ^ (n - 1) + (2 ^ (n - 1) / 2 * (n - 1) + 2 ^ (n - 1) / 2 * (n - 1))
-count_level zero pos = absurd (omega arith)
-count_level (suc zero) pos = refl
-count_level (suc (suc k)) pos =
+-- the butterflies of e levels of 2 ^ n items: those of the topmost, and those of its halves
+pub count_levels : (n e : ℕ) → 0 < e → e ≤ n → 2 ^ n / 2 * e ≡ 2 ^ (n - 1) + (2 ^ (n - 1) / 2 * (e - 1) + 2 ^ (n - 1) / 2 * (e - 1))
+count_levels zero e some within = absurd (omega arith)
+count_levels n zero some within = absurd (omega arith)
+count_levels (suc zero) (suc zero) some within = refl
+count_levels (suc zero) (suc (suc j)) some within = absurd (omega arith)
+count_levels (suc (suc k)) (suc j) some within =
     let a : 2 ^ suc (suc k) / 2 ≡ 2 ^ k + 2 ^ k = omega (arith, pow_suc (suc k), pow_suc k) in
     let b : 2 ^ suc k / 2 ≡ 2 ^ k = omega (arith, pow_suc k) in
     let e : suc (suc k) - 1 ≡ suc k = omega arith in
-    let f : (2 ^ k + 2 ^ k) * suc (suc k) ≡ 2 ^ k + 2 ^ k + (2 ^ k * suc k + 2 ^ k * suc k) = omega arith in
-    ap (λ t. t * suc (suc k)) a
-    ∙ (f
-    ∙ sym (ap (λ t. 2 ^ t + (2 ^ t / 2 * t + 2 ^ t / 2 * t)) e ∙ (ap (λ t. 2 ^ suc k + (t * suc k + t * suc k)) b ∙ ap (λ t. t + (2 ^ k * suc k + 2 ^ k * suc k)) (pow_suc k))))
+    let f : suc j - 1 ≡ j = omega arith in
+    let h : (2 ^ k + 2 ^ k) * suc j ≡ 2 ^ k + 2 ^ k + (2 ^ k * j + 2 ^ k * j) = omega arith in
+    ap (λ t. t * suc j) a
+    ∙ (h
+    ∙ sym (ap₂ (λ t u. 2 ^ t + (2 ^ t / 2 * u + 2 ^ t / 2 * u)) e f ∙ (ap (λ t. 2 ^ suc k + (t * j + t * j)) b ∙ ap (λ t. t + (2 ^ k * j + 2 ^ k * j)) (pow_suc k))))
 
 halved : (levels size half : ℕ) → size ≡ 2 ^ levels → half ≡ size / 2 → 0 < half → size ≡ half * 2
 halved zero size half is len pos = absurd (omega arith)

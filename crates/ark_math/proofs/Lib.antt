@@ -7,12 +7,15 @@ pub mod Domains
 pub mod Elements
 pub mod Euclid
 pub mod Filters
+pub mod GeneralSizes
 pub mod Generator
+pub mod GreatestPowers
 pub mod Groups
 pub mod Halving
 pub mod Inverses
 pub mod Inversion
 pub mod Inversions
+pub mod Joining
 pub mod LawfulDomains
 pub mod Listed
 pub mod Lists

@@ -1,10 +1,12 @@
 -- The sizes of domains: powers of two, and the least one.
-use Rattle.std.proofs.Common.{◌≡◌, ℕ, suc, ◌*◌, ◌/◌, ◌^◌, ◌<◌, ◌≤◌, max, inl, inr, sym, ap, ◌∙◌, subst, arith, Option, None, Some, refl, pow-suc, mul-one}
+use Rattle.std.proofs.Common.{true, ◌≡◌, ℕ, suc, ◌*◌, ◌/◌, ◌^◌, ◌<◌, ◌≤◌, max, inl, inr, sym, ap, ◌∙◌, subst, arith, Option, None, Some, refl, pow-suc, mul-one}
 use Rattle.std.proofs.Math.Pow.{pow-lt}
 use Rattle.std.proofs.Math.Nat.{pow-le-pow_right, pow-zero, one-le-pow}
 use Rattle.std.proofs.lemmas.Bool.{cases_lt}
+use Rattle.std.proofs.lemmas.Bool.Decides.{nat_tests}
 use Rattle.std.specs.Int.{IsNextPowerOfTwo}
 use Rattle.ark_math.specs.Root.{Adicity, Splits, adicity_of, odd_base}
+use Rattle.ark_math.specs.Cost.{IsLog2Up, counted_items}
 use Rattle.ark_math.specs.Domain.{Kind, radix2, mixed_radix, IsSize, IsLeast, IsRadix2}
 
 pub two_of : (two : ℕ) (base most : Option ℕ) → (adicity_of two base most).two ≡ two
@@ -44,6 +46,33 @@ next_at_most k p a b e h l = elim (cases_lt b a) [
   | inr above ↦ let m : 2 ^ a ≤ 2 ^ b = pow-le-pow_right (omega arith) above in omega arith
 ]
 
+module _ (k p r : ℕ) (next : IsNextPowerOfTwo k p) (lo : 2 ^ r ≤ p) (hi : p < 2 * 2 ^ r) where
+  next_exponent : p ≡ 2 ^ r
+  next_exponent =
+      let e = next.0.1 in
+      let f : r ≡ next.0.0 = power_between r next.0.0 (omega arith) (omega arith) in
+      e ∙ ap (λ x. 2 ^ x) (sym f)
+
+  pub next_log : IsLog2Up k r
+  next_log = (subst (λ x. k ≤ x) next_exponent next.1, λ b l. power_le r b (subst (λ x. x ≤ 2 ^ b) next_exponent (next_at_most k p r b next_exponent next.2 l)))
+
+-- the logarithms of what a transform goes by
+pub log_of_power : (n e : ℕ) → n ≡ 2 ^ e → IsLog2Up n e
+log_of_power n e h = (omega arith, λ k l. power_le e k (subst (λ x. x ≤ 2 ^ k) h l))
+
+pub log_of_short : (n len e : ℕ) → len ≤ n / 4 → IsLog2Up len e → IsLog2Up (counted_items n len true) e
+log_of_short n len e l h =
+    let is : counted_items n len true ≡ len = grind (arith, nat_tests) in
+    subst (λ x. IsLog2Up x e) (sym is) h
+
+pub log_of_long : (n len e : ℕ) → n / 4 < len → n ≡ 2 ^ e → IsLog2Up (counted_items n len true) e
+log_of_long n len e l h =
+    let is : counted_items n len true ≡ n = grind (arith, nat_tests) in
+    subst (λ x. IsLog2Up x e) (sym is) (log_of_power n e h)
+
+pub log_within : (n len e levels : ℕ) → len ≤ n / 4 → n ≡ 2 ^ levels → IsLog2Up len e → e ≤ levels
+log_within n len e levels l is h = h.1 levels (omega arith)
+
 module _ (s : Adicity) where
   pub radix2_splits : (p e : ℕ) → p ≡ 2 ^ e → e ≤ s.two → p < 2 ^ 64 → Splits s p e 0
   radix2_splits p e is within fits =
@@ -60,10 +89,7 @@ module _ (s : Adicity) where
 
   module _ (k p r : ℕ) (next : IsNextPowerOfTwo k p) (lo : 2 ^ r ≤ p) (hi : p < 2 * 2 ^ r) where
     exponent : p ≡ 2 ^ r
-    exponent =
-        let e = next.0.1 in
-        let f : r ≡ next.0.0 = power_between r next.0.0 (omega arith) (omega arith) in
-        e ∙ ap (λ x. 2 ^ x) (sym f)
+    exponent = next_exponent k p r next lo hi
 
     pub next_splits : r < 64 → r ≤ s.two → Splits s p r 0
     next_splits few within =

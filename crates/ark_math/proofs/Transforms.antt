@@ -1,11 +1,16 @@
 -- The places of a transform, as sums at the domain's root.
-use Rattle.std.proofs.Common.{◌≡◌, ℕ, ◌<◌, List, length, sym, ◌∙◌, ap, refl}
+use Rattle.std.proofs.Common.{◌≡◌, ℕ, ◌+◌, ◌-◌, ◌++◌, ⊎_elim, get_or, map, take, drop, arith, ◌<◌, ◌≤◌, List, length, sym, ◌∙◌, ap, refl}
+use Rattle.std.proofs.lemmas.Bool.{cases_lt}
+use Rattle.std.proofs.lemmas.List.{get_or_past, get_or-take, get_or-drop, drop-map, length-map}
+use Rattle.std.specs.List.{take-map}
 use Rattle.ark_math.specs.Field.{FieldOn, IsField, power}
 use Rattle.ark_math.specs.Module.{ModuleOn, IsModule, item, sum_below}
 use Rattle.ark_math.specs.Domain.{Domain, element}
 use Rattle.ark_math.specs.Transform.{transform, fit, value_at}
 use Rattle.ark_math.specs.Halves.{sum_at}
+use Rattle.ark_math.proofs.Groups.{scale_zero}
 use Rattle.ark_math.proofs.Listed.{length-listed, item-listed, is_listed}
+use Rattle.ark_math.proofs.Lists.{read_front, read_back}
 use Rattle.ark_math.proofs.Powers.{power-one, power-times}
 use Rattle.ark_math.proofs.Sums.{sum_below-same}
 use Rattle.ark_math.proofs.Solve.{◌⊗◌, ◌•◌}
@@ -20,6 +25,10 @@ module _ {F M : Type 0} {K : FieldOn F} {V : ModuleOn F M} (N : IsField K) (L : 
   pub unshifted : (c : List M) (f : ℕ → M) → d.offset ≡ K.one → ((j : ℕ) → j < d.size → f j ≡ item V c j) → AreShifted c f
   unshifted c f one same j l =
       same j l ∙ sym (ap (λ t. V.scale (power K t j) (item V c j)) one ∙ (ap (λ t. V.scale t (item V c j)) (power-one K N j) ∙ L.one_scale (item V c j)))
+
+  -- and past the end of c they are zeros
+  pub shifted_past : (c : List M) (f : ℕ → M) → AreShifted c f → (j : ℕ) → length c ≤ j → j < d.size → f j ≡ V.zero
+  shifted_past c f shifted j past l = shifted j l ∙ (ap (V.scale (power K d.offset j)) (get_or_past c j V.zero past) ∙ scale_zero L (power K d.offset j))
 
   value_there : (c : List M) (f : ℕ → M) → AreShifted c f → (i : ℕ) → value_at K V (fit V c d.size) (element K d i) ≡ sum_at K V d.size d.root f i
   value_there c f shifted i =
@@ -39,3 +48,26 @@ module _ {F M : Type 0} {K : FieldOn F} {V : ModuleOn F M} (N : IsField K) (L : 
   -- a list of those sums is the transform
   pub is_transform : (c r : List M) (f : ℕ → M) → AreShifted c f → length r ≡ d.size → ((i : ℕ) → i < d.size → item V r i ≡ sum_at K V d.size d.root f i) → r ≡ transform K V d c
   is_transform c r f shifted size sums = is_listed V.zero r d.size _ size (λ i l. sums i l ∙ sym (value_there c f shifted i))
+
+module _ {F M X : Type 0} {K : FieldOn F} {V : ModuleOn F M} (N : IsField K) (L : IsModule K V) (m : X → M) where
+  -- the fitted items, of which those of the list alone were scaled
+  pub shifted_front : (d : Domain F) (len : ℕ) (old fitted front : List X) → length old ≡ len → length front ≡ len → ((j : ℕ) → j < d.size → item V (map m fitted) j ≡ item V (map m old) j) → ((j : ℕ) → j < len → item V (map m front) j ≡ V.scale (power K d.offset j) (item V (map m (take len fitted)) j)) → AreShifted N L d (map m old) (item V (map m (front ++ drop len fitted)))
+  shifted_front d len old fitted front of_old of_front fit scaled j l =
+      ⊎_elim
+      (λ (b : j < len).
+      read_front m V.zero front (drop len fitted) j (omega arith)
+      ∙ (scaled j b
+      ∙ ap (V.scale (power K d.offset j))
+      (ap (λ t. get_or t j V.zero) (sym (take-map m len fitted)) ∙ (get_or-take len (map m fitted) j V.zero b ∙ fit j l))))
+      (λ (b : len ≤ j).
+      let e : len + (j - len) ≡ j = omega arith in
+      let past : length (map m old) ≤ j = omega (arith, length-map old m) in
+      ap (λ t. item V (map m (front ++ drop len fitted)) t) (sym e)
+      ∙ (read_back m V.zero front (drop len fitted) len (j - len) of_front
+      ∙ (ap (λ t. get_or t (j - len) V.zero) (sym (drop-map m len fitted))
+      ∙ (get_or-drop len (map m fitted) (j - len) V.zero
+      ∙ (ap (λ t. get_or (map m fitted) t V.zero) e
+      ∙ (fit j l
+      ∙ (get_or_past (map m old) j V.zero past
+      ∙ sym (ap (V.scale (power K d.offset j)) (get_or_past (map m old) j V.zero past) ∙ scale_zero L (power K d.offset j)))))))))
+      (cases_lt j len)

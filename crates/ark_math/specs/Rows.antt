@@ -1,9 +1,10 @@
 -- Examples, computed from the definitions.
-use Rattle.std.specs.Prelude.{◌≡◌, ℕ, ◌+◌, ◌-◌, ◌*◌, ◌%◌, [], ◌∷◌, refl}
+use Rattle.std.specs.Prelude.{◌≡◌, ℕ, ◌+◌, ◌-◌, ◌*◌, ◌%◌, [], ◌∷◌, true, false, refl}
 use Rattle.ark_math.specs.Field.{FieldOn}
 use Rattle.ark_math.specs.Module.{itself, listed, sum_below}
 use Rattle.ark_math.specs.Domain.{Domain, element, radix2, mixed_radix}
 use Rattle.ark_math.specs.Transform.{transform}
+use Rattle.ark_math.specs.Cost.{counted_items}
 use Rattle.ark_math.specs.Univariate.{added, product, of_list, of_pairs, value_below}
 use Rattle.ark_math.specs.Points.{vanishing, reindexed}
 
@@ -62,3 +63,13 @@ filter_of_coset = refl
 
 reindexed_eight : reindexed 8 2 ≡ 0 ∷ 4 ∷ 1 ∷ 2 ∷ 3 ∷ 5 ∷ 6 ∷ 7 ∷ []
 reindexed_eight = refl
+
+-- sixteen places: four items take 8 * 2 butterflies, and five take 8 * 4
+four_of_sixteen : counted_items 16 4 true ≡ 4
+four_of_sixteen = refl
+
+five_of_sixteen : counted_items 16 5 true ≡ 16
+five_of_sixteen = refl
+
+four_of_sixteen_back : counted_items 16 4 false ≡ 16
+four_of_sixteen_back = refl

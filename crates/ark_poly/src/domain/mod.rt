@@ -4,7 +4,7 @@ ghost use Rattle.std.specs.Prelude.{◌≡◌, ◌≢◌, ◌↔◌, ◌⊎◌, 
 ghost use Rattle.std.specs.Iterator.{IsFinite, AlwaysYields};
 ghost use Rattle.ark_math.specs.Field.{power, natural, minus};
 ghost use Rattle.ark_math.specs.Module.{item};
-ghost use Rattle.ark_math.specs.Domain.{Kind, Domain, IsDomain, IsSize, IsExponentOfTwo, element, elements};
+ghost use Rattle.ark_math.specs.Domain.{Kind, Domain, IsDomain, IsSize, HasNoSize, IsExponentOfTwo, element, elements};
 ghost use Rattle.ark_math.specs.Transform.{transform, IsInverse, IsOnlyInverse};
 ghost use Rattle.ark_math.specs.Univariate.{IsDegree, IsValue, of_list};
 ghost use Rattle.ark_math.specs.Points.{vanishing, AreWeights, IsElement, IsContained, IsFilter, reindexed};
@@ -12,6 +12,7 @@ ghost use Rattle.ark_base.specs.Cost.{GrowsByCost};
 ghost use Rattle.ark_poly.specs.Sparse.{denoted};
 
 mod coset;
+pub mod general;
 pub mod mixed_radix;
 pub mod radix2;
 pub mod utils;
@@ -20,6 +21,7 @@ use crate::polynomial::univariate::{DensePolynomial, SparsePolynomial};
 use crate::polynomial::{DenseUVPolynomial, Polynomial};
 pub use ark_base::DomainCoeff;
 use ark_base::{FftField, Field, PolyError, Work, batch_inversion};
+pub use general::GeneralEvaluationDomain;
 pub use mixed_radix::MixedRadixEvaluationDomain;
 pub use radix2::Radix2EvaluationDomain;
 use rand::Rng;
@@ -45,13 +47,13 @@ pub trait EvaluationDomain<F: FftField>: Copy + Eq + Hash + Debug {
     fn new(num_coeffs: usize) -> Option<Self>
         ensures chosen { IfSome result (λ d. chooses num_coeffs (domain d).kind (domain d).size) }
         ensures subgroup { IfSome result (λ d. (domain d).offset ≡ F.field.one) }
-        ensures none { IsNone result ↔ ((kind : Kind) (n : ℕ) → chooses num_coeffs kind n → ⊥) };
+        ensures none { IsNone result ↔ HasNoSize chooses num_coeffs };
 
     /// The coset with this offset of `new(num_coeffs)`, and `None` exactly where that is none or the offset is zero.
     fn new_coset(num_coeffs: usize, offset: F) -> Option<Self>
         ensures chosen { IfSome result (λ d. chooses num_coeffs (domain d).kind (domain d).size) }
         ensures coset { IfSome result (λ d. (domain d).offset ≡ offset) }
-        ensures none { IsNone result ↔ (offset ≡ F.field.zero) ⊎ ((kind : Kind) (n : ℕ) → chooses num_coeffs kind n → ⊥) }
+        ensures none { IsNone result ↔ (offset ≡ F.field.zero) ⊎ HasNoSize chooses num_coeffs }
     {
         Self::new(num_coeffs)?.get_coset(offset)
     }
@@ -64,7 +66,7 @@ pub trait EvaluationDomain<F: FftField>: Copy + Eq + Hash + Debug {
     /// The size of `new(num_coeffs)`, and `None` exactly where that is none.
     fn compute_size_of_domain(num_coeffs: usize) -> Option<usize>
         ensures size { IfSome result (λ n. (kind : Kind) × chooses num_coeffs kind n) }
-        ensures none { IsNone result ↔ ((kind : Kind) (n : ℕ) → chooses num_coeffs kind n → ⊥) };
+        ensures none { IsNone result ↔ HasNoSize chooses num_coeffs };
 
     /// The number of elements.
     fn size(&self) -> usize
@@ -301,7 +303,7 @@ pub trait EvaluationDomain<F: FftField>: Copy + Eq + Hash + Debug {
     /// and `None` exactly where the subdomain isn't contained.
     fn evaluate_filter_polynomial(&self, subdomain: &Self, tau: F) -> Option<F>
         ensures value { IfSome result (λ y. (a : ℕ → F) × IsFilter F.field (domain subdomain.now) (domain self.now) a × IsValue F.field a tau y) }
-        ensures none { IsNone result ↔ (IsContained F.field (domain subdomain.now) (domain self.now) → ⊥) }
+        ensures none { IsNone result ↔ ¬ IsContained F.field (domain subdomain.now) (domain self.now) }
     {
         if !self.contains_subdomain(subdomain) {
             return None;
@@ -337,7 +339,7 @@ pub trait EvaluationDomain<F: FftField>: Copy + Eq + Hash + Debug {
 
     /// The first of at most `tries` draws that is no element of the domain, and `None` where all of them are.
     fn sample_element_outside_domain<R: Rng>(&self, rng: &mut R, tries: usize) -> Option<F>
-        ensures { IfSome result (λ x. IsElement F.field (domain self.now) x → ⊥) }
+        ensures { IfSome result (λ x. ¬ IsElement F.field (domain self.now) x) }
     {
         for _ in 0..tries {
             let drawn = F::rand(rng);

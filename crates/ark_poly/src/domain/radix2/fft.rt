@@ -121,6 +121,107 @@ fn in_order<F: FftField, T: DomainCoeff<F>>(work: &mut Work, xs: &mut [T], table
     restore_order(xs, levels);
 }
 
+/// One butterfly that joins two parts: hi times the twiddle, added to lo and taken from it.
+fn join<F: FftField, T: DomainCoeff<F>>(work: &mut Work, lo: &mut T, hi: &mut T, twiddle: F)
+    ensures sum { T.meaning lo.new ≡ T.group.plus (T.meaning lo.old) (T.group.scale twiddle (T.meaning hi.old)) }
+    ensures difference { T.meaning hi.new ≡ T.group.plus (T.meaning lo.old) (T.group.negated (T.group.scale twiddle (T.meaning hi.old))) }
+    ensures butterflies { work.new.butterflies ≡ work.old.butterflies + 1 }
+    ensures products { work.new.products ≡ work.old.products + 1 }
+    ensures steps { work.new.steps ≡ work.old.steps }
+{
+    work.scale(hi, twiddle);
+    let difference = *lo - *hi;
+    *lo += *hi;
+    *hi = difference;
+    work.butterfly();
+}
+
+/// Those butterflies across two halves.
+fn join_across<F: FftField, T: DomainCoeff<F>>(
+    work: &mut Work,
+    lo: &mut [T],
+    hi: &mut [T],
+    table: &[F],
+    stride: usize,
+)
+    requires same { length lo.old ≡ length hi.old }
+    requires enough { length lo.old * stride ≤ length table.now }
+    requires some { 0 < stride }
+    ensures sums { (i : ℕ) → i < length lo.old → item T.group (map T.meaning lo.new) i ≡ T.group.plus (item T.group (map T.meaning lo.old) i) (T.group.scale (get_or table.now (i * stride) F.field.zero) (item T.group (map T.meaning hi.old) i)) }
+    ensures differences { (i : ℕ) → i < length lo.old → item T.group (map T.meaning hi.new) i ≡ T.group.plus (item T.group (map T.meaning lo.old) i) (T.group.negated (T.group.scale (get_or table.now (i * stride) F.field.zero) (item T.group (map T.meaning hi.old) i))) }
+    ensures butterflies { work.new.butterflies ≡ work.old.butterflies + length lo.old }
+    ensures products { work.new.products ≡ work.old.products + length lo.old }
+    ensures steps { work.new.steps ≡ work.old.steps }
+{
+    for i in 0..lo.len() {
+        join(work, &mut lo[i], &mut hi[i], table[i * stride]);
+    }
+}
+
+/// The transform of 2 ^ log_len items at the table's root to the stride, in place and in order. The items stand at the
+/// indices that have the bits of their own backwards, each in all places of a block.
+fn join_halves<F: FftField, T: DomainCoeff<F>>(
+    work: &mut Work,
+    xs: &mut [T],
+    table: &[F],
+    stride: usize,
+    levels: u32,
+    log_len: u32,
+)
+    requires size { length xs.old ≡ 2 ^ levels }
+    requires whole { 2 ^ levels * stride / 2 ≡ length table.now }
+    requires small { length table.now < 2 ^ 63 }
+    requires some { 0 < stride }
+    requires within { log_len ≤ levels }
+    ensures sums { (w : F) (c : ℕ → T.Meaning) → IsHalfTable F.field w table.now → ((p : ℕ) → p < 2 ^ levels → item T.group (map T.meaning xs.old) p ≡ c (reversed log_len (p / 2 ^ (levels - log_len)))) → (p : ℕ) → p < 2 ^ levels → item T.group (map T.meaning xs.new) p ≡ sum_at F.field T.group (2 ^ log_len) (power F.field w stride) c p }
+    ensures butterflies { work.new.butterflies ≡ work.old.butterflies + 2 ^ levels / 2 * log_len }
+    ensures products { work.new.products ≡ work.old.products + 2 ^ levels / 2 * log_len }
+    ensures steps { work.new.steps ≡ work.old.steps }
+{
+    if log_len > 0 {
+        let half = xs.len() / 2;
+        let (lo, hi) = xs.split_at_mut(half);
+        join_halves(work, lo, table, stride * 2, levels - 1, log_len - 1);
+        join_halves(work, hi, table, stride * 2, levels - 1, log_len - 1);
+        join_across(work, lo, hi, table, stride);
+    }
+}
+
+/// Fills a block of 2 ^ log_block places with each of the first items, in their order.
+fn spread_out<T: Copy>(xs: &mut [T], log_block: u32)
+    requires few { log_block < 64 }
+    ensures { (p : ℕ) (d : T) → p < length xs.old → get_or xs.new p d ≡ get_or xs.old (p / 2 ^ log_block) d }
+{
+    for p in (0..xs.len()).rev() {
+        xs[p] = xs[p >> log_block];
+    }
+}
+
+/// The transform of the first 2 ^ log_len items at the table's root, in place and in order, by butterflies of as many
+/// levels.
+fn short_in_order<F: FftField, T: DomainCoeff<F>>(
+    work: &mut Work,
+    xs: &mut [T],
+    table: &[F],
+    levels: u32,
+    log_len: u32,
+)
+    requires size { length xs.old ≡ 2 ^ levels }
+    requires fits { length xs.old < 2 ^ 64 }
+    requires half { length table.now ≡ length xs.old / 2 }
+    requires within { log_len ≤ levels }
+    ensures sums { (w : F) → IsHalfTable F.field w table.now → (i : ℕ) → i < length xs.old → item T.group (map T.meaning xs.new) i ≡ sum_at F.field T.group (2 ^ log_len) w (item T.group (map T.meaning xs.old)) i }
+    ensures butterflies { work.new.butterflies ≡ work.old.butterflies + length xs.old / 2 * log_len }
+    ensures products { work.new.products ≡ work.old.products + length xs.old / 2 * log_len }
+    ensures steps { work.new.steps ≡ work.old.steps }
+{
+    let log_block = levels - log_len;
+    let items = xs.len() >> log_block;
+    restore_order(&mut xs[..items], log_len);
+    spread_out(xs, log_block);
+    join_halves(work, xs, table, 1, levels, log_len);
+}
+
 /// Scales each item.
 fn scale_each<F: FftField, T: DomainCoeff<F>>(work: &mut Work, xs: &mut [T], factor: F)
     ensures items { (i : ℕ) → i < length xs.old → item T.group (map T.meaning xs.new) i ≡ T.group.scale factor (item T.group (map T.meaning xs.old) i) }
@@ -153,6 +254,19 @@ pub(crate) fn scale_by_powers<F: FftField, T: DomainCoeff<F>>(
             work.scale(&mut xs[i], next);
             next = next * factor;
         }
+    }
+}
+
+/// Scales item i by the offset to the i, and nothing where the offset is one.
+fn shift_to_coset<F: FftField, T: DomainCoeff<F>>(work: &mut Work, xs: &mut [T], offset: F)
+    ensures items { (i : ℕ) → i < length xs.old → item T.group (map T.meaning xs.new) i ≡ T.group.scale (power F.field offset i) (item T.group (map T.meaning xs.old) i) }
+    ensures butterflies { work.new.butterflies ≡ work.old.butterflies }
+    ensures at_least { work.old.products ≤ work.new.products }
+    ensures at_most { work.new.products ≤ work.old.products + length xs.old }
+    ensures steps { work.new.steps ≡ work.old.steps }
+{
+    if !offset.is_one() {
+        scale_by_powers(work, xs, F::one(), offset);
     }
 }
 
@@ -192,13 +306,50 @@ fn prepare<F: FftField, T: DomainCoeff<F>>(
 }
 
 impl<F: FftField> Radix2EvaluationDomain<F> {
-    /// The transform in place, by n/2 * log2(n) butterflies and a scaling a place where there is an offset.
-    pub(super) fn fft_in_order<T: DomainCoeff<F>>(
+    /// The transform in place of a list of at most a quarter of the n items, by n/2 butterflies for each level of that many
+    /// items, and a scaling an item where there is an offset.
+    fn fft_short<T: DomainCoeff<F>>(
         &self,
         alloc: Global,
         coeffs: &mut Vec<T>,
         work: &mut Work,
     ) -> Result<(), PolyError>
+        requires short { length coeffs.old.items ≤ self.now.coset.size / 4 }
+        ensures transform { OnOk result (map T.meaning coeffs.new.items ≡ transform F.field T.group (record { kind = radix2; size = self.now.coset.size; root = self.now.coset.group_gen; offset = self.now.coset.offset }) (map T.meaning coeffs.old.items)) }
+        ensures cost { OnOk result (GrowsByCost F.adicity (record { kind = radix2; size = self.now.coset.size; root = self.now.coset.group_gen; offset = self.now.coset.offset }) (length coeffs.old.items) true work.old work.new) }
+        ensures kept { OnErr result (coeffs.new.items ≡ coeffs.old.items) }
+        ensures uncounted { OnErr result (work.new ≡ work.old) }
+        ensures memory { IsOkUnless result PolyError.Memory }
+    {
+        let len = coeffs.len();
+        let log_len = len.next_power_of_two().ilog2();
+        let table = prepare(
+            alloc,
+            self.coset.group_gen,
+            self.coset.size as usize,
+            coeffs,
+        )?;
+        let xs = coeffs.as_mut_slice();
+        shift_to_coset(work, &mut xs[..len], self.coset.offset);
+        short_in_order(
+            work,
+            xs,
+            table.as_slice(),
+            self.coset.log_size_of_group,
+            log_len,
+        );
+        Ok(())
+    }
+
+    /// The transform in place of a longer list, by n/2 * log2(n) butterflies, and a scaling a place where there is an
+    /// offset.
+    fn fft_in_order<T: DomainCoeff<F>>(
+        &self,
+        alloc: Global,
+        coeffs: &mut Vec<T>,
+        work: &mut Work,
+    ) -> Result<(), PolyError>
+        requires long { self.now.coset.size / 4 < length coeffs.old.items }
         ensures transform { OnOk result (map T.meaning coeffs.new.items ≡ transform F.field T.group (record { kind = radix2; size = self.now.coset.size; root = self.now.coset.group_gen; offset = self.now.coset.offset }) (map T.meaning coeffs.old.items)) }
         ensures cost { OnOk result (GrowsByCost F.adicity (record { kind = radix2; size = self.now.coset.size; root = self.now.coset.group_gen; offset = self.now.coset.offset }) (length coeffs.old.items) true work.old work.new) }
         ensures kept { OnErr result (coeffs.new.items ≡ coeffs.old.items) }
@@ -212,14 +363,32 @@ impl<F: FftField> Radix2EvaluationDomain<F> {
             coeffs,
         )?;
         let xs = coeffs.as_mut_slice();
-        if !self.coset.offset.is_one() {
-            scale_by_powers(work, xs, F::one(), self.coset.offset);
-        }
+        shift_to_coset(work, xs, self.coset.offset);
         in_order(work, xs, table.as_slice(), self.coset.log_size_of_group);
         Ok(())
     }
 
-    /// Its inverse in place, by as many butterflies at the inverse root and one scaling a place.
+    /// The transform in place, by fewer levels of butterflies where the list has at most a quarter of the n items.
+    pub(super) fn fft_by_length<T: DomainCoeff<F>>(
+        &self,
+        alloc: Global,
+        coeffs: &mut Vec<T>,
+        work: &mut Work,
+    ) -> Result<(), PolyError>
+        ensures transform { OnOk result (map T.meaning coeffs.new.items ≡ transform F.field T.group (record { kind = radix2; size = self.now.coset.size; root = self.now.coset.group_gen; offset = self.now.coset.offset }) (map T.meaning coeffs.old.items)) }
+        ensures cost { OnOk result (GrowsByCost F.adicity (record { kind = radix2; size = self.now.coset.size; root = self.now.coset.group_gen; offset = self.now.coset.offset }) (length coeffs.old.items) true work.old work.new) }
+        ensures kept { OnErr result (coeffs.new.items ≡ coeffs.old.items) }
+        ensures uncounted { OnErr result (work.new ≡ work.old) }
+        ensures memory { IsOkUnless result PolyError.Memory }
+    {
+        if coeffs.len() <= self.coset.size as usize / 4 {
+            self.fft_short(alloc, coeffs, work)
+        } else {
+            self.fft_in_order(alloc, coeffs, work)
+        }
+    }
+
+    /// The inverse of the transform in place, by n/2 * log2(n) butterflies at the inverse root and one scaling a place.
     pub(super) fn ifft_in_order<T: DomainCoeff<F>>(
         &self,
         alloc: Global,

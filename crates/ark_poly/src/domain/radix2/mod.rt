@@ -8,7 +8,7 @@ pub(crate) mod fft;
 
 use crate::domain::EvaluationDomain;
 use crate::domain::coset::Coset;
-use crate::domain::utils::Elements;
+pub use crate::domain::utils::Elements;
 use ark_base::{DomainCoeff, FftField, PolyError, Work};
 use std::alloc::{AllocError, Global};
 
@@ -118,7 +118,7 @@ impl<F: FftField> EvaluationDomain<F> for Radix2EvaluationDomain<F> {
         coeffs: &mut Vec<T>,
         work: &mut Work,
     ) -> Result<(), PolyError> {
-        self.fft_in_order(alloc, coeffs, work)
+        self.fft_by_length(alloc, coeffs, work)
     }
 
     fn ifft_counted<T: DomainCoeff<F>>(

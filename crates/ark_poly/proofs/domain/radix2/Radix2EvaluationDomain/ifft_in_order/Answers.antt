@@ -3,7 +3,7 @@ use Rattle.ark_math.specs.Domain.{Domain, radix2}
 use Rattle.ark_math.specs.Field.{natural}
 use Rattle.ark_math.specs.Halves.{ArePowers}
 use Rattle.ark_math.specs.Root.{HasOrder}
-use Rattle.ark_math.proofs.Sizes.{power_of_two}
+use Rattle.ark_math.proofs.Sizes.{power_of_two, log_of_power}
 use Rattle.ark_base.proofs.Cost.{radix2_cost}
 use Rattle.ark_math.specs.Module.{item}
 use Rattle.ark_math.specs.Transform.{IsInverse}
@@ -58,4 +58,4 @@ returns-clause-cost g c =
     let size : length c.as_mut_slice-xs.result.now ≡ t.size = omega (arith, c.in_ok-table.ensures.len) in
     let is_power : t.size ≡ 2 ^ t.log_size_of_group = power_of_two g.F.FftField.adicity t.size t.log_size_of_group t.odd_exponent t.product c.args.self.now.even in
     let count : length c.as_mut_slice-xs.result.now / 2 * t.log_size_of_group ≡ t.size / 2 * t.log_size_of_group = ap (λ n. n / 2 * t.log_size_of_group) size in
-    radix2_cost _ _ _ _ _ _ t.size t.log_size_of_group t.size is_power (omega arith) (omega arith) (omega arith) (omega (arith, c.in_ok-table.ensures.len))
+    radix2_cost _ _ _ _ _ _ t.size t.log_size_of_group t.size (log_of_power t.size t.log_size_of_group is_power) (omega arith) (omega arith) (omega arith) (omega (arith, c.in_ok-table.ensures.len))

@@ -1,5 +1,5 @@
-use Rattle.std.proofs.Common.{rules, arith, ◌≡◌, ◌-◌, ◌*◌, ◌^◌, ◌<◌, length}
-use Rattle.ark_math.proofs.Halving.{no_level, one_level, half_strides, count_level, stride_within}
+use Rattle.std.proofs.Common.{rules, arith, ◌≡◌, ◌-◌, ◌*◌, ◌^◌, ◌<◌, ◌≤◌, length}
+use Rattle.ark_math.proofs.Halving.{no_level, one_level, half_strides, count_levels, stride_within}
 use Rattle.ark_math.proofs.Reversal.{pow_pred}
 use Rattle.std.proofs.lemmas.Nat.{pow_pos}
 use Rattle.ark_poly.proofs.domain.radix2.fft.+halves.Goals as goal
@@ -53,13 +53,15 @@ pub returns-then-levels-gt0-clause-butterflies : goal.returns-then-levels-gt0-cl
 returns-then-levels-gt0-clause-butterflies g t c =
     let d = pow_pred c.args.levels c.if-levels-gt0.true in
     let n : length c.split_at_mut-lo.result.0.now ≡ 2 ^ (c.args.levels - 1) = omega arith in
-    omega (arith, count_level c.args.levels c.if-levels-gt0.true)
+    let all : c.args.levels ≤ c.args.levels = omega arith in
+    omega (arith, count_levels c.args.levels c.args.levels c.if-levels-gt0.true all)
 
 pub returns-then-levels-gt0-clause-products : goal.returns-then-levels-gt0-clause-products
 returns-then-levels-gt0-clause-products g t c =
     let d = pow_pred c.args.levels c.if-levels-gt0.true in
     let n : length c.split_at_mut-lo.result.0.now ≡ 2 ^ (c.args.levels - 1) = omega arith in
-    omega (arith, count_level c.args.levels c.if-levels-gt0.true)
+    let all : c.args.levels ≤ c.args.levels = omega arith in
+    omega (arith, count_levels c.args.levels c.args.levels c.if-levels-gt0.true all)
 
 pub returns-else-levels-gt0-clause-sums : goal.returns-else-levels-gt0-clause-sums
 returns-else-levels-gt0-clause-sums g t c = λ w table p l.

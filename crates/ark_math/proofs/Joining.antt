@@ -1,0 +1,152 @@
+-- The transform by halves from the reversed order: the sum at x is that of the even items at x ^ 2, and x times that of the odd ones.
+use Rattle.std.proofs.Common.{◌≡◌, ℕ, suc, ◌+◌, ◌*◌, ◌-◌, ◌/◌, ◌%◌, ◌<◌, ◌≤◌, ◌^◌, List, length, get_or, take, map, ◌++◌, sym, ◌∙◌, ap, ap₂, refl, arith}
+use Rattle.std.proofs.lemmas.List.{get_or_append_left, get_or-take}
+use Rattle.std.proofs.lemmas.Nat.{div-mul-add, pow_pos, pow-add}
+use Rattle.std.proofs.Math.Nat.{div-lt_iff_lt-mul}
+use Rattle.std.proofs.Math.Pow.{pow_mono}
+use Rattle.ark_math.specs.Field.{FieldOn, IsField, power}
+use Rattle.ark_math.specs.Module.{ModuleOn, IsModule, sum_below, item}
+use Rattle.ark_math.specs.Halves.{sum_at, reversed, IsHalfTable}
+use Rattle.ark_math.proofs.Groups.{zero_plus, scale_zero, one_times}
+use Rattle.ark_math.proofs.Halving.{half_strides, mul_within}
+use Rattle.ark_math.proofs.Lists.{read_front, read_back, read_order}
+use Rattle.ark_math.proofs.Powers.{power-add, power-mul, power_comm, negated_one_even}
+use Rattle.ark_math.proofs.Regrouped.{sum_below-past}
+use Rattle.ark_math.proofs.Reversal.{Half, low, high, half_of, pow_pred, reversed_low, reversed_high, reversed_below}
+use Rattle.ark_math.proofs.Ring.{module1_2}
+use Rattle.ark_math.proofs.Solve.{◌⊗◌, ◌•◌, ◌⊞◌, ◌⊟◌, unit, negative, origin}
+use Rattle.ark_math.proofs.Split.{split}
+
+-- ---- blocks of 2 ^ b places
+
+block_below : (d b p : ℕ) → p < 2 ^ (d + b) → p / 2 ^ b < 2 ^ d
+block_below d b p l = (div-lt_iff_lt-mul {k = 2 ^ b} {x = p} {y = 2 ^ d} (pow_pos b)).1 (rw (pow-add 2 d b) at l)
+
+block_high : (d b p : ℕ) → (2 ^ (d + b) + p) / 2 ^ b ≡ 2 ^ d + p / 2 ^ b
+block_high d b p =
+    let pos : 0 < 2 ^ b = pow_pos b in
+    let less : p % 2 ^ b < 2 ^ b = omega arith in
+    let parts : 2 ^ b * (p / 2 ^ b) + p % 2 ^ b ≡ p = omega arith in
+    let whole : 2 ^ (d + b) + p ≡ (2 ^ d + p / 2 ^ b) * 2 ^ b + p % 2 ^ b = rw (pow-add 2 d b) (omega arith) in
+    ap (λ t. t / 2 ^ b) whole ∙ div-mul-add (2 ^ d + p / 2 ^ b) (2 ^ b) (p % 2 ^ b) less
+
+-- the first items of as many blocks
+pub first_items : (n e len : ℕ) → e ≤ n → len ≡ 2 ^ n → len / 2 ^ (n - e) ≡ 2 ^ e
+first_items n e len within is =
+    let width : e + (n - e) ≡ n = omega arith in
+    let whole : len ≡ 2 ^ e * 2 ^ (n - e) + 0 = is ∙ (ap (λ t. 2 ^ t) (sym width) ∙ (pow-add 2 e (n - e) ∙ omega arith)) in
+    ap (λ t. t / 2 ^ (n - e)) whole ∙ div-mul-add (2 ^ e) (2 ^ (n - e)) 0 (pow_pos (n - e))
+
+-- the blocks of a level are those of its halves, the even ones first
+module _ (n e : ℕ) (some : 0 < e) (within : e ≤ n) where
+  widths : (n - e ≡ n - 1 - (e - 1)) × (e ≡ suc (e - 1)) × (e - 1 + (n - e) ≡ n - 1)
+  widths = (omega arith, omega arith, omega arith)
+
+  pub blocks_front : (p : ℕ) → p < 2 ^ (n - 1) → reversed e (p / 2 ^ (n - e)) ≡ 2 * reversed (e - 1) (p / 2 ^ (n - 1 - (e - 1))) + 0
+  blocks_front p l =
+      let b : p < 2 ^ (e - 1 + (n - e)) = rw widths.2 l in
+      ap (λ t. reversed t (p / 2 ^ (n - e))) widths.1
+      ∙ (reversed_low (e - 1) (p / 2 ^ (n - e)) (block_below (e - 1) (n - e) p b)
+      ∙ (ap (λ t. 2 * reversed (e - 1) (p / 2 ^ t)) widths.0 ∙ omega arith))
+
+  pub blocks_back : (p : ℕ) → reversed e ((2 ^ (n - 1) + p) / 2 ^ (n - e)) ≡ 2 * reversed (e - 1) (p / 2 ^ (n - 1 - (e - 1))) + 1
+  blocks_back p =
+      let q : (2 ^ (n - 1) + p) / 2 ^ (n - e) ≡ 2 ^ (e - 1) + p / 2 ^ (n - e) = ap (λ t. (2 ^ t + p) / 2 ^ (n - e)) (sym widths.2) ∙ block_high (e - 1) (n - e) p in
+      ap (λ t. reversed t ((2 ^ (n - 1) + p) / 2 ^ (n - e))) widths.1
+      ∙ (reversed_high (e - 1) (p / 2 ^ (n - e)) _ q
+      ∙ ap (λ t. 2 * reversed (e - 1) (p / 2 ^ t) + 1) widths.0)
+
+module _ {F M : Type 0} {K : FieldOn F} {V : ModuleOn F M} (N : IsField K) (L : IsModule K V) where
+  -- f has zeros from h on
+  pub sum_of_few : (h n : ℕ) (w : F) (f : ℕ → M) (i : ℕ) → h ≤ n → ((j : ℕ) → h ≤ j → j < n → f j ≡ V.zero) → sum_at K V n w f i ≡ sum_at K V h w f i
+  sum_of_few h n w f i le zeros =
+      sum_below-past L h n _ le (λ j a b. ap (V.scale (power K (power K w i) j)) (zeros j a b) ∙ scale_zero L (power K (power K w i) j))
+
+  joined : (m : ℕ) (w : F) (f : ℕ → M) (i : ℕ) → sum_at K V (2 * m) w f i ≡ V.plus (sum_at K V m (power K w 2) (λ j. f (2 * j + 0)) i) (V.scale (power K w i) (sum_at K V m (power K w 2) (λ j. f (2 * j + 1)) i))
+  joined m w f i =
+      split N L 2 m w f i
+      ∙ module1_2 N L (λ x a b. (origin ⊞ unit • a ⊞ (x ⊗ unit) • b, a ⊞ x • b)) refl (power K w i) _ _
+
+  -- h places on, where w ^ h is minus one
+  joined_opposite : (m h : ℕ) (w : F) (f : ℕ → M) (i : ℕ) → power K w h ≡ K.negated K.one → sum_at K V (2 * m) w f (h + i) ≡ V.plus (sum_at K V m (power K w 2) (λ j. f (2 * j + 0)) i) (V.negated (V.scale (power K w i) (sum_at K V m (power K w 2) (λ j. f (2 * j + 1)) i)))
+  joined_opposite m h w f i half =
+      let one : power K (power K w 2) h ≡ K.one = power_comm K N w 2 h ∙ negated_one_even K N (power K w h) 1 half in
+      let same : power K (power K w 2) (h + i) ≡ power K (power K w 2) i =
+      power-add K N (power K w 2) h i ∙ (ap (λ t. K.times t (power K (power K w 2) i)) one ∙ one_times K N (power K (power K w 2) i)) in
+      let there : (g : ℕ → M) → sum_at K V m (power K w 2) g (h + i) ≡ sum_at K V m (power K w 2) g i = λ g.
+      ap (λ t. sum_below V m (λ j. V.scale (power K t j) (g j))) same in
+      joined m w f (h + i)
+      ∙ (ap₂ V.plus (there (λ j. f (2 * j + 0))) (ap₂ V.scale (power-add K N w h i ∙ ap (λ t. K.times t (power K w i)) half) (there (λ j. f (2 * j + 1))))
+      ∙ module1_2 N L (λ x a b. (a ⊞ (negative unit ⊗ x) • b, a ⊟ x • b)) refl (power K w i) _ _)
+
+  -- the sums at w from those of the even and the odd items at w ^ 2
+  joined_at : (k m : ℕ) (w : F) (c f g r : ℕ → M) → power K w (2 ^ k) ≡ K.negated K.one → ((p : ℕ) → p < 2 ^ k → f p ≡ sum_at K V m (power K w 2) (λ j. c (2 * j + 0)) p) → ((p : ℕ) → p < 2 ^ k → g p ≡ sum_at K V m (power K w 2) (λ j. c (2 * j + 1)) p) → ((p : ℕ) → p < 2 ^ k → r p ≡ V.plus (f p) (V.scale (power K w p) (g p))) → ((p : ℕ) → p < 2 ^ k → r (2 ^ k + p) ≡ V.plus (f p) (V.negated (V.scale (power K w p) (g p)))) → (p : ℕ) → Half k p → r p ≡ sum_at K V (2 * m) w c p
+  joined_at k m w c f g r half evens odds sums differences _ (low p l) =
+      sums p l ∙ (ap₂ (λ x y. V.plus x (V.scale (power K w p) y)) (evens p l) (odds p l) ∙ sym (joined m w c p))
+  joined_at k m w c f g r half evens odds sums differences _ (high p l) =
+      differences p l ∙ (ap₂ (λ x y. V.plus x (V.negated (V.scale (power K w p) y))) (evens p l) (odds p l) ∙ sym (joined_opposite m (2 ^ k) w c p half))
+
+module _ {F M X : Type 0} {K : FieldOn F} {V : ModuleOn F M} (N : IsField K) (L : IsModule K V) (m : X → M) where
+  -- the list has the items c 0, c 1, .. of 2 ^ e in the reversed order, each in a block of its own
+  abbrev pub AreBlocks : ℕ → ℕ → List X → (ℕ → M) → Type 0
+  AreBlocks n e xs c = (p : ℕ) → p < 2 ^ n → item V (map m xs) p ≡ c (reversed e (p / 2 ^ (n - e)))
+
+  pub blocks_of_front : (n e : ℕ) (xs lo hi : List X) (c : ℕ → M) → 0 < e → e ≤ n → xs ≡ lo ++ hi → length lo ≡ 2 ^ (n - 1) → AreBlocks n e xs c → AreBlocks (n - 1) (e - 1) lo (λ j. c (2 * j + 0))
+  blocks_of_front n e xs lo hi c some within joins len_lo blocks p l =
+      let pos : 0 < n = omega arith in
+      let b : p < 2 ^ n = omega (arith, pow_pred n pos) in
+      sym (ap (λ u. item V (map m u) p) joins ∙ read_front m V.zero lo hi p (omega arith))
+      ∙ (blocks p b ∙ ap c (blocks_front n e some within p l))
+
+  pub blocks_of_back : (n e : ℕ) (xs lo hi : List X) (c : ℕ → M) → 0 < e → e ≤ n → xs ≡ lo ++ hi → length lo ≡ 2 ^ (n - 1) → AreBlocks n e xs c → AreBlocks (n - 1) (e - 1) hi (λ j. c (2 * j + 1))
+  blocks_of_back n e xs lo hi c some within joins len_lo blocks p l =
+      let pos : 0 < n = omega arith in
+      let b : 2 ^ (n - 1) + p < 2 ^ n = omega (arith, pow_pred n pos) in
+      sym (ap (λ u. item V (map m u) (2 ^ (n - 1) + p)) joins ∙ read_back m V.zero lo hi (2 ^ (n - 1)) p len_lo)
+      ∙ (blocks (2 ^ (n - 1) + p) b ∙ ap c (blocks_back n e some within p))
+
+  -- one level, on lists: the halves are transformed to lo and hi, and joined to lo1 and hi1
+  pub joined_level : (n e : ℕ) (w : F) (s : ℕ) (table : List F) (c : ℕ → M) (lo hi lo1 hi1 : List X) → IsHalfTable K w table → 0 < e → e ≤ n → 2 ^ n * s / 2 ≡ length table → 0 < s → length lo ≡ 2 ^ (n - 1) → length lo1 ≡ 2 ^ (n - 1) → ((p : ℕ) → p < 2 ^ (n - 1) → item V (map m lo) p ≡ sum_at K V (2 ^ (e - 1)) (power K w (s * 2)) (λ j. c (2 * j + 0)) p) → ((p : ℕ) → p < 2 ^ (n - 1) → item V (map m hi) p ≡ sum_at K V (2 ^ (e - 1)) (power K w (s * 2)) (λ j. c (2 * j + 1)) p) → ((i : ℕ) → i < length lo → item V (map m lo1) i ≡ V.plus (item V (map m lo) i) (V.scale (get_or table (i * s) K.zero) (item V (map m hi) i))) → ((i : ℕ) → i < length lo → item V (map m hi1) i ≡ V.plus (item V (map m lo) i) (V.negated (V.scale (get_or table (i * s) K.zero) (item V (map m hi) i)))) → (p : ℕ) → p < 2 ^ n → item V (map m (lo1 ++ hi1)) p ≡ sum_at K V (2 ^ e) (power K w s) c p
+  joined_level n e w s table c lo hi lo1 hi1 t some within whole stride len_lo len_lo1 evens odds sums differences p l =
+      let k = n - 1 in
+      let pos : 0 < n = omega arith in
+      let suc_k : suc k ≡ n = omega arith in
+      let strides = half_strides n s (length table) pos whole in
+      let first : 0 * s < length table = mul_within 0 (2 ^ k) s (length table) (pow_pos k) strides.0 stride in
+      let any : 0 < length table = omega arith in
+      let half : power K (power K w s) (2 ^ k) ≡ K.negated K.one = sym (power-mul K N w s (2 ^ k)) ∙ (ap (power K w) strides.0 ∙ t.half any) in
+      let size : 2 * 2 ^ (e - 1) ≡ 2 ^ e = omega (arith, pow_pred e some) in
+      let squared : power K w (s * 2) ≡ power K (power K w s) 2 = power-mul K N w s 2 in
+      let entry : (i : ℕ) → i < 2 ^ k → get_or table (i * s) K.zero ≡ power K (power K w s) i = λ i b.
+      let swap : i * s ≡ s * i = omega arith in
+      t.powers (i * s) (mul_within i (2 ^ k) s (length table) b strides.0 stride) ∙ (ap (power K w) swap ∙ power-mul K N w s i) in
+      joined_at N L k (2 ^ (e - 1)) (power K w s) c (item V (map m lo)) (item V (map m hi)) (item V (map m (lo1 ++ hi1))) half
+      (λ q b. evens q b ∙ ap (λ u. sum_at K V (2 ^ (e - 1)) u (λ j. c (2 * j + 0)) q) squared)
+      (λ q b. odds q b ∙ ap (λ u. sum_at K V (2 ^ (e - 1)) u (λ j. c (2 * j + 1)) q) squared)
+      (λ q b. read_front m V.zero lo1 hi1 q (omega arith) ∙ (sums q (omega arith) ∙ ap (λ u. V.plus (item V (map m lo) q) (V.scale u (item V (map m hi) q))) (entry q b)))
+      (λ q b. read_back m V.zero lo1 hi1 (2 ^ k) q len_lo1 ∙ (differences q (omega arith) ∙ ap (λ u. V.plus (item V (map m lo) q) (V.negated (V.scale u (item V (map m hi) q)))) (entry q b)))
+      p (half_of k p (rw suc_k l))
+      ∙ ap (λ u. sum_at K V u (power K w s) c p) size
+
+  -- one item, in each place, is its own transform
+  pub one_block : (n e : ℕ) (w : F) (xs : List X) (c : ℕ → M) → e ≡ 0 → AreBlocks n e xs c → (p : ℕ) → p < 2 ^ n → item V (map m xs) p ≡ sum_at K V (2 ^ e) w c p
+  one_block n e w xs c none blocks p l =
+      blocks p l
+      ∙ (ap (λ t. c (reversed t (p / 2 ^ (n - e)))) none
+      ∙ (sym (zero_plus L (V.scale K.one (c 0)) ∙ L.one_scale (c 0)) ∙ ap (λ t. sum_at K V (2 ^ t) w c p) (sym none)))
+
+  -- the first items in reversed order, and then spread out
+  pub blocks_spread : (n e : ℕ) (old front rest now : List X) → e ≤ n → length old ≡ 2 ^ n → length front ≡ 2 ^ e → length now ≡ 2 ^ n → length (front ++ rest) ≡ 2 ^ n → ((p : ℕ) (d : X) → p < 2 ^ e → get_or front p d ≡ get_or (take (2 ^ e) old) (reversed e p) d) → ((p : ℕ) (d : X) → p < length (front ++ rest) → get_or now p d ≡ get_or (front ++ rest) (p / 2 ^ (n - e)) d) → AreBlocks n e now (item V (map m old))
+  blocks_spread n e old front rest now within of_old of_front of_now of_mid order copies p l =
+      let width : e + (n - e) ≡ n = omega arith in
+      let le : 2 ^ e ≤ 2 ^ n = pow_mono within in
+      let below : (q : ℕ) → q < 2 ^ n → q / 2 ^ (n - e) < 2 ^ e = λ q b. let c : q < 2 ^ (e + (n - e)) = rw width b in block_below e (n - e) q c in
+      read_order m V.zero (λ q. reversed e (q / 2 ^ (n - e))) old now
+      (λ q b. let c : q < 2 ^ n = omega arith in let r = reversed_below e (q / 2 ^ (n - e)) (below q c) in omega arith)
+      (λ q d b.
+      let c : q < 2 ^ n = omega arith in
+      let h = below q c in
+      copies q d (omega arith)
+      ∙ (get_or_append_left front rest d (q / 2 ^ (n - e)) (omega arith)
+      ∙ (order (q / 2 ^ (n - e)) d h ∙ get_or-take (2 ^ e) old (reversed e (q / 2 ^ (n - e))) d (reversed_below e (q / 2 ^ (n - e)) h))))
+      p (omega arith)

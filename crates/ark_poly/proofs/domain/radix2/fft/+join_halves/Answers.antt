@@ -1,0 +1,83 @@
+use Rattle.std.proofs.Common.{rules, arith, ◌≡◌, ◌-◌, ◌*◌, ◌+◌, ◌^◌, ◌<◌, ◌≤◌, length}
+use Rattle.std.proofs.lemmas.Nat.{pow_pos}
+use Rattle.ark_math.proofs.Halving.{half_strides, count_levels, stride_within}
+use Rattle.ark_math.proofs.Joining.{blocks_of_front, blocks_of_back, joined_level, one_block}
+use Rattle.ark_math.proofs.Reversal.{pow_pred}
+use Rattle.ark_poly.proofs.domain.radix2.fft.+join_halves.Goals as goal
+
+pub overflow_mul-stride : goal.overflow_mul-stride
+overflow_mul-stride g t c =
+    let pos : 0 < c.args.levels = omega arith in
+    let w = half_strides c.args.levels c.args.stride (length c.args.table.now) pos c.requires.whole in
+    let b : c.args.stride * 2 < 2 ^ 64 = stride_within c.args.stride (2 ^ (c.args.levels - 1)) (length c.args.table.now) (pow_pos (c.args.levels - 1)) w.0 c.requires.small in
+    omega arith
+
+pub overflow_mul-stride-then-log_len-gt0 : goal.overflow_mul-stride-then-log_len-gt0
+overflow_mul-stride-then-log_len-gt0 g t c =
+    let pos : 0 < c.args.levels = omega arith in
+    let w = half_strides c.args.levels c.args.stride (length c.args.table.now) pos c.requires.whole in
+    let b : c.args.stride * 2 < 2 ^ 64 = stride_within c.args.stride (2 ^ (c.args.levels - 1)) (length c.args.table.now) (pow_pos (c.args.levels - 1)) w.0 c.requires.small in
+    omega arith
+
+pub join_halves-requires : goal.join_halves-requires
+join_halves-requires g t c κs within =
+    let pos : 0 < c.args.levels = omega arith in
+    let w = half_strides c.args.levels c.args.stride (length c.args.table.now) pos c.requires.whole in
+    let d = pow_pred c.args.levels pos in
+    let n : length c.split_at_mut-lo.result.0.now ≡ 2 ^ (c.args.levels - 1) = omega arith in
+    (omega arith, (search rules, (search rules, (n, (w.1, (c.requires.small, (omega arith, omega arith)))))))
+
+pub join_halves-requires-then-log_len-gt0 : goal.join_halves-requires-then-log_len-gt0
+join_halves-requires-then-log_len-gt0 g t c κs within =
+    let pos : 0 < c.args.levels = omega arith in
+    let w = half_strides c.args.levels c.args.stride (length c.args.table.now) pos c.requires.whole in
+    let d = pow_pred c.args.levels pos in
+    let n : length c.split_at_mut-lo.result.1.now ≡ 2 ^ (c.args.levels - 1) = omega arith in
+    (omega arith, (search rules, (search rules, (n, (w.1, (c.requires.small, (omega arith, omega arith)))))))
+
+pub join_across-requires-clause-enough : goal.join_across-requires-clause-enough
+join_across-requires-clause-enough g t c =
+    let pos : 0 < c.args.levels = omega arith in
+    let w = half_strides c.args.levels c.args.stride (length c.args.table.now) pos c.requires.whole in
+    let d = pow_pred c.args.levels pos in
+    let n : length c.join_halves.new.xs ≡ 2 ^ (c.args.levels - 1) = omega arith in
+    rw n (omega (arith, w.0))
+
+pub returns-then-log_len-gt0-clause-sums : goal.returns-then-log_len-gt0-clause-sums
+returns-then-log_len-gt0-clause-sums g t c = λ w f table blocks p l.
+    let N = g.met.F.Field.field_laws in
+    let L = g.met.T.DomainCoeff.module_laws in
+    let m = g.T.DomainCoeff.meaning in
+    let n = c.args.levels in
+    let e = c.args.log_len in
+    let some : 0 < e = c.if-log_len-gt0.true in
+    let pos : 0 < n = omega arith in
+    let d = pow_pred n pos in
+    let lo = c.split_at_mut-lo.result.0.now in
+    let hi = c.split_at_mut-lo.result.1.now in
+    let n0 : length lo ≡ 2 ^ (n - 1) = omega arith in
+    let n1 : length c.join_halves.new.xs ≡ 2 ^ (n - 1) = omega arith in
+    let n2 : length c.join_across.new.lo ≡ 2 ^ (n - 1) = omega arith in
+    joined_level N L m n e w c.args.stride c.args.table.now f c.join_halves.new.xs c.join_halves-then-log_len-gt0.new.xs c.join_across.new.lo c.join_across.new.hi table some c.requires.within c.requires.whole c.requires.some n1 n2
+    (c.join_halves.ensures.sums w (λ j. f (2 * j + 0)) table (blocks_of_front N L m n e c.args.xs.now lo hi f some c.requires.within c.split_at_mut-lo.ensures.value n0 blocks))
+    (c.join_halves-then-log_len-gt0.ensures.sums w (λ j. f (2 * j + 1)) table (blocks_of_back N L m n e c.args.xs.now lo hi f some c.requires.within c.split_at_mut-lo.ensures.value n0 blocks))
+    c.join_across.ensures.sums c.join_across.ensures.differences p l
+
+pub returns-then-log_len-gt0-clause-butterflies : goal.returns-then-log_len-gt0-clause-butterflies
+returns-then-log_len-gt0-clause-butterflies g t c =
+    let pos : 0 < c.args.levels = omega arith in
+    let d = pow_pred c.args.levels pos in
+    let n : length c.join_halves.new.xs ≡ 2 ^ (c.args.levels - 1) = omega arith in
+    omega (arith, count_levels c.args.levels c.args.log_len c.if-log_len-gt0.true c.requires.within)
+
+pub returns-then-log_len-gt0-clause-products : goal.returns-then-log_len-gt0-clause-products
+returns-then-log_len-gt0-clause-products g t c =
+    let pos : 0 < c.args.levels = omega arith in
+    let d = pow_pred c.args.levels pos in
+    let n : length c.join_halves.new.xs ≡ 2 ^ (c.args.levels - 1) = omega arith in
+    omega (arith, count_levels c.args.levels c.args.log_len c.if-log_len-gt0.true c.requires.within)
+
+pub returns-else-log_len-gt0-clause-sums : goal.returns-else-log_len-gt0-clause-sums
+returns-else-log_len-gt0-clause-sums g t c = λ w f table blocks p l.
+    let none : c.args.log_len ≡ 0 = omega arith in
+    one_block g.met.F.Field.field_laws g.met.T.DomainCoeff.module_laws g.T.DomainCoeff.meaning c.args.levels c.args.log_len _ c.args.xs.now f none blocks p l

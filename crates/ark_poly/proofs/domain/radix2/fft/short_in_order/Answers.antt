@@ -1,0 +1,59 @@
+use Rattle.std.proofs.Common.{◌≡◌, ◌-◌, ◌/◌, ◌<◌, ◌≤◌, ◌^◌, ℕ, List, arith, length, map, take, drop, get_or, ap, ◌∙◌, length-take-le, length-append, length-drop, ◌++◌}
+use Rattle.std.proofs.Math.Pow.{pow_mono}
+use Rattle.ark_math.specs.Module.{item}
+use Rattle.ark_math.specs.Halves.{sum_at, reversed}
+use Rattle.ark_math.proofs.Halving.{few_levels}
+use Rattle.ark_math.proofs.Joining.{AreBlocks, blocks_spread, first_items}
+use Rattle.ark_poly.proofs.domain.radix2.fft.short_in_order.Goals as goal
+
+pub overflow_shr-items : goal.overflow_shr-items
+overflow_shr-items g c =
+    let b : 2 ^ c.args.levels < 2 ^ 64 = omega arith in
+    let f = few_levels c.args.levels b in
+    omega arith
+
+pub restore_order-requires-clause-few : goal.restore_order-requires-clause-few
+restore_order-requires-clause-few g c =
+    let b : 2 ^ c.args.levels < 2 ^ 64 = omega arith in
+    let f = few_levels c.args.levels b in
+    omega arith
+
+pub restore_order-requires-clause-size : goal.restore_order-requires-clause-size
+restore_order-requires-clause-size g c =
+    let old = c.args.xs.now in
+    let k = length old / 2 ^ (c.args.levels - c.args.log_len) in
+    let items : k ≡ 2 ^ c.args.log_len = first_items c.args.levels c.args.log_len (length old) c.requires.within c.requires.size in
+    let le : 2 ^ c.args.log_len ≤ 2 ^ c.args.levels = pow_mono c.requires.within in
+    let fits : k ≤ length old = omega (arith, items, le, c.requires.size) in
+    length-take-le k old fits ∙ items
+
+pub spread_out-requires : goal.spread_out-requires
+spread_out-requires g c =
+    let b : 2 ^ c.args.levels < 2 ^ 64 = omega arith in
+    let f = few_levels c.args.levels b in
+    record { few = omega arith }
+
+pub returns-clause-sums : goal.returns-clause-sums
+returns-clause-sums g c = λ w table i l.
+    let K = g.F.Field.field in
+    let V = g.T.DomainCoeff.group in
+    let m = g.T.DomainCoeff.meaning in
+    let N = g.met.F.Field.field_laws in
+    let L = g.met.T.DomainCoeff.module_laws in
+    let n = c.args.levels in
+    let e = c.args.log_len in
+    let old = c.args.xs.now in
+    let k = length old / 2 ^ (n - e) in
+    let items : k ≡ 2 ^ e = first_items n e (length old) c.requires.within c.requires.size in
+    let le : 2 ^ e ≤ 2 ^ n = pow_mono c.requires.within in
+    let fits : k ≤ length old = omega (arith, items, le, c.requires.size) in
+    let front = c.restore_order.new.xs in
+    let len_front : length front ≡ 2 ^ e = c.restore_order.auto.xs ∙ (length-take-le k old fits ∙ items) in
+    let len_mid : length (front ++ drop k old) ≡ 2 ^ n = length-append front (drop k old) ∙ omega (arith, length-drop k old, len_front, items, fits, c.requires.size) in
+    let len_now : length c.spread_out.new.xs ≡ 2 ^ n = c.spread_out.auto.xs ∙ len_mid in
+    let order : (p : ℕ) (d : g.row.T.Denot) → p < 2 ^ e → get_or front p d ≡ get_or (take (2 ^ e) old) (reversed e p) d = λ p d b.
+    c.restore_order.ensures p d b ∙ ap (λ t. get_or (take t old) (reversed e p) d) items in
+    let blocks : AreBlocks N L m n e c.spread_out.new.xs (item V (map m old)) =
+    blocks_spread N L m n e old front (drop k old) c.spread_out.new.xs c.requires.within c.requires.size len_front len_now len_mid order c.spread_out.ensures in
+    c.join_halves.ensures.sums w (item V (map m old)) table blocks i (omega (arith, l, c.requires.size))
+    ∙ ap (λ t. sum_at K V (2 ^ e) t (item V (map m old)) i) (N.times_one w)
