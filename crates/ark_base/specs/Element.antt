@@ -21,6 +21,10 @@ use Rattle.ark_base.specs.declared.prime_field.PrimeModulus.{Ghosts}
 abbrev pub residue : {M : Type 0} {g : Ghosts M} (v : ℕ) → v < g.MODULUS → PrimeField M g
 residue v h = record { value = v; marker = record {}; reduced = h }
 
+-- the number below the modulus that an element is
+abbrev pub number : {M : Type 0} {g : Ghosts M} → PrimeField M g → ℕ
+number x = x.value
+
 abbrev pub residue_of : {M : Type 0} {g : Ghosts M} → IsPrime g.MODULUS → ℕ → PrimeField M g
 residue_of {g = g} P v = residue (v % g.MODULUS) (mod-lt v (le_of_lt P.above_one))
 
@@ -200,6 +204,9 @@ prime_module_laws P = itself_is_module (prime_field P) (prime_field_laws P)
 -- a number's residue is one, that many times over
 pub natural_residue : {M : Type 0} {g : Ghosts M} (P : IsPrime g.MODULUS) (n : ℕ) (r : PrimeField M g) → r ≡ residue_of P n → r ≡ natural (prime_field {M = M} {g = g} P) n
 natural_residue {M = M} {g = g} P n r e = e ∙ same_from_value _ _ (sym (natural_value M g P n))
+
+pub natural_number : {M : Type 0} {g : Ghosts M} (P : IsPrime g.MODULUS) (x : PrimeField M g) → x ≡ natural (prime_field {M = M} {g = g} P) (number x)
+natural_number P x = natural_residue P x.value x (same_from_value _ _ (sym (mod-eq_of_lt x.reduced)))
 
 from_odd : (o : Option (ℕ × ℕ)) (w v : ℕ) → for_odd o w ≡ Some v → v ≡ w
 from_odd None w v e = cc

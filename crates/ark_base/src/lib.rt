@@ -4,6 +4,8 @@
 mod error;
 mod field;
 mod inversion;
+mod lanes;
+mod numbers;
 mod polynomial;
 mod prime_field;
 mod sink;
@@ -12,6 +14,8 @@ mod work;
 pub use error::PolyError;
 pub use field::{DomainCoeff, FftField, Field, One, Zero};
 pub use inversion::batch_inversion;
+pub use lanes::Lanes;
+pub use numbers::{k_adicity, log2};
 pub use polynomial::Polynomial;
 pub use prime_field::{F5, F433, F65537, Fermat, Five, Mixed, PrimeField, PrimeModulus};
 pub use sink::{Failed, IoSink, Sink};

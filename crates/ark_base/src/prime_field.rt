@@ -2,7 +2,7 @@
 
 ghost use Rattle.std.specs.Prelude.{◌≡◌, ℕ, ◌+◌, ◌*◌, ◌-◌, ◌%◌, ◌/◌, ◌<◌, ◌^◌, ◌↔◌, Option, None, Some, IsSome, refl};
 ghost use Rattle.std.proofs.Common.{lit<, ◌∙◌};
-ghost use Rattle.ark_math.specs.Field.{FieldOn, minus};
+ghost use Rattle.ark_math.specs.Field.{FieldOn, minus, natural};
 ghost use Rattle.ark_math.specs.Module.{itself};
 ghost use Rattle.ark_math.specs.Root.{adicity_of};
 ghost use Rattle.ark_math.specs.Generator.{IsModulus};
@@ -82,9 +82,13 @@ impl<M: PrimeModulus> Clone for PrimeField<M> {
 }
 
 impl<M: PrimeModulus> PrimeField<M> {
-    /// The number below the modulus.
+    ghost use Rattle.ark_base.specs.Element.{prime_field, number};
+
+    /// The number below the modulus that the element is: it is so many ones added up.
     pub fn value(self) -> u64
-        ensures { result ≡ self.value }
+        ensures number { result ≡ number self }
+        ensures below { result < M.MODULUS }
+        ensures natural { self ≡ natural (prime_field M.modulus.prime) result }
     {
         self.value
     }

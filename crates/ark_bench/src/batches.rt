@@ -1,6 +1,6 @@
 //! Calls in batches of some 20 milliseconds, of which the least counts.
 
-use ark_base::{F65537, PolyError};
+use ark_base::{PolyError, PrimeField, PrimeModulus};
 use std::alloc::Global;
 use std::io::Print;
 use std::time::{Clock, Instant};
@@ -19,7 +19,7 @@ pub trait Benchmark {
 }
 
 /// A number in which each value of the list counts by its place.
-pub fn mixed(values: &[F65537]) -> u64 {
+pub fn mixed<M: PrimeModulus>(values: &[PrimeField<M>]) -> u64 {
     let mut sum: u64 = 0;
     for value in values {
         sum = sum.wrapping_mul(31).wrapping_add(value.value());

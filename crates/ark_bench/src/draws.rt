@@ -1,6 +1,6 @@
 //! Inputs, the same at each run.
 
-use ark_base::F65537;
+use ark_base::{PrimeField, PrimeModulus};
 use rand_core::Rng;
 use rand_pcg::Pcg64;
 use std::alloc::{AllocError, Global};
@@ -17,11 +17,15 @@ impl Draws {
         }
     }
 
-    pub fn element(&mut self) -> F65537 {
-        F65537::from(self.rng.next_u64())
+    pub fn element<M: PrimeModulus>(&mut self) -> PrimeField<M> {
+        PrimeField::from(self.rng.next_u64())
     }
 
-    pub fn list(&mut self, alloc: Global, len: usize) -> Result<Vec<F65537>, AllocError> {
+    pub fn list<M: PrimeModulus>(
+        &mut self,
+        alloc: Global,
+        len: usize,
+    ) -> Result<Vec<PrimeField<M>>, AllocError> {
         let mut list = Vec::with_capacity(alloc, len)?;
         for _ in 0..len {
             list.push(self.element())?;

@@ -4,48 +4,108 @@
 
 mod batches;
 mod draws;
+mod polynomials;
 mod transforms;
 
-use ark_base::{F65537, FftField};
-use ark_poly::{EvaluationDomain, Radix2EvaluationDomain};
-use batches::{Benchmark, report};
+use ark_base::{F433, F65537, Fermat, FftField, Field, Mixed};
+use ark_poly::{EvaluationDomain, MixedRadixEvaluationDomain, Radix2EvaluationDomain};
+use batches::report;
 use draws::Draws;
+use polynomials::{Product, Value, Weights};
 use std::alloc::{AllocGlobal, Global};
 use std::env;
 use std::io::Print;
 use std::time::Clock;
-use transforms::{ShortTransform, Transform};
+use transforms::{InPlace, OfShortList};
 
 fn main(rt: HostRuntime) -> anyhow::Result<()> {
     let timed = match env::args(&rt)?.nth(1) {
         Some(word) => word.as_str() == "time",
         None => false,
     };
-    report_transforms(&rt, rt.alloc(), timed)
+    let mut draws = Draws::new();
+    report_radix2(&rt, rt.alloc(), timed, &mut draws)?;
+    report_mixed_radix(&rt, rt.alloc(), timed, &mut draws)?;
+    report_largest(&rt, rt.alloc(), timed, &mut draws)?;
+    report_dense(&rt, rt.alloc(), timed, &mut draws)
 }
 
-fn report_transforms(rt: &(impl Print + Clock), alloc: Global, timed: bool) -> anyhow::Result<()> {
-    let mut draws = Draws::new();
+fn report_radix2(
+    rt: &(impl Print + Clock),
+    alloc: Global,
+    timed: bool,
+    draws: &mut Draws,
+) -> anyhow::Result<()> {
     for size in [1 << 10, 1 << 12, 1 << 14, 1 << 16] {
         let Some(domain) = Radix2EvaluationDomain::<F65537>::new(size) else {
             continue;
         };
-        let items = draws.list(alloc, size)?;
-        let mut forward = Transform::forward("radix2_fft_in_place", domain, items);
+        let items = draws.list::<Fermat>(alloc, size)?;
+        let mut forward = InPlace::forward("radix2_fft_in_place", domain, items);
         report(rt, alloc, timed, &mut forward)?;
-        let items = draws.list(alloc, size)?;
-        let mut inverse = Transform::inverse("radix2_ifft_in_place", domain, items);
+        let items = draws.list::<Fermat>(alloc, size)?;
+        let mut inverse = InPlace::inverse("radix2_ifft_in_place", domain, items);
         report(rt, alloc, timed, &mut inverse)?;
-        if size == 1 << 16
-            && let Some(coset) = domain.get_coset(F65537::GENERATOR)
-        {
-            let items = draws.list(alloc, size)?;
-            let mut forward = Transform::forward("coset_fft_in_place", coset, items);
-            report(rt, alloc, timed, &mut forward)?;
-            let items = draws.list(alloc, 1 << 10)?;
-            let mut short = ShortTransform::forward("degree_aware_fft_1024_over", domain, items);
-            report(rt, alloc, timed, &mut short)?;
-        }
     }
     Ok(())
+}
+
+fn report_mixed_radix(
+    rt: &(impl Print + Clock),
+    alloc: Global,
+    timed: bool,
+    draws: &mut Draws,
+) -> anyhow::Result<()> {
+    for size in [432, 216, 27] {
+        let Some(domain) = MixedRadixEvaluationDomain::<F433>::new(size) else {
+            continue;
+        };
+        let items = draws.list::<Mixed>(alloc, size)?;
+        let mut forward = InPlace::forward("mixed_fft_in_place", domain, items);
+        report(rt, alloc, timed, &mut forward)?;
+        let items = draws.list::<Mixed>(alloc, size)?;
+        let mut inverse = InPlace::inverse("mixed_ifft_in_place", domain, items);
+        report(rt, alloc, timed, &mut inverse)?;
+    }
+    Ok(())
+}
+
+// Over all elements but zero.
+fn report_largest(
+    rt: &(impl Print + Clock),
+    alloc: Global,
+    timed: bool,
+    draws: &mut Draws,
+) -> anyhow::Result<()> {
+    let Some(domain) = Radix2EvaluationDomain::<F65537>::new(1 << 16) else {
+        return Ok(());
+    };
+    if let Some(coset) = domain.get_coset(F65537::GENERATOR) {
+        let items = draws.list::<Fermat>(alloc, 1 << 16)?;
+        let mut forward = InPlace::forward("coset_fft_in_place", coset, items);
+        report(rt, alloc, timed, &mut forward)?;
+    }
+    let items = draws.list::<Fermat>(alloc, 1 << 10)?;
+    let mut short = OfShortList::new(alloc, "degree_aware_fft_1024_over", domain, items);
+    report(rt, alloc, timed, &mut short)?;
+    let mut far = Weights::new(alloc, "lagrange_all", domain, F65537::from(0));
+    report(rt, alloc, timed, &mut far)?;
+    let last = domain.element((1 << 16) - 1);
+    let mut near = Weights::new(alloc, "lagrange_all_at_last_element", domain, last);
+    report(rt, alloc, timed, &mut near)
+}
+
+fn report_dense(
+    rt: &(impl Print + Clock),
+    alloc: Global,
+    timed: bool,
+    draws: &mut Draws,
+) -> anyhow::Result<()> {
+    let left = draws.list(alloc, 1 << 10)?;
+    let right = draws.list(alloc, 1 << 10)?;
+    let mut product = Product::new(alloc, left, right)?;
+    report(rt, alloc, timed, &mut product)?;
+    let coeffs = draws.list(alloc, 1 << 16)?;
+    let mut value = Value::new(coeffs, draws.element());
+    report(rt, alloc, timed, &mut value)
 }

@@ -1,25 +1,22 @@
-//! Transforms, over and over on one list.
+//! Transforms.
 
 use crate::batches::{Benchmark, mixed};
-use ark_base::{F65537, PolyError};
-use ark_poly::{EvaluationDomain, Radix2EvaluationDomain};
+use ark_base::{PolyError, PrimeField, PrimeModulus};
+use ark_poly::EvaluationDomain;
 use std::alloc::Global;
 
+/// In place, over and over on one list.
 #[derive(Drop)]
-pub struct Transform {
+pub struct InPlace<M: PrimeModulus, D: EvaluationDomain<PrimeField<M>>> {
     name: &'static str,
-    domain: Radix2EvaluationDomain<F65537>,
+    domain: D,
     inverse: bool,
-    items: Vec<F65537>,
+    items: Vec<PrimeField<M>>,
 }
 
-impl Transform {
-    pub fn forward(
-        name: &'static str,
-        domain: Radix2EvaluationDomain<F65537>,
-        items: Vec<F65537>,
-    ) -> Transform {
-        Transform {
+impl<M: PrimeModulus, D: EvaluationDomain<PrimeField<M>>> InPlace<M, D> {
+    pub fn forward(name: &'static str, domain: D, items: Vec<PrimeField<M>>) -> Self {
+        InPlace {
             name,
             domain,
             inverse: false,
@@ -27,12 +24,8 @@ impl Transform {
         }
     }
 
-    pub fn inverse(
-        name: &'static str,
-        domain: Radix2EvaluationDomain<F65537>,
-        items: Vec<F65537>,
-    ) -> Transform {
-        Transform {
+    pub fn inverse(name: &'static str, domain: D, items: Vec<PrimeField<M>>) -> Self {
+        InPlace {
             name,
             domain,
             inverse: true,
@@ -41,7 +34,7 @@ impl Transform {
     }
 }
 
-impl Benchmark for Transform {
+impl<M: PrimeModulus, D: EvaluationDomain<PrimeField<M>>> Benchmark for InPlace<M, D> {
     fn name(&self) -> &'static str {
         self.name
     }
@@ -63,29 +56,27 @@ impl Benchmark for Transform {
     }
 }
 
-/// A transform of fewer items than places, whose first values are the next items.
+/// Of a list much shorter than the domain, whose first item the last call's values give.
 #[derive(Drop)]
-pub struct ShortTransform {
+pub struct OfShortList<M: PrimeModulus, D: EvaluationDomain<PrimeField<M>>> {
     name: &'static str,
-    domain: Radix2EvaluationDomain<F65537>,
-    items: Vec<F65537>,
+    domain: D,
+    items: Vec<PrimeField<M>>,
+    values: Vec<PrimeField<M>>,
 }
 
-impl ShortTransform {
-    pub fn forward(
-        name: &'static str,
-        domain: Radix2EvaluationDomain<F65537>,
-        items: Vec<F65537>,
-    ) -> ShortTransform {
-        ShortTransform {
+impl<M: PrimeModulus, D: EvaluationDomain<PrimeField<M>>> OfShortList<M, D> {
+    pub fn new(alloc: Global, name: &'static str, domain: D, items: Vec<PrimeField<M>>) -> Self {
+        OfShortList {
             name,
             domain,
             items,
+            values: Vec::new(alloc),
         }
     }
 }
 
-impl Benchmark for ShortTransform {
+impl<M: PrimeModulus, D: EvaluationDomain<PrimeField<M>>> Benchmark for OfShortList<M, D> {
     fn name(&self) -> &'static str {
         self.name
     }
@@ -95,14 +86,14 @@ impl Benchmark for ShortTransform {
     }
 
     fn call(&mut self, alloc: Global) -> Result<(), PolyError> {
-        let values = self.domain.fft(alloc, self.items.as_slice())?;
-        for (item, value) in self.items.iter_mut().zip(values.iter()) {
-            *item = *value;
+        self.values = self.domain.fft(alloc, &self.items)?;
+        if let (Some(first), Some(value)) = (self.items.first_mut(), self.values.last()) {
+            *first = *value;
         }
         Ok(())
     }
 
     fn checksum(&self) -> u64 {
-        mixed(self.items.as_slice())
+        mixed(self.values.as_slice())
     }
 }

@@ -1,5 +1,5 @@
 -- Domains by their sizes and offsets, and lists cut before a transform.
-use Rattle.std.proofs.Common.{◌≡◌, ◌≢◌, ℕ, ◌==◌, ◌&&◌, Bool, Decides, IsSome, List, take, sym, ap, subst, ◌∙◌}
+use Rattle.std.proofs.Common.{◌≡◌, ◌≢◌, ℕ, ◌==◌, ◌&&◌, Bool, false, Decides, IsSome, List, take, sym, ap, subst, ◌∙◌}
 use Rattle.std.proofs.lemmas.Bool.{and_parts, and_from, eqb-true, eq-eqb}
 use Rattle.std.proofs.lemmas.List.{get_or-take}
 use Rattle.ark_math.specs.Field.{FieldOn, natural}
@@ -23,6 +23,13 @@ same_domain kind root m n v w o p t e f d = (
   λ h.
       and_from (m == n) t (eq-eqb m n (ap (λ x. x.size) h)) (d.1 (ap (λ x. x.offset) h)),
 )
+
+-- of two kinds they differ
+pub radix2_is_not_mixed : radix2 ≡ mixed_radix → ⊥
+radix2_is_not_mixed e = cc
+
+pub other_kind : {F : Type 0} (d e : Domain F) → (d.kind ≡ e.kind → ⊥) → Decides false (d ≡ e)
+other_kind d e ne = ((λ f. cc), λ same. absurd (ne (ap (λ x. x.kind) same)))
 
 pub size_supported : (s : Adicity) (kind : Kind) (n : ℕ) → IsSize s kind n → IsSupported s n
 size_supported s radix2 n h = (h.0, 0, h.1)

@@ -1,7 +1,8 @@
 -- The laws of a module that follow from its definition.
-use Rattle.std.proofs.Common.{◌≡◌, sym, ◌∙◌, ap}
+use Rattle.std.proofs.Common.{◌≡◌, Bool, ◌&&◌, Decides, sym, ◌∙◌, ap, ap₂}
+use Rattle.std.proofs.lemmas.Bool.Decides.{Decides-and}
 use Rattle.ark_math.specs.Field.{FieldOn, IsField}
-use Rattle.ark_math.specs.Module.{ModuleOn, IsModule, itself}
+use Rattle.ark_math.specs.Module.{ModuleOn, IsModule, itself, pairs}
 
 -- a field is a module over itself
 pub itself_is_module : {F : Type 0} (K : FieldOn F) → IsField K → IsModule K (itself K)
@@ -15,6 +16,24 @@ itself_is_module K L = record {
   times_scale = L.times_assoc;
   one_scale = λ x. L.times_comm K.one x ∙ L.times_one x;
 }
+
+-- pairs of the values of two modules are a module
+pub pairs_are_module : {F M N : Type 0} {K : FieldOn F} {V : ModuleOn F M} {W : ModuleOn F N} → IsModule K V → IsModule K W → IsModule K (pairs V W)
+pairs_are_module L R = record {
+  plus_assoc = λ x y z. ap₂ (λ a b. (a, b)) (L.plus_assoc x.0 y.0 z.0) (R.plus_assoc x.1 y.1 z.1);
+  plus_comm = λ x y. ap₂ (λ a b. (a, b)) (L.plus_comm x.0 y.0) (R.plus_comm x.1 y.1);
+  plus_zero = λ x. ap₂ (λ a b. (a, b)) (L.plus_zero x.0) (R.plus_zero x.1);
+  plus_negated = λ x. ap₂ (λ a b. (a, b)) (L.plus_negated x.0) (R.plus_negated x.1);
+  scale_plus = λ a x y. ap₂ (λ a b. (a, b)) (L.scale_plus a x.0 y.0) (R.scale_plus a x.1 y.1);
+  plus_scale = λ a b x. ap₂ (λ a b. (a, b)) (L.plus_scale a b x.0) (R.plus_scale a b x.1);
+  times_scale = λ a b x. ap₂ (λ a b. (a, b)) (L.times_scale a b x.0) (R.times_scale a b x.1);
+  one_scale = λ x. ap₂ (λ a b. (a, b)) (L.one_scale x.0) (R.one_scale x.1);
+}
+
+pub pairs_Decides : {M N : Type 0} {a c : M} {b d : N} {s t : Bool} → Decides s (a ≡ c) → Decides t (b ≡ d) → Decides (s && t) (◌≡◌ {A = M × N} (a, b) (c, d))
+pairs_Decides {s = s} {t = t} left right =
+    let both = Decides-and s t left right in
+    (λ h. let e = both.0 h in ap₂ (λ x y. (x, y)) e.0 e.1, λ e. both.1 (ap (λ p. p.0) e, ap (λ p. p.1) e))
 
 module _ {F M : Type 0} {K : FieldOn F} {V : ModuleOn F M} (L : IsModule K V) where
   pub zero_plus : (x : M) → V.plus V.zero x ≡ x

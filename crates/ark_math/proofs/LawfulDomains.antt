@@ -1,22 +1,24 @@
 -- What holds of the domains that there are: their elements, the weights at a point as a list is filled with them, and
 -- the domains and filters inside.
-use Rattle.std.proofs.Common.{◌≡◌, ◌≢◌, ℕ, ◌%◌, ◌<◌, ◌⊎◌, ◌↔◌, List, length, sym, ◌∙◌, ap, ap₂, refl}
+use Rattle.std.proofs.Common.{◌≡◌, ◌≢◌, ℕ, ◌+◌, ◌-◌, ◌*◌, ◌/◌, ◌%◌, ◌<◌, ◌⊎◌, ◌↔◌, List, length, sym, ◌∙◌, ap, ap₂, refl, subst, arith}
+use Rattle.std.proofs.Math.Nat.{mod-add-div}
 use Rattle.ark_math.specs.Field.{FieldOn, IsField, power, natural, minus}
 use Rattle.ark_math.specs.Root.{Adicity, HasOrder, AreRoots}
 use Rattle.ark_math.specs.Domain.{Domain, IsDomain, element}
-use Rattle.ark_math.specs.Univariate.{IsValue, of_list}
+use Rattle.ark_math.specs.Univariate.{IsBelow, IsDegree, IsValue, of_list}
 use Rattle.ark_math.specs.Points.{IsPlaceQuotient, vanishing, AreWeights, IsElement, IsContained, IsFilter}
 use Rattle.ark_math.proofs.Groups.{itself_is_module, one_times, zero_scale}
 use Rattle.ark_math.proofs.Solve.{◌⊖◌, ◌⊗◌, unit}
 use Rattle.ark_math.proofs.Ring.{ring3, ring4, ring5, ring6}
+use Rattle.ark_math.proofs.UnivariateLists.{of_list-below}
 use Rattle.ark_math.proofs.UnivariateValues.{one_value}
 use Rattle.ark_math.proofs.Domains.{root_order, size_not_zero}
 use Rattle.ark_math.proofs.Elements.{Inverses, positive, times_not_zero, factor_not_zero, minus_not_zero, power_not_zero, same_from_minus, minus_same, has_inverses, element-power, same_element, value-vanishing}
 use Rattle.ark_math.proofs.Powers.{powers_inverse}
 use Rattle.ark_math.proofs.Weights.{weights_at_element, weights_elsewhere, one_list_of_weights}
 use Rattle.ark_math.proofs.Contained.{is_element, contained_size, contained_offset, contained_from}
-use Rattle.ark_math.proofs.Filters.{Inside}
-use Rattle.ark_math.proofs.OneFilter.{contained_inside, has_filter, filter-value_inside, filter-value_elsewhere}
+use Rattle.ark_math.proofs.Filters.{Inside, IsRow, row_is_filter}
+use Rattle.ark_math.proofs.OneFilter.{contained_inside, has_filter, one_filter, filter-degree, filter-value_inside, filter-value_elsewhere}
 
 module _ {F : Type 0} (K : FieldOn F) (N : IsField K) where
   -- b * (tau / e - 1), times e
@@ -133,3 +135,34 @@ module _ {F : Type 0} (K : FieldOn F) (N : IsField K) (s : Adicity) (root : ℕ 
               ∙ N.times_one (K.times n z)
               ∙ ap (K.times n) (vanishing_value K N d x z g)),
         )
+
+    -- ---- the row that a filter's coefficients are
+
+    quotient_whole : IsContained K e d → e.size * (d.size / e.size) ≡ d.size
+    quotient_whole h = omega (arith, mod-add-div d.size e.size, contained_divides h)
+
+    abbrev inside_by : IsContained K e d → (v q : F) → K.times (natural K d.size) v ≡ K.one → K.times e.offset q ≡ K.one → Inside K e d
+    inside_by h v q f g =
+        let i = inside h in
+        record {
+          inner = i.inner;
+          outer = i.outer;
+          index = d.size / e.size;
+          whole = quotient_whole h;
+          offsets = i.offsets;
+          of_inner = record { of_root = i.of_inner.of_root; of_offset = q; of_size = i.of_inner.of_size; root = i.of_inner.root; offset = g; size = i.of_inner.size };
+          of_outer = record { of_root = i.of_outer.of_root; of_offset = i.of_outer.of_offset; of_size = v; root = i.of_outer.root; offset = i.of_outer.offset; size = f };
+        }
+
+    module _ (h : IsContained K e d) (v q : F) (f : K.times (natural K d.size) v ≡ K.one) (g : K.times e.offset q ≡ K.one) (c : List F) (count : length c ≡ d.size - e.size + 1) (at : (k : ℕ) → k < d.size / e.size → of_list K c (e.size * k) ≡ K.times (K.times (natural K e.size) v) (power K (power K q e.size) k)) (apart : (k r : ℕ) → 0 < r → r < e.size → of_list K c (e.size * k + r) ≡ K.zero) where
+      listed_row : IsRow K e d (inside_by h v q f g) (of_list K c)
+      listed_row = record { short = subst (λ n. IsBelow K n (of_list K c)) count (of_list-below K c); at = at; apart = λ k r l. apart k r }
+
+      pub filter_of_row : IsFilter K e d (of_list K c)
+      filter_of_row = row_is_filter K N e d (inside_by h v q f g) (of_list K c) listed_row
+
+    pub filter_degree : IsContained K e d → (a : ℕ → F) → IsFilter K e d a → IsDegree K a (d.size - e.size)
+    filter_degree h a A = filter-degree K N e d (inside h) h a A
+
+    pub only_filter : IsContained K e d → (a : ℕ → F) → IsFilter K e d a → (other : ℕ → F) → IsFilter K e d other → other ≡ a
+    only_filter h a A other B = one_filter K N e d (inside h) h other a B A

@@ -7,7 +7,9 @@ pub mod Domains
 pub mod Elements
 pub mod Euclid
 pub mod Filters
+pub mod GeneralSizes
 pub mod Generator
+pub mod GreatestPowers
 pub mod Groups
 pub mod Halving
 pub mod Inverses
@@ -40,6 +42,7 @@ pub mod Signed
 pub mod Sizes
 pub mod Solve
 pub mod SortedPairs
+pub mod Spaced
 pub mod Split
 pub mod Sums
 pub mod Transforms

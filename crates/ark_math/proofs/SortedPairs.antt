@@ -1,8 +1,7 @@
 -- Pairs of exponent and coefficient in rising order: that an order changes no sum, and the sums of like terms one by one.
-use Rattle.std.proofs.Common.{◌≡◌, ◌≢◌, ℕ, zero, suc, ◌+◌, ◌<◌, ◌≤◌, List, [], ◌∷◌, ◌++◌, length, get_or, set, take, sym, ◌∙◌, ap, ap₂, refl, subst, arith, add-one, get_or-set_same, get_or-set_other, length-set, ⊎_elim}
+use Rattle.std.proofs.Common.{◌≡◌, ◌≢◌, ℕ, zero, suc, ◌+◌, ◌<◌, ◌≤◌, List, [], ◌∷◌, length, get_or, set, take, sym, ◌∙◌, ap, ap₂, refl, subst, arith, get_or-set_same, get_or-set_other, length-set, ⊎_elim}
 use Rattle.std.specs.List.{All, swap}
 use Rattle.std.specs.List.Sorted.{IsPermutation, IsNonDecreasingBy, apply_swaps, SwapsInRange}
-use Rattle.std.proofs.Math.Seq.{take-suc}
 use Rattle.std.proofs.lemmas.Bool.{cases_eq}
 use Rattle.std.proofs.lemmas.List.{get_or_read, take_all}
 use Rattle.ark_math.specs.Field.{FieldOn, IsField}
@@ -11,7 +10,7 @@ use Rattle.ark_math.proofs.Groups.{cancel_left}
 use Rattle.ark_math.proofs.Solve.{◌⊞◌}
 use Rattle.ark_math.proofs.Ring.{module0_3}
 use Rattle.ark_math.proofs.Univariate.{coefficients_are_module}
-use Rattle.ark_math.proofs.UnivariatePairs.{of_pairs-push, monomial-added, monomial-zero, sparse-nil}
+use Rattle.ark_math.proofs.UnivariatePairs.{of_pairs-push, take_next, monomial-added, monomial-zero, sparse-nil}
 
 module _ {F : Type 0} (K : FieldOn F) (N : IsField K) where
   abbrev mono : ℕ × F → ℕ → F
@@ -96,7 +95,7 @@ module _ {F : Type 0} (K : FieldOn F) (N : IsField K) where
         ∙ sym (M.plus_assoc (of_pairs K c) (monomial K n s) (monomial K n x.1))
         ∙ ap₂ (added K) h.sum (ap (λ u. monomial K u x.1) (sym f))
         ∙ sym (of_pairs-push K N (take i p) x)
-        ∙ ap (of_pairs K) (sym (ap (λ u. take u p) (add-one i) ∙ take-suc p i x l ∙ ap (λ u. take i p ++ u ∷ []) (sym e)));
+        ∙ ap (of_pairs K) (sym (take_next K N p i x l e));
     next = λ k d a b. h.next k d (omega arith) b;
   }
 

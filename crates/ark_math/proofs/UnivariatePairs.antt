@@ -1,16 +1,21 @@
 -- What lists of (exponent, coefficient) denote, and lists whose exponents rise.
-use Rattle.std.proofs.Common.{◌≡◌, ◌≢◌, ℕ, zero, suc, ◌<◌, ◌≤◌, List, [], ◌∷◌, ◌++◌, length, get_or, sym, ◌∙◌, ap, ap₂, refl, subst, arith, ⊎_elim}
+use Rattle.std.proofs.Common.{◌≡◌, ◌≢◌, ℕ, zero, suc, ◌+◌, ◌<◌, ◌≤◌, ◌-◌, List, [], ◌∷◌, ◌++◌, length, get_or, take, None, Some, Bool, Decides, ◌==◌, ◌&&◌, sym, ◌∙◌, ap, ap₂, refl, subst, arith, add-one, ⊎_elim}
 use mathlib.Core.Path.{fun_ext}
-use Rattle.std.specs.List.{AllPairs, All}
+use Rattle.std.specs.List.{AllPairs, All, slice_get}
+use Rattle.std.specs.Cmp.Lexicographic.{pointwise}
+use Rattle.std.proofs.Math.Seq.{take-suc}
 use Rattle.std.proofs.lemmas.Bool.{cases_eq, cases_order, cases_lt}
+use Rattle.std.proofs.lemmas.Bool.Decides.{Decides-eqb, Decides-and}
+use Rattle.std.proofs.lemmas.Slice.Eq.{slice_eq-Decides}
+use Rattle.std.proofs.lemmas.Option.{get_or_from_slice_get, slice_get_cases}
 use Rattle.std.proofs.lemmas.List.{length_push, get_or_push, get_or_append_left}
 use Rattle.std.proofs.lemmas.List.Quantifiers.{all_pairs_push}
 use Rattle.ark_math.specs.Field.{FieldOn, IsField, power}
-use Rattle.ark_math.specs.Univariate.{nothing, added, monomial, IsDegree, IsValue, of_pairs, IsSparse}
+use Rattle.ark_math.specs.Univariate.{nothing, added, difference, monomial, IsDegree, IsValue, of_pairs, IsSparse}
 use Rattle.ark_math.proofs.Groups.{itself_is_module, zero_plus, cancel_left}
 use Rattle.ark_math.proofs.Solve.{◌⊞◌}
 use Rattle.ark_math.proofs.Ring.{module0_3}
-use Rattle.ark_math.proofs.Univariate.{coefficients_are_module, monomial-same, monomial-other}
+use Rattle.ark_math.proofs.Univariate.{coefficients_are_module, monomial-same, monomial-other, monomial-opposite}
 use Rattle.ark_math.proofs.UnivariateValues.{value-added, value-monomial}
 
 -- ---- sums of pairs in any order
@@ -53,6 +58,21 @@ module _ {F : Type 0} (K : FieldOn F) (N : IsField K) where
   value-of_pairs_push x p y z h =
       subst (λ t. IsValue K t y (K.plus z (K.times (power K y x.0) x.1))) (sym (of_pairs-push p x))
       (value-added K N (of_pairs K p) (monomial K x.0 x.1) y z (K.times (power K y x.0) x.1) h (value-monomial K N x.0 x.1 y))
+
+  -- two terms
+  pub of_pairs-difference : (n : ℕ) (c h : F) → of_pairs K ((0, K.negated h) ∷ (n, c) ∷ []) ≡ difference K (monomial K n c) (monomial K 0 h)
+  of_pairs-difference n c h =
+      let M = coefficients_are_module {I = ℕ} K N in
+      ap (added K (monomial K 0 (K.negated h))) (M.plus_zero (monomial K n c))
+      ∙ M.plus_comm (monomial K 0 (K.negated h)) (monomial K n c)
+      ∙ ap (added K (monomial K n c)) (monomial-opposite K N 0 h)
+
+  -- the first pairs, and the next one
+  pub take_next : (p : List (ℕ × F)) (i : ℕ) (x : ℕ × F) → i < length p → x ≡ get_or p i x → take (i + 1) p ≡ take i p ++ x ∷ []
+  take_next p i x l e = ap (λ n. take n p) (add-one i) ∙ take-suc p i x l ∙ ap (λ t. take i p ++ t ∷ []) (sym e)
+
+  pub value-of_pairs_take : (p : List (ℕ × F)) (i : ℕ) (x : ℕ × F) (y z : F) → i < length p → x ≡ get_or p i x → IsValue K (of_pairs K (take i p)) y z → IsValue K (of_pairs K (take (i + 1) p)) y (K.plus z (K.times (power K y x.0) x.1))
+  value-of_pairs_take p i x y z l e h = subst (λ t. IsValue K (of_pairs K t) y (K.plus z (K.times (power K y x.0) x.1))) (sym (take_next p i x l e)) (value-of_pairs_push x (take i p) y z h)
 
   -- ---- one coefficient
 
@@ -125,22 +145,41 @@ module _ {F : Type 0} (K : FieldOn F) (N : IsField K) where
   sparse_nothing p s e = same_sparse p [] s sparse-nil e
 
   -- its degree is its last exponent
-  pub sparse_degree : (p : List (ℕ × F)) (x : ℕ × F) → IsSparse K (p ++ x ∷ []) → IsDegree K (of_pairs K (p ++ x ∷ [])) x.0
-  sparse_degree p x h =
-      let ps = p ++ x ∷ [] in
-      let n = length_push p x in
-      let last : get_or ps (length p) x ≡ x = get_or_push p x x (length p) refl in
-      record {
-        rest = λ i b. of_pairs-absent ps i (λ k d l e. ⊎_elim
-            (λ (c : k < length p).
-            let m : (get_or ps k d).0 < (get_or ps (length p) d).0 = h.rising k (length p) d c (omega arith) in
-            let f : (get_or ps (length p) d).0 ≡ x.0 = ap (λ t. t.0) (get_or_push p x d (length p) refl) in
-            absurd (omega arith))
-            (λ (c : length p ≤ k).
-            let f : (get_or ps k d).0 ≡ x.0 = ap (λ t. t.0) (get_or_push p x d k (omega arith)) in
-            absurd (omega arith))
-            (cases_lt k (length p)));
-        leading = λ _ e.
-            h.some (length p) x (omega arith)
-            (sym (of_pairs-at ps (length p) x h.rising (omega arith)) ∙ ap (λ t. of_pairs K ps t.0) last ∙ e);
-      }
+  pub sparse_degree : (p : List (ℕ × F)) (k : ℕ) (x : ℕ × F) → IsSparse K p → k + 1 ≡ length p → ((d : ℕ × F) → get_or p k d ≡ x) → IsDegree K (of_pairs K p) x.0
+  sparse_degree p k x h l is = record {
+    rest = λ i b. of_pairs-absent p i (λ j d m e.
+        let last : (get_or p k d).0 ≡ x.0 = ap (λ t. t.0) (is d) in
+        ⊎_elim
+        (λ (c : j < k). let r : (get_or p j d).0 < (get_or p k d).0 = h.rising j k d c (omega arith) in absurd (omega arith))
+        (λ (c : k ≤ j). let s : j ≡ k = omega arith in let f : (get_or p j d).0 ≡ (get_or p k d).0 = ap (λ t. (get_or p t d).0) s in absurd (omega arith))
+        (cases_lt j k));
+    leading = λ _ e. h.some k x (omega arith) (sym (of_pairs-at p k x h.rising (omega arith)) ∙ ap (λ t. of_pairs K p t.0) (is x) ∙ e);
+  }
+
+  pub sparse_last : (p : List (ℕ × F)) (x : ℕ × F) → IsSparse K p → slice_get p (length p - 1) ≡ Some x → IsDegree K (of_pairs K p) x.0
+  sparse_last p x h e = ⊎_elim
+      (λ found. let some = found.1 in sparse_degree p (length p - 1) x h (omega (arith, some)) (λ d. get_or_from_slice_get p (length p - 1) x d e))
+      (λ none. let same : None ≡ Some x = sym none.1 ∙ e in cc)
+      (slice_get_cases p (length p - 1)).1
+
+  -- ---- tests
+
+  -- a test of pairs, and one of sparse lists by it
+  pub pair_Decides : {eq : F → F → Bool} → ((a b : F) → Decides (eq a b) (a ≡ b)) → (x y : ℕ × F) → Decides ((x.0 == y.0) && eq x.1 y.1) (x ≡ y)
+  pair_Decides {eq} decides x y =
+      let both = Decides-and (x.0 == y.0) (eq x.1 y.1) (Decides-eqb x.0 y.0) (decides x.1 y.1) in
+      (λ t. let e = both.0 t in λ i. (e.0 i, e.1 i), λ e. both.1 (ap (λ t. t.0) e, ap (λ t. t.1) e))
+
+  pub sparse_Decides : {eq : F → F → Bool} → ((a b : F) → Decides (eq a b) (a ≡ b)) → (p q : List (ℕ × F)) → IsSparse K p → IsSparse K q → Decides (pointwise (λ x y. (x.0 == y.0) && eq x.1 y.1) p q) (of_pairs K p ≡ of_pairs K q)
+  sparse_Decides decides p q s t =
+      let same = slice_eq-Decides (pair_Decides decides) p q _ refl in
+      (λ e. ap (of_pairs K) (same.0 e), λ e. same.1 (same_sparse p q s t e))
+
+  no_pairs : (p : List (ℕ × F)) → length p ≡ 0 → p ≡ []
+  no_pairs [] e = refl
+  no_pairs (x ∷ p) e = absurd (omega arith)
+
+  pub sparse_none_Decides : (p : List (ℕ × F)) (r : Bool) → IsSparse K p → r ≡ (length p == 0) → Decides r (of_pairs K p ≡ nothing K)
+  sparse_none_Decides p r s e =
+      let d = Decides-eqb (length p) 0 in
+      (λ h. ap (of_pairs K) (no_pairs p (d.0 (sym e ∙ h))), λ h. e ∙ d.1 (ap length (sparse_nothing p s h)))

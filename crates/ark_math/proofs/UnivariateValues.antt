@@ -1,5 +1,5 @@
 -- The value of a polynomial at a point, and Horner's step.
-use Rattle.std.proofs.Common.{◌≡◌, ℕ, suc, ◌+◌, ◌<◌, ◌≤◌, List, ◌∷◌, length, drop, sym, ◌∙◌, ap, ap₂, refl, arith, ⊎_elim}
+use Rattle.std.proofs.Common.{◌≡◌, ℕ, suc, ◌+◌, ◌<◌, ◌≤◌, List, ◌∷◌, length, drop, sym, ◌∙◌, ap, ap₂, subst, refl, arith, ⊎_elim}
 use Rattle.std.proofs.lemmas.Bool.{cases_lt}
 use Rattle.std.proofs.lemmas.List.{drop_more}
 use Rattle.ark_math.specs.Field.{FieldOn, IsField, power, minus}
@@ -115,6 +115,10 @@ module _ {F : Type 0} (K : FieldOn F) (N : IsField K) where
 
   pub value-of_list : (c : List F) (x : F) → IsValue K (of_list K c) x (value_at K (itself K) c x)
   value-of_list c x = (length c, of_list-below K c, refl)
+
+  -- the value of the polynomial that a list denotes is that of the list
+  pub value_of_list : (a : ℕ → F) (c : List F) (x y : F) → a ≡ of_list K c → IsValue K a x y → y ≡ value_at K (itself K) c x
+  value_of_list a c x y e h = one_value a x y (value_at K (itself K) c x) h (subst (λ b. IsValue K b x (value_at K (itself K) c x)) (sym e) (value-of_list c x))
 
   pub value_below-first : (n : ℕ) (a : ℕ → F) (x : F) → value_below K (suc n) a x ≡ K.plus (a 0) (K.times x (value_below K n (λ i. a (suc i)) x))
   value_below-first n a x = horner (itself_is_module K N) n a x

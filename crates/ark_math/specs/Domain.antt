@@ -48,6 +48,10 @@ pub record IsLeast (P : ℕ → Type 0) (k n : ℕ) : Type 0 where
 abbrev pub HasNone : (ℕ → Type 0) → ℕ → Type 0
 HasNone P k = (m : ℕ) → P m → m < k
 
+-- a type of domains that chooses kinds and sizes so has none for k
+abbrev pub HasNoSize : (ℕ → Kind → ℕ → Type 0) → ℕ → Type 0
+HasNoSize chooses k = (kind : Kind) (n : ℕ) → chooses k kind n → ⊥
+
 -- what the radix 2 type takes for k: the least supported power of two
 abbrev pub IsRadix2 : Adicity → ℕ → Kind → ℕ → Type 0
 IsRadix2 s k radix2 n = IsLeast (IsSize s radix2) k n

@@ -56,3 +56,8 @@ pub record AreGreatest {F : Type 0} (s : Adicity) (root : ℕ → F) (two_adic :
   pub two_adic_is : 2 ^ s.two < 2 ^ 64 → two_adic ≡ root (2 ^ s.two)
   pub large_is : (x : F) → large ≡ Some x → greatest_size s < 2 ^ 64 → x ≡ root (greatest_size s)
   pub together : IsSome large ↔ IsSome s.odd
+
+-- k ^ e is the greatest power of k that divides n
+pub record IsGreatestPower (k n e : ℕ) : Type 0 where
+  pub divides : n % k ^ e ≡ 0
+  pub greatest : (f : ℕ) → n % k ^ f ≡ 0 → f ≤ e

@@ -36,3 +36,13 @@ pub progress : {S A : Type 0} (can : S → Type 0) (rest : S → List A) (s : S)
 progress can rest s x j c e =
     let shorter : length (rest s) ≡ suc (length (rest j)) = ap length e in
     record { on = λ _. (c, tt, omega arith); keeps = c; rests = λ _. tt }
+
+-- and so does one that holds another and takes each step by it
+pub yields_wrapped : {S T A : Type 0} (rest : S → List A) (inner : T → S) (all : List A) (t : T) → AlwaysYields (YieldsFirst rest) (λ x. x) (inner t) all → AlwaysYields (YieldsFirst (λ u. rest (inner u))) (λ x. x) t all
+yields_wrapped rest inner [] t h = λ x j. h x (inner j)
+yields_wrapped rest inner (y ∷ ys) t h = (
+  (λ j. h.0 (inner j)),
+  λ x j k.
+      let step = h.1 x (inner j) k in
+      (step.0, yields_wrapped rest inner ys j step.1),
+)

@@ -5,6 +5,8 @@ pub mod domain;
 pub mod evaluations;
 pub mod polynomial;
 
-pub use domain::{EvaluationDomain, MixedRadixEvaluationDomain, Radix2EvaluationDomain};
+pub use domain::{
+    EvaluationDomain, GeneralEvaluationDomain, MixedRadixEvaluationDomain, Radix2EvaluationDomain,
+};
 pub use evaluations::univariate::Evaluations;
 pub use polynomial::{DenseUVPolynomial, Polynomial, univariate};

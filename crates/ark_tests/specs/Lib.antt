@@ -1,2 +1,4 @@
--- Modules of the tests' own.
+-- A field and a module of the tests' own.
+pub mod Four
+pub mod FourLaws
 pub mod Nothing

@@ -9,11 +9,25 @@ mod domains;
 mod errors;
 #[cfg(test)]
 mod fields;
+pub mod four;
+#[cfg(test)]
+mod kinds;
 pub mod nothing;
 pub mod plain;
+#[cfg(test)]
+mod points;
+#[cfg(test)]
+mod polynomials;
+#[cfg(test)]
+mod program;
 #[cfg(test)]
 mod recorded;
 #[cfg(test)]
 mod sinks;
+#[cfg(test)]
+mod sparse;
+pub mod traced;
+#[cfg(test)]
+mod traces;
 #[cfg(test)]
 mod transforms;

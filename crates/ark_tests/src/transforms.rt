@@ -5,7 +5,6 @@ use ark_base::{F5, F65537, Fermat, FftField, Field, Five, Mixed, PolyError};
 use ark_poly::{EvaluationDomain, Radix2EvaluationDomain};
 use rand_core::Rng;
 use rand_pcg::Pcg64;
-use std::alloc::{AllocError, Global};
 use std::test::Fail;
 
 #[test]
@@ -56,15 +55,6 @@ fn rows(rt: HostRuntime) -> Result<(), Fail> {
     Ok(())
 }
 
-// So many elements of a generator.
-fn drawn(alloc: Global, rng: &mut Pcg64, len: usize) -> Result<Vec<F65537>, AllocError> {
-    let mut list = Vec::with_capacity(alloc, len)?;
-    for _ in 0..len {
-        list.push(F65537::from(rng.next_u64()))?;
-    }
-    Ok(list)
-}
-
 #[test]
 fn plain_bodies_agree(rt: HostRuntime) -> Result<(), Fail> {
     let alloc = rt.alloc();
@@ -77,7 +67,7 @@ fn plain_bodies_agree(rt: HostRuntime) -> Result<(), Fail> {
             return Err(Fail::from(PolyError::NoDomain));
         };
         for domain in [subgroup, coset] {
-            let items = drawn(alloc, &mut rng, size)?;
+            let items = plain::drawn(alloc, &mut rng, size)?;
             let values = domain.fft(alloc, items.as_slice())?;
             assert!(rt;
                 values == plain::sums(alloc, &domain, items.as_slice())?,
@@ -90,14 +80,7 @@ fn plain_bodies_agree(rt: HostRuntime) -> Result<(), Fail> {
             assert!(rt; back == items, "size {size}");
             plain::inverse(&domain, passed.as_mut_slice());
             assert!(rt; passed == items, "size {size}");
-            for len in [0, 1, size / 4, size / 4 + 1, size + 3] {
-                let items = drawn(alloc, &mut rng, len)?;
-                let values = domain.fft(alloc, items.as_slice())?;
-                assert!(rt;
-                    values == plain::sums(alloc, &domain, items.as_slice())?,
-                    "{len} items at size {size}"
-                );
-            }
+            assert!(rt; plain::agrees(alloc, &mut rng, &domain)?, "size {size}");
         }
     }
     Ok(())

@@ -6,7 +6,7 @@ use Rattle.std.specs.declared.alloc.Global.{Global}
 use Rattle.std.proofs.lemmas.List.{take_all}
 use Rattle.ark_base.specs.declared.error.PolyError.{PolyError}
 use Rattle.polyrun_lib.specs.Lines.{refusal_line_of, usage_text}
-use Rattle.polyrun_lib.specs.Answer.{Known, Names, Command, forward, back, at, command_name, AreTransformed, AreEvaluated, Reads, IsCommand, Gives, MayWrite}
+use Rattle.polyrun_lib.specs.Answer.{Known, Names, Command, forward, back, at, size_for, command_name, AreTransformed, AreEvaluated, AreSized, Reads, IsCommand, Gives, MayWrite}
 use Rattle.polyrun_lib.specs.Outcome.{MayRefuse, IsOutcome}
 
 pub IfNone-weaker : {T : Type 0} (o : Option T) {P Q : Type 0} → IfNone o P → (P → Q) → IfNone o Q
@@ -30,18 +30,28 @@ not_forward words name rest e is none (forward k h xs) r =
     none k h xs (subst (λ w. AreTransformed w k h xs) (rest_of words name rest (forward k h xs) e r).1 r.2)
 not_forward words name rest e is none (back k h xs) r = let t = ap (λ l. get_or l 0 0) (sym (rest_of words name rest (back k h xs) e r).0 ∙ is) in absurd (omega arith)
 not_forward words name rest e is none (at xs x) r = let t = ap (λ l. get_or l 0 0) (sym (rest_of words name rest (at xs x) e r).0 ∙ is) in absurd (omega arith)
+not_forward words name rest e is none (size_for k) r = let t = ap (λ l. get_or l 0 0) (sym (rest_of words name rest (size_for k) e r).0 ∙ is) in absurd (omega arith)
 
 pub not_back : (words : List (List ℕ)) (name : List ℕ) (rest : List (List ℕ)) → words ≡ name ∷ rest → name ≡ codes "ifft" → ((k h : ℕ) (xs : List ℕ) → AreTransformed rest k h xs → ⊥) → (c : Command) → Reads words c → ⊥
 not_back words name rest e is none (forward k h xs) r = let t = ap (λ l. get_or l 0 0) (sym (rest_of words name rest (forward k h xs) e r).0 ∙ is) in absurd (omega arith)
 not_back words name rest e is none (back k h xs) r =
     none k h xs (subst (λ w. AreTransformed w k h xs) (rest_of words name rest (back k h xs) e r).1 r.2)
 not_back words name rest e is none (at xs x) r = let t = ap (λ l. get_or l 0 0) (sym (rest_of words name rest (at xs x) e r).0 ∙ is) in absurd (omega arith)
+not_back words name rest e is none (size_for k) r = let t = ap (λ l. get_or l 0 0) (sym (rest_of words name rest (size_for k) e r).0 ∙ is) in absurd (omega arith)
 
 pub not_at : (words : List (List ℕ)) (name : List ℕ) (rest : List (List ℕ)) → words ≡ name ∷ rest → name ≡ codes "eval" → ((xs : List ℕ) (x : ℕ) → AreEvaluated rest xs x → ⊥) → (c : Command) → Reads words c → ⊥
 not_at words name rest e is none (forward k h xs) r = let t = ap (λ l. get_or l 0 0) (sym (rest_of words name rest (forward k h xs) e r).0 ∙ is) in absurd (omega arith)
 not_at words name rest e is none (back k h xs) r = let t = ap (λ l. get_or l 0 0) (sym (rest_of words name rest (back k h xs) e r).0 ∙ is) in absurd (omega arith)
 not_at words name rest e is none (at xs x) r =
     none xs x (subst (λ w. AreEvaluated w xs x) (rest_of words name rest (at xs x) e r).1 r.2)
+not_at words name rest e is none (size_for k) r = let t = ap (λ l. get_or l 0 0) (sym (rest_of words name rest (size_for k) e r).0 ∙ is) in absurd (omega arith)
+
+pub not_size : (words : List (List ℕ)) (name : List ℕ) (rest : List (List ℕ)) → words ≡ name ∷ rest → name ≡ codes "size" → ((k : ℕ) → AreSized rest k → ⊥) → (c : Command) → Reads words c → ⊥
+not_size words name rest e is none (forward k h xs) r = let t = ap (λ l. get_or l 0 0) (sym (rest_of words name rest (forward k h xs) e r).0 ∙ is) in absurd (omega arith)
+not_size words name rest e is none (back k h xs) r = let t = ap (λ l. get_or l 0 0) (sym (rest_of words name rest (back k h xs) e r).0 ∙ is) in absurd (omega arith)
+not_size words name rest e is none (at xs x) r = let t = ap (λ l. get_or l 0 0) (sym (rest_of words name rest (at xs x) e r).0 ∙ is) in absurd (omega arith)
+not_size words name rest e is none (size_for k) r =
+    none k (subst (λ w. AreSized w k) (rest_of words name rest (size_for k) e r).1 r.2)
 
 pub reads_forward : (words : List (List ℕ)) (name : List ℕ) (rest : List (List ℕ)) (f : Known) (outcome : Result (String Global) PolyError) → words ≡ name ∷ rest → name ≡ codes "fft"
     → ((k : ℕ) × (h : ℕ) × (xs : List ℕ) × AreTransformed rest k h xs × IsOutcome f (forward k h xs) outcome) → (c : Command) × Reads words c × IsOutcome f c outcome
@@ -54,6 +64,10 @@ reads_back words name rest f outcome e is t = (back t.0 t.1 t.2, (rest, e ∙ ap
 pub reads_at : (words : List (List ℕ)) (name : List ℕ) (rest : List (List ℕ)) (f : Known) (outcome : Result (String Global) PolyError) → words ≡ name ∷ rest → name ≡ codes "eval"
     → ((xs : List ℕ) × (x : ℕ) × AreEvaluated rest xs x × IsOutcome f (at xs x) outcome) → (c : Command) × Reads words c × IsOutcome f c outcome
 reads_at words name rest f outcome e is t = (at t.0 t.1, (rest, e ∙ ap (λ n. n ∷ rest) is, t.2), t.3)
+
+pub reads_size : (words : List (List ℕ)) (name : List ℕ) (rest : List (List ℕ)) (f : Known) (outcome : Result (String Global) PolyError) → words ≡ name ∷ rest → name ≡ codes "size"
+    → ((k : ℕ) × AreSized rest k × IsOutcome f (size_for k) outcome) → (c : Command) × Reads words c × IsOutcome f c outcome
+reads_size words name rest f outcome e is t = (size_for t.0, (rest, e ∙ ap (λ n. n ∷ rest) is, t.1), t.2)
 
 -- ---- a field and a command
 

@@ -2,7 +2,7 @@
 use Rattle.std.proofs.Common.{◌≡◌, ◌⊎◌, ◌-◌, ◌/◌, ◌%◌, ℕ, List, [], ◌∷◌, Result, Ok, Err, map, IfOk, IsOkUnless, string_bytes, inl, inr, refl, sym, ap, ap₂, subst, ◌∙◌, mod-eq_of_lt}
 use Rattle.ark_math.specs.Field.{FieldOn}
 use Rattle.ark_math.specs.Module.{itself}
-use Rattle.ark_math.specs.Domain.{Kind, Domain, IsDomain}
+use Rattle.ark_math.specs.Domain.{Domain, HasNoSize, IsDomain}
 use Rattle.ark_math.specs.Transform.{transform, value_at, IsInverse}
 use Rattle.ark_math.proofs.Carried.{Carries, carried, power-carried, value_at-carried, transform-carried, IsInverse-carried}
 use Rattle.ark_math.proofs.Inversion.{inverse_exists}
@@ -59,7 +59,7 @@ module _ (M : Type 0) (g : Ghosts M) (S : Shown g) where
   is_domain_for d k h chosen lawful e =
       (d.kind, d.size, chosen, (λ z. lawful.offset_not_zero (e ∙ zero_offset h z)), domain_carried d h lawful e)
 
-  pub has_no_domain : (k h : ℕ) (offset : PrimeField M g) → offset ≡ residue_of S.prime h → (offset ≡ (prime_field {M = M} {g = g} S.prime).zero) ⊎ ((kind : Kind) (n : ℕ) → IsChosen (adicity g) k kind n → ⊥) → HasNoDomain (shown_field g) k h
+  pub has_no_domain : (k h : ℕ) (offset : PrimeField M g) → offset ≡ residue_of S.prime h → (offset ≡ (prime_field {M = M} {g = g} S.prime).zero) ⊎ HasNoSize (IsChosen (adicity g)) k → HasNoDomain (shown_field g) k h
   has_no_domain k h offset e (inl zero) = inr (ap (value {M = M} {g = g}) (sym e ∙ zero))
   has_no_domain k h offset e (inr none) = inl none
 

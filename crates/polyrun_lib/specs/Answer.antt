@@ -4,7 +4,7 @@ use Rattle.std.specs.Io.KnownBytes.{Appends}
 use Rattle.ark_math.specs.Field.{FieldOn, power}
 use Rattle.ark_math.specs.Module.{itself}
 use Rattle.ark_math.specs.Root.{Adicity, adicity_of}
-use Rattle.ark_math.specs.Domain.{Kind, Domain, IsRadix2}
+use Rattle.ark_math.specs.Domain.{Kind, Domain, HasNoSize, IsGeneral}
 use Rattle.ark_math.specs.Transform.{transform, value_at, IsInverse}
 use Rattle.ark_base.specs.declared.error.PolyError.{PolyError}
 use Rattle.ark_base.specs.declared.error.PolyError.TheVariants.{Memory, NoDomain}
@@ -52,11 +52,13 @@ pub data Command : Type 0 where
   forward : ℕ → ℕ → List ℕ → Command
   back : ℕ → ℕ → List ℕ → Command
   at : List ℕ → ℕ → Command
+  size_for : ℕ → Command
 
 abbrev pub command_name : Command → List ℕ
 command_name (forward k h xs) = codes "fft"
 command_name (back k h xs) = codes "ifft"
 command_name (at xs x) = codes "eval"
+command_name (size_for k) = codes "size"
 
 -- a size, an offset and a list
 abbrev pub AreTransformed : List (List ℕ) → ℕ → ℕ → List ℕ → Type 0
@@ -66,11 +68,16 @@ AreTransformed words k h xs = (a : List ℕ) × (b : List ℕ) × (c : List ℕ)
 abbrev pub AreEvaluated : List (List ℕ) → List ℕ → ℕ → Type 0
 AreEvaluated words xs x = (a : List ℕ) × (b : List ℕ) × (words ≡ a ∷ b ∷ []) × IsList a xs × IsNumber b x
 
+-- a number of coefficients
+abbrev pub AreSized : List (List ℕ) → ℕ → Type 0
+AreSized words k = (a : List ℕ) × (words ≡ a ∷ []) × IsNumber a k
+
 -- the words after the command's name
 abbrev pub Takes : List (List ℕ) → Command → Type 0
 Takes words (forward k h xs) = AreTransformed words k h xs
 Takes words (back k h xs) = AreTransformed words k h xs
 Takes words (at xs x) = AreEvaluated words xs x
+Takes words (size_for k) = AreSized words k
 
 -- the words after the field
 abbrev pub Reads : List (List ℕ) → Command → Type 0
@@ -80,7 +87,7 @@ Reads words c = (rest : List (List ℕ)) × (words ≡ command_name c ∷ rest) 
 
 -- the kind and the size of the domain for k
 abbrev pub IsChosen : Adicity → ℕ → Kind → ℕ → Type 0
-IsChosen = IsRadix2
+IsChosen = IsGeneral
 
 abbrev pub domain_of : Known → Kind → ℕ → ℕ → Domain ℕ
 domain_of f kind n h = record { kind = kind; size = n; root = power (operations f) f.generator ((f.modulus - 1) / n); offset = h % f.modulus }
@@ -95,16 +102,18 @@ Gives f (forward k h xs) text = (d : Domain ℕ) × IsDomainFor f k h d × (text
 Gives f (back k h xs) text = (d : Domain ℕ) × (u : List ℕ) × IsDomainFor f k h d
     × IsInverse (operations f) (itself (operations f)) d (reduced f xs) u × (reduced f u ≡ u) × (text ≡ line_of u)
 Gives f (at xs x) text = text ≡ line_of (value_at (operations f) (itself (operations f)) (reduced f xs) (x % f.modulus) ∷ [])
+Gives f (size_for k) text = (kind : Kind) × (n : ℕ) × IsChosen f.adicity k kind n × (text ≡ line_of (n ∷ []))
 
 -- no domain is as long as k, or the offset is zero
 abbrev pub HasNoDomain : Known → ℕ → ℕ → Type 0
-HasNoDomain f k h = ((kind : Kind) (n : ℕ) → IsChosen f.adicity k kind n → ⊥) ⊎ (h % f.modulus ≡ 0)
+HasNoDomain f k h = HasNoSize (IsChosen f.adicity) k ⊎ (h % f.modulus ≡ 0)
 
 -- and where it refuses
 abbrev pub Refuses : Known → Command → PolyError → Type 0
 Refuses f (forward k h xs) refusal = HasNoDomain f k h × (refusal ≡ NoDomain)
 Refuses f (back k h xs) refusal = HasNoDomain f k h × (refusal ≡ NoDomain)
 Refuses f (at xs x) refusal = ⊥
+Refuses f (size_for k) refusal = HasNoSize (IsChosen f.adicity) k × (refusal ≡ NoDomain)
 
 abbrev pub Writes : Known → Command → List ℕ → ℕ → Type 0
 Writes f c text status = (Gives f c text × (status ≡ 0)) ⊎ ((refusal : PolyError) × Refuses f c refusal × (text ≡ refusal_line_of refusal) × (status ≡ 1))

@@ -1,12 +1,14 @@
 -- Words that spell a number or a list, words that spell none, and lines, all computed from the definitions.
-use Rattle.std.specs.Prelude.{◌≡◌, ℕ, ◌<◌, ◌^◌, [], ◌∷◌, ◌++◌, codes}
+use Rattle.std.specs.Prelude.{◌≡◌, ℕ, ◌<◌, ◌≤◌, ◌^◌, [], ◌∷◌, ◌++◌, codes}
 use Rattle.std.specs.Fmt.{digits}
-use Rattle.std.proofs.Common.{refl, subst, inr, lit<, lit≤, lt→ltb}
-use Rattle.ark_math.specs.Domain.{radix2}
+use Rattle.std.proofs.Common.{refl, sym, subst, inr, true≢false, lit<, lit≤, lt→ltb}
+use Rattle.std.proofs.Math.Nat.{pow-le-pow_right, lt_of_le_of_lt, not-le_of_lt}
+use Rattle.ark_math.specs.Domain.{radix2, mixed_radix, IsSize}
+use Rattle.ark_math.proofs.Sizes.{power_lt, size_power}
 use Rattle.ark_base.specs.declared.error.PolyError.TheVariants.{NoDomain}
 use Rattle.polyrun_lib.specs.Words.{IsNumber, IsList}
 use Rattle.polyrun_lib.specs.Lines.{line_of}
-use Rattle.polyrun_lib.specs.Answer.{field_5, forward, back, at, domain_of, IsDomainFor, Gives, Refuses}
+use Rattle.polyrun_lib.specs.Answer.{Known, field_5, field_433, forward, back, at, size_for, domain_of, IsDomainFor, Gives, Refuses}
 
 -- zeros may stand first
 zeros : IsNumber (codes "007") 7
@@ -87,3 +89,53 @@ no_value = refl
 
 zero_offset : Refuses field_5 (forward 4 0 (1 ∷ [])) NoDomain
 zero_offset = (inr refl, refl)
+
+-- ---- sizes
+
+-- no power of two of the field has so many elements
+above_all : (f : Known) (k : ℕ) → 2 ^ f.adicity.two < k → (n : ℕ) → IsSize f.adicity radix2 n → n < k
+above_all f k past n is =
+    let power = size_power f.adicity n is in
+    subst (λ m. m < k) (sym power.1) (lt_of_le_of_lt (pow-le-pow_right (lit≤ tt) power.2) past)
+
+-- a power of two wherever there is one: for 5 the size is 8, though 6 is a mixed size
+size_8 : Gives field_433 (size_for 5) (codes "8" ++ 10 ∷ [])
+unfolding digits
+size_8 = (
+  radix2,
+  8,
+  record {
+    holds = (3, record { product = refl; twos_within = lit≤ tt; odds_within = lit≤ tt; fits = lit< tt });
+    above = lit≤ tt;
+    least = λ m is above.
+        let power = size_power field_433.adicity m is in
+        subst (λ n. 8 ≤ n) (sym power.1) (pow-le-pow_right (lit≤ tt) (power_lt 2 power.0 (subst (λ n. 5 ≤ n) power.1 above)));
+  },
+  refl,
+)
+
+-- and a mixed size where there is none
+size_18 : Gives field_433 (size_for 18) (codes "18" ++ 10 ∷ [])
+unfolding digits
+size_18 = (
+  mixed_radix,
+  18,
+  (
+    record {
+      holds = (refl, (1, 2, record { product = refl; twos_within = lit≤ tt; odds_within = lit≤ tt; fits = lit< tt }));
+      above = lit≤ tt;
+      least = λ m is above. above;
+    },
+    above_all field_433 18 (lit< tt),
+  ),
+  refl,
+)
+
+no_size : Refuses field_5 (size_for 5) NoDomain
+no_size = (
+  elim [
+    | radix2 ↦ λ n least. not-le_of_lt (above_all field_5 5 (lit< tt) n least.holds) least.above
+    | mixed_radix ↦ λ n least. true≢false (sym least.0.holds.0)
+  ],
+  refl,
+)

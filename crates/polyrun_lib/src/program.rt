@@ -1,24 +1,21 @@
 //! The answer to the words of a command line.
 
 ghost use Rattle.std.specs.Prelude.{◌≡◌, ◌⊎◌, ◌%◌, ℕ, List, map, IfOk, IfSome, IfNone, IfErr, IsOkUnless, string_bytes};
-ghost use Rattle.ark_math.specs.Domain.{Kind, IsDomain};
-ghost use Rattle.ark_math.specs.Module.{itself};
-ghost use Rattle.ark_math.specs.Transform.{value_at};
+ghost use Rattle.ark_math.specs.Domain.{HasNoSize, IsDomain};
 ghost use Rattle.polyrun_lib.specs.Words.{IsList, SpellsList};
 ghost use Rattle.polyrun_lib.specs.Lines.{line_of};
-ghost use Rattle.polyrun_lib.specs.Answer.{Known, known, Command, forward, back, at, AreTransformed, AreEvaluated, Reads, IsCommand, MayWrite, IsWritten};
+ghost use Rattle.polyrun_lib.specs.Answer.{Known, known, Command, forward, back, at, size_for, AreTransformed, AreEvaluated, AreSized, Reads, IsCommand, MayWrite, IsWritten};
 ghost use Rattle.polyrun_lib.specs.Outcome.{IsOutcome};
 
 use crate::lines::{line, refusal_line, usage_line};
 use crate::words::{is_list, list, number};
-use ark_base::{
-    Fermat, FftField, Field, Five, Mixed, PolyError, PrimeField, PrimeModulus, Sink, Work,
-};
-use ark_poly::{EvaluationDomain, Radix2EvaluationDomain};
+use ark_base::{Fermat, FftField, Five, Mixed, PolyError, PrimeField, PrimeModulus, Sink, Work};
+use ark_poly::univariate::DensePolynomial;
+use ark_poly::{DenseUVPolynomial, EvaluationDomain, GeneralEvaluationDomain, Polynomial};
 use std::alloc::{AllocError, Global};
 
 /// The domains that the transforms are over.
-type Domain<M> = Radix2EvaluationDomain<PrimeField<M>>;
+type Domain<M> = GeneralEvaluationDomain<PrimeField<M>>;
 
 /// Writes the answer to the words, and gives its status: 0; 1 where the line tells of a refusal; 2 where the words are
 /// no command; and 3 where the writer failed, after a beginning of the text. All memory is taken before the first byte
@@ -27,8 +24,9 @@ type Domain<M> = Radix2EvaluationDomain<PrimeField<M>>;
 /// The words are a field, which is `5`, `433` or `65537`, and a command:
 ///
 /// - `fft K H LIST` and `ifft K H LIST`, the transform or its inverse over the domain of size `K` or the next larger,
-///   with the offset `H`,
-/// - `eval LIST X`, the value at `X` of the polynomial with these coefficients.
+///   with the offset `H`: of a power of two where there is one, and otherwise of a mixed size,
+/// - `eval LIST X`, the value at `X` of the polynomial with these coefficients,
+/// - `size K`, the size of that domain.
 pub fn run<W: Sink>(alloc: Global, words: &[String], out: &mut W) -> u8
     ensures { (text : List ℕ) × (status : ℕ) × MayWrite (map string_bytes words.now) text status × IsWritten (W.contents out.old) (W.contents out.new) (W.failures out.old) (W.failures out.new) text status result }
 {
@@ -80,6 +78,7 @@ fn answer_over<M: PrimeModulus>(
         "fft" => fft::<M>(alloc, arguments),
         "ifft" => ifft::<M>(alloc, arguments),
         "eval" => eval::<M>(alloc, arguments),
+        "size" => size::<M>(alloc, arguments),
         _ => None,
     }
 }
@@ -106,6 +105,17 @@ fn eval<M: PrimeModulus>(alloc: Global, words: &[String]) -> Option<Result<Strin
 {
     let (list, x) = evaluated(words)?;
     Some(eval_line::<M>(alloc, list, x))
+}
+
+fn size<M: PrimeModulus>(alloc: Global, words: &[String]) -> Option<Result<String, PolyError>>
+    ensures some { IfSome result (λ outcome. (k : ℕ) × AreSized (map string_bytes words.now) k × IsOutcome (known M.MODULUS M.TWO_ADICITY M.SMALL_SUBGROUP_BASE M.SMALL_SUBGROUP_BASE_ADICITY M.GENERATOR) (size_for k) outcome) }
+    ensures none { IfNone result ((k : ℕ) → ¬ AreSized (map string_bytes words.now) k) }
+{
+    let [num_coeffs] = words else {
+        return None;
+    };
+    let num_coeffs = number(num_coeffs.as_str())?;
+    Some(size_line::<M>(alloc, num_coeffs))
 }
 
 /// The size, the offset and the list of a transform.
@@ -173,28 +183,24 @@ fn eval_line<M: PrimeModulus>(alloc: Global, list: &str, x: u64) -> Result<Strin
     requires { SpellsList list.now }
     ensures { (xs : List ℕ) → IsList list.now xs → IsOutcome (known M.MODULUS M.TWO_ADICITY M.SMALL_SUBGROUP_BASE M.SMALL_SUBGROUP_BASE_ADICITY M.GENERATOR) (at xs x) result }
 {
-    let coeffs = elements::<M>(alloc, list)?;
-    let value = value_of(&coeffs, PrimeField::from(x));
+    let polynomial = DensePolynomial::from_coefficients_vec(elements::<M>(alloc, list)?);
+    let value = polynomial.evaluate(alloc, &PrimeField::from(x))?;
     element_line(alloc, &[value])
 }
 
-/// The coset of the least size at or above `size` that the type of domain allows.
-fn coset<F: FftField, D: EvaluationDomain<F>>(size: u64, offset: F) -> Result<D, PolyError>
-    ensures some { IfOk result (λ d. D.chooses size (D.domain d).kind (D.domain d).size × ((D.domain d).offset ≡ offset) × IsDomain F.field F.adicity F.root (D.domain d)) }
-    ensures none { IfErr result (λ refusal. (refusal ≡ PolyError.NoDomain) × ((offset ≡ F.field.zero) ⊎ ((kind : Kind) (n : ℕ) → D.chooses size kind n → ⊥))) }
+fn size_line<M: PrimeModulus>(alloc: Global, num_coeffs: u64) -> Result<String, PolyError>
+    ensures { IsOutcome (known M.MODULUS M.TWO_ADICITY M.SMALL_SUBGROUP_BASE M.SMALL_SUBGROUP_BASE_ADICITY M.GENERATOR) (size_for num_coeffs) result }
 {
-    D::new_coset(size as usize, offset).ok_or(PolyError::NoDomain)
+    let size = Domain::<M>::compute_size_of_domain(num_coeffs as usize).ok_or(PolyError::NoDomain)?;
+    Ok(line(alloc, &[size as u64])?)
 }
 
-/// The value at `x` of the polynomial with these coefficients, by Horner's rule.
-fn value_of<F: Field>(coeffs: &[F], x: F) -> F
-    ensures { result ≡ value_at F.field (itself F.field) coeffs.now x }
+/// The coset of the size that the type of domain takes for `size`.
+fn coset<F: FftField, D: EvaluationDomain<F>>(size: u64, offset: F) -> Result<D, PolyError>
+    ensures some { IfOk result (λ d. D.chooses size (D.domain d).kind (D.domain d).size × ((D.domain d).offset ≡ offset) × IsDomain F.field F.adicity F.root (D.domain d)) }
+    ensures none { IfErr result (λ refusal. (refusal ≡ PolyError.NoDomain) × ((offset ≡ F.field.zero) ⊎ HasNoSize D.chooses size)) }
 {
-    let mut value = F::zero();
-    for i in (0..coeffs.len()).rev() {
-        value = value * x + coeffs[i];
-    }
-    value
+    D::new_coset(size as usize, offset).ok_or(PolyError::NoDomain)
 }
 
 /// The elements of a list.

@@ -1,22 +1,27 @@
 //! Domains: the places `offset * root^i` of a subgroup or a coset, and transforms over them.
 
-ghost use Rattle.std.specs.Prelude.{◌≡◌, ◌≢◌, ◌↔◌, ◌⊎◌, ℕ, ◌%◌, ◌<◌, ◌≤◌, true, false, List, take, map, length, get_or, Decides, IsNone, IfSome, IsTrue, IfOk, OnOk, OnErr, IsOkUnless};
+ghost use Rattle.std.specs.Prelude.{◌≡◌, ◌≢◌, ◌↔◌, ◌⊎◌, ℕ, ◌+◌, ◌-◌, ◌*◌, ◌/◌, ◌%◌, ◌<◌, ◌≤◌, true, false, List, take, map, length, get_or, Decides, IsNone, IfSome, IsTrue, IfOk, IfErr, OnOk, OnErr, IsOkUnless};
 ghost use Rattle.std.specs.Iterator.{IsFinite, AlwaysYields};
 ghost use Rattle.ark_math.specs.Field.{power, natural, minus};
 ghost use Rattle.ark_math.specs.Module.{item};
-ghost use Rattle.ark_math.specs.Domain.{Kind, Domain, IsDomain, IsSize, IsExponentOfTwo, element, elements};
+ghost use Rattle.ark_math.specs.Domain.{Kind, Domain, IsDomain, IsSize, HasNoSize, IsExponentOfTwo, element, elements};
 ghost use Rattle.ark_math.specs.Transform.{transform, IsInverse, IsOnlyInverse};
-ghost use Rattle.ark_math.specs.Univariate.{IsValue, of_list};
+ghost use Rattle.ark_math.specs.Univariate.{IsDegree, IsValue, of_list};
 ghost use Rattle.ark_math.specs.Points.{vanishing, AreWeights, IsElement, IsContained, IsFilter, reindexed};
 ghost use Rattle.ark_base.specs.Cost.{GrowsByCost};
+ghost use Rattle.ark_poly.specs.Sparse.{denoted};
 
 mod coset;
+pub mod general;
 pub mod mixed_radix;
 pub mod radix2;
 pub mod utils;
 
+use crate::polynomial::univariate::{DensePolynomial, SparsePolynomial};
+use crate::polynomial::{DenseUVPolynomial, Polynomial};
 pub use ark_base::DomainCoeff;
 use ark_base::{FftField, Field, PolyError, Work, batch_inversion};
+pub use general::GeneralEvaluationDomain;
 pub use mixed_radix::MixedRadixEvaluationDomain;
 pub use radix2::Radix2EvaluationDomain;
 use rand::Rng;
@@ -42,13 +47,13 @@ pub trait EvaluationDomain<F: FftField>: Copy + Eq + Hash + Debug {
     fn new(num_coeffs: usize) -> Option<Self>
         ensures chosen { IfSome result (λ d. chooses num_coeffs (domain d).kind (domain d).size) }
         ensures subgroup { IfSome result (λ d. (domain d).offset ≡ F.field.one) }
-        ensures none { IsNone result ↔ ((kind : Kind) (n : ℕ) → chooses num_coeffs kind n → ⊥) };
+        ensures none { IsNone result ↔ HasNoSize chooses num_coeffs };
 
     /// The coset with this offset of `new(num_coeffs)`, and `None` exactly where that is none or the offset is zero.
     fn new_coset(num_coeffs: usize, offset: F) -> Option<Self>
         ensures chosen { IfSome result (λ d. chooses num_coeffs (domain d).kind (domain d).size) }
         ensures coset { IfSome result (λ d. (domain d).offset ≡ offset) }
-        ensures none { IsNone result ↔ (offset ≡ F.field.zero) ⊎ ((kind : Kind) (n : ℕ) → chooses num_coeffs kind n → ⊥) }
+        ensures none { IsNone result ↔ (offset ≡ F.field.zero) ⊎ HasNoSize chooses num_coeffs }
     {
         Self::new(num_coeffs)?.get_coset(offset)
     }
@@ -61,7 +66,7 @@ pub trait EvaluationDomain<F: FftField>: Copy + Eq + Hash + Debug {
     /// The size of `new(num_coeffs)`, and `None` exactly where that is none.
     fn compute_size_of_domain(num_coeffs: usize) -> Option<usize>
         ensures size { IfSome result (λ n. (kind : Kind) × chooses num_coeffs kind n) }
-        ensures none { IsNone result ↔ ((kind : Kind) (n : ℕ) → chooses num_coeffs kind n → ⊥) };
+        ensures none { IsNone result ↔ HasNoSize chooses num_coeffs };
 
     /// The number of elements.
     fn size(&self) -> usize
@@ -244,6 +249,17 @@ pub trait EvaluationDomain<F: FftField>: Copy + Eq + Hash + Debug {
         }
     }
 
+    /// The vanishing polynomial, `x^n - offset^n`: zero exactly at the elements.
+    fn vanishing_polynomial(&self, alloc: Global) -> Result<SparsePolynomial<F>, PolyError>
+        ensures polynomial { IfOk result (λ p. denoted F.field p ≡ vanishing F.field (domain self.now)) }
+        ensures memory { IsOkUnless result PolyError.Memory }
+    {
+        let mut terms = Vec::with_capacity(alloc, 2)?;
+        terms.push((0, -self.coset_offset_pow_size()))?;
+        terms.push((self.size(), F::one()))?;
+        SparsePolynomial::from_coefficients_vec(alloc, terms)
+    }
+
     /// The value of the vanishing polynomial: zero exactly at the elements.
     fn evaluate_vanishing_polynomial(&self, tau: F) -> F
         ensures value { IsValue F.field (vanishing F.field (domain self.now)) tau result }
@@ -260,11 +276,34 @@ pub trait EvaluationDomain<F: FftField>: Copy + Eq + Hash + Debug {
             && subdomain.coset_offset().pow(self.size() as u64) == self.coset_offset_pow_size()
     }
 
+    /// The polynomial that is one at the subdomain's elements and zero at the others, of the least degree: the
+    /// difference of the sizes. `ForeignSubdomain` exactly where the subdomain isn't contained, judged before memory is
+    /// asked for.
+    fn filter_polynomial(
+        &self,
+        alloc: Global,
+        subdomain: &Self,
+    ) -> Result<DensePolynomial<F>, PolyError>
+        ensures filter { IfOk result (λ p. IsFilter F.field (domain subdomain.now) (domain self.now) (⟦<DensePolynomial<F> as Polynomial<F>>⟧.meaning p)) }
+        ensures only { IfOk result (λ p. (other : ℕ → F) → IsFilter F.field (domain subdomain.now) (domain self.now) other → other ≡ ⟦<DensePolynomial<F> as Polynomial<F>>⟧.meaning p) }
+        ensures degree { IfOk result (λ p. IsDegree F.field (⟦<DensePolynomial<F> as Polynomial<F>>⟧.meaning p) ((domain self.now).size - (domain subdomain.now).size)) }
+        ensures foreign { (result ≡ Err PolyError.ForeignSubdomain) ↔ (IsContained F.field (domain subdomain.now) (domain self.now) → ⊥) }
+        ensures errors { IfErr result (λ e. (e ≡ PolyError.Memory) ⊎ (e ≡ PolyError.ForeignSubdomain)) }
+    {
+        if !self.contains_subdomain(subdomain) {
+            return Err(PolyError::ForeignSubdomain);
+        }
+        let start = subdomain.size_as_field_element() * self.size_inv();
+        let ratio = subdomain.coset_offset_inv().pow(subdomain.size() as u64);
+        let coeffs = spaced_row(alloc, self.size(), subdomain.size(), start, ratio)?;
+        Ok(DensePolynomial::from_coefficients_vec(coeffs))
+    }
+
     /// The value of the polynomial that is one at the subdomain's elements and zero at the others, of the least degree,
     /// and `None` exactly where the subdomain isn't contained.
     fn evaluate_filter_polynomial(&self, subdomain: &Self, tau: F) -> Option<F>
         ensures value { IfSome result (λ y. (a : ℕ → F) × IsFilter F.field (domain subdomain.now) (domain self.now) a × IsValue F.field a tau y) }
-        ensures none { IsNone result ↔ (IsContained F.field (domain subdomain.now) (domain self.now) → ⊥) }
+        ensures none { IsNone result ↔ ¬ IsContained F.field (domain subdomain.now) (domain self.now) }
     {
         if !self.contains_subdomain(subdomain) {
             return None;
@@ -300,7 +339,7 @@ pub trait EvaluationDomain<F: FftField>: Copy + Eq + Hash + Debug {
 
     /// The first of at most `tries` draws that is no element of the domain, and `None` where all of them are.
     fn sample_element_outside_domain<R: Rng>(&self, rng: &mut R, tries: usize) -> Option<F>
-        ensures { IfSome result (λ x. IsElement F.field (domain self.now) x → ⊥) }
+        ensures { IfSome result (λ x. ¬ IsElement F.field (domain self.now) x) }
     {
         for _ in 0..tries {
             let drawn = F::rand(rng);
@@ -368,6 +407,32 @@ fn geometric_row_less<F: Field>(
     let mut next = first;
     for _ in 0..size {
         items.push(next - constant)?;
+        next *= ratio;
+    }
+    Ok(items)
+}
+
+/// The items `start * ratio^k` at the multiples `k * step` below `size`, and zeros between them.
+fn spaced_row<F: Field>(
+    alloc: Global,
+    size: usize,
+    step: usize,
+    start: F,
+    ratio: F,
+) -> Result<Vec<F>, AllocError>
+    requires some { 0 < size }
+    requires apart { 0 < step }
+    requires divides { size % step ≡ 0 }
+    ensures len { IfOk result (λ l. length l.items ≡ size - step + 1) }
+    ensures row { IfOk result (λ l. (k : ℕ) → k < size / step → of_list F.field l.items (step * k) ≡ F.field.times start (power F.field ratio k)) }
+    ensures zeros { IfOk result (λ l. (k r : ℕ) → 0 < r → r < step → of_list F.field l.items (step * k + r) ≡ F.field.zero) }
+{
+    let len = size - step + 1;
+    let mut items = Vec::with_capacity(alloc, len)?;
+    items.resize(len, F::zero())?;
+    let mut next = start;
+    for k in 0..size / step {
+        items[k * step] = next;
         next *= ratio;
     }
     Ok(items)

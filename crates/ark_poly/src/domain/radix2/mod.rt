@@ -8,7 +8,7 @@ pub(crate) mod fft;
 
 use crate::domain::EvaluationDomain;
 use crate::domain::coset::Coset;
-use crate::domain::utils::Elements;
+pub use crate::domain::utils::Elements;
 use ark_base::{DomainCoeff, FftField, PolyError, Work};
 use std::alloc::{AllocError, Global};
 

@@ -1,0 +1,5 @@
+use Rattle.ark_base.specs.Element.{natural_number}
+use Rattle.ark_base.proofs.prime_field.PrimeField.value.Goals as goal
+
+pub returns-clause-natural : goal.returns-clause-natural
+returns-clause-natural g c = natural_number g.M.PrimeModulus.modulus.prime c.args.self

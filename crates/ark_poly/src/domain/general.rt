@@ -1,0 +1,182 @@
+//! Domains of either kind.
+
+ghost use Rattle.ark_math.specs.Domain.{radix2, mixed_radix, IsGeneral};
+ghost use Rattle.ark_poly.specs.declared.domain.general.GeneralEvaluationDomain.TheVariants.{Radix2, MixedRadix};
+
+pub use crate::domain::utils::Elements;
+use crate::domain::{EvaluationDomain, MixedRadixEvaluationDomain, Radix2EvaluationDomain};
+use ark_base::{DomainCoeff, FftField, PolyError, Work};
+use std::alloc::{AllocError, Global};
+
+/// A domain of either kind: for a number of coefficients the radix 2 domain wherever there is one, even where a mixed
+/// one would be smaller, and otherwise the mixed radix domain.
+#[derive_where(Copy, Debug, PartialEq, Eq, Hash; F)]
+pub enum GeneralEvaluationDomain<F: FftField> {
+    /// A domain whose size is a power of two.
+    Radix2(Radix2EvaluationDomain<F>),
+    /// A domain whose size is a power of two times a power of the field's odd base.
+    MixedRadix(MixedRadixEvaluationDomain<F>),
+}
+
+impl<F: FftField> Clone for GeneralEvaluationDomain<F> {
+    fn clone(&self) -> Result<Self, AllocError> {
+        Ok(*self)
+    }
+}
+
+/// The same expression over the domain of either variant.
+macro_rules! over_both {
+    ($value:expr, $domain:ident => $result:expr) => {
+        match $value {
+            GeneralEvaluationDomain::Radix2($domain) => $result,
+            GeneralEvaluationDomain::MixedRadix($domain) => $result,
+        }
+    };
+}
+
+impl<F: FftField> EvaluationDomain<F> for GeneralEvaluationDomain<F> {
+    ghost use Rattle.ark_math.proofs.Domains.{same_domain, other_kind, radix2_is_not_mixed, radix2_domain, mixed_domain};
+    ghost use Rattle.ark_math.proofs.GeneralSizes.{general_sizes, one_general_size};
+    ghost use Rattle.std.proofs.lemmas.Bool.Decides.{not_from_Decides};
+    ghost use Rattle.std.proofs.Common.{sym};
+
+    type Elements = GeneralElements<F>;
+
+    ghost domain = { elim [
+      | Radix2 d ↦ ⟦<Radix2EvaluationDomain<F> as EvaluationDomain<F>>⟧.domain d
+      | MixedRadix d ↦ ⟦<MixedRadixEvaluationDomain<F> as EvaluationDomain<F>>⟧.domain d
+    ] };
+
+    ghost chooses = { IsGeneral F.adicity };
+
+    fn new(num_coeffs: usize) -> Option<Self> {
+        if let Some(domain) = Radix2EvaluationDomain::new(num_coeffs) {
+            return Some(GeneralEvaluationDomain::Radix2(domain));
+        }
+        let domain = MixedRadixEvaluationDomain::new(num_coeffs)?;
+        Some(GeneralEvaluationDomain::MixedRadix(domain))
+    }
+
+    fn get_coset(&self, offset: F) -> Option<Self> {
+        Some(match self {
+            GeneralEvaluationDomain::Radix2(domain) => {
+                GeneralEvaluationDomain::Radix2(domain.get_coset(offset)?)
+            }
+            GeneralEvaluationDomain::MixedRadix(domain) => {
+                GeneralEvaluationDomain::MixedRadix(domain.get_coset(offset)?)
+            }
+        })
+    }
+
+    fn compute_size_of_domain(num_coeffs: usize) -> Option<usize> {
+        match Radix2EvaluationDomain::<F>::compute_size_of_domain(num_coeffs) {
+            Some(size) => Some(size),
+            None => MixedRadixEvaluationDomain::<F>::compute_size_of_domain(num_coeffs),
+        }
+    }
+
+    fn size(&self) -> usize {
+        over_both!(self, domain => domain.size())
+    }
+
+    fn log_size_of_group(&self) -> u64 {
+        over_both!(self, domain => domain.log_size_of_group())
+    }
+
+    fn size_as_field_element(&self) -> F {
+        over_both!(self, domain => domain.size_as_field_element())
+    }
+
+    fn size_inv(&self) -> F {
+        over_both!(self, domain => domain.size_inv())
+    }
+
+    fn group_gen(&self) -> F {
+        over_both!(self, domain => domain.group_gen())
+    }
+
+    fn group_gen_inv(&self) -> F {
+        over_both!(self, domain => domain.group_gen_inv())
+    }
+
+    fn coset_offset(&self) -> F {
+        over_both!(self, domain => domain.coset_offset())
+    }
+
+    fn coset_offset_inv(&self) -> F {
+        over_both!(self, domain => domain.coset_offset_inv())
+    }
+
+    fn coset_offset_pow_size(&self) -> F {
+        over_both!(self, domain => domain.coset_offset_pow_size())
+    }
+
+    fn elements(&self) -> GeneralElements<F> {
+        over_both!(self, domain => GeneralElements(domain.elements()))
+    }
+
+    fn fft_counted<T: DomainCoeff<F>>(
+        &self,
+        alloc: Global,
+        coeffs: &mut Vec<T>,
+        work: &mut Work,
+    ) -> Result<(), PolyError> {
+        over_both!(self, domain => domain.fft_counted(alloc, coeffs, work))
+    }
+
+    fn ifft_counted<T: DomainCoeff<F>>(
+        &self,
+        alloc: Global,
+        evals: &mut Vec<T>,
+        work: &mut Work,
+    ) -> Result<(), PolyError> {
+        over_both!(self, domain => domain.ifft_counted(alloc, evals, work))
+    }
+
+    ghost lawful = { elim [
+      | Radix2 d ↦ radix2_domain F.field F.adicity F.root d.coset.size d.coset.log_size_of_group d.coset.odd_exponent _ _
+          (record { product = d.coset.product; twos_within = d.coset.twos_within; odds_within = d.coset.odds_within; fits = d.coset.fits })
+          d.even
+          ((F.equality_law _ _).0 d.coset.root_is)
+          (not_from_Decides _ (F.equality_law _ _) d.coset.offset_not_zero)
+      | MixedRadix d ↦ mixed_domain F.field F.adicity F.root d.coset.size d.coset.log_size_of_group d.coset.odd_exponent _ _
+          (record { product = d.coset.product; twos_within = d.coset.twos_within; odds_within = d.coset.odds_within; fits = d.coset.fits })
+          d.based
+          ((F.equality_law _ _).0 d.coset.root_is)
+          (not_from_Decides _ (F.equality_law _ _) d.coset.offset_not_zero)
+    ] };
+
+    ghost equality = { elim [
+      | Radix2 a ↦ elim [
+        | Radix2 b ↦ same_domain radix2 F.root _ _ _ _ _ _ _ ((F.equality_law _ _).0 a.coset.root_is) ((F.equality_law _ _).0 b.coset.root_is) (F.equality_law _ _)
+        | MixedRadix b ↦ other_kind _ _ radix2_is_not_mixed
+      ]
+      | MixedRadix a ↦ elim [
+        | Radix2 b ↦ other_kind _ _ (λ e. radix2_is_not_mixed (sym e))
+        | MixedRadix b ↦ same_domain mixed_radix F.root _ _ _ _ _ _ _ ((F.equality_law _ _).0 a.coset.root_is) ((F.equality_law _ _).0 b.coset.root_is) (F.equality_law _ _)
+      ]
+    ] };
+
+    ghost sizes = { general_sizes F.adicity };
+
+    ghost one_size = { one_general_size F.adicity };
+}
+
+/// The elements of a domain of either kind in order, and then the end.
+#[derive(Drop)]
+pub struct GeneralElements<F: FftField>(Elements<F>);
+
+impl<F: FftField> Iterator for GeneralElements<F> {
+    ghost use Rattle.ark_poly.specs.Elements.{left};
+    ghost use Rattle.std.specs.Iterator.{YieldsFirst, item_count};
+
+    type Item = F;
+
+    ghost next_gives = { YieldsFirst (λ e. left F.field e.0) };
+
+    ghost remaining = { item_count (λ e. left F.field e.0) };
+
+    fn next(&mut self) -> Option<F> {
+        self.0.next()
+    }
+}
