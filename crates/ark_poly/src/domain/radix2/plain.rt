@@ -50,54 +50,51 @@ fn plain_values<F: FftField, T: DomainCoeff<F>>(
     }
 }
 
-impl<F: FftField> Radix2EvaluationDomain<F> {
-    /// The transform in place by n plain sums, and so by n * n products.
-    pub(super) fn fft_plain<T: DomainCoeff<F>>(
-        &self,
-        alloc: Global,
-        coeffs: &mut Vec<T>,
-        work: &mut Work,
-    ) -> Result<(), PolyError>
-        ensures transform { OnOk result (map T.meaning coeffs.new.items ≡ transform F.field T.group (record { kind = radix2; size = self.now.coset.size; root = self.now.coset.group_gen; offset = self.now.coset.offset }) (map T.meaning coeffs.old.items)) }
-        ensures butterflies { OnOk result (work.new.butterflies ≡ work.old.butterflies) }
-        ensures products { OnOk result (work.new.products ≡ work.old.products + self.now.coset.size * self.now.coset.size) }
-        ensures steps { OnOk result (work.new.steps ≡ work.old.steps) }
-        ensures kept { OnErr result (coeffs.new.items ≡ coeffs.old.items) }
-        ensures uncounted { OnErr result (work.new ≡ work.old) }
-        ensures memory { IsOkUnless result PolyError.Memory }
-    {
-        let size = self.coset.size as usize;
-        let mut values = Vec::with_capacity(alloc, size)?;
-        values.resize(size, T::zero())?;
-        coeffs.resize(size, T::zero())?;
-        plain_values(
-            work,
-            coeffs.as_slice(),
-            values.as_mut_slice(),
-            self.coset.offset,
-            self.coset.group_gen,
-        );
-        *coeffs = values;
-        Ok(())
-    }
+/// The transform in place by n plain sums, and so by n * n products.
+pub(super) fn fft_plain<F: FftField, T: DomainCoeff<F>>(
+    domain: &Radix2EvaluationDomain<F>,
+    alloc: Global,
+    coeffs: &mut Vec<T>,
+    work: &mut Work,
+) -> Result<(), PolyError>
+    ensures transform { OnOk result (map T.meaning coeffs.new.items ≡ transform F.field T.group (record { kind = radix2; size = domain.now.coset.size; root = domain.now.coset.group_gen; offset = domain.now.coset.offset }) (map T.meaning coeffs.old.items)) }
+    ensures butterflies { OnOk result (work.new.butterflies ≡ work.old.butterflies) }
+    ensures products { OnOk result (work.new.products ≡ work.old.products + domain.now.coset.size * domain.now.coset.size) }
+    ensures steps { OnOk result (work.new.steps ≡ work.old.steps) }
+    ensures kept { OnErr result (coeffs.new.items ≡ coeffs.old.items) }
+    ensures uncounted { OnErr result (work.new ≡ work.old) }
+    ensures memory { IsOkUnless result PolyError.Memory }
+{
+    let size = domain.coset.size as usize;
+    let mut values = Vec::with_capacity(alloc, size)?;
+    values.resize(size, T::zero())?;
+    coeffs.resize(size, T::zero())?;
+    plain_values(
+        work,
+        coeffs.as_slice(),
+        values.as_mut_slice(),
+        domain.coset.offset,
+        domain.coset.group_gen,
+    );
+    *coeffs = values;
+    Ok(())
 }
 
 #[test]
 fn kernel_agrees(rt: HostRuntime) -> Result<(), Fail> {
     let alloc = rt.alloc();
-    for log_size in 0..5 {
+    for size in [1, 2, 4, 8, 16] {
         for offset in [1, 5] {
-            let domain: Radix2EvaluationDomain<F433> = EvaluationDomain::new_coset(
-                1 << log_size,
-                F433::from(offset),
-            ).ok_or(PolyError::NoDomain)?;
+            let domain = Radix2EvaluationDomain::<F433>::new_coset(size, F433::from(offset)).ok_or(
+                PolyError::NoDomain,
+            )?;
             for len in 0..20 {
                 let mut items = Vec::new(alloc);
                 for i in 0..len {
                     items.push(F433::from(i * i + 1))?;
                 }
                 let values = domain.fft(alloc, &items)?;
-                domain.fft_plain(alloc, &mut items, &mut Work::new())?;
+                fft_plain(&domain, alloc, &mut items, &mut Work::new())?;
                 assert_eq!(rt; values, items, "{len} items over {domain:?}");
             }
         }

@@ -5,14 +5,14 @@ use Rattle.ark_math.specs.Domain.{Domain, radix2}
 use Rattle.ark_math.specs.Module.{item}
 use Rattle.ark_math.proofs.Lists.{read_fitted, written_back}
 use Rattle.ark_math.proofs.Transforms.{is_plain_transform}
-use Rattle.ark_poly.proofs.domain.radix2.Radix2EvaluationDomain.fft_plain.Goals as goal
+use Rattle.ark_poly.proofs.domain.radix2.plain.fft_plain.Goals as goal
 
 pub returns-clause-transform : goal.returns-clause-transform
 returns-clause-transform g c =
     let K = g.F.Field.field in
     let V = g.T.DomainCoeff.group in
     let m = g.T.DomainCoeff.meaning in
-    let t = c.args.self.now.coset in
+    let t = c.args.domain.now.coset in
     let d : Domain g.row.F.Denot = record { kind = radix2; size = t.size; root = t.group_gen; offset = t.offset } in
     let old = c.args.coeffs.now.items in
     let fitted = c.as_slice.result.now in
