@@ -24,6 +24,14 @@ few_levels n l =
     (λ (b : 64 ≤ n). let m : 2 ^ 64 ≤ 2 ^ n = pow_mono b in absurd (omega arith))
     (cases_lt n 64)
 
+pub some_level : (n size : ℕ) → size ≡ 2 ^ n → 1 < size → 0 < n
+some_level zero size is l = absurd (omega arith)
+some_level (suc n) size is l = omega arith
+
+pub one_item : (n size : ℕ) → size ≡ 2 ^ n → size ≤ 1 → n ≡ 0
+one_item zero size is l = refl
+one_item (suc n) size is l = absurd (omega (arith, pow_suc n, pow_pos n))
+
 -- at a level the strides of a half make the table, and so do the doubled strides of the level below
 pub half_strides : (n s t : ℕ) → 0 < n → 2 ^ n * s / 2 ≡ t → (s * 2 ^ (n - 1) ≡ t) × (2 ^ (n - 1) * (s * 2) / 2 ≡ t)
 half_strides n s t pos whole =

@@ -1,5 +1,5 @@
 -- Pairs of exponent and coefficient in rising order: that an order changes no sum, and the sums of like terms one by one.
-use Rattle.std.proofs.Common.{◌≡◌, ◌≢◌, ℕ, zero, suc, ◌+◌, ◌<◌, ◌≤◌, List, [], ◌∷◌, ◌++◌, length, get_or, set, take, sym, ◌∙◌, ap, ap₂, refl, subst, arith, get_or-set_same, get_or-set_other, length-set, ⊎_elim}
+use Rattle.std.proofs.Common.{◌≡◌, ◌≢◌, ℕ, zero, suc, ◌+◌, ◌<◌, ◌≤◌, List, [], ◌∷◌, length, get_or, set, take, sym, ◌∙◌, ap, ap₂, refl, subst, arith, get_or-set_same, get_or-set_other, length-set, ⊎_elim}
 use Rattle.std.specs.List.{All, swap}
 use Rattle.std.specs.List.Sorted.{IsPermutation, IsNonDecreasingBy, apply_swaps, SwapsInRange}
 use Rattle.std.proofs.lemmas.Bool.{cases_eq}

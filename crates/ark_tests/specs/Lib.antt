@@ -1,2 +1,5 @@
--- Modules of the tests' own.
+-- A field and a module of the tests' own.
+pub mod Counts
+pub mod Four
+pub mod FourLaws
 pub mod Nothing

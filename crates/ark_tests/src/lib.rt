@@ -4,11 +4,15 @@
 
 pub mod calls;
 #[cfg(test)]
+mod counted;
+pub mod counts;
+#[cfg(test)]
 mod domains;
 #[cfg(test)]
 mod errors;
 #[cfg(test)]
 mod fields;
+pub mod four;
 #[cfg(test)]
 mod kinds;
 pub mod nothing;

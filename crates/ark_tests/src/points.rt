@@ -223,7 +223,7 @@ fn has_filter<D: EvaluationDomain<F433>>(
     let step = domain.size() / size.max(1);
     let part = D::new_coset(size, domain.element(first)).ok_or(PolyError::NoDomain)?;
     let filter = domain.filter_polynomial(alloc, &part)?;
-    let mut right = filter.coeffs().len() + size == domain.size() + 1;
+    let mut right = filter.coeffs().len() == domain.size().saturating_sub(size).saturating_add(1);
     for i in 0..domain.size() {
         let inside = i % step.max(1) == first;
         let value = filter.evaluate(alloc, &domain.element(i))?;
@@ -241,7 +241,7 @@ fn has_order<D: EvaluationDomain<F433>>(
     let part = D::new(size).ok_or(PolyError::NoDomain)?;
     let step = domain.size() / size.max(1);
     let mut order = Vec::with_capacity(alloc, domain.size())?;
-    if domain.size() % part.size() == 0 {
+    if part.size() != 0 && domain.size() % part.size() == 0 {
         for i in 0..domain.size() {
             order.push(domain.reindex_by_subdomain(part, i))?;
         }

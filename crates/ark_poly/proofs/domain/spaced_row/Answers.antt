@@ -1,4 +1,4 @@
-use Rattle.std.proofs.Common.{◌≡◌, ℕ, ◌*◌, ◌<◌, length, refl, sym, ap, ◌∙◌, arith, add-one, length-set}
+use Rattle.std.proofs.Common.{ℕ, ◌*◌, ◌<◌, length, refl, sym, ap, ◌∙◌, arith, add-one, length-set}
 use Rattle.ark_math.specs.Field.{power}
 use Rattle.ark_math.proofs.Solve.{◌⊗◌}
 use Rattle.ark_math.proofs.Ring.{ring3}

@@ -1,6 +1,6 @@
 //! The radix 2 transform by halves, and its inverse.
 
-ghost use Rattle.std.specs.Prelude.{◌≡◌, ℕ, true, false, IsOkUnless, IfOk, OnOk, OnErr, List, map, length, get_or, ◌+◌, ◌-◌, ◌*◌, ◌/◌, ◌≤◌, ◌<◌, ◌^◌, vec_len};
+ghost use Rattle.std.specs.Prelude.{◌≡◌, ◌≢◌, ℕ, true, false, IsOkUnless, IfOk, OnOk, OnErr, List, map, length, get_or, ◌+◌, ◌-◌, ◌*◌, ◌/◌, ◌≤◌, ◌<◌, ◌^◌, vec_len};
 ghost use Rattle.ark_math.specs.Domain.{Domain, radix2};
 ghost use Rattle.ark_math.specs.Field.{FieldOn, power};
 ghost use Rattle.ark_math.specs.Halves.{sum_at, reversed, ArePowers, IsHalfTable};
@@ -11,6 +11,7 @@ ghost use Rattle.ark_base.specs.Cost.{GrowsByCost};
 use super::Radix2EvaluationDomain;
 use ark_base::{DomainCoeff, FftField, PolyError, Work};
 use std::alloc::{AllocError, Global};
+use std::mem;
 
 /// One butterfly: the sum, and the difference times the twiddle.
 fn butterfly<F: FftField, T: DomainCoeff<F>>(work: &mut Work, lo: &mut T, hi: &mut T, twiddle: F)
@@ -67,7 +68,7 @@ pub(crate) fn halves<F: FftField, T: DomainCoeff<F>>(
     ensures products { work.new.products ≡ work.old.products + 2 ^ levels / 2 * levels }
     ensures steps { work.new.steps ≡ work.old.steps }
 {
-    if levels > 0 {
+    if xs.len() > 1 {
         let half = xs.len() / 2;
         let (lo, hi) = xs.split_at_mut(half);
         across(work, lo, hi, table, stride);
@@ -92,18 +93,60 @@ fn next_reversed(_i: usize, before: usize, levels: u32) -> usize
     left + bit
 }
 
+/// Exchanges the highest bit of each index with the lowest one: lo's odd items with hi's even ones.
+fn exchange_ends<T>(lo: &mut [T], hi: &mut [T])
+    requires same { length lo.old ≡ length hi.old }
+    ensures lo_even { (k : ℕ) (d : T) → k < length lo.old / 2 → get_or lo.new (2 * k) d ≡ get_or lo.old (2 * k) d }
+    ensures lo_odd { (k : ℕ) (d : T) → k < length lo.old / 2 → get_or lo.new (2 * k + 1) d ≡ get_or hi.old (2 * k) d }
+    ensures hi_even { (k : ℕ) (d : T) → k < length lo.old / 2 → get_or hi.new (2 * k) d ≡ get_or lo.old (2 * k + 1) d }
+    ensures hi_odd { (k : ℕ) (d : T) → k < length lo.old / 2 → get_or hi.new (2 * k + 1) d ≡ get_or hi.old (2 * k + 1) d }
+{
+    for k in 0..lo.len() / 2 {
+        mem::swap(&mut lo[2 * k + 1], &mut hi[2 * k]);
+    }
+}
+
+/// Exchanges two pairs of neighbours.
+fn swap_pairs<T>(xs: &mut [T], i: usize, j: usize)
+    requires apart { i < j }
+    requires within { 2 * j + 1 < length xs.old }
+    ensures first { (b : ℕ) (d : T) → b < 2 → get_or xs.new (2 * i + b) d ≡ get_or xs.old (2 * j + b) d }
+    ensures second { (b : ℕ) (d : T) → b < 2 → get_or xs.new (2 * j + b) d ≡ get_or xs.old (2 * i + b) d }
+    ensures others { (k b : ℕ) (d : T) → b < 2 → k ≢ i → k ≢ j → get_or xs.new (2 * k + b) d ≡ get_or xs.old (2 * k + b) d }
+{
+    xs.swap(2 * i, 2 * j);
+    xs.swap(2 * i + 1, 2 * j + 1);
+}
+
+/// Puts each pair of neighbours, of two lists, at the index that has the bits of its own backwards.
+fn restore_pairs<T>(lo: &mut [T], hi: &mut [T], levels: u32)
+    requires few { levels < 63 }
+    requires lo_size { length lo.old ≡ 2 * 2 ^ levels }
+    requires hi_size { length hi.old ≡ 2 * 2 ^ levels }
+    ensures lo_pairs { (r b : ℕ) (d : T) → b < 2 → r < 2 ^ levels → get_or lo.new (2 * r + b) d ≡ get_or lo.old (2 * reversed levels r + b) d }
+    ensures hi_pairs { (r b : ℕ) (d : T) → b < 2 → r < 2 ^ levels → get_or hi.new (2 * r + b) d ≡ get_or hi.old (2 * reversed levels r + b) d }
+{
+    let mut j = 0;
+    for i in 1..lo.len() / 2 {
+        j = next_reversed(i - 1, j, levels);
+        if i < j {
+            swap_pairs(lo, i, j);
+            swap_pairs(hi, i, j);
+        }
+    }
+}
+
 /// Puts each item at the index that has the bits of its own backwards.
 pub(crate) fn restore_order<T>(xs: &mut [T], levels: u32)
     requires few { levels < 64 }
     requires size { length xs.old ≡ 2 ^ levels }
     ensures { (p : ℕ) (d : T) → p < 2 ^ levels → get_or xs.new p d ≡ get_or xs.old (reversed levels p) d }
 {
-    let mut j = 0;
-    for i in 1..xs.len() {
-        j = next_reversed(i - 1, j, levels);
-        if i < j {
-            xs.swap(i, j);
-        }
+    if levels > 1 {
+        let half = xs.len() / 2;
+        let (lo, hi) = xs.split_at_mut(half);
+        exchange_ends(lo, hi);
+        restore_pairs(lo, hi, levels - 2);
     }
 }
 
@@ -234,7 +277,7 @@ fn scale_each<F: FftField, T: DomainCoeff<F>>(work: &mut Work, xs: &mut [T], fac
     }
 }
 
-/// Scales item i by start times the factor to the i.
+/// Scales item i by start times the factor to the i. Two rows of powers take turns, so that no product waits for the last.
 pub(crate) fn scale_by_powers<F: FftField, T: DomainCoeff<F>>(
     work: &mut Work,
     xs: &mut [T],
@@ -249,10 +292,14 @@ pub(crate) fn scale_by_powers<F: FftField, T: DomainCoeff<F>>(
     if factor.is_one() {
         scale_each(work, xs, start);
     } else {
+        let square = factor * factor;
         let mut next = start;
+        let mut after = start * factor;
         for i in 0..xs.len() {
             work.scale(&mut xs[i], next);
-            next = next * factor;
+            let later = next * square;
+            next = after;
+            after = later;
         }
     }
 }
@@ -270,6 +317,19 @@ fn shift_to_coset<F: FftField, T: DomainCoeff<F>>(work: &mut Work, xs: &mut [T],
     }
 }
 
+/// The root's power after these, as a product of two of them: no product waits for the one before it.
+fn next_power<F: FftField>(root: F, powers: &[F]) -> F
+    requires { ArePowers F.field root (length powers.now) powers.now }
+    ensures { result ≡ power F.field root (length powers.now) }
+{
+    let next = powers.len();
+    match next {
+        0 => F::one(),
+        1 => root,
+        _ => powers[next / 2] * powers[next - next / 2],
+    }
+}
+
 /// The powers of a root from 0 on.
 pub(crate) fn powers<F: FftField>(
     alloc: Global,
@@ -279,10 +339,9 @@ pub(crate) fn powers<F: FftField>(
     ensures { IfOk result (λ t. ArePowers F.field root count t.items) }
 {
     let mut powers = Vec::with_capacity(alloc, count)?;
-    let mut next = F::one();
     for _ in 0..count {
+        let next = next_power(root, powers.as_slice());
         powers.push(next)?;
-        next = next * root;
     }
     Ok(powers)
 }

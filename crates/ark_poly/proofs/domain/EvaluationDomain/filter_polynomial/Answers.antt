@@ -1,4 +1,4 @@
-use Rattle.std.proofs.Common.{◌≡◌, ℕ, ◌+◌, ◌-◌, ◌*◌, ◌/◌, ◌%◌, ◌<◌, ◌∙◌, sym, ap, ap₂, subst}
+use Rattle.std.proofs.Common.{◌≡◌, ◌+◌, ◌-◌, ◌*◌, ◌/◌, ◌%◌, ◌<◌, ◌∙◌, sym, ap, ap₂, subst}
 use Rattle.ark_math.specs.Field.{power, natural}
 use Rattle.ark_math.specs.Univariate.{of_list}
 use Rattle.ark_math.specs.Points.{IsFilter}

@@ -1,4 +1,4 @@
-use Rattle.std.proofs.Common.{◌≡◌, ℕ, List, [], ◌∷◌, ◌++◌, ap, ap₂, ◌∙◌}
+use Rattle.std.proofs.Common.{◌≡◌, ℕ, [], ◌∷◌, ◌++◌, ap, ap₂, ◌∙◌}
 use Rattle.ark_math.specs.Field.{power}
 use Rattle.ark_math.specs.Univariate.{of_pairs}
 use Rattle.ark_math.specs.Points.{vanishing}

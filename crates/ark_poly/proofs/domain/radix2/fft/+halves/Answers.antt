@@ -1,68 +1,70 @@
 use Rattle.std.proofs.Common.{rules, arith, ◌≡◌, ◌-◌, ◌*◌, ◌^◌, ◌<◌, ◌≤◌, length}
-use Rattle.ark_math.proofs.Halving.{no_level, one_level, half_strides, count_levels, stride_within}
+use Rattle.ark_math.proofs.Halving.{some_level, one_item, no_level, one_level, half_strides, count_levels, stride_within}
 use Rattle.ark_math.proofs.Reversal.{pow_pred}
 use Rattle.std.proofs.lemmas.Nat.{pow_pos}
 use Rattle.ark_poly.proofs.domain.radix2.fft.+halves.Goals as goal
 
 pub across-requires-clause-same : goal.across-requires-clause-same
 across-requires-clause-same g t c =
-    let d = pow_pred c.args.levels c.if-levels-gt0.true in
+    let d = pow_pred c.args.levels (some_level c.args.levels (length c.args.xs.now) c.requires.size c.if-xs-gt1.true) in
     omega arith
 
 pub across-requires-clause-enough : goal.across-requires-clause-enough
 across-requires-clause-enough g t c =
-    let d = pow_pred c.args.levels c.if-levels-gt0.true in
+    let d = pow_pred c.args.levels (some_level c.args.levels (length c.args.xs.now) c.requires.size c.if-xs-gt1.true) in
     let n : length c.split_at_mut-lo.result.0.now ≡ 2 ^ (c.args.levels - 1) = omega arith in
-    let w = half_strides c.args.levels c.args.stride (length c.args.table.now) c.if-levels-gt0.true c.requires.whole in
+    let w = half_strides c.args.levels c.args.stride (length c.args.table.now) (some_level c.args.levels (length c.args.xs.now) c.requires.size c.if-xs-gt1.true) c.requires.whole in
     rw n (omega (arith, w.0))
 
 pub overflow_mul-stride : goal.overflow_mul-stride
 overflow_mul-stride g t c =
-    let w = half_strides c.args.levels c.args.stride (length c.args.table.now) c.if-levels-gt0.true c.requires.whole in
+    let w = half_strides c.args.levels c.args.stride (length c.args.table.now) (some_level c.args.levels (length c.args.xs.now) c.requires.size c.if-xs-gt1.true) c.requires.whole in
     let b : c.args.stride * 2 < 2 ^ 64 = stride_within c.args.stride (2 ^ (c.args.levels - 1)) (length c.args.table.now) (pow_pos (c.args.levels - 1)) w.0 c.requires.small in
     omega arith
 
-pub overflow_mul-stride-then-levels-gt0 : goal.overflow_mul-stride-then-levels-gt0
-overflow_mul-stride-then-levels-gt0 g t c =
-    let w = half_strides c.args.levels c.args.stride (length c.args.table.now) c.if-levels-gt0.true c.requires.whole in
+pub overflow_mul-stride-then-xs-gt1 : goal.overflow_mul-stride-then-xs-gt1
+overflow_mul-stride-then-xs-gt1 g t c =
+    let w = half_strides c.args.levels c.args.stride (length c.args.table.now) (some_level c.args.levels (length c.args.xs.now) c.requires.size c.if-xs-gt1.true) c.requires.whole in
     let b : c.args.stride * 2 < 2 ^ 64 = stride_within c.args.stride (2 ^ (c.args.levels - 1)) (length c.args.table.now) (pow_pos (c.args.levels - 1)) w.0 c.requires.small in
     omega arith
 
 pub halves-requires : goal.halves-requires
 halves-requires g t c κs within =
-    let d = pow_pred c.args.levels c.if-levels-gt0.true in
+    let d = pow_pred c.args.levels (some_level c.args.levels (length c.args.xs.now) c.requires.size c.if-xs-gt1.true) in
     let n : length c.across.new.lo ≡ 2 ^ (c.args.levels - 1) = omega arith in
-    let w = half_strides c.args.levels c.args.stride (length c.args.table.now) c.if-levels-gt0.true c.requires.whole in
+    let w = half_strides c.args.levels c.args.stride (length c.args.table.now) (some_level c.args.levels (length c.args.xs.now) c.requires.size c.if-xs-gt1.true) c.requires.whole in
+    let some = some_level c.args.levels (length c.args.xs.now) c.requires.size c.if-xs-gt1.true in
     (omega arith, (search rules, (search rules, (n, (w.1, (c.requires.small, omega arith))))))
 
-pub halves-requires-then-levels-gt0 : goal.halves-requires-then-levels-gt0
-halves-requires-then-levels-gt0 g t c κs within =
-    let d = pow_pred c.args.levels c.if-levels-gt0.true in
+pub halves-requires-then-xs-gt1 : goal.halves-requires-then-xs-gt1
+halves-requires-then-xs-gt1 g t c κs within =
+    let d = pow_pred c.args.levels (some_level c.args.levels (length c.args.xs.now) c.requires.size c.if-xs-gt1.true) in
     let n : length c.across.new.hi ≡ 2 ^ (c.args.levels - 1) = omega arith in
-    let w = half_strides c.args.levels c.args.stride (length c.args.table.now) c.if-levels-gt0.true c.requires.whole in
+    let w = half_strides c.args.levels c.args.stride (length c.args.table.now) (some_level c.args.levels (length c.args.xs.now) c.requires.size c.if-xs-gt1.true) c.requires.whole in
+    let some = some_level c.args.levels (length c.args.xs.now) c.requires.size c.if-xs-gt1.true in
     (omega arith, (search rules, (search rules, (n, (w.1, (c.requires.small, omega arith))))))
 
-pub returns-then-levels-gt0-clause-sums : goal.returns-then-levels-gt0-clause-sums
-returns-then-levels-gt0-clause-sums g t c = λ w table p l.
-    let d = pow_pred c.args.levels c.if-levels-gt0.true in
+pub returns-then-xs-gt1-clause-sums : goal.returns-then-xs-gt1-clause-sums
+returns-then-xs-gt1-clause-sums g t c = λ w table p l.
+    let d = pow_pred c.args.levels (some_level c.args.levels (length c.args.xs.now) c.requires.size c.if-xs-gt1.true) in
     let n : length c.split_at_mut-lo.result.0.now ≡ 2 ^ (c.args.levels - 1) = omega arith in
     let n2 : length c.halves.new.xs ≡ 2 ^ (c.args.levels - 1) = omega arith in
-    one_level g.met.F.Field.field_laws g.met.T.DomainCoeff.module_laws g.T.DomainCoeff.meaning c.args.levels w c.args.stride c.args.table.now c.args.xs.now c.split_at_mut-lo.result.0.now c.split_at_mut-lo.result.1.now c.across.new.lo c.across.new.hi c.halves.new.xs c.halves-then-levels-gt0.new.xs table c.if-levels-gt0.true c.requires.whole c.requires.some c.split_at_mut-lo.ensures.value n n2 c.across.ensures.sums c.across.ensures.differences (c.halves.ensures.sums w table) (c.halves-then-levels-gt0.ensures.sums w table) p l
+    one_level g.met.F.Field.field_laws g.met.T.DomainCoeff.module_laws g.T.DomainCoeff.meaning c.args.levels w c.args.stride c.args.table.now c.args.xs.now c.split_at_mut-lo.result.0.now c.split_at_mut-lo.result.1.now c.across.new.lo c.across.new.hi c.halves.new.xs c.halves-then-xs-gt1.new.xs table (some_level c.args.levels (length c.args.xs.now) c.requires.size c.if-xs-gt1.true) c.requires.whole c.requires.some c.split_at_mut-lo.ensures.value n n2 c.across.ensures.sums c.across.ensures.differences (c.halves.ensures.sums w table) (c.halves-then-xs-gt1.ensures.sums w table) p l
 
-pub returns-then-levels-gt0-clause-butterflies : goal.returns-then-levels-gt0-clause-butterflies
-returns-then-levels-gt0-clause-butterflies g t c =
-    let d = pow_pred c.args.levels c.if-levels-gt0.true in
+pub returns-then-xs-gt1-clause-butterflies : goal.returns-then-xs-gt1-clause-butterflies
+returns-then-xs-gt1-clause-butterflies g t c =
+    let d = pow_pred c.args.levels (some_level c.args.levels (length c.args.xs.now) c.requires.size c.if-xs-gt1.true) in
     let n : length c.split_at_mut-lo.result.0.now ≡ 2 ^ (c.args.levels - 1) = omega arith in
     let all : c.args.levels ≤ c.args.levels = omega arith in
-    omega (arith, count_levels c.args.levels c.args.levels c.if-levels-gt0.true all)
+    omega (arith, count_levels c.args.levels c.args.levels (some_level c.args.levels (length c.args.xs.now) c.requires.size c.if-xs-gt1.true) all)
 
-pub returns-then-levels-gt0-clause-products : goal.returns-then-levels-gt0-clause-products
-returns-then-levels-gt0-clause-products g t c =
-    let d = pow_pred c.args.levels c.if-levels-gt0.true in
+pub returns-then-xs-gt1-clause-products : goal.returns-then-xs-gt1-clause-products
+returns-then-xs-gt1-clause-products g t c =
+    let d = pow_pred c.args.levels (some_level c.args.levels (length c.args.xs.now) c.requires.size c.if-xs-gt1.true) in
     let n : length c.split_at_mut-lo.result.0.now ≡ 2 ^ (c.args.levels - 1) = omega arith in
     let all : c.args.levels ≤ c.args.levels = omega arith in
-    omega (arith, count_levels c.args.levels c.args.levels c.if-levels-gt0.true all)
+    omega (arith, count_levels c.args.levels c.args.levels (some_level c.args.levels (length c.args.xs.now) c.requires.size c.if-xs-gt1.true) all)
 
-pub returns-else-levels-gt0-clause-sums : goal.returns-else-levels-gt0-clause-sums
-returns-else-levels-gt0-clause-sums g t c = λ w table p l.
-    no_level g.met.F.Field.field_laws g.met.T.DomainCoeff.module_laws c.args.levels _ _ (omega arith) p l
+pub returns-else-xs-gt1-clause-sums : goal.returns-else-xs-gt1-clause-sums
+returns-else-xs-gt1-clause-sums g t c = λ w table p l.
+    no_level g.met.F.Field.field_laws g.met.T.DomainCoeff.module_laws c.args.levels _ _ (one_item c.args.levels (length c.args.xs.now) c.requires.size (omega arith)) p l

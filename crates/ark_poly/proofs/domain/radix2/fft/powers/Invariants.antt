@@ -5,6 +5,5 @@ use Rattle.ark_poly.proofs.domain.radix2.fft.powers.Given as goal
 abbrev pub invariant-loop : goal.invariant-loop
 invariant-loop g l = record {
   len : vec_len l.powers ≡ l.counter;
-  next_power : l.next ≡ power g.F.Field.field l.root l.counter;
   before : (i : ℕ) → i < l.counter → get_or l.powers.items i g.F.Field.field.zero ≡ power g.F.Field.field l.root i;
 }

@@ -1,49 +1,57 @@
-use Rattle.std.proofs.Common.{◌≡◌, ◌+◌, ◌-◌, ◌<◌, ◌≤◌, ◌^◌, ap, ◌∙◌, arith, subst, sym}
-use Rattle.std.specs.List.{SwappedAt}
+use Rattle.std.proofs.Common.{◌≡◌, ℕ, suc, ◌+◌, ◌-◌, ◌*◌, ◌/◌, ◌<◌, ◌^◌, ◌++◌, length, get_or, ap, subst, sym, ◌∙◌, arith}
 use Rattle.ark_math.specs.Halves.{reversed}
-use Rattle.ark_math.proofs.Places.{IsRestored, restored_first, restored_same, restored_swap}
-use Rattle.ark_math.proofs.Reversal.{reversed_below, reversed_none}
+use Rattle.ark_math.proofs.Places.{AreHalves, halves_restored}
+use Rattle.ark_math.proofs.Reversal.{pow_suc}
 use Rattle.ark_poly.proofs.domain.radix2.fft.restore_order.Goals as goal
-use Rattle.ark_poly.proofs.domain.radix2.fft.restore_order.Goals.{then-i-j, else-i-j}
 
-pub loop-i-init : goal.loop-i-init
-loop-i-init g c = record {
-  restored = restored_first c.args.levels c.args.xs.now;
-  backwards = sym (reversed_none c.args.levels);
-}
+pub exchange_ends-requires : goal.exchange_ends-requires
+exchange_ends-requires g c =
+    let m = c.args.levels - 2 in
+    let two : suc (suc m) ≡ c.args.levels = omega arith in
+    let size : length c.args.xs.now ≡ 2 ^ suc m + 2 ^ suc m = c.requires.size ∙ (ap (λ t. 2 ^ t) (sym two) ∙ pow_suc (suc m)) in
+    let quarter = pow_suc m in
+    record { same = omega arith }
 
-pub swap-requires-clause-b_in_bounds : goal.swap-requires-clause-b_in_bounds
-swap-requires-clause-b_in_bounds g c =
-    let i = c.loop-i.i in
-    let e : i - 1 + 1 ≡ i = omega arith in
-    let b : i < 2 ^ c.args.levels = omega arith in
-    let r = reversed_below c.args.levels i b in
-    let is : c.next_reversed-j.result ≡ reversed c.args.levels i = c.next_reversed-j.ensures ∙ ap (reversed c.args.levels) e in
-    omega (arith, r, is)
+pub restore_pairs-requires-clause-lo_size : goal.restore_pairs-requires-clause-lo_size
+restore_pairs-requires-clause-lo_size g c =
+    let m = c.args.levels - 2 in
+    let two : suc (suc m) ≡ c.args.levels = omega arith in
+    let size : length c.args.xs.now ≡ 2 ^ suc m + 2 ^ suc m = c.requires.size ∙ (ap (λ t. 2 ^ t) (sym two) ∙ pow_suc (suc m)) in
+    let quarter = pow_suc m in
+    omega arith
 
-pub loop-i-preserved : goal.loop-i-preserved
-loop-i-preserved g c =
-    let n = c.args.levels in
-    let i = c.loop-i.i in
-    let e : i - 1 + 1 ≡ i = omega arith in
-    let s : i + 1 - 1 ≡ i = omega arith in
-    let b : i < 2 ^ n = omega arith in
-    let is : c.next_reversed-j.result ≡ reversed n i = c.next_reversed-j.ensures ∙ ap (reversed n) e in
-    let held = c.loop-i.invariant.restored in
-    record {
-      restored = elim c.if-i-j.branch [
-        | then-i-j w ↦
-            let l : i < reversed n i = rw is at w.if-i-j.true in
-            let s : SwappedAt c.loop-i.xs w.swap.new.self i (reversed n i) = subst (λ t. SwappedAt c.loop-i.xs w.swap.new.self i t) is w.swap.ensures.by_index in
-            subst (λ t. IsRestored n c.args.xs.now t (i + 1)) (sym w.xs-is)
-            (restored_swap n c.args.xs.now c.loop-i.xs i b held w.swap.new.self l s)
-        | else-i-j w ↦
-            let l : reversed n i ≤ i = rw is at w.if-i-j.false in
-            subst (λ t. IsRestored n c.args.xs.now t (i + 1)) (sym w.xs-is)
-            (restored_same n c.args.xs.now c.loop-i.xs i b held l)
-      ];
-      backwards = is ∙ ap (reversed n) (sym s);
-    }
+pub restore_pairs-requires-clause-hi_size : goal.restore_pairs-requires-clause-hi_size
+restore_pairs-requires-clause-hi_size g c =
+    let m = c.args.levels - 2 in
+    let two : suc (suc m) ≡ c.args.levels = omega arith in
+    let size : length c.args.xs.now ≡ 2 ^ suc m + 2 ^ suc m = c.requires.size ∙ (ap (λ t. 2 ^ t) (sym two) ∙ pow_suc (suc m)) in
+    let quarter = pow_suc m in
+    omega arith
 
-pub returns : goal.returns
-returns g c = λ p d b. c.loop-i.invariant.restored.done p d b (omega arith)
+pub returns-then-levels-gt1 : goal.returns-then-levels-gt1
+returns-then-levels-gt1 g c = λ p d l.
+    let m = c.args.levels - 2 in
+    let two : suc (suc m) ≡ c.args.levels = omega arith in
+    let size : length c.args.xs.now ≡ 2 ^ suc m + 2 ^ suc m = c.requires.size ∙ (ap (λ t. 2 ^ t) (sym two) ∙ pow_suc (suc m)) in
+    let quarter = pow_suc m in
+    let lo = c.split_at_mut-lo.result.0.now in
+    let hi = c.split_at_mut-lo.result.1.now in
+    let len : length lo ≡ 2 ^ suc m = omega arith in
+    let len_last : length c.restore_pairs.new.lo ≡ 2 ^ suc m = omega arith in
+    let inside : (k : ℕ) → k < 2 ^ m → k < length lo / 2 = λ k b. omega (arith, len) in
+    let f = c.exchange_ends.ensures in
+    let g = c.restore_pairs.ensures in
+    let halves : AreHalves m c.args.xs.now lo hi c.exchange_ends.new.lo c.exchange_ends.new.hi c.restore_pairs.new.lo c.restore_pairs.new.hi d = record {
+      joins = c.split_at_mut-lo.ensures.value;
+      len = len;
+      len_last = len_last;
+      lo_even = λ k b. f.lo_even k d (inside k b);
+      lo_odd = λ k b. f.lo_odd k d (inside k b);
+      hi_even = λ k b. f.hi_even k d (inside k b);
+      hi_odd = λ k b. f.hi_odd k d (inside k b);
+      lo_pairs = λ r b two l. g.lo_pairs r b d two l;
+      hi_pairs = λ r b two l. g.hi_pairs r b d two l;
+    } in
+    let q : p < 2 ^ suc (suc m) = subst (λ t. p < 2 ^ t) (sym two) l in
+    halves_restored m c.args.xs.now lo hi c.exchange_ends.new.lo c.exchange_ends.new.hi c.restore_pairs.new.lo c.restore_pairs.new.hi d halves p q
+    ∙ ap (λ t. get_or c.args.xs.now (reversed t p) d) two

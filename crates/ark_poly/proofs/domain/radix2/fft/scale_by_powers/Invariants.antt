@@ -11,7 +11,8 @@ invariant-loop-i g l =
       butterflies : l.work.butterflies ≡ l.fn.work.butterflies;
       products : l.work.products ≡ l.fn.work.products + l.i;
       steps : l.work.steps ≡ l.fn.work.steps;
-      next_scale : l.next ≡ g.F.Field.field.times l.fn.start (power g.F.Field.field l.factor l.i);
-      before : (i : ℕ) → i < l.i → item V (map m l.xs) i ≡ V.scale (g.F.Field.field.times l.fn.start (power g.F.Field.field l.factor i)) (item V (map m l.initial.xs) i);
+      next_scale : l.next ≡ g.F.Field.field.times l.fn.start (power g.F.Field.field l.fn.factor l.i);
+      after_scale : l.after ≡ g.F.Field.field.times l.fn.start (power g.F.Field.field l.fn.factor (l.i + 1));
+      before : (i : ℕ) → i < l.i → item V (map m l.xs) i ≡ V.scale (g.F.Field.field.times l.fn.start (power g.F.Field.field l.fn.factor i)) (item V (map m l.initial.xs) i);
       rest : (i : ℕ) → l.i ≤ i → item V (map m l.xs) i ≡ item V (map m l.initial.xs) i;
     }

@@ -1,4 +1,4 @@
-use Rattle.std.proofs.Common.{◌≡◌, ◌≢◌, ◌<◌, length, ap, ◌∙◌, arith}
+use Rattle.std.proofs.Common.{◌<◌, length, ap, ◌∙◌}
 use Rattle.ark_math.proofs.SortedPairs.{merged_step_new, merged_step_same}
 use Rattle.ark_poly.proofs.polynomial.univariate.sparse.merged_terms.Goals.{then-term-degree+in_ok-push_term, else-term-degree}
 use Rattle.ark_poly.proofs.polynomial.univariate.sparse.merged_terms.Goals as goal

@@ -1,4 +1,4 @@
-use Rattle.std.proofs.Common.{rules, ◌≡◌, ℕ, subst, sym, ap, ◌∙◌}
+use Rattle.std.proofs.Common.{rules, ℕ, subst, sym, ap, ◌∙◌}
 use Rattle.std.specs.List.Sorted.{IsNonDecreasingBy}
 use Rattle.std.proofs.lemmas.List.Sorted.{IsNonDecreasingBy-from_sort_by_key}
 use Rattle.ark_math.specs.Univariate.{of_pairs}
