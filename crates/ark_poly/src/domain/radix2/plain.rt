@@ -84,8 +84,8 @@ pub(super) fn fft_plain<F: FftField, T: DomainCoeff<F>>(
 fn kernel_agrees(rt: HostRuntime) -> Result<(), Fail> {
     let alloc = rt.alloc();
     for size in [1, 2, 4, 8, 16] {
-        for offset in [1, 5] {
-            let domain = Radix2EvaluationDomain::<F433>::new_coset(size, F433::from(offset)).ok_or(
+        for offset in [F433::from(1), F433::from(5)] {
+            let domain = Radix2EvaluationDomain::new_coset(size, offset).ok_or(
                 PolyError::NoDomain,
             )?;
             for len in 0..20 {

@@ -1,5 +1,5 @@
 -- The plain sums at the places are the transform.
-use Rattle.std.proofs.Common.{◌≡◌, ◌<◌, ℕ, length, map, sym, ap, ◌∙◌, arith}
+use Rattle.std.proofs.Common.{◌≡◌, ◌<◌, ℕ, length, map, ap, ◌∙◌, arith}
 use Rattle.std.proofs.lemmas.List.{length-map}
 use Rattle.ark_math.specs.Domain.{Domain, radix2}
 use Rattle.ark_math.specs.Module.{item}
