@@ -22,9 +22,9 @@ one_power : (b o p : ℕ) → 2 ≤ b → b ^ o ≡ b ^ p → o ≡ p
 one_power b o p two e = ⊎_elim
     (λ (l : o < p). let h = power_rises b o p two l in absurd (omega arith))
     (λ (m : p ≤ o). ⊎_elim
-      (λ (l : p < o). let h = power_rises b p o two l in absurd (omega arith))
-      (λ (l : o ≤ p). omega arith)
-      (cases_lt p o))
+    (λ (l : p < o). let h = power_rises b p o two l in absurd (omega arith))
+    (λ (l : o ≤ p). omega arith)
+    (cases_lt p o))
     (cases_lt o p)
 
 is_greatest : (n e : ℕ) → IsExponentOfTwo n e → IsGreatestPower 2 n e

@@ -13,7 +13,7 @@ pub greatest_power : (k e rest : ℕ) → 0 < k → rest % k ≢ 0 → IsGreates
 greatest_power k e rest pos ne = record {
   divides = mul-mod_right (k ^ e) rest;
   greatest = λ f h. ⊎_elim
-    (λ (l : e < f).
+      (λ (l : e < f).
       let n = k ^ e * rest in
       let c = n / k ^ f in
       let m = f - e - 1 in
@@ -23,16 +23,17 @@ greatest_power k e rest pos ne = record {
       let same : k ^ e * rest ≡ k ^ e * (k * (k ^ m * c)) = whole ∙ (ap (λ t. t * c) power ∙ (mul_assoc (k ^ e) (k * k ^ m) c ∙ ap (λ t. k ^ e * t) (mul_assoc k (k ^ m) c))) in
       let is : rest ≡ k * (k ^ m * c) = eq_of_mul-eq-mul_left (k ^ e) (power_positive k e pos) rest (k * (k ^ m * c)) same in
       absurd (ne (ap (λ t. t % k) is ∙ mul-mod_right k (k ^ m * c))))
-    (λ (l : f ≤ e). l)
-    (cases_lt e f);
+      (λ (l : f ≤ e). l)
+      (cases_lt e f);
 }
 
 -- one more factor taken out
 pub divided : (k e rest n : ℕ) → 0 < k → 0 < rest → n ≡ k ^ e * rest → rest % k ≡ 0 → (n ≡ k ^ (e + 1) * (rest / k)) × (0 < rest / k)
 divided k e rest n pos some is none =
-    let whole : rest ≡ k * (rest / k) = sym (div-add-mod rest k) ∙ omega (arith, none) in
-    (is ∙ ap (λ t. k ^ e * t) whole ∙ sym (mul_assoc (k ^ e) k (rest / k)) ∙ ap (λ t. t * (rest / k)) (sym (pow-suc k e) ∙ ap (λ t. k ^ t) (omega arith)),
-     pos_of_ne-zero (λ z. absurd (omega (arith, whole, ap (λ t. k * t) z))))
+    let whole : rest ≡ k * (rest / k) = sym (div-add-mod rest k) ∙ omega (arith, none) in (
+      is ∙ ap (λ t. k ^ e * t) whole ∙ sym (mul_assoc (k ^ e) k (rest / k)) ∙ ap (λ t. t * (rest / k)) (sym (pow-suc k e) ∙ ap (λ t. k ^ t) (omega arith)),
+      pos_of_ne-zero (λ z. absurd (omega (arith, whole, ap (λ t. k * t) z))),
+    )
 
 pub few_factors : (k e rest n : ℕ) → 2 ≤ k → 0 < rest → n ≡ k ^ e * rest → n < 2 ^ 64 → e < 64
 few_factors k e rest n two some is small =
