@@ -1,8 +1,9 @@
 -- The cost of a transform, from its counts.
-use Rattle.std.proofs.Common.{◌≡◌, ℕ, ◌+◌, ◌-◌, ◌<◌, ◌*◌, ◌/◌, ◌^◌, ◌≤◌, Bool, refl, sym, ap, ◌∙◌, arith}
-use Rattle.ark_math.specs.Root.{Adicity, Splits, odd_base}
-use Rattle.ark_math.specs.Domain.{radix2, mixed_radix}
-use Rattle.ark_math.specs.Cost.{IsLog2Up, counted_items}
+use Rattle.std.proofs.Common.{◌≡◌, ℕ, ◌+◌, ◌-◌, ◌<◌, ◌*◌, ◌/◌, ◌^◌, ◌≤◌, Bool, refl, sym, ap, subst, ◌∙◌, arith}
+use Rattle.ark_math.specs.Root.{Adicity, IsAdicity, Splits, odd_base}
+use Rattle.ark_math.specs.Domain.{Domain, radix2, mixed_radix}
+use Rattle.ark_math.specs.Cost.{Counts, IsCost, IsLog2Up, counted_items}
+use Rattle.ark_math.proofs.Costs.{one_cost}
 use Rattle.ark_math.proofs.Mixed.{steps_of_size}
 use Rattle.ark_base.specs.Cost.{GrowsByCost}
 use Rattle.ark_base.specs.declared.work.Work.{Work}
@@ -37,4 +38,21 @@ mixed_cost s root offset len forward before n base twos odds scalings splits is 
       butterflies_grow = b;
       steps_grow = t ∙ ap (λ x. before.steps + x) e;
       products_grow = p ∙ ap (λ x. before.products + twos * n / 2 + x + scalings) f ∙ omega arith;
+    }
+
+-- how far the counts grow by a known cost
+pub record Grown {F : Type 0} (s : Adicity) (d : Domain F) (c : Counts) (before after : Work) : Type 0 where
+  pub butterflies : after.butterflies ≡ before.butterflies + c.butterflies
+  pub steps : after.steps ≡ before.steps + c.steps
+  pub products : after.products ≤ before.products + (c.butterflies + (odd_base s.odd * odd_base s.odd - 1) * c.steps) + d.size
+
+pub grown : {F : Type 0} (s : Adicity) → IsAdicity s → (d : Domain F) (len : ℕ) (forward : Bool) (before after : Work) (n k : ℕ) (c : Counts) → d.size ≡ n → len ≡ k →
+    IsCost s d.kind n k forward c → GrowsByCost s d len forward before after → Grown s d c before after
+grown s lawful d len forward before after n k c size length is g =
+    let same : g.cost ≡ c = one_cost s d.kind n k forward g.cost c lawful (subst (λ m. IsCost s d.kind m k forward g.cost) size (subst (λ l. IsCost s d.kind d.size l forward g.cost) length g.is_cost)) is in
+    let p = g.are_products in
+    record {
+      butterflies = g.butterflies_grow ∙ ap (λ x. before.butterflies + x.butterflies) same;
+      steps = g.steps_grow ∙ ap (λ x. before.steps + x.steps) same;
+      products = subst (λ x. after.products ≤ before.products + (x.butterflies + (odd_base s.odd * odd_base s.odd - 1) * x.steps) + d.size) same (omega (arith, g.products_grow, p.1, p.2));
     }

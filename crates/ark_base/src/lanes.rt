@@ -2,7 +2,7 @@
 
 ghost use Rattle.std.specs.Prelude.{◌≡◌, ℕ, ◌<◌};
 ghost use Rattle.ark_math.specs.Field.{minus};
-ghost use Rattle.ark_math.specs.Module.{itself, pairs};
+ghost use Rattle.ark_math.specs.Module.{itself, paired};
 
 use crate::field::{DomainCoeff, Field, Zero};
 use std::alloc::AllocError;
@@ -111,17 +111,17 @@ impl<F: Field> MulAssign<F> for Lanes<F> {
 
 impl<F: Field> DomainCoeff<F> for Lanes<F> {
     ghost use Rattle.std.proofs.Common.{refl, ap, ap₂};
-    ghost use Rattle.ark_math.proofs.Groups.{itself_is_module, pairs_are_module, pairs_Decides};
+    ghost use Rattle.ark_math.proofs.Groups.{itself_is_module, paired_is_module, pair_Decides};
 
     ghost Meaning = { F × F };
 
     ghost meaning = { λ v. (v.first, v.second) };
 
-    ghost group = { pairs (itself F.field) (itself F.field) };
+    ghost group = { paired (itself F.field) (itself F.field) };
 
-    ghost module_laws = { pairs_are_module (itself_is_module F.field F.field_laws) (itself_is_module F.field F.field_laws) };
+    ghost module_laws = { paired_is_module (itself_is_module F.field F.field_laws) (itself_is_module F.field F.field_laws) };
 
-    ghost equality_meaning = { λ a b. pairs_Decides (F.equality_law a.first b.first) (F.equality_law a.second b.second) };
+    ghost equality_meaning = { λ a b. pair_Decides (F.equality_law a.first b.first) (F.equality_law a.second b.second) };
 
     ghost zero_meaning = { refl };
 

@@ -2,7 +2,7 @@
 use Rattle.std.proofs.Common.{◌≡◌, Bool, ◌&&◌, Decides, sym, ◌∙◌, ap, ap₂}
 use Rattle.std.proofs.lemmas.Bool.Decides.{Decides-and}
 use Rattle.ark_math.specs.Field.{FieldOn, IsField}
-use Rattle.ark_math.specs.Module.{ModuleOn, IsModule, itself, pairs}
+use Rattle.ark_math.specs.Module.{ModuleOn, IsModule, itself, paired}
 
 -- a field is a module over itself
 pub itself_is_module : {F : Type 0} (K : FieldOn F) → IsField K → IsModule K (itself K)
@@ -18,8 +18,8 @@ itself_is_module K L = record {
 }
 
 -- pairs of the values of two modules are a module
-pub pairs_are_module : {F M N : Type 0} {K : FieldOn F} {V : ModuleOn F M} {W : ModuleOn F N} → IsModule K V → IsModule K W → IsModule K (pairs V W)
-pairs_are_module L R = record {
+pub paired_is_module : {F M N : Type 0} {K : FieldOn F} {V : ModuleOn F M} {W : ModuleOn F N} → IsModule K V → IsModule K W → IsModule K (paired V W)
+paired_is_module L R = record {
   plus_assoc = λ x y z. ap₂ (λ a b. (a, b)) (L.plus_assoc x.0 y.0 z.0) (R.plus_assoc x.1 y.1 z.1);
   plus_comm = λ x y. ap₂ (λ a b. (a, b)) (L.plus_comm x.0 y.0) (R.plus_comm x.1 y.1);
   plus_zero = λ x. ap₂ (λ a b. (a, b)) (L.plus_zero x.0) (R.plus_zero x.1);
@@ -30,8 +30,8 @@ pairs_are_module L R = record {
   one_scale = λ x. ap₂ (λ a b. (a, b)) (L.one_scale x.0) (R.one_scale x.1);
 }
 
-pub pairs_Decides : {M N : Type 0} {a c : M} {b d : N} {s t : Bool} → Decides s (a ≡ c) → Decides t (b ≡ d) → Decides (s && t) (◌≡◌ {A = M × N} (a, b) (c, d))
-pairs_Decides {s = s} {t = t} left right =
+pub pair_Decides : {M N : Type 0} {a c : M} {b d : N} {s t : Bool} → Decides s (a ≡ c) → Decides t (b ≡ d) → Decides (s && t) (◌≡◌ {A = M × N} (a, b) (c, d))
+pair_Decides {s = s} {t = t} left right =
     let both = Decides-and s t left right in
     (λ h. let e = both.0 h in ap₂ (λ x y. (x, y)) e.0 e.1, λ e. both.1 (ap (λ p. p.0) e, ap (λ p. p.1) e))
 

@@ -3,6 +3,7 @@ pub mod Blocks
 pub mod Carried
 pub mod Carries
 pub mod Contained
+pub mod Costs
 pub mod Domains
 pub mod Elements
 pub mod Euclid

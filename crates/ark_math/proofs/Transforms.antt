@@ -49,6 +49,12 @@ module _ {F M : Type 0} {K : FieldOn F} {V : ModuleOn F M} (N : IsField K) (L : 
   pub is_transform : (c r : List M) (f : ℕ → M) → AreShifted c f → length r ≡ d.size → ((i : ℕ) → i < d.size → item V r i ≡ sum_at K V d.size d.root f i) → r ≡ transform K V d c
   is_transform c r f shifted size sums = is_listed V.zero r d.size _ size (λ i l. sums i l ∙ sym (value_there c f shifted i))
 
+-- the values of the fitted list at the places, one by one, are the transform
+pub is_plain_transform : {F M : Type 0} (K : FieldOn F) (V : ModuleOn F M) (d : Domain F) (old fitted now : List M) → length fitted ≡ d.size → length now ≡ d.size → ((j : ℕ) → j < d.size → item V fitted j ≡ item V old j) → ((i : ℕ) → i < d.size → item V now i ≡ value_at K V fitted (element K d i)) → now ≡ transform K V d old
+is_plain_transform K V d old fitted now size_fitted size_now fitting values =
+    is_listed V.zero now d.size (λ i. value_at K V (fit V old d.size) (element K d i)) size_now
+    (λ i l. values i l ∙ ap (λ t. value_at K V t (element K d i)) (is_listed V.zero fitted d.size (item V old) size_fitted fitting))
+
 module _ {F M X : Type 0} {K : FieldOn F} {V : ModuleOn F M} (N : IsField K) (L : IsModule K V) (m : X → M) where
   -- the fitted items, of which those of the list alone were scaled
   pub shifted_front : (d : Domain F) (len : ℕ) (old fitted front : List X) → length old ≡ len → length front ≡ len → ((j : ℕ) → j < d.size → item V (map m fitted) j ≡ item V (map m old) j) → ((j : ℕ) → j < len → item V (map m front) j ≡ V.scale (power K d.offset j) (item V (map m (take len fitted)) j)) → AreShifted N L d (map m old) (item V (map m (front ++ drop len fitted)))

@@ -5,7 +5,8 @@ use Rattle.std.specs.List.{AllPairs, All, slice_get}
 use Rattle.std.specs.Cmp.Lexicographic.{pointwise}
 use Rattle.std.proofs.Math.Seq.{take-suc}
 use Rattle.std.proofs.lemmas.Bool.{cases_eq, cases_order, cases_lt}
-use Rattle.std.proofs.lemmas.Bool.Decides.{Decides-eqb, Decides-and}
+use Rattle.std.proofs.lemmas.Bool.Decides.{Decides-eqb}
+use Rattle.ark_math.proofs.Groups.{pair_Decides}
 use Rattle.std.proofs.lemmas.Slice.Eq.{slice_eq-Decides}
 use Rattle.std.proofs.lemmas.Option.{get_or_from_slice_get, slice_get_cases}
 use Rattle.std.proofs.lemmas.List.{length_push, get_or_push, get_or_append_left}
@@ -164,15 +165,10 @@ module _ {F : Type 0} (K : FieldOn F) (N : IsField K) where
 
   -- ---- tests
 
-  -- a test of pairs, and one of sparse lists by it
-  pub pair_Decides : {eq : F → F → Bool} → ((a b : F) → Decides (eq a b) (a ≡ b)) → (x y : ℕ × F) → Decides ((x.0 == y.0) && eq x.1 y.1) (x ≡ y)
-  pair_Decides {eq} decides x y =
-      let both = Decides-and (x.0 == y.0) (eq x.1 y.1) (Decides-eqb x.0 y.0) (decides x.1 y.1) in
-      (λ t. let e = both.0 t in λ i. (e.0 i, e.1 i), λ e. both.1 (ap (λ t. t.0) e, ap (λ t. t.1) e))
-
+  -- a test of sparse lists by one of their pairs
   pub sparse_Decides : {eq : F → F → Bool} → ((a b : F) → Decides (eq a b) (a ≡ b)) → (p q : List (ℕ × F)) → IsSparse K p → IsSparse K q → Decides (pointwise (λ x y. (x.0 == y.0) && eq x.1 y.1) p q) (of_pairs K p ≡ of_pairs K q)
   sparse_Decides decides p q s t =
-      let same = slice_eq-Decides (pair_Decides decides) p q _ refl in
+      let same = slice_eq-Decides (λ x y. pair_Decides (Decides-eqb x.0 y.0) (decides x.1 y.1)) p q _ refl in
       (λ e. ap (of_pairs K) (same.0 e), λ e. same.1 (same_sparse p q s t e))
 
   no_pairs : (p : List (ℕ × F)) → length p ≡ 0 → p ≡ []

@@ -1,10 +1,10 @@
 -- The laws of the field of four elements and of its roots, by computation over all elements.
-use Rattle.std.proofs.Common.{◌≡◌, ◌≢◌, ◌⊎◌, ℕ, suc, zero, ◌+◌, ◌*◌, ◌%◌, ◌^◌, ◌<◌, ◌≤◌, ◌==◌, Some, ◌&&◌, Bool, true, false, Decides, IsSome, inl, inr, refl, sym, ap, ap₂, subst, ◌∙◌, arith, lit<, lit≤, true≢false}
+use Rattle.std.proofs.Common.{◌≡◌, ◌≢◌, ◌⊎◌, ℕ, suc, zero, ◌*◌, ◌%◌, ◌^◌, ◌<◌, ◌≤◌, ◌==◌, Some, ◌&&◌, Bool, true, false, Decides, inl, inr, refl, sym, ap, ap₂, subst, ◌∙◌, arith, lit<, lit≤, true≢false}
 use Rattle.std.proofs.lemmas.Bool.{and_parts}
 use Rattle.std.specs.Bool.{beq}
-use Rattle.ark_math.specs.Field.{FieldOn, IsField, power, natural}
+use Rattle.ark_math.specs.Field.{IsField, power, natural}
 use Rattle.ark_math.specs.Module.{IsModule, IsItself, itself}
-use Rattle.ark_math.specs.Root.{Splits, IsSupported, HasOrder, AreRoots, AreGreatest}
+use Rattle.ark_math.specs.Root.{IsSupported, HasOrder, AreRoots, AreGreatest}
 use Rattle.ark_math.proofs.Groups.{itself_is_module}
 use Rattle.ark_tests.specs.declared.four.Four.{Four}
 use Rattle.ark_tests.specs.Four.{bits, four, thirds, root_of_four}

@@ -186,3 +186,18 @@ fn general_getters(rt: HostRuntime) -> Result<(), Fail> {
     assert!(rt; GeneralEvaluationDomain::<F433>::new(18) != Some(domain));
     Ok(())
 }
+
+#[test]
+fn containment(rt: HostRuntime) -> Result<(), Fail> {
+    let whole = Radix2EvaluationDomain::<F433>::new(4).ok_or(PolyError::NoDomain)?;
+    let half = Radix2EvaluationDomain::<F433>::new(2).ok_or(PolyError::NoDomain)?;
+    let rest = half.get_coset(F433::from(179)).ok_or(PolyError::NoDomain)?;
+    let outside = half.get_coset(F433::from(5)).ok_or(PolyError::NoDomain)?;
+    assert!(rt; whole.contains_subdomain(&whole));
+    assert!(rt; whole.contains_subdomain(&half));
+    assert!(rt; whole.contains_subdomain(&rest));
+    assert!(rt; !whole.contains_subdomain(&outside));
+    assert!(rt; !half.contains_subdomain(&whole));
+    assert!(rt; !half.contains_subdomain(&rest));
+    Ok(())
+}

@@ -1,6 +1,8 @@
 use ark_base::{
     F5, F433, F65537, Fermat, FftField, Field, Five, Mixed, One, PrimeField, PrimeModulus, Zero,
+    batch_inversion,
 };
+use rand_pcg::Pcg64;
 use std::test::Fail;
 
 fn root<M: PrimeModulus>(n: u64) -> Option<u64> {
@@ -119,5 +121,29 @@ fn inverses(rt: HostRuntime) -> Result<(), Fail> {
     assert!(rt; F433::from(2).inverse() == Some(F433::from(217)));
     assert!(rt; F65537::from(3).inverse() == Some(F65537::from(21846)));
     assert!(rt; F65537::zero().inverse() == None);
+    Ok(())
+}
+
+#[test]
+fn inverses_in_a_batch(rt: HostRuntime) -> Result<(), Fail> {
+    let alloc = rt.alloc();
+    let mut items = [0, 1, 2, 3, 4].map(F5::from);
+    batch_inversion(alloc, &mut items)?;
+    assert_eq!(rt; items.as_slice(), [0, 1, 3, 2, 4].map(F5::from).as_slice());
+    Ok(())
+}
+
+// Draws differ, and none is past the modulus.
+#[test]
+fn drawn_elements(rt: HostRuntime) -> Result<(), Fail> {
+    let mut rng = Pcg64::new(5, 8);
+    let mut seen = [false; 5];
+    for _ in 0..200 {
+        if let Some(place) = seen.get_mut(F5::rand(&mut rng).value() as usize) {
+            *place = true;
+        }
+        assert!(rt; F65537::rand(&mut rng).value() < 65537);
+    }
+    assert_eq!(rt; seen, [true; 5]);
     Ok(())
 }

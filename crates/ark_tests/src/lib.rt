@@ -4,6 +4,9 @@
 
 pub mod calls;
 #[cfg(test)]
+mod counted;
+pub mod counts;
+#[cfg(test)]
 mod domains;
 #[cfg(test)]
 mod errors;

@@ -2,7 +2,9 @@ use crate::calls::{elements, numbers};
 use crate::plain;
 use ark_base::{F5, F433, F65537, Fermat, Field, Five, Mixed, PrimeField, PrimeModulus};
 use ark_poly::univariate::DensePolynomial;
-use ark_poly::{DenseUVPolynomial, EvaluationDomain, Polynomial, Radix2EvaluationDomain};
+use ark_poly::{
+    DenseUVPolynomial, EvaluationDomain, Evaluations, Polynomial, Radix2EvaluationDomain,
+};
 use rand_core::Rng;
 use rand_pcg::Pcg64;
 use std::alloc::Global;
@@ -105,6 +107,11 @@ fn values_over_a_domain(rt: HostRuntime) -> Result<(), Fail> {
     assert_eq!(rt; evals.domain(), domain);
     assert_eq!(rt; evals[3], F5::from(2));
     assert_eq!(rt; evals.clone()?, evals);
+    let twos = elements::<Five>(alloc, &[2, 2, 2, 2])?;
+    assert_eq!(rt; twos.len(), domain.size());
+    let same = Evaluations::from_vec_and_domain(twos, domain);
+    assert_eq!(rt; same, evals);
+    assert_eq!(rt; hash_of(&same), hash_of(&evals));
     let cut = domain.fft(alloc, p.coeffs())?;
     assert_eq!(rt;
         numbers(alloc, cut.as_slice())?.as_slice(),

@@ -2,7 +2,7 @@
 
 use crate::plain;
 use crate::traced::{Numbered, Products, Traced};
-use ark_base::{F433, F65537, FftField, PolyError};
+use ark_base::{F433, F65537, FftField, PolyError, Work};
 use ark_poly::{EvaluationDomain, MixedRadixEvaluationDomain, Radix2EvaluationDomain};
 use std::alloc::{AllocError, Global};
 use std::test::Fail;
@@ -52,6 +52,15 @@ fn products_behind_the_answers(rt: HostRuntime) -> Result<(), Fail> {
             "{whole:?}"
         );
     }
+    let [short, _, short_over_coset, _] = traced::<F65537, Radix2EvaluationDomain<F65537>>(
+        alloc, 64, 16,
+    )?;
+    for count in [short, short_over_coset] {
+        assert!(rt;
+            count.is_some_and(|count| 0 < count && count <= 192),
+            "{count:?}"
+        );
+    }
     let mixed = traced::<F433, MixedRadixEvaluationDomain<F433>>(alloc, 27, 27)?;
     for count in mixed {
         assert!(rt;
@@ -73,5 +82,47 @@ fn plain_sums_are_seen(rt: HostRuntime) -> Result<(), Fail> {
     let sums = plain::sums(alloc, &domain, &items)?;
     assert!(rt; sums == domain.fft(alloc, &items)?);
     assert_eq!(rt; behind(&sums), None);
+    Ok(())
+}
+
+// The calls that are generic over modules go by meanings: what is behind the values plays no part.
+#[test]
+fn calls_over_values_with_a_trace(rt: HostRuntime) -> Result<(), Fail> {
+    type Domain = Radix2EvaluationDomain<F433>;
+    let alloc = rt.alloc();
+    let domain = Domain::new(4).ok_or(PolyError::NoDomain)?;
+    let items = items::<F433>(alloc, 4)?;
+    let values = domain.fft(alloc, &items)?;
+    assert_eq!(rt;
+        values.as_slice(),
+        [10, 73, 431, 356]
+            .map(|value| Traced::new(F433::from(value)))
+            .as_slice()
+    );
+    let mut again = items.clone()?;
+    domain.fft_in_place(alloc, &mut again)?;
+    assert!(rt; again == values);
+    domain.ifft_in_place(alloc, &mut again)?;
+    assert!(rt; again == items);
+    domain.fft_counted(alloc, &mut again, &mut Work::new())?;
+    assert!(rt; again == values);
+    domain.ifft_counted(alloc, &mut again, &mut Work::new())?;
+    assert!(rt; again == items);
+    assert!(rt; domain.ifft(alloc, &values)? == items);
+    let mut powers = items.clone()?;
+    Domain::distribute_powers(powers.as_mut_slice(), F433::from(2));
+    assert!(rt;
+        powers.as_slice()
+            == [1, 4, 12, 32]
+                .map(|value| Traced::new(F433::from(value)))
+                .as_slice()
+    );
+    Domain::distribute_powers_and_mul_by_const(again.as_mut_slice(), F433::from(2), F433::from(3));
+    assert!(rt;
+        again.as_slice()
+            == [3, 12, 36, 96]
+                .map(|value| Traced::new(F433::from(value)))
+                .as_slice()
+    );
     Ok(())
 }

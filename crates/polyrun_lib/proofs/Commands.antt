@@ -6,7 +6,7 @@ use Rattle.std.specs.declared.alloc.Global.{Global}
 use Rattle.std.proofs.lemmas.List.{take_all}
 use Rattle.ark_base.specs.declared.error.PolyError.{PolyError}
 use Rattle.polyrun_lib.specs.Lines.{refusal_line_of, usage_text}
-use Rattle.polyrun_lib.specs.Answer.{Known, Names, Command, forward, back, at, size_for, command_name, AreTransformed, AreEvaluated, AreSized, Reads, IsCommand, Gives, MayWrite}
+use Rattle.polyrun_lib.specs.Answer.{Known, Names, Command, forward, back, at, size_for, command_name, AreTransformed, AreEvaluated, AreSized, Reads, IsCommand, MayWrite}
 use Rattle.polyrun_lib.specs.Outcome.{MayRefuse, IsOutcome}
 
 pub IfNone-weaker : {T : Type 0} (o : Option T) {P Q : Type 0} → IfNone o P → (P → Q) → IfNone o Q

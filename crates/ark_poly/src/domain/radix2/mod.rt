@@ -5,6 +5,8 @@ ghost use Rattle.ark_math.specs.Domain.{radix2, IsRadix2, IsLeast, IsSize};
 ghost use Rattle.ark_math.specs.Root.{Splits};
 
 pub(crate) mod fft;
+#[cfg(test)]
+mod plain;
 
 use crate::domain::EvaluationDomain;
 use crate::domain::coset::Coset;

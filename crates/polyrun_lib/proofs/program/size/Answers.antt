@@ -1,7 +1,7 @@
-use Rattle.std.proofs.Common.{[], get_or, map, sym, ap, subst, ◌∙◌}
+use Rattle.std.proofs.Common.{[], get_or, sym, ap, subst, ◌∙◌}
 use Rattle.std.specs.Prelude.{string_bytes}
 use Rattle.polyrun_lib.specs.Words.{IsNumber}
-use Rattle.polyrun_lib.proofs.Commands.{IfNone-weaker, map-first}
+use Rattle.polyrun_lib.proofs.Commands.{map-first}
 use Rattle.polyrun_lib.proofs.program.size.Goals as goal
 
 pub returns-in_err-num_coeffs-clause-none : goal.returns-in_err-num_coeffs-clause-none
