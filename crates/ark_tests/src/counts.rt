@@ -47,6 +47,7 @@ pub fn four_back_over_sixteen<F: FftField, T: DomainCoeff<F>>(
     requires places { (⟦<Radix2EvaluationDomain<F> as EvaluationDomain<F>>⟧.domain domain.now).size ≡ 16 }
     requires items { length values.old.items ≡ 4 }
     ensures butterflies { OnOk result (work.new.butterflies ≡ work.old.butterflies + 32) }
+    ensures products { OnOk result (work.new.products ≤ work.old.products + 32 + 16) }
 {
     domain.ifft_counted(alloc, values, work)
 }
