@@ -371,7 +371,8 @@ fn first_items<T: Copy>(alloc: Global, items: &[T], count: usize) -> Result<Vec<
     Ok(first)
 }
 
-/// One where the element `offset * root^i` is `tau`, and zero elsewhere, for the `i` below `size`.
+/// One where the element `offset * root^i` is `tau`, and zero elsewhere, for the `i` below `size`. Two rows of elements
+/// take turns, so that no product waits for the last.
 fn indicator<F: Field>(
     alloc: Global,
     size: usize,
@@ -384,15 +385,20 @@ fn indicator<F: Field>(
     ensures elsewhere { IfOk result (λ l. (i : ℕ) → i < size → F.field.times offset (power F.field root i) ≢ tau → of_list F.field l.items i ≡ F.field.zero) }
 {
     let mut items = Vec::with_capacity(alloc, size)?;
-    let mut element = offset;
+    let square = root * root;
+    let mut next = offset;
+    let mut after = offset * root;
     for _ in 0..size {
-        items.push(if element == tau { F::one() } else { F::zero() })?;
-        element *= root;
+        items.push(if next == tau { F::one() } else { F::zero() })?;
+        let later = next * square;
+        next = after;
+        after = later;
     }
     Ok(items)
 }
 
-/// The items `first * ratio^i - constant` for the `i` below `size`.
+/// The items `first * ratio^i - constant` for the `i` below `size`. Two rows of powers take turns, so that no product
+/// waits for the last.
 fn geometric_row_less<F: Field>(
     alloc: Global,
     size: usize,
@@ -404,10 +410,14 @@ fn geometric_row_less<F: Field>(
     ensures items { IfOk result (λ l. (i : ℕ) → i < size → of_list F.field l.items i ≡ minus F.field (F.field.times first (power F.field ratio i)) constant) }
 {
     let mut items = Vec::with_capacity(alloc, size)?;
+    let square = ratio * ratio;
     let mut next = first;
+    let mut after = first * ratio;
     for _ in 0..size {
         items.push(next - constant)?;
-        next *= ratio;
+        let later = next * square;
+        next = after;
+        after = later;
     }
     Ok(items)
 }

@@ -1,4 +1,4 @@
-use Rattle.std.proofs.Common.{◌≡◌, ℕ, ◌<◌, get_or, vec_len}
+use Rattle.std.proofs.Common.{◌≡◌, ℕ, ◌<◌, ◌+◌, get_or, vec_len}
 use Rattle.ark_math.specs.Field.{power, minus}
 use Rattle.ark_poly.proofs.domain.geometric_row_less.Given as goal
 
@@ -8,5 +8,6 @@ invariant-loop g l =
     record {
       len : vec_len l.items ≡ l.counter;
       next_is : l.next ≡ K.times l.fn.first (power K l.fn.ratio l.counter);
+      after_is : l.after ≡ K.times l.fn.first (power K l.fn.ratio (l.counter + 1));
       before : (i : ℕ) → i < l.counter → get_or l.items.items i K.zero ≡ minus K (K.times l.fn.first (power K l.fn.ratio i)) l.fn.constant;
     }
