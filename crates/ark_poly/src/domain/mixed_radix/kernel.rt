@@ -14,6 +14,15 @@ use crate::domain::radix2::fft::{halves, powers, restore_order, scale_by_powers}
 use ark_base::{DomainCoeff, FftField, PolyError, Work};
 use std::alloc::Global;
 
+/// The index a turn after this one, where a whole round is a turn and the rest.
+fn turned(at: usize, turn: usize, rest: usize) -> usize
+    requires within { at < turn + rest }
+    requires small { turn + rest < 2 ^ 64 }
+    ensures { result ≡ (at + turn) % (turn + rest) }
+{
+    if at < rest { at + turn } else { at - rest }
+}
+
 /// The sum of the parts' values at place i, times powers of the q-th root that go up by j.
 fn rooted_sum<F: FftField, T: DomainCoeff<F>>(
     work: &mut Work,
@@ -37,10 +46,16 @@ fn rooted_sum<F: FftField, T: DomainCoeff<F>>(
     ensures steps { work.new.steps ≡ work.old.steps }
     ensures sum { get_or table.now 0 F.field.zero ≡ F.field.one → T.meaning result ≡ sum_below T.group base (λ r. T.group.scale (get_or table.now (j * r % base * leap) F.field.zero) (item T.group (map T.meaning parts.now) (r * m + i))) }
 {
+    let turn = j * leap;
+    let rest = table.len() - turn;
     let mut sum = parts[i];
-    for r in 1..base {
-        let mut term = parts[r * m + i];
-        work.scale(&mut term, table[j * r % base * leap]);
+    let mut place = i;
+    let mut at = 0;
+    for _r in 1..base {
+        place += m;
+        at = turned(at, turn, rest);
+        let mut term = parts[place];
+        work.scale(&mut term, table[at]);
         sum += term;
     }
     sum
@@ -72,8 +87,13 @@ fn step<F: FftField, T: DomainCoeff<F>>(
     ensures other_parts { (r k : ℕ) → k < m → k ≢ i → item T.group (map T.meaning parts.new) (r * m + k) ≡ item T.group (map T.meaning parts.old) (r * m + k) }
     ensures other_places { (j k : ℕ) → k < m → k ≢ i → item T.group (map T.meaning whole.new) (j * m + k) ≡ item T.group (map T.meaning whole.old) (j * m + k) }
 {
-    for r in 1..base {
-        work.scale(&mut parts[r * m + i], table[r * i * stride]);
+    let turn = i * stride;
+    let mut place = i;
+    let mut at = 0;
+    for _r in 1..base {
+        place += m;
+        at += turn;
+        work.scale(&mut parts[place], table[at]);
     }
     for j in 0..base {
         whole[j * m + i] = rooted_sum(work, parts, table, base, m, m * stride, j, i);

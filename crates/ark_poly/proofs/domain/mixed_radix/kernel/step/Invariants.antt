@@ -8,12 +8,14 @@ invariant-loop-r g l =
     let V = g.T.DomainCoeff.group in
     let m = g.T.DomainCoeff.meaning in
     record {
-      from : 1 ≤ l.r;
-      products : l.work.products ≡ l.fn.work.products + (l.r - 1);
+      from : 1 ≤ l._r;
+      place : l.place ≡ (l._r - 1) * l.m + l.i;
+      at : l.at ≡ (l._r - 1) * l.i * l.stride;
+      products : l.work.products ≡ l.fn.work.products + (l._r - 1);
       butterflies : l.work.butterflies ≡ l.fn.work.butterflies;
       steps : l.work.steps ≡ l.fn.work.steps;
-      done : get_or l.table 0 g.F.Field.field.zero ≡ g.F.Field.field.one → (r : ℕ) → r < l.r → item V (map m l.parts) (r * l.m + l.i) ≡ V.scale (get_or l.table (r * l.i * l.stride) g.F.Field.field.zero) (item V (map m l.fn.parts) (r * l.m + l.i));
-      rest : (r : ℕ) → l.r ≤ r → item V (map m l.parts) (r * l.m + l.i) ≡ item V (map m l.fn.parts) (r * l.m + l.i);
+      done : get_or l.table 0 g.F.Field.field.zero ≡ g.F.Field.field.one → (r : ℕ) → r < l._r → item V (map m l.parts) (r * l.m + l.i) ≡ V.scale (get_or l.table (r * l.i * l.stride) g.F.Field.field.zero) (item V (map m l.fn.parts) (r * l.m + l.i));
+      rest : (r : ℕ) → l._r ≤ r → item V (map m l.parts) (r * l.m + l.i) ≡ item V (map m l.fn.parts) (r * l.m + l.i);
       others : (r k : ℕ) → k < l.m → k ≢ l.i → item V (map m l.parts) (r * l.m + k) ≡ item V (map m l.fn.parts) (r * l.m + k);
     }
 
