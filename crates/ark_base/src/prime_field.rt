@@ -102,6 +102,21 @@ impl<M: PrimeModulus> PrimeField<M> {
         }
     }
 
+    /// The same of a product of two numbers below the modulus, in half the bits where they are enough.
+    fn reduce_product(value: u64) -> Self
+        requires { value < M.MODULUS * M.MODULUS }
+        ensures { result.value ≡ value % M.MODULUS }
+    {
+        PrimeField {
+            value: if M::MODULUS <= 1 << 16 {
+                (value as u32 % M::MODULUS as u32) as u64
+            } else {
+                value % M::MODULUS
+            },
+            marker: PhantomData,
+        }
+    }
+
     /// The same of a number below twice the modulus, without a division.
     fn reduce_once(value: u64) -> Self
         requires { value < 2 * M.MODULUS }
@@ -225,7 +240,7 @@ impl<M: PrimeModulus> Mul<PrimeField<M>> for PrimeField<M> {
     ghost mul_gives = { λ a b r. r ≡ (prime_field M.modulus.prime).times a b };
 
     fn mul(self, rhs: PrimeField<M>) -> PrimeField<M> {
-        PrimeField::reduce(self.value * rhs.value)
+        PrimeField::reduce_product(self.value * rhs.value)
     }
 }
 
