@@ -1,5 +1,5 @@
 -- The counts of a transform are told by its size, kind and length alone.
-use Rattle.std.proofs.Common.{◌≡◌, ◌≢◌, ℕ, zero, suc, ◌+◌, ◌-◌, ◌*◌, ◌/◌, ◌^◌, ◌%◌, ◌<◌, ◌≤◌, Bool, Option, None, Some, refl, sym, ap, ap₂, subst, ◌∙◌, arith, ⊎_elim}
+use Rattle.std.proofs.Common.{◌≡◌, ℕ, suc, ◌*◌, ◌/◌, ◌^◌, ◌%◌, ◌<◌, ◌≤◌, Bool, Option, None, Some, refl, sym, ap, subst, ◌∙◌, arith, ⊎_elim}
 use Rattle.std.proofs.Math.Nat.{eq_of_mul-eq-mul_left, mul-le-mul_left, pow-suc, pow-le-pow_right}
 use Rattle.std.proofs.lemmas.Bool.{cases_lt}
 use Rattle.std.proofs.lemmas.Nat.{pow_pos}
@@ -7,7 +7,7 @@ use Rattle.ark_math.specs.Root.{Adicity, IsAdicity, Splits, odd_base, odd_most, 
 use Rattle.ark_math.specs.Domain.{Kind, radix2, mixed_radix, IsExponentOfTwo}
 use Rattle.ark_math.specs.Cost.{Counts, IsCost, IsLog2Up}
 use Rattle.ark_math.proofs.Mixed.{power_positive}
-use Rattle.ark_math.proofs.MixedSizes.{exponent_of_two, base_above}
+use Rattle.ark_math.proofs.MixedSizes.{exponent_of_two}
 use Rattle.ark_math.proofs.GreatestPowers.{greatest_power}
 
 -- powers of a base of at least 2 rise

@@ -1,5 +1,5 @@
 -- Each list is the transform of another.
-use Rattle.std.proofs.Common.{◌≡◌, ◌≢◌, ℕ, List}
+use Rattle.std.proofs.Common.{◌≢◌, ℕ, List}
 use Rattle.ark_math.specs.Field.{FieldOn, IsField, power, natural}
 use Rattle.ark_math.specs.Module.{ModuleOn, IsModule, item, listed}
 use Rattle.ark_math.specs.Domain.{Domain}

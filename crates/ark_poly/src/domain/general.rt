@@ -59,11 +59,11 @@ impl<F: FftField> EvaluationDomain<F> for GeneralEvaluationDomain<F> {
 
     fn get_coset(&self, offset: F) -> Option<Self> {
         Some(match self {
-            GeneralEvaluationDomain::Radix2(domain) => {
-                GeneralEvaluationDomain::Radix2(domain.get_coset(offset)?)
+            GeneralEvaluationDomain::Radix2(even) => {
+                GeneralEvaluationDomain::Radix2(even.get_coset(offset)?)
             }
-            GeneralEvaluationDomain::MixedRadix(domain) => {
-                GeneralEvaluationDomain::MixedRadix(domain.get_coset(offset)?)
+            GeneralEvaluationDomain::MixedRadix(mixed) => {
+                GeneralEvaluationDomain::MixedRadix(mixed.get_coset(offset)?)
             }
         })
     }

@@ -1,4 +1,4 @@
-use Rattle.std.proofs.Common.{◌≡◌, Bool, Decides, ◌∙◌, ◌-◌, ◌+◌, ◌<◌, length, sym, ap, subst, arith, rules, List, [], ◌∷◌, ◌++◌, get_or, false, true}
+use Rattle.std.proofs.Common.{◌≡◌, Decides, ◌∙◌, ◌-◌, ◌+◌, ◌<◌, length, sym, ap, subst, arith, rules, [], ◌∷◌, ◌++◌, get_or}
 use Rattle.std.proofs.lemmas.Bool.{some_since}
 use Rattle.std.proofs.lemmas.List.{get_or_read}
 use Rattle.ark_math.proofs.Inversions.{AreInverted, AreProducts, products_not_zero, products_zero, products_some, inverted_zero, inverted_some}

@@ -1,4 +1,4 @@
-use Rattle.std.proofs.Common.{◌≡◌, ◌-◌, ◌<◌, ◌≤◌, ◌%◌, ◌∙◌, ap, sym, arith, mod-eq_of_lt}
+use Rattle.std.proofs.Common.{◌≡◌, ◌-◌, ◌<◌, ◌≤◌, ◌∙◌, ap, sym, arith, mod-eq_of_lt}
 use Rattle.std.proofs.Math.Nat.{mod-eq-sub-mod}
 use Rattle.ark_base.proofs.prime_field.PrimeField.reduce_once.Goals as goal
 use Rattle.ark_base.proofs.prime_field.PrimeField.reduce_once.Goals.{then-value-MODULUS, else-value-MODULUS}

@@ -1,4 +1,4 @@
-use Rattle.std.proofs.Common.{◌≡◌, ◌<◌, ◌%◌, ◌∙◌, sym, ap, ap₂, subst}
+use Rattle.std.proofs.Common.{◌≡◌, ◌<◌, ◌%◌, ◌∙◌, sym, ap₂, subst}
 use Rattle.std.proofs.lemmas.Bool.{eqb-true}
 use Rattle.ark_math.specs.Field.{power}
 use Rattle.ark_math.proofs.LawfulDomains.{some_size, is_contained, contained_divides, contained_power}

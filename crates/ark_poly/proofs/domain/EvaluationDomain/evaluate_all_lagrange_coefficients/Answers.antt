@@ -1,4 +1,4 @@
-use Rattle.std.proofs.Common.{◌≡◌, ℕ, ◌<◌, List, length, ◌∙◌, sym, ap, ap₂, subst, arith}
+use Rattle.std.proofs.Common.{◌≡◌, ℕ, ◌<◌, length, ◌∙◌, sym, ap, ap₂, subst, arith}
 use Rattle.ark_math.specs.Field.{power}
 use Rattle.ark_math.specs.Univariate.{of_list}
 use Rattle.ark_math.specs.Points.{AreWeights}

@@ -1,4 +1,4 @@
-use Rattle.std.proofs.Common.{◌≡◌, ◌∙◌, sym, true≢false}
+use Rattle.std.proofs.Common.{◌∙◌, sym, true≢false}
 use Rattle.ark_poly.proofs.domain.EvaluationDomain.sample_element_outside_domain.Goals as goal
 
 pub returns-then-not-is_zero : goal.returns-then-not-is_zero

@@ -1,4 +1,4 @@
-use Rattle.std.proofs.Common.{rules, arith, ◌≡◌, ◌-◌, ◌*◌, ◌+◌, ◌^◌, ◌<◌, ◌≤◌, length}
+use Rattle.std.proofs.Common.{rules, arith, ◌≡◌, ◌-◌, ◌*◌, ◌+◌, ◌^◌, ◌<◌, length}
 use Rattle.std.proofs.lemmas.Nat.{pow_pos}
 use Rattle.ark_math.proofs.Halving.{half_strides, count_levels, stride_within}
 use Rattle.ark_math.proofs.Joining.{blocks_of_front, blocks_of_back, joined_level, one_block}

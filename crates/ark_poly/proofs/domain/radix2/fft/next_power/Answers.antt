@@ -1,4 +1,4 @@
-use Rattle.std.proofs.Common.{◌≡◌, ℕ, ◌+◌, ◌-◌, ◌/◌, ◌<◌, length, sym, ap, ap₂, ◌∙◌, arith, rules}
+use Rattle.std.proofs.Common.{◌≡◌, ◌+◌, ◌-◌, ◌/◌, ◌<◌, length, sym, ap, ap₂, ◌∙◌, arith, rules}
 use Rattle.std.proofs.lemmas.List.{get_or_read}
 use Rattle.ark_math.specs.Field.{power}
 use Rattle.ark_math.proofs.Powers.{power-add}

@@ -1,4 +1,4 @@
-use Rattle.std.proofs.Common.{◌≡◌, ℕ, suc, ◌+◌, ◌-◌, ◌*◌, ◌/◌, ◌<◌, ◌^◌, ◌++◌, length, get_or, ap, subst, sym, ◌∙◌, arith}
+use Rattle.std.proofs.Common.{◌≡◌, ℕ, suc, ◌+◌, ◌-◌, ◌/◌, ◌<◌, ◌^◌, length, get_or, ap, subst, sym, ◌∙◌, arith}
 use Rattle.ark_math.specs.Halves.{reversed}
 use Rattle.ark_math.proofs.Places.{AreHalves, halves_restored}
 use Rattle.ark_math.proofs.Reversal.{pow_suc}

@@ -1,4 +1,4 @@
-use Rattle.std.proofs.Common.{◌≡◌, ◌≢◌, ℕ, ◌+◌, ◌-◌, ◌*◌, ◌<◌, ◌≤◌, ◌^◌, List, get_or, length, ap, ◌∙◌, arith, subst, sym}
+use Rattle.std.proofs.Common.{◌≡◌, ◌≢◌, ℕ, ◌+◌, ◌-◌, ◌*◌, ◌<◌, ◌≤◌, ◌^◌, List, get_or, ap, ◌∙◌, arith, subst, sym}
 use Rattle.ark_math.specs.Halves.{reversed}
 use Rattle.ark_math.proofs.Places.{IsRestored, restored_first, restored_same, restored_swap}
 use Rattle.ark_math.proofs.Reversal.{reversed_below, reversed_none}

@@ -1,4 +1,4 @@
-use Rattle.std.proofs.Common.{◌≡◌, ◌-◌, ◌/◌, ◌<◌, ◌≤◌, ◌^◌, ℕ, List, arith, length, map, take, drop, get_or, ap, ◌∙◌, length-take-le, length-append, length-drop, ◌++◌}
+use Rattle.std.proofs.Common.{◌≡◌, ◌-◌, ◌/◌, ◌<◌, ◌≤◌, ◌^◌, ℕ, arith, length, map, take, drop, get_or, ap, ◌∙◌, length-take-le, length-append, length-drop, ◌++◌}
 use Rattle.std.proofs.Math.Pow.{pow_mono}
 use Rattle.ark_math.specs.Module.{item}
 use Rattle.ark_math.specs.Halves.{sum_at, reversed}

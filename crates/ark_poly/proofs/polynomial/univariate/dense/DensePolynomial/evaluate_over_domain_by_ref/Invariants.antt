@@ -1,4 +1,4 @@
-use Rattle.std.proofs.Common.{◌≡◌, ℕ, ◌<◌, length, vec_len}
+use Rattle.std.proofs.Common.{◌≡◌, ℕ, ◌<◌, length}
 use Rattle.ark_math.specs.Domain.{element}
 use Rattle.ark_math.specs.Univariate.{of_list, IsValue}
 use Rattle.ark_poly.proofs.polynomial.univariate.dense.DensePolynomial.evaluate_over_domain_by_ref.Given as goal
