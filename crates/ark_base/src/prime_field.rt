@@ -1,6 +1,6 @@
 //! The fields of the integers modulo a prime below 2^32, on one word each.
 
-ghost use Rattle.std.specs.Prelude.{◌≡◌, ℕ, ◌+◌, ◌*◌, ◌-◌, ◌%◌, ◌/◌, ◌<◌, ◌^◌, ◌↔◌, Option, None, Some, IsSome, refl};
+ghost use Rattle.std.specs.Prelude.{◌≡◌, ℕ, true, false, ◌+◌, ◌*◌, ◌-◌, ◌%◌, ◌/◌, ◌<◌, ◌≤◌, ◌^◌, ◌↔◌, Option, None, Some, IsSome, refl};
 ghost use Rattle.std.proofs.Common.{lit<, ◌∙◌};
 ghost use Rattle.ark_math.specs.Field.{FieldOn, minus, natural};
 ghost use Rattle.ark_math.specs.Module.{itself};
@@ -102,33 +102,58 @@ impl<M: PrimeModulus> PrimeField<M> {
         }
     }
 
-    /// The same of a product of two numbers below the modulus, in half the bits where they are enough.
+    /// Whether the prime is one more than a power of two, so that products are reduced without a division.
+    fn is_fermat() -> bool {
+        (M::MODULUS - 1).is_power_of_two()
+    }
+
+    /// The residue of a product of two numbers below the modulus. A Fermat prime's predecessor is minus one, and quotient
+    /// and rest by it are bits; modulo a small prime half the bits are enough.
     fn reduce_product(value: u64) -> Self
-        requires { value < M.MODULUS * M.MODULUS }
+        requires { value ≤ (M.MODULUS - 1) * (M.MODULUS - 1) }
         ensures { result.value ≡ value % M.MODULUS }
     {
-        PrimeField {
-            value: if M::MODULUS <= 1 << 16 {
-                (value as u32 % M::MODULUS as u32) as u64
-            } else {
-                value % M::MODULUS
-            },
-            marker: PhantomData,
+        if PrimeField::<M>::is_fermat() {
+            let less = M::MODULUS - 1;
+            PrimeField::reduce_once(value % less + (M::MODULUS - value / less))
+        } else {
+            PrimeField {
+                value: if M::MODULUS <= 1 << 16 {
+                    (value as u32 % M::MODULUS as u32) as u64
+                } else {
+                    value % M::MODULUS
+                },
+                marker: PhantomData,
+            }
         }
     }
 
-    /// The same of a number below twice the modulus, without a division.
+    /// The residue of a number below twice the modulus, without a division.
     fn reduce_once(value: u64) -> Self
         requires { value < 2 * M.MODULUS }
         ensures { result.value ≡ value % M.MODULUS }
     {
         PrimeField {
-            value: if value < M::MODULUS {
+            value: if PrimeField::<M>::is_below(value) {
                 value
             } else {
                 value - M::MODULUS
             },
             marker: PhantomData,
+        }
+    }
+
+    /// Whether a number below twice the modulus is below the modulus. Where products need no division, loops are compiled to
+    /// take two items at a time, and the sign of a difference is what those instructions compare.
+    fn is_below(value: u64) -> bool
+        requires { value < 2 * M.MODULUS }
+        ensures below { result ≡ true → value < M.MODULUS }
+        ensures above { result ≡ false → M.MODULUS ≤ value }
+    {
+        if PrimeField::<M>::is_fermat() {
+            value.wrapping_sub(M::MODULUS) >> 63 == 1
+        } else {
+            value < M::MODULUS
         }
     }
 }
@@ -240,7 +265,7 @@ impl<M: PrimeModulus> Mul<PrimeField<M>> for PrimeField<M> {
     ghost mul_gives = { λ a b r. r ≡ (prime_field M.modulus.prime).times a b };
 
     fn mul(self, rhs: PrimeField<M>) -> PrimeField<M> {
-        PrimeField::reduce_product(self.value * rhs.value)
+        PrimeField::reduce_product(self.value as u32 as u64 * rhs.value as u32 as u64)
     }
 }
 
