@@ -172,10 +172,10 @@ fn join<F: FftField, T: DomainCoeff<F>>(work: &mut Work, lo: &mut T, hi: &mut T,
     ensures products { work.new.products ≡ work.old.products + 1 }
     ensures steps { work.new.steps ≡ work.old.steps }
 {
-    work.scale(hi, twiddle);
-    let difference = *lo - *hi;
-    *lo += *hi;
-    *hi = difference;
+    let mut product = *hi;
+    work.scale(&mut product, twiddle);
+    *hi = *lo - product;
+    *lo += product;
     work.butterfly();
 }
 
@@ -230,13 +230,28 @@ fn join_halves<F: FftField, T: DomainCoeff<F>>(
     }
 }
 
-/// Fills a block of 2 ^ log_block places with each of the first items, in their order.
-fn spread_out<T: Copy>(xs: &mut [T], log_block: u32)
-    requires few { log_block < 64 }
-    ensures { (p : ℕ) (d : T) → p < length xs.old → get_or xs.new p d ≡ get_or xs.old (p / 2 ^ log_block) d }
+/// Fills the places from one to before another with the item.
+fn fill<T: Copy>(xs: &mut [T], from: usize, to: usize, item: T)
+    requires within { to ≤ length xs.old }
+    ensures filled { (i : ℕ) (d : T) → from ≤ i → i < to → get_or xs.new i d ≡ item }
+    ensures before { (i : ℕ) (d : T) → i < from → get_or xs.new i d ≡ get_or xs.old i d }
+    ensures after { (i : ℕ) (d : T) → to ≤ i → get_or xs.new i d ≡ get_or xs.old i d }
 {
-    for p in (0..xs.len()).rev() {
-        xs[p] = xs[p >> log_block];
+    for i in from..to {
+        xs[i] = item;
+    }
+}
+
+/// Fills a block of places with each of the first items, in their order.
+fn spread_out<T: Copy>(xs: &mut [T], items: usize, block: usize)
+    requires whole { length xs.old ≡ items * block }
+    requires some { 0 < block }
+    ensures { (p : ℕ) (d : T) → p < length xs.old → get_or xs.new p d ≡ get_or xs.old (p / block) d }
+{
+    for r in (0..items).rev() {
+        let item = xs[r];
+        let from = r * block;
+        fill(xs, from, from + block, item);
     }
 }
 
@@ -261,7 +276,7 @@ fn short_in_order<F: FftField, T: DomainCoeff<F>>(
     let log_block = levels - log_len;
     let items = xs.len() >> log_block;
     restore_order(&mut xs[..items], log_len);
-    spread_out(xs, log_block);
+    spread_out(xs, items, 1 << log_block);
     join_halves(work, xs, table, 1, levels, log_len);
 }
 
@@ -317,16 +332,30 @@ fn shift_to_coset<F: FftField, T: DomainCoeff<F>>(work: &mut Work, xs: &mut [T],
     }
 }
 
-/// The root's power after these, as a product of two of them: no product waits for the one before it.
-fn next_power<F: FftField>(root: F, powers: &[F]) -> F
-    requires { ArePowers F.field root (length powers.now) powers.now }
-    ensures { result ≡ power F.field root (length powers.now) }
+/// Continues a list of powers by as many more: the known ones times the power after them.
+fn continue_powers<F: FftField>(known: &[F], rest: &mut [F], count: usize, next: F)
+    requires known_enough { count ≤ length known.now }
+    requires rest_enough { count ≤ length rest.old }
+    ensures products { (i : ℕ) → i < count → get_or rest.new i F.field.zero ≡ F.field.times (get_or known.now i F.field.zero) next }
 {
-    let next = powers.len();
-    match next {
-        0 => F::one(),
-        1 => root,
-        _ => powers[next / 2] * powers[next - next / 2],
+    for i in 0..count {
+        rest[i] = known[i] * next;
+    }
+}
+
+/// Fills a list of ones with the powers of a root from 0 on. No product waits for the one before it.
+fn fill_with_powers<F: FftField>(root: F, xs: &mut [F])
+    requires ones { 0 < length xs.old → get_or xs.old 0 F.field.zero ≡ F.field.one }
+    ensures { ArePowers F.field root (length xs.old) xs.new }
+{
+    let mut known = 1;
+    let mut next = root;
+    'double: while known < xs.len() {
+        let (front, back) = xs.split_at_mut(known);
+        let count = known.min(back.len());
+        continue_powers(front, back, count, next);
+        next = next * next;
+        known += count;
     }
 }
 
@@ -338,11 +367,9 @@ pub(crate) fn powers<F: FftField>(
 ) -> Result<Vec<F>, AllocError>
     ensures { IfOk result (λ t. ArePowers F.field root count t.items) }
 {
-    let mut powers = Vec::with_capacity(alloc, count)?;
-    for _ in 0..count {
-        let next = next_power(root, powers.as_slice());
-        powers.push(next)?;
-    }
+    let mut powers = Vec::new(alloc);
+    powers.resize(count, F::one())?;
+    fill_with_powers(root, powers.as_mut_slice());
     Ok(powers)
 }
 

@@ -1,5 +1,7 @@
-use Rattle.std.proofs.Common.{◌≡◌, ◌-◌, ◌/◌, ◌<◌, ◌≤◌, ◌^◌, ℕ, arith, length, map, take, drop, get_or, ap, ◌∙◌, length-take-le, length-append, length-drop, ◌++◌}
-use Rattle.std.proofs.Math.Pow.{pow_mono}
+use Rattle.std.proofs.Common.{◌≡◌, ◌-◌, ◌/◌, ◌<◌, ◌≤◌, ◌^◌, ℕ, arith, length, map, take, drop, get_or, ap, ◌∙◌, length-take-le, length-append, length-drop, ◌++◌, ◌+◌, ◌*◌, ◌%◌, ap₂, sym, mod-eq_of_lt}
+use Rattle.std.proofs.Math.Nat.{one-mul}
+use Rattle.std.proofs.Math.Pow.{pow_mono, pow_pos, pow-lt}
+use Rattle.std.proofs.lemmas.Nat.{pow-add}
 use Rattle.ark_math.specs.Module.{item}
 use Rattle.ark_math.specs.Halves.{sum_at, reversed}
 use Rattle.ark_math.proofs.Halving.{few_levels}
@@ -27,11 +29,36 @@ restore_order-requires-clause-size g c =
     let fits : k ≤ length old = omega (arith, items, le, c.requires.size) in
     length-take-le k old fits ∙ items
 
-pub spread_out-requires : goal.spread_out-requires
-spread_out-requires g c =
+pub overflow_shl-log_block : goal.overflow_shl-log_block
+overflow_shl-log_block g c =
     let b : 2 ^ c.args.levels < 2 ^ 64 = omega arith in
     let f = few_levels c.args.levels b in
-    record { few = omega arith }
+    omega arith
+
+-- a shifted one is a power
+shifted : (k : ℕ) → k < 64 → 1 * 2 ^ k % 18446744073709551616 ≡ 2 ^ k
+shifted k l = mod-eq_of_lt (omega (arith, pow-lt l)) ∙ one-mul (2 ^ k)
+
+pub spread_out-requires : goal.spread_out-requires
+spread_out-requires g c =
+    let n = c.args.levels in
+    let e = c.args.log_len in
+    let b : 2 ^ n < 2 ^ 64 = omega arith in
+    let f = few_levels n b in
+    let block = shifted (n - e) (omega arith) in
+    let old = c.args.xs.now in
+    let k = length old / 2 ^ (n - e) in
+    let items : k ≡ 2 ^ e = first_items n e (length old) c.requires.within c.requires.size in
+    let le : 2 ^ e ≤ 2 ^ n = pow_mono c.requires.within in
+    let fits : k ≤ length old = omega (arith, items, le, c.requires.size) in
+    let front = c.restore_order.new.xs in
+    let len_front : length front ≡ 2 ^ e = c.restore_order.auto.xs ∙ (length-take-le k old fits ∙ items) in
+    let len_mid : length (front ++ drop k old) ≡ 2 ^ n = length-append front (drop k old) ∙ omega (arith, length-drop k old, len_front, items, fits, c.requires.size) in
+    let all : e + (n - e) ≡ n = omega (arith, c.requires.within) in
+    record {
+      whole = len_mid ∙ ap (λ t. 2 ^ t) (sym all) ∙ pow-add 2 e (n - e) ∙ ap₂ (λ x y. x * y) (sym items) (sym block);
+      some = omega (arith, block, pow_pos (n - e));
+    }
 
 pub returns-clause-sums : goal.returns-clause-sums
 returns-clause-sums g c = λ w table i l.
@@ -42,6 +69,9 @@ returns-clause-sums g c = λ w table i l.
     let L = g.met.T.DomainCoeff.module_laws in
     let n = c.args.levels in
     let e = c.args.log_len in
+    let b : 2 ^ n < 2 ^ 64 = omega (arith, c.requires.fits, c.requires.size) in
+    let f = few_levels n b in
+    let block = shifted (n - e) (omega arith) in
     let old = c.args.xs.now in
     let k = length old / 2 ^ (n - e) in
     let items : k ≡ 2 ^ e = first_items n e (length old) c.requires.within c.requires.size in
@@ -54,6 +84,6 @@ returns-clause-sums g c = λ w table i l.
     let order : (p : ℕ) (d : g.row.T.Denot) → p < 2 ^ e → get_or front p d ≡ get_or (take (2 ^ e) old) (reversed e p) d = λ p d b.
     c.restore_order.ensures p d b ∙ ap (λ t. get_or (take t old) (reversed e p) d) items in
     let blocks : AreBlocks N L m n e c.spread_out.new.xs (item V (map m old)) =
-    blocks_spread N L m n e old front (drop k old) c.spread_out.new.xs c.requires.within c.requires.size len_front len_now len_mid order c.spread_out.ensures in
+    blocks_spread N L m n e old front (drop k old) c.spread_out.new.xs c.requires.within c.requires.size len_front len_now len_mid order (λ p d h. c.spread_out.ensures p d h ∙ ap (λ t. get_or (front ++ drop k old) (p / t) d) block) in
     c.join_halves.ensures.sums w (item V (map m old)) table blocks i (omega (arith, l, c.requires.size))
     ∙ ap (λ t. sum_at K V (2 ^ e) t (item V (map m old)) i) (N.times_one w)
