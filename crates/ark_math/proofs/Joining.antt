@@ -1,12 +1,12 @@
 -- The transform by halves from the reversed order: the sum at x is that of the even items at x ^ 2, and x times that of the odd ones.
-use Rattle.std.proofs.Common.{◌≡◌, ℕ, suc, ◌+◌, ◌*◌, ◌-◌, ◌/◌, ◌%◌, ◌<◌, ◌≤◌, ◌^◌, List, length, get_or, take, map, ◌++◌, sym, ◌∙◌, ap, ap₂, refl, arith}
-use Rattle.std.proofs.lemmas.List.{get_or_append_left, get_or-take}
+use Rattle.std.proofs.Common.{◌≡◌, ℕ, suc, ◌+◌, ◌*◌, ◌-◌, ◌/◌, ◌%◌, ◌<◌, ◌≤◌, ◌^◌, List, length, get_or, take, drop, map, ◌++◌, zero, length-take-le, length-drop, subst, sym, ◌∙◌, ap, ap₂, refl, arith}
+use Rattle.std.proofs.lemmas.List.{get_or_append_left, get_or-take, get_or-drop}
 use Rattle.std.proofs.lemmas.Nat.{div-mul-add, pow_pos, pow-add}
 use Rattle.std.proofs.Math.Nat.{div-lt_iff_lt-mul}
 use Rattle.std.proofs.Math.Pow.{pow_mono}
 use Rattle.ark_math.specs.Field.{FieldOn, IsField, power}
 use Rattle.ark_math.specs.Module.{ModuleOn, IsModule, sum_below, item}
-use Rattle.ark_math.specs.Halves.{sum_at, reversed, IsHalfTable}
+use Rattle.ark_math.specs.Halves.{sum_at, reversed, IsHalfTable, AreLevels}
 use Rattle.ark_math.proofs.Groups.{zero_plus, scale_zero, one_times}
 use Rattle.ark_math.proofs.Halving.{half_strides, mul_within}
 use Rattle.ark_math.proofs.Lists.{read_front, read_back, read_order}
@@ -106,27 +106,20 @@ module _ {F M X : Type 0} {K : FieldOn F} {V : ModuleOn F M} (N : IsField K) (L 
       ∙ (blocks (2 ^ (n - 1) + p) b ∙ ap c (blocks_back n e some within p))
 
   -- one level, on lists: the halves are transformed to lo and hi, and joined to lo1 and hi1
-  pub joined_level : (n e : ℕ) (w : F) (s : ℕ) (table : List F) (c : ℕ → M) (lo hi lo1 hi1 : List X) → IsHalfTable K w table → 0 < e → e ≤ n → 2 ^ n * s / 2 ≡ length table → 0 < s → length lo ≡ 2 ^ (n - 1) → length lo1 ≡ 2 ^ (n - 1) → ((p : ℕ) → p < 2 ^ (n - 1) → item V (map m lo) p ≡ sum_at K V (2 ^ (e - 1)) (power K w (s * 2)) (λ j. c (2 * j + 0)) p) → ((p : ℕ) → p < 2 ^ (n - 1) → item V (map m hi) p ≡ sum_at K V (2 ^ (e - 1)) (power K w (s * 2)) (λ j. c (2 * j + 1)) p) → ((i : ℕ) → i < length lo → item V (map m lo1) i ≡ V.plus (item V (map m lo) i) (V.scale (get_or table (i * s) K.zero) (item V (map m hi) i))) → ((i : ℕ) → i < length lo → item V (map m hi1) i ≡ V.plus (item V (map m lo) i) (V.negated (V.scale (get_or table (i * s) K.zero) (item V (map m hi) i)))) → (p : ℕ) → p < 2 ^ n → item V (map m (lo1 ++ hi1)) p ≡ sum_at K V (2 ^ e) (power K w s) c p
-  joined_level n e w s table c lo hi lo1 hi1 t some within whole stride len_lo len_lo1 evens odds sums differences p l =
+  pub joined_level : (n e : ℕ) (w : F) (twiddles : List F) (c : ℕ → M) (lo hi lo1 hi1 : List X) → IsHalfTable K w twiddles → 0 < e → e ≤ n → length twiddles ≡ 2 ^ (n - 1) → length lo ≡ 2 ^ (n - 1) → length lo1 ≡ 2 ^ (n - 1) → ((p : ℕ) → p < 2 ^ (n - 1) → item V (map m lo) p ≡ sum_at K V (2 ^ (e - 1)) (power K w 2) (λ j. c (2 * j + 0)) p) → ((p : ℕ) → p < 2 ^ (n - 1) → item V (map m hi) p ≡ sum_at K V (2 ^ (e - 1)) (power K w 2) (λ j. c (2 * j + 1)) p) → ((i : ℕ) → i < length lo → item V (map m lo1) i ≡ V.plus (item V (map m lo) i) (V.scale (get_or twiddles i K.zero) (item V (map m hi) i))) → ((i : ℕ) → i < length lo → item V (map m hi1) i ≡ V.plus (item V (map m lo) i) (V.negated (V.scale (get_or twiddles i K.zero) (item V (map m hi) i)))) → (p : ℕ) → p < 2 ^ n → item V (map m (lo1 ++ hi1)) p ≡ sum_at K V (2 ^ e) w c p
+  joined_level n e w twiddles c lo hi lo1 hi1 t some within len_twiddles len_lo len_lo1 evens odds sums differences p l =
       let k = n - 1 in
       let pos : 0 < n = omega arith in
       let suc_k : suc k ≡ n = omega arith in
-      let strides = half_strides n s (length table) pos whole in
-      let first : 0 * s < length table = mul_within 0 (2 ^ k) s (length table) (pow_pos k) strides.0 stride in
-      let any : 0 < length table = omega arith in
-      let half : power K (power K w s) (2 ^ k) ≡ K.negated K.one = sym (power-mul K N w s (2 ^ k)) ∙ (ap (power K w) strides.0 ∙ t.half any) in
+      let any : 0 < length twiddles = omega (arith, len_twiddles, pow_pos k) in
+      let half : power K w (2 ^ k) ≡ K.negated K.one = sym (ap (power K w) len_twiddles) ∙ t.half any in
       let size : 2 * 2 ^ (e - 1) ≡ 2 ^ e = omega (arith, pow_pred e some) in
-      let squared : power K w (s * 2) ≡ power K (power K w s) 2 = power-mul K N w s 2 in
-      let entry : (i : ℕ) → i < 2 ^ k → get_or table (i * s) K.zero ≡ power K (power K w s) i = λ i b.
-      let swap : i * s ≡ s * i = omega arith in
-      t.powers (i * s) (mul_within i (2 ^ k) s (length table) b strides.0 stride) ∙ (ap (power K w) swap ∙ power-mul K N w s i) in
-      joined_at N L k (2 ^ (e - 1)) (power K w s) c (item V (map m lo)) (item V (map m hi)) (item V (map m (lo1 ++ hi1))) half
-      (λ q b. evens q b ∙ ap (λ u. sum_at K V (2 ^ (e - 1)) u (λ j. c (2 * j + 0)) q) squared)
-      (λ q b. odds q b ∙ ap (λ u. sum_at K V (2 ^ (e - 1)) u (λ j. c (2 * j + 1)) q) squared)
+      let entry : (i : ℕ) → i < 2 ^ k → get_or twiddles i K.zero ≡ power K w i = λ i b. t.powers i (omega (arith, b, len_twiddles)) in
+      joined_at N L k (2 ^ (e - 1)) w c (item V (map m lo)) (item V (map m hi)) (item V (map m (lo1 ++ hi1))) half evens odds
       (λ q b. read_front m V.zero lo1 hi1 q (omega arith) ∙ (sums q (omega arith) ∙ ap (λ u. V.plus (item V (map m lo) q) (V.scale u (item V (map m hi) q))) (entry q b)))
       (λ q b. read_back m V.zero lo1 hi1 (2 ^ k) q len_lo1 ∙ (differences q (omega arith) ∙ ap (λ u. V.plus (item V (map m lo) q) (V.negated (V.scale u (item V (map m hi) q)))) (entry q b)))
       p (half_of k p (rw suc_k l))
-      ∙ ap (λ u. sum_at K V u (power K w s) c p) size
+      ∙ ap (λ u. sum_at K V u w c p) size
 
   -- one item, in each place, is its own transform
   pub one_block : (n e : ℕ) (w : F) (xs : List X) (c : ℕ → M) → e ≡ 0 → AreBlocks n e xs c → (p : ℕ) → p < 2 ^ n → item V (map m xs) p ≡ sum_at K V (2 ^ e) w c p
@@ -150,3 +143,46 @@ module _ {F M X : Type 0} {K : FieldOn F} {V : ModuleOn F M} (N : IsField K) (L 
       ∙ (get_or_append_left front rest d (q / 2 ^ (n - e)) (omega arith)
       ∙ (order (q / 2 ^ (n - e)) d h ∙ get_or-take (2 ^ e) old (reversed e (q / 2 ^ (n - e))) d (reversed_below e (q / 2 ^ (n - e)) h))))
       p (omega arith)
+
+-- ---- the tables of all levels
+
+module _ {F : Type 0} (K : FieldOn F) (N : IsField K) where
+  -- each table's powers are every second of those before it
+  pub levels_from_first : (n : ℕ) (w : F) (tables : List F) → length tables ≡ 2 * 2 ^ n → IsHalfTable K w (take (2 ^ n) tables) → ((k : ℕ) → k < 2 ^ n → get_or tables (2 ^ n + k) K.zero ≡ get_or tables (2 * k) K.zero) → AreLevels K w (suc n) tables
+  levels_from_first zero w tables len first seconds = (first, tt)
+  levels_from_first (suc n) w tables len first seconds =
+      let h = 2 ^ n in
+      let two : 2 ^ suc n ≡ 2 * h = omega arith in
+      let rest = drop (2 ^ suc n) tables in
+      let len_first : length (take (2 ^ suc n) tables) ≡ 2 * h = length-take-le (2 ^ suc n) tables (omega (arith, len)) ∙ two in
+      let len_rest : length rest ≡ 2 * h = length-drop (2 ^ suc n) tables ∙ omega (arith, len, two) in
+      let len_next : length (take h rest) ≡ h = length-take-le h rest (omega (arith, len_rest)) in
+      let at : (i : ℕ) → get_or rest i K.zero ≡ get_or tables (2 ^ suc n + i) K.zero = λ i. get_or-drop (2 ^ suc n) tables i K.zero in
+      let next : IsHalfTable K (power K w 2) (take h rest) = record {
+        powers = λ i b.
+          let c : i < h = omega (arith, b, len_next) in
+          get_or-take h rest i K.zero c
+          ∙ at i
+          ∙ seconds i (omega (arith, c, two))
+          ∙ sym (get_or-take (2 ^ suc n) tables (2 * i) K.zero (omega (arith, c, two)))
+          ∙ first.powers (2 * i) (omega (arith, c, len_first))
+          ∙ power-mul K N w 2 i;
+        half = λ b.
+          ap (power K (power K w 2)) len_next
+          ∙ sym (power-mul K N w 2 h)
+          ∙ ap (power K w) (sym len_first)
+          ∙ first.half (omega (arith, len_first, pow_pos n));
+      } in
+      (first, levels_from_first n (power K w 2) rest len_rest next
+        (λ k b. at (h + k)
+          ∙ seconds (h + k) (omega (arith, b, two))
+          ∙ ap (λ t. get_or tables t K.zero) (let e : 2 * (h + k) ≡ 2 ^ suc n + 2 * k = omega (arith, two) in e)
+          ∙ sym (at (2 * k))))
+
+  -- the same at any size, that of one item too, where there are no twiddles
+  pub levels_of_size : (n size : ℕ) (w : F) (tables : List F) → size ≡ 2 ^ n → length tables ≡ size → IsHalfTable K w (take (size / 2) tables) → ((k : ℕ) → k < size / 2 → get_or tables (size / 2 + k) K.zero ≡ get_or tables (2 * k) K.zero) → AreLevels K w n tables
+  levels_of_size zero size w tables is len first seconds = tt
+  levels_of_size (suc n) size w tables is len first seconds =
+      let h : size / 2 ≡ 2 ^ n = omega (arith, is) in
+      levels_from_first n w tables (omega (arith, is, len)) (subst (λ t. IsHalfTable K w (take t tables)) h first)
+      (subst (λ t. (k : ℕ) → k < t → get_or tables (t + k) K.zero ≡ get_or tables (2 * k) K.zero) h seconds)

@@ -1,5 +1,5 @@
 -- The transform by halves: the sums that it finds, the order that it leaves, and the table that it reads.
-use Rattle.std.specs.Prelude.{◌≡◌, ℕ, suc, zero, ◌+◌, ◌-◌, ◌*◌, ◌^◌, ◌<◌, List, length, get_or, nat_lt, if◌then◌else◌}
+use Rattle.std.specs.Prelude.{◌≡◌, ℕ, suc, zero, ◌+◌, ◌-◌, ◌*◌, ◌^◌, ◌<◌, List, length, get_or, take, drop, nat_lt, if◌then◌else◌}
 use Rattle.ark_math.specs.Field.{FieldOn, power}
 use Rattle.ark_math.specs.Module.{ModuleOn, sum_below}
 
@@ -21,3 +21,8 @@ pub record ArePowers {F : Type 0} (K : FieldOn F) (w : F) (n : ℕ) (table : Lis
 pub record IsHalfTable {F : Type 0} (K : FieldOn F) (w : F) (table : List F) : Type 0 where
   pub powers : (i : ℕ) → i < length table → get_or table i K.zero ≡ power K w i
   pub half : 0 < length table → power K w (length table) ≡ K.negated K.one
+
+-- the powers of w, half as many as the 2 ^ n of its order, and after them those of its square, and so on
+abbrev pub AreLevels : {F : Type 0} → FieldOn F → F → ℕ → List F → Type 0
+AreLevels K w zero tables = Unit
+AreLevels K w (suc n) tables = IsHalfTable K w (take (2 ^ n) tables) × AreLevels K (power K w 2) n (drop (2 ^ n) tables)

@@ -1,9 +1,9 @@
 //! The radix 2 transform by halves, and its inverse.
 
-ghost use Rattle.std.specs.Prelude.{◌≡◌, ◌≢◌, ℕ, true, false, IsOkUnless, IfOk, OnOk, OnErr, List, map, length, get_or, ◌+◌, ◌-◌, ◌*◌, ◌/◌, ◌≤◌, ◌<◌, ◌^◌, vec_len};
+ghost use Rattle.std.specs.Prelude.{◌≡◌, ◌≢◌, ℕ, true, false, IsOkUnless, IfOk, OnOk, OnErr, List, map, length, get_or, take, ◌+◌, ◌-◌, ◌*◌, ◌/◌, ◌≤◌, ◌<◌, ◌^◌, vec_len};
 ghost use Rattle.ark_math.specs.Domain.{Domain, radix2};
 ghost use Rattle.ark_math.specs.Field.{FieldOn, power};
-ghost use Rattle.ark_math.specs.Halves.{sum_at, reversed, ArePowers, IsHalfTable};
+ghost use Rattle.ark_math.specs.Halves.{sum_at, reversed, ArePowers, IsHalfTable, AreLevels};
 ghost use Rattle.ark_math.specs.Module.{ModuleOn, item};
 ghost use Rattle.ark_math.specs.Transform.{transform, IsInverse, IsOnlyInverse};
 ghost use Rattle.ark_base.specs.Cost.{GrowsByCost};
@@ -172,51 +172,47 @@ fn join<F: FftField, T: DomainCoeff<F>>(work: &mut Work, lo: &mut T, hi: &mut T,
     ensures products { work.new.products ≡ work.old.products + 1 }
     ensures steps { work.new.steps ≡ work.old.steps }
 {
+    let first = *lo;
     let mut product = *hi;
     work.scale(&mut product, twiddle);
-    *hi = *lo - product;
-    *lo += product;
+    *lo = first + product;
+    *hi = first - product;
     work.butterfly();
 }
 
-/// Those butterflies across two halves.
+/// Those butterflies across two halves, each with the twiddle at its index.
 fn join_across<F: FftField, T: DomainCoeff<F>>(
     work: &mut Work,
     lo: &mut [T],
     hi: &mut [T],
-    table: &[F],
-    stride: usize,
+    twiddles: &[F],
 )
     requires same { length lo.old ≡ length hi.old }
-    requires enough { length lo.old * stride ≤ length table.now }
-    requires some { 0 < stride }
-    ensures sums { (i : ℕ) → i < length lo.old → item T.group (map T.meaning lo.new) i ≡ T.group.plus (item T.group (map T.meaning lo.old) i) (T.group.scale (get_or table.now (i * stride) F.field.zero) (item T.group (map T.meaning hi.old) i)) }
-    ensures differences { (i : ℕ) → i < length lo.old → item T.group (map T.meaning hi.new) i ≡ T.group.plus (item T.group (map T.meaning lo.old) i) (T.group.negated (T.group.scale (get_or table.now (i * stride) F.field.zero) (item T.group (map T.meaning hi.old) i))) }
+    requires enough { length lo.old ≡ length twiddles.now }
+    ensures sums { (i : ℕ) → i < length lo.old → item T.group (map T.meaning lo.new) i ≡ T.group.plus (item T.group (map T.meaning lo.old) i) (T.group.scale (get_or twiddles.now i F.field.zero) (item T.group (map T.meaning hi.old) i)) }
+    ensures differences { (i : ℕ) → i < length lo.old → item T.group (map T.meaning hi.new) i ≡ T.group.plus (item T.group (map T.meaning lo.old) i) (T.group.negated (T.group.scale (get_or twiddles.now i F.field.zero) (item T.group (map T.meaning hi.old) i))) }
     ensures butterflies { work.new.butterflies ≡ work.old.butterflies + length lo.old }
     ensures products { work.new.products ≡ work.old.products + length lo.old }
     ensures steps { work.new.steps ≡ work.old.steps }
 {
     for i in 0..lo.len() {
-        join(work, &mut lo[i], &mut hi[i], table[i * stride]);
+        join(work, &mut lo[i], &mut hi[i], twiddles[i]);
     }
 }
 
-/// The transform of 2 ^ log_len items at the table's root to the stride, in place and in order. The items stand at the
-/// indices that have the bits of their own backwards, each in all places of a block.
+/// The transform of 2 ^ log_len items, in place and in order. The items stand at the indices that have the bits of their
+/// own backwards, each in all places of a block. The tables are those of all levels, the whole list's twiddles first.
 fn join_halves<F: FftField, T: DomainCoeff<F>>(
     work: &mut Work,
     xs: &mut [T],
-    table: &[F],
-    stride: usize,
+    tables: &[F],
     levels: u32,
     log_len: u32,
 )
     requires size { length xs.old ≡ 2 ^ levels }
-    requires whole { 2 ^ levels * stride / 2 ≡ length table.now }
-    requires small { length table.now < 2 ^ 63 }
-    requires some { 0 < stride }
+    requires whole { length tables.now ≡ 2 ^ levels }
     requires within { log_len ≤ levels }
-    ensures sums { (w : F) (c : ℕ → T.Meaning) → IsHalfTable F.field w table.now → ((p : ℕ) → p < 2 ^ levels → item T.group (map T.meaning xs.old) p ≡ c (reversed log_len (p / 2 ^ (levels - log_len)))) → (p : ℕ) → p < 2 ^ levels → item T.group (map T.meaning xs.new) p ≡ sum_at F.field T.group (2 ^ log_len) (power F.field w stride) c p }
+    ensures sums { (w : F) (c : ℕ → T.Meaning) → AreLevels F.field w levels tables.now → ((p : ℕ) → p < 2 ^ levels → item T.group (map T.meaning xs.old) p ≡ c (reversed log_len (p / 2 ^ (levels - log_len)))) → (p : ℕ) → p < 2 ^ levels → item T.group (map T.meaning xs.new) p ≡ sum_at F.field T.group (2 ^ log_len) w c p }
     ensures butterflies { work.new.butterflies ≡ work.old.butterflies + 2 ^ levels / 2 * log_len }
     ensures products { work.new.products ≡ work.old.products + 2 ^ levels / 2 * log_len }
     ensures steps { work.new.steps ≡ work.old.steps }
@@ -224,9 +220,10 @@ fn join_halves<F: FftField, T: DomainCoeff<F>>(
     if log_len > 0 {
         let half = xs.len() / 2;
         let (lo, hi) = xs.split_at_mut(half);
-        join_halves(work, lo, table, stride * 2, levels - 1, log_len - 1);
-        join_halves(work, hi, table, stride * 2, levels - 1, log_len - 1);
-        join_across(work, lo, hi, table, stride);
+        let (twiddles, rest) = tables.split_at(half);
+        join_halves(work, lo, rest, levels - 1, log_len - 1);
+        join_halves(work, hi, rest, levels - 1, log_len - 1);
+        join_across(work, lo, hi, twiddles);
     }
 }
 
@@ -255,20 +252,20 @@ fn spread_out<T: Copy>(xs: &mut [T], items: usize, block: usize)
     }
 }
 
-/// The transform of the first 2 ^ log_len items at the table's root, in place and in order, by butterflies of as many
+/// The transform of the first 2 ^ log_len items at the tables' root, in place and in order, by butterflies of as many
 /// levels.
 fn short_in_order<F: FftField, T: DomainCoeff<F>>(
     work: &mut Work,
     xs: &mut [T],
-    table: &[F],
+    tables: &[F],
     levels: u32,
     log_len: u32,
 )
     requires size { length xs.old ≡ 2 ^ levels }
     requires fits { length xs.old < 2 ^ 64 }
-    requires half { length table.now ≡ length xs.old / 2 }
+    requires whole { length tables.now ≡ length xs.old }
     requires within { log_len ≤ levels }
-    ensures sums { (w : F) → IsHalfTable F.field w table.now → (i : ℕ) → i < length xs.old → item T.group (map T.meaning xs.new) i ≡ sum_at F.field T.group (2 ^ log_len) w (item T.group (map T.meaning xs.old)) i }
+    ensures sums { (w : F) → AreLevels F.field w levels tables.now → (i : ℕ) → i < length xs.old → item T.group (map T.meaning xs.new) i ≡ sum_at F.field T.group (2 ^ log_len) w (item T.group (map T.meaning xs.old)) i }
     ensures butterflies { work.new.butterflies ≡ work.old.butterflies + length xs.old / 2 * log_len }
     ensures products { work.new.products ≡ work.old.products + length xs.old / 2 * log_len }
     ensures steps { work.new.steps ≡ work.old.steps }
@@ -277,7 +274,7 @@ fn short_in_order<F: FftField, T: DomainCoeff<F>>(
     let items = xs.len() >> log_block;
     restore_order(&mut xs[..items], log_len);
     spread_out(xs, items, 1 << log_block);
-    join_halves(work, xs, table, 1, levels, log_len);
+    join_halves(work, xs, tables, levels, log_len);
 }
 
 /// Scales each item.
@@ -373,6 +370,32 @@ pub(crate) fn powers<F: FftField>(
     Ok(powers)
 }
 
+/// Continues a table of twiddles by those of the squared root, every second one, and so on down to one.
+fn continue_levels<F: FftField>(xs: &mut [F], half: usize)
+    requires size { half * 2 ≤ length xs.old }
+    ensures first { (i : ℕ) → i < half → get_or xs.new i F.field.zero ≡ get_or xs.old i F.field.zero }
+    ensures seconds { (i : ℕ) → i < half → get_or xs.new (half + i) F.field.zero ≡ get_or xs.new (2 * i) F.field.zero }
+{
+    for i in 0..half {
+        xs[half + i] = xs[2 * i];
+    }
+}
+
+/// The tables of all levels, of a list of n items down to lists of one: each has half as many powers of its root as its
+/// lists have items.
+fn level_tables<F: FftField>(alloc: Global, root: F, n: usize) -> Result<Vec<F>, AllocError>
+    ensures len { IfOk result (λ t. length t.items ≡ n) }
+    ensures first { IfOk result (λ t. ArePowers F.field root (n / 2) (take (n / 2) t.items)) }
+    ensures seconds { IfOk result (λ t. (i : ℕ) → i < n / 2 → get_or t.items (n / 2 + i) F.field.zero ≡ get_or t.items (2 * i) F.field.zero) }
+{
+    let mut tables = Vec::new(alloc);
+    tables.resize(n, F::one())?;
+    let xs = tables.as_mut_slice();
+    fill_with_powers(root, &mut xs[..n / 2]);
+    continue_levels(xs, n / 2);
+    Ok(tables)
+}
+
 /// Takes all memory, for the first half of a root's powers and for n items, and cuts the list or fills it with zeros.
 fn prepare<F: FftField, T: DomainCoeff<F>>(
     alloc: Global,
@@ -409,18 +432,15 @@ impl<F: FftField> Radix2EvaluationDomain<F> {
     {
         let len = coeffs.len();
         let log_len = len.next_power_of_two().ilog2();
-        let table = prepare(
-            alloc,
-            self.coset.group_gen,
-            self.coset.size as usize,
-            coeffs,
-        )?;
+        let n = self.coset.size as usize;
+        let tables = level_tables(alloc, self.coset.group_gen, n)?;
+        coeffs.resize(n, T::zero())?;
         let xs = coeffs.as_mut_slice();
         shift_to_coset(work, &mut xs[..len], self.coset.offset);
         short_in_order(
             work,
             xs,
-            table.as_slice(),
+            tables.as_slice(),
             self.coset.log_size_of_group,
             log_len,
         );

@@ -1,4 +1,4 @@
-use Rattle.std.proofs.Common.{◌≡◌, ℕ, map, length, drop, ◌++◌, ◌-◌, ◌*◌, ◌/◌, ◌^◌, ◌<◌, ◌≤◌, arith, sym, ap, subst, ◌∙◌, length-take-le, length-append, length-drop}
+use Rattle.std.proofs.Common.{◌≡◌, ℕ, map, length, get_or, take, drop, ◌++◌, ◌+◌, ◌-◌, ◌*◌, ◌/◌, ◌^◌, ◌<◌, ◌≤◌, arith, sym, ap, subst, ◌∙◌, length-take-le, length-append, length-drop}
 use Rattle.std.proofs.lemmas.List.{length-map}
 use Rattle.std.proofs.Math.Pow.{pow_mono}
 use Rattle.ark_math.specs.Cost.{IsLog2Up}
@@ -6,8 +6,8 @@ use Rattle.ark_math.specs.Domain.{Domain, radix2}
 use Rattle.ark_math.specs.Halves.{ArePowers}
 use Rattle.ark_math.specs.Root.{HasOrder}
 use Rattle.ark_math.specs.Module.{item}
-use Rattle.ark_math.proofs.Joining.{sum_of_few}
-use Rattle.ark_math.proofs.Lists.{written_back}
+use Rattle.ark_math.proofs.Joining.{sum_of_few, levels_of_size}
+use Rattle.ark_math.proofs.Lists.{read_fitted, written_back}
 use Rattle.ark_math.proofs.Radix2.{forward}
 use Rattle.ark_math.proofs.Sizes.{power_of_two, next_log, log_of_short, log_within}
 use Rattle.ark_math.proofs.Transforms.{AreShifted, shifted_front, shifted_past}
@@ -39,13 +39,16 @@ returns-clause-transform g c =
     let old = c.args.coeffs.now.items in
     let fitted = c.as_mut_slice-xs.result.now in
     let fit : (j : ℕ) → j < t.size → item V (map m fitted) j ≡ item V (map m old) j = λ j l.
-    ap (λ xs. item V (map m xs) j) c.as_mut_slice-xs.ensures.value ∙ c.in_ok-table.ensures.fitted j l in
-    let table : ArePowers K t.group_gen (t.size / 2) c.as_slice.result.now = subst (ArePowers K t.group_gen (t.size / 2)) (sym c.as_slice.ensures.value) c.in_ok-table.ensures.table in
+    ap (λ xs. item V (map m xs) j) (c.as_mut_slice-xs.ensures.value ∙ c.in_ok-resize.ensures.items)
+    ∙ read_fitted m V.zero old t.size _ c.zero.result (ap m c.zero.ensures ∙ g.met.T.DomainCoeff.zero_meaning) j l in
+    let tables = c.as_slice.result.now in
+    let first : ArePowers K t.group_gen (t.size / 2) (take (t.size / 2) tables) = subst (λ xs. ArePowers K t.group_gen (t.size / 2) (take (t.size / 2) xs)) (sym c.as_slice.ensures.value) c.in_ok-tables.ensures.first in
+    let seconds : (k : ℕ) → k < t.size / 2 → get_or tables (t.size / 2 + k) K.zero ≡ get_or tables (2 * k) K.zero = subst (λ xs. (k : ℕ) → k < t.size / 2 → get_or xs (t.size / 2 + k) K.zero ≡ get_or xs (2 * k) K.zero) (sym c.as_slice.ensures.value) c.in_ok-tables.ensures.seconds in
     let len = c.len-len.result in
     let front = c.shift_to_coset.new.xs in
     let mid = front ++ drop len fitted in
     let now = c.short_in_order.new.xs in
-    let size_fitted : length fitted ≡ t.size = omega (arith, c.in_ok-table.ensures.len) in
+    let size_fitted : length fitted ≡ t.size = omega (arith, c.in_ok-resize.ensures.len) in
     let size_old : length old ≡ len = omega arith in
     let short : len ≤ t.size = omega arith in
     let size_front : length front ≡ len = c.shift_to_coset.auto.xs ∙ length-take-le len fitted (omega arith) in
@@ -58,10 +61,10 @@ returns-clause-transform g c =
     let log : IsLog2Up len c.ilog2-log_len.result = next_log _ _ _ (p.power, p.lower_bound, p.upper_bound) e.power_le e.next_power_gt in
     let h = 2 ^ c.ilog2-log_len.result in
     let le : h ≤ 2 ^ t.log_size_of_group = pow_mono (log_within t.size len _ _ (omega arith) is_power log) in
-    ap (map m) (written_back now _ _ (omega (arith, c.in_ok-table.ensures.len)))
-    ∙ forward N L m d t.log_size_of_group is_power order c.as_slice.result.now old mid now table size_mid size_now shifted
+    ap (map m) (written_back now _ _ (omega (arith, c.in_ok-resize.ensures.len)))
+    ∙ forward N L m d t.log_size_of_group is_power order (take (t.size / 2) tables) old mid now first size_mid size_now shifted
     (λ w half i l.
-    c.short_in_order.ensures.sums w half i l
+    c.short_in_order.ensures.sums w (levels_of_size K N t.log_size_of_group t.size w tables is_power (ap length c.as_slice.ensures.value ∙ c.in_ok-tables.ensures.len) half seconds) i l
     ∙ sym (sum_of_few N L h (length mid) w (item V (map m mid)) i (omega arith)
     (λ j above within. shifted_past N L d (map m old) (item V (map m mid)) shifted j (omega (arith, length-map old m, log.0)) (omega arith))))
 
@@ -71,7 +74,7 @@ returns-clause-cost g c =
     let len = length c.args.coeffs.now.items in
     let fitted = c.as_mut_slice-xs.result.now in
     let few = c.len-len.result in
-    let size_fitted : length fitted ≡ t.size = omega (arith, c.in_ok-table.ensures.len) in
+    let size_fitted : length fitted ≡ t.size = omega (arith, c.in_ok-resize.ensures.len) in
     let size_front : length c.shift_to_coset.new.xs ≡ few = c.shift_to_coset.auto.xs ∙ length-take-le few fitted (omega arith) in
     let size_mid : length (c.shift_to_coset.new.xs ++ drop few fitted) ≡ t.size = length-append c.shift_to_coset.new.xs (drop few fitted) ∙ omega (arith, length-drop few fitted) in
     let p = c.next_power_of_two.ensures in

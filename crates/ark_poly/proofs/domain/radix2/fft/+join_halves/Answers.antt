@@ -1,50 +1,30 @@
-use Rattle.std.proofs.Common.{rules, arith, ◌≡◌, ◌-◌, ◌*◌, ◌+◌, ◌^◌, ◌<◌, length}
-use Rattle.std.proofs.lemmas.Nat.{pow_pos}
-use Rattle.ark_math.proofs.Halving.{half_strides, count_levels, stride_within}
+use Rattle.std.proofs.Common.{rules, arith, ◌≡◌, ◌-◌, ◌*◌, ◌+◌, ◌/◌, ◌^◌, ◌<◌, ◌∙◌, suc, length, take, drop, ap, sym, subst}
+use Rattle.ark_math.specs.Field.{power}
+use Rattle.ark_math.specs.Halves.{AreLevels, IsHalfTable}
+use Rattle.ark_math.proofs.Halving.{count_levels}
 use Rattle.ark_math.proofs.Joining.{blocks_of_front, blocks_of_back, joined_level, one_block}
 use Rattle.ark_math.proofs.Reversal.{pow_pred}
 use Rattle.ark_poly.proofs.domain.radix2.fft.+join_halves.Goals as goal
 
-pub overflow_mul-stride : goal.overflow_mul-stride
-overflow_mul-stride g t c =
-    let pos : 0 < c.args.levels = omega arith in
-    let w = half_strides c.args.levels c.args.stride (length c.args.table.now) pos c.requires.whole in
-    let b : c.args.stride * 2 < 2 ^ 64 = stride_within c.args.stride (2 ^ (c.args.levels - 1)) (length c.args.table.now) (pow_pos (c.args.levels - 1)) w.0 c.requires.small in
-    omega arith
-
-pub overflow_mul-stride-then-log_len-gt0 : goal.overflow_mul-stride-then-log_len-gt0
-overflow_mul-stride-then-log_len-gt0 g t c =
-    let pos : 0 < c.args.levels = omega arith in
-    let w = half_strides c.args.levels c.args.stride (length c.args.table.now) pos c.requires.whole in
-    let b : c.args.stride * 2 < 2 ^ 64 = stride_within c.args.stride (2 ^ (c.args.levels - 1)) (length c.args.table.now) (pow_pos (c.args.levels - 1)) w.0 c.requires.small in
-    omega arith
-
 pub join_halves-requires : goal.join_halves-requires
 join_halves-requires g t c κs within =
     let pos : 0 < c.args.levels = omega arith in
-    let w = half_strides c.args.levels c.args.stride (length c.args.table.now) pos c.requires.whole in
     let d = pow_pred c.args.levels pos in
     let n : length c.split_at_mut-lo.result.0.now ≡ 2 ^ (c.args.levels - 1) = omega arith in
-    (omega arith, (search rules, (search rules, (n, (w.1, (c.requires.small, (omega arith, omega arith)))))))
+    let r : length c.split_at.result.1.now ≡ 2 ^ (c.args.levels - 1) = omega arith in
+    (omega arith, (search rules, (search rules, (n, (r, omega arith)))))
 
 pub join_halves-requires-then-log_len-gt0 : goal.join_halves-requires-then-log_len-gt0
 join_halves-requires-then-log_len-gt0 g t c κs within =
     let pos : 0 < c.args.levels = omega arith in
-    let w = half_strides c.args.levels c.args.stride (length c.args.table.now) pos c.requires.whole in
     let d = pow_pred c.args.levels pos in
     let n : length c.split_at_mut-lo.result.1.now ≡ 2 ^ (c.args.levels - 1) = omega arith in
-    (omega arith, (search rules, (search rules, (n, (w.1, (c.requires.small, (omega arith, omega arith)))))))
-
-pub join_across-requires-clause-enough : goal.join_across-requires-clause-enough
-join_across-requires-clause-enough g t c =
-    let pos : 0 < c.args.levels = omega arith in
-    let w = half_strides c.args.levels c.args.stride (length c.args.table.now) pos c.requires.whole in
-    let d = pow_pred c.args.levels pos in
-    let n : length c.join_halves.new.xs ≡ 2 ^ (c.args.levels - 1) = omega arith in
-    rw n (omega (arith, w.0))
+    let r : length c.split_at.result.1.now ≡ 2 ^ (c.args.levels - 1) = omega arith in
+    (omega arith, (search rules, (search rules, (n, (r, omega arith)))))
 
 pub returns-then-log_len-gt0-clause-sums : goal.returns-then-log_len-gt0-clause-sums
-returns-then-log_len-gt0-clause-sums g t c = λ w f table blocks p l.
+returns-then-log_len-gt0-clause-sums g t c = λ w f tables blocks p l.
+    let K = g.F.Field.field in
     let N = g.met.F.Field.field_laws in
     let L = g.met.T.DomainCoeff.module_laws in
     let m = g.T.DomainCoeff.meaning in
@@ -55,12 +35,21 @@ returns-then-log_len-gt0-clause-sums g t c = λ w f table blocks p l.
     let d = pow_pred n pos in
     let lo = c.split_at_mut-lo.result.0.now in
     let hi = c.split_at_mut-lo.result.1.now in
+    let old = c.args.tables.now in
+    let twiddles = c.split_at.result.0.now in
+    let rest = c.split_at.result.1.now in
+    let half : length c.args.xs.now / 2 ≡ 2 ^ (n - 1) = omega arith in
+    let one_more : n ≡ suc (n - 1) = omega arith in
+    let all : AreLevels K w (suc (n - 1)) old = subst (λ k. AreLevels K w k old) one_more tables in
+    let first : IsHalfTable K w twiddles = subst (IsHalfTable K w) (ap (λ k. take k old) (sym half) ∙ sym c.split_at.ensures.front) all.0 in
+    let others : AreLevels K (power K w 2) (n - 1) rest = subst (AreLevels K (power K w 2) (n - 1)) (ap (λ k. drop k old) (sym half) ∙ sym c.split_at.ensures.back) all.1 in
+    let len_twiddles : length twiddles ≡ 2 ^ (n - 1) = omega arith in
     let n0 : length lo ≡ 2 ^ (n - 1) = omega arith in
     let n1 : length c.join_halves.new.xs ≡ 2 ^ (n - 1) = omega arith in
     let n2 : length c.join_across.new.lo ≡ 2 ^ (n - 1) = omega arith in
-    joined_level N L m n e w c.args.stride c.args.table.now f c.join_halves.new.xs c.join_halves-then-log_len-gt0.new.xs c.join_across.new.lo c.join_across.new.hi table some c.requires.within c.requires.whole c.requires.some n1 n2
-    (c.join_halves.ensures.sums w (λ j. f (2 * j + 0)) table (blocks_of_front N L m n e c.args.xs.now lo hi f some c.requires.within c.split_at_mut-lo.ensures.value n0 blocks))
-    (c.join_halves-then-log_len-gt0.ensures.sums w (λ j. f (2 * j + 1)) table (blocks_of_back N L m n e c.args.xs.now lo hi f some c.requires.within c.split_at_mut-lo.ensures.value n0 blocks))
+    joined_level N L m n e w twiddles f c.join_halves.new.xs c.join_halves-then-log_len-gt0.new.xs c.join_across.new.lo c.join_across.new.hi first some c.requires.within len_twiddles n1 n2
+    (c.join_halves.ensures.sums (power K w 2) (λ j. f (2 * j + 0)) others (blocks_of_front N L m n e c.args.xs.now lo hi f some c.requires.within c.split_at_mut-lo.ensures.value n0 blocks))
+    (c.join_halves-then-log_len-gt0.ensures.sums (power K w 2) (λ j. f (2 * j + 1)) others (blocks_of_back N L m n e c.args.xs.now lo hi f some c.requires.within c.split_at_mut-lo.ensures.value n0 blocks))
     c.join_across.ensures.sums c.join_across.ensures.differences p l
 
 pub returns-then-log_len-gt0-clause-butterflies : goal.returns-then-log_len-gt0-clause-butterflies

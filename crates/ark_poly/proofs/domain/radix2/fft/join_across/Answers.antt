@@ -1,5 +1,4 @@
 use Rattle.std.proofs.Common.{◌≡◌, ◌*◌, ◌<◌, ◌≤◌, ℕ, map, length, get_or, ap₂, ◌∙◌, arith}
-use Rattle.std.proofs.lemmas.Nat.{mul-add-lt}
 use Rattle.std.proofs.lemmas.List.{get_or_read}
 use Rattle.ark_math.specs.Module.{item}
 use Rattle.ark_math.proofs.Lists.{read_at, written_more, written_rest}
@@ -16,11 +15,11 @@ loop-i-preserved g c =
     let here : i ≤ i = omega arith in
     let rest_lo : m (get_or c.loop-i.lo i c.index-lo-i.result) ≡ item V (map m c.args.lo.now) i = read_at m V.zero c.loop-i.lo i c.index-lo-i.result in_lo ∙ v.rest_lo i here in
     let rest_hi : m (get_or c.loop-i.hi i c.index-hi-i.result) ≡ item V (map m c.args.hi.now) i = read_at m V.zero c.loop-i.hi i c.index-hi-i.result in_hi ∙ v.rest_hi i here in
-    let in_roots : i * c.args.stride < length c.args.table.now = omega (arith, mul-add-lt i c.args.stride 0 (length c.args.lo.now) c.loop-i-test.true c.requires.some) in
-    let root : c.index-table-i.result ≡ get_or c.args.table.now (i * c.args.stride) g.F.Field.field.zero = get_or_read c.args.table.now _ _ in_roots c.index-table-i.is g.F.Field.field.zero in
+    let in_roots : i < length c.args.twiddles.now = omega arith in
+    let root : c.index-twiddles-i.result ≡ get_or c.args.twiddles.now i g.F.Field.field.zero = get_or_read c.args.twiddles.now _ _ in_roots c.index-twiddles-i.is g.F.Field.field.zero in
     let lo0 = λ (k : ℕ). item V (map m c.args.lo.now) k in
     let hi0 = λ (k : ℕ). item V (map m c.args.hi.now) k in
-    let scaled = λ (k : ℕ). V.scale (get_or c.args.table.now (k * c.args.stride) g.F.Field.field.zero) (hi0 k) in
+    let scaled = λ (k : ℕ). V.scale (get_or c.args.twiddles.now k g.F.Field.field.zero) (hi0 k) in
     record {
       butterflies = omega arith;
       products = omega arith;

@@ -10,8 +10,8 @@ invariant-loop-i g l =
       butterflies : l.work.butterflies ≡ l.fn.work.butterflies + l.i;
       products : l.work.products ≡ l.fn.work.products + l.i;
       steps : l.work.steps ≡ l.fn.work.steps;
-      sums : (i : ℕ) → i < l.i → item V (map m l.lo) i ≡ V.plus (item V (map m l.initial.lo) i) (V.scale (get_or l.table (i * l.stride) g.F.Field.field.zero) (item V (map m l.initial.hi) i));
-      differences : (i : ℕ) → i < l.i → item V (map m l.hi) i ≡ V.plus (item V (map m l.initial.lo) i) (V.negated (V.scale (get_or l.table (i * l.stride) g.F.Field.field.zero) (item V (map m l.initial.hi) i)));
+      sums : (i : ℕ) → i < l.i → item V (map m l.lo) i ≡ V.plus (item V (map m l.initial.lo) i) (V.scale (get_or l.twiddles i g.F.Field.field.zero) (item V (map m l.initial.hi) i));
+      differences : (i : ℕ) → i < l.i → item V (map m l.hi) i ≡ V.plus (item V (map m l.initial.lo) i) (V.negated (V.scale (get_or l.twiddles i g.F.Field.field.zero) (item V (map m l.initial.hi) i)));
       rest_lo : (i : ℕ) → l.i ≤ i → item V (map m l.lo) i ≡ item V (map m l.initial.lo) i;
       rest_hi : (i : ℕ) → l.i ≤ i → item V (map m l.hi) i ≡ item V (map m l.initial.hi) i;
     }

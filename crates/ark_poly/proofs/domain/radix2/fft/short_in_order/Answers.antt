@@ -61,8 +61,7 @@ spread_out-requires g c =
     }
 
 pub returns-clause-sums : goal.returns-clause-sums
-returns-clause-sums g c = λ w table i l.
-    let K = g.F.Field.field in
+returns-clause-sums g c = λ w tables i l.
     let V = g.T.DomainCoeff.group in
     let m = g.T.DomainCoeff.meaning in
     let N = g.met.F.Field.field_laws in
@@ -85,5 +84,4 @@ returns-clause-sums g c = λ w table i l.
     c.restore_order.ensures p d b ∙ ap (λ t. get_or (take t old) (reversed e p) d) items in
     let blocks : AreBlocks N L m n e c.spread_out.new.xs (item V (map m old)) =
     blocks_spread N L m n e old front (drop k old) c.spread_out.new.xs c.requires.within c.requires.size len_front len_now len_mid order (λ p d h. c.spread_out.ensures p d h ∙ ap (λ t. get_or (front ++ drop k old) (p / t) d) block) in
-    c.join_halves.ensures.sums w (item V (map m old)) table blocks i (omega (arith, l, c.requires.size))
-    ∙ ap (λ t. sum_at K V (2 ^ e) t (item V (map m old)) i) (N.times_one w)
+    c.join_halves.ensures.sums w (item V (map m old)) tables blocks i (omega (arith, l, c.requires.size))
