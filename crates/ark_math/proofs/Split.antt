@@ -1,6 +1,5 @@
 -- A sum of q * m items by q sums of m items.
-use Rattle.std.proofs.Common.{◌≡◌, ℕ, zero, suc, ◌+◌, ◌*◌, ◌%◌, ◌/◌, sym, ◌∙◌, ap, arith}
-use Rattle.std.proofs.lemmas.Nat.{div-add-mod'}
+use Rattle.std.proofs.Common.{◌≡◌, ℕ, zero, suc, ◌+◌, ◌*◌, sym, ◌∙◌, ap, arith}
 use Rattle.ark_math.specs.Field.{FieldOn, IsField, power}
 use Rattle.ark_math.specs.Module.{ModuleOn, IsModule, sum_below}
 use Rattle.ark_math.specs.Halves.{sum_at}
@@ -42,29 +41,21 @@ module _ {F M : Type 0} {K : FieldOn F} {V : ModuleOn F M} (N : IsField K) (L : 
       ∙ (ap (λ t. K.times t (power K v i)) (power-mul K N v m j ∙ (ap (λ t. power K t j) one ∙ power-one K N j))
       ∙ (N.times_comm K.one (power K v i) ∙ N.times_one (power K v i)))
 
-  pub power_mod : (v : F) (q k : ℕ) → power K v q ≡ K.one → power K v k ≡ power K v (k % q)
-  power_mod v q k one =
-      let e : k ≡ q * (k / q) + k % q = sym (div-add-mod' k q) ∙ (let c : k / q * q + k % q ≡ q * (k / q) + k % q = omega arith in c) in
-      ap (power K v) e ∙ power_period v q (k / q) (k % q) one
-
-  -- place j * m + i of the whole, from place i of each part: twisted by w ^ (r * i), and joined by the q-th roots
-  pub join_at : (q m : ℕ) (w : F) (f : ℕ → M) (j i : ℕ) → power K w (q * m) ≡ K.one → sum_at K V (q * m) w f (j * m + i) ≡ sum_below V q (λ r. V.scale (power K w (j * r % q * m)) (V.scale (power K w (r * i)) (sum_at K V m (power K w q) (λ k. f (q * k + r)) i)))
+  -- place j * m + i of the whole, from place i of each part: twisted by w ^ (r * i), and joined by powers of w ^ (j * m)
+  pub join_at : (q m : ℕ) (w : F) (f : ℕ → M) (j i : ℕ) → power K w (q * m) ≡ K.one → sum_at K V (q * m) w f (j * m + i) ≡ sum_below V q (λ r. V.scale (power K (power K w (j * m)) r) (V.scale (power K w (r * i)) (sum_at K V m (power K w q) (λ k. f (q * k + r)) i)))
   join_at q m w f j i one =
-      let v = power K w m in
-      let vq : power K v q ≡ K.one = sym (power-mul K N w m q) ∙ (ap (power K w) (let e : m * q ≡ q * m = omega arith in e) ∙ one) in
       let wq : power K (power K w q) m ≡ K.one = sym (power-mul K N w q m) ∙ one in
       split q m w f (j * m + i)
       ∙ sum_below-same V q _ _
       (λ r b.
       let place : power K (power K w q) (j * m + i) ≡ power K (power K w q) i =
       ap (power K (power K w q)) (let e : j * m + i ≡ m * j + i = omega arith in e) ∙ power_period (power K w q) m j i wq in
-      let factor : power K (power K w (j * m + i)) r ≡ K.times (power K w (j * r % q * m)) (power K w (r * i)) =
+      let factor : power K (power K w (j * m + i)) r ≡ K.times (power K (power K w (j * m)) r) (power K w (r * i)) =
       sym (power-mul K N w (j * m + i) r)
-      ∙ (ap (power K w) (let e : (j * m + i) * r ≡ m * (j * r) + r * i = omega arith in e)
-      ∙ (power-add K N w (m * (j * r)) (r * i)
-      ∙ ap (λ t. K.times t (power K w (r * i)))
-      (power-mul K N w m (j * r) ∙ (power_mod v q (j * r) vq ∙ (sym (power-mul K N w m (j * r % q)) ∙ ap (power K w) (let e : m * (j * r % q) ≡ j * r % q * m = omega arith in e)))))) in
+      ∙ (ap (power K w) (let e : (j * m + i) * r ≡ j * m * r + r * i = omega arith in e)
+      ∙ (power-add K N w (j * m * r) (r * i)
+      ∙ ap (λ t. K.times t (power K w (r * i))) (power-mul K N w (j * m) r))) in
       let part = λ (k : ℕ). f (q * k + r) in
       ap (λ t. V.scale (power K (power K w (j * m + i)) r) (sum_below V m (λ k. V.scale (power K t k) (f (q * k + r))))) place
       ∙ (ap (λ t. V.scale t (sum_at K V m (power K w q) part i)) factor
-      ∙ L.times_scale (power K w (j * r % q * m)) (power K w (r * i)) (sum_at K V m (power K w q) part i)))
+      ∙ L.times_scale (power K (power K w (j * m)) r) (power K w (r * i)) (sum_at K V m (power K w q) part i)))

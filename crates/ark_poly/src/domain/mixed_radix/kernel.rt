@@ -1,6 +1,6 @@
 //! The mixed radix transform, and its inverse.
 
-ghost use Rattle.std.specs.Prelude.{◌≡◌, ◌≢◌, ℕ, true, false, IsOkUnless, IfOk, OnOk, OnErr, List, map, length, get_or, ◌+◌, ◌-◌, ◌*◌, ◌/◌, ◌%◌, ◌≤◌, ◌<◌, ◌^◌, vec_len};
+ghost use Rattle.std.specs.Prelude.{◌≡◌, ◌≢◌, ℕ, true, false, IsOkUnless, IfOk, OnOk, OnErr, List, map, length, get_or, ◌+◌, ◌-◌, ◌*◌, ◌/◌, ◌≤◌, ◌<◌, ◌^◌, vec_len};
 ghost use Rattle.ark_math.specs.Domain.{Domain, mixed_radix};
 ghost use Rattle.ark_math.specs.Field.{FieldOn, power};
 ghost use Rattle.ark_math.specs.Halves.{sum_at, reversed, ArePowers};
@@ -14,49 +14,30 @@ use crate::domain::radix2::fft::{halves, powers, restore_order, scale_by_powers}
 use ark_base::{DomainCoeff, FftField, PolyError, Work};
 use std::alloc::Global;
 
-/// The index a turn after this one, where a whole round is a turn and the rest.
-fn turned(at: usize, turn: usize, rest: usize) -> usize
-    requires within { at < turn + rest }
-    requires small { turn + rest < 2 ^ 64 }
-    ensures { result ≡ (at + turn) % (turn + rest) }
-{
-    if at < rest { at + turn } else { at - rest }
-}
-
-/// The sum of the parts' values at place i, times powers of the q-th root that go up by j.
+/// The sum of the parts' values at one place, times the powers of the factor, by Horner's rule. The last part's is at
+/// index `last`.
 fn rooted_sum<F: FftField, T: DomainCoeff<F>>(
     work: &mut Work,
     parts: &[T],
-    table: &[F],
     base: usize,
     m: usize,
-    leap: usize,
-    j: usize,
-    i: usize,
+    factor: F,
+    last: usize,
 ) -> T
-    requires size { length parts.now ≡ base * m }
-    requires whole { length table.now ≡ base * leap }
-    requires odd { 1 < base }
-    requires few { base < 2 ^ 32 }
-    requires some { 0 < leap }
-    requires root { j < base }
-    requires place { i < m }
+    requires some { 0 < base }
+    requires rows { (base - 1) * m ≤ last }
+    requires inside { last < length parts.now }
     ensures products { work.new.products ≡ work.old.products + (base - 1) }
     ensures butterflies { work.new.butterflies ≡ work.old.butterflies }
     ensures steps { work.new.steps ≡ work.old.steps }
-    ensures sum { get_or table.now 0 F.field.zero ≡ F.field.one → T.meaning result ≡ sum_below T.group base (λ r. T.group.scale (get_or table.now (j * r % base * leap) F.field.zero) (item T.group (map T.meaning parts.now) (r * m + i))) }
+    ensures sum { (i : ℕ) → last ≡ (base - 1) * m + i → T.meaning result ≡ sum_below T.group base (λ r. T.group.scale (power F.field factor r) (item T.group (map T.meaning parts.now) (r * m + i))) }
 {
-    let turn = j * leap;
-    let rest = table.len() - turn;
-    let mut sum = parts[i];
-    let mut place = i;
-    let mut at = 0;
+    let mut sum = parts[last];
+    let mut place = last;
     for _r in 1..base {
-        place += m;
-        at = turned(at, turn, rest);
-        let mut term = parts[place];
-        work.scale(&mut term, table[at]);
-        sum += term;
+        place -= m;
+        work.scale(&mut sum, factor);
+        sum += parts[place];
     }
     sum
 }
@@ -77,7 +58,6 @@ fn step<F: FftField, T: DomainCoeff<F>>(
     requires table_size { length table.now ≡ base * (m * stride) }
     requires small { length table.now < 2 ^ 64 }
     requires odd { 1 < base }
-    requires few { base < 2 ^ 32 }
     requires some { 0 < stride }
     requires place { i < m }
     ensures products { work.new.products ≡ work.old.products + (base * base - 1) }
@@ -95,8 +75,9 @@ fn step<F: FftField, T: DomainCoeff<F>>(
         at += turn;
         work.scale(&mut parts[place], table[at]);
     }
+    let leap = m * stride;
     for j in 0..base {
-        whole[j * m + i] = rooted_sum(work, parts, table, base, m, m * stride, j, i);
+        whole[j * m + i] = rooted_sum(work, parts, base, m, table[j * leap], place);
     }
     work.step();
 }
@@ -116,7 +97,6 @@ fn join<F: FftField, T: DomainCoeff<F>>(
     requires table_size { length table.now ≡ base * (m * stride) }
     requires small { length table.now < 2 ^ 64 }
     requires odd { 1 < base }
-    requires few { base < 2 ^ 32 }
     requires some { 0 < stride }
     ensures products { work.new.products ≡ work.old.products + (base * base - 1) * m }
     ensures butterflies { work.new.butterflies ≡ work.old.butterflies }

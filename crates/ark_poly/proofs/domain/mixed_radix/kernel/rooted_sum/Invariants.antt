@@ -1,15 +1,18 @@
-use Rattle.std.proofs.Common.{◌≡◌, map, get_or, ◌+◌, ◌-◌, ◌*◌, ◌%◌, ◌≤◌}
+use Rattle.std.proofs.Common.{◌≡◌, map, ◌+◌, ◌-◌, ◌*◌, ◌≤◌}
+use Rattle.ark_math.specs.Field.{power}
 use Rattle.ark_math.specs.Module.{item, sum_below}
 use Rattle.ark_poly.proofs.domain.mixed_radix.kernel.rooted_sum.Given as goal
 
 abbrev pub invariant-loop-r : goal.invariant-loop-r
 invariant-loop-r g l =
+    let V = g.T.DomainCoeff.group in
+    let m = g.T.DomainCoeff.meaning in
     record {
       from : 1 ≤ l._r;
-      place : l.place ≡ (l._r - 1) * l.m + l.i;
-      at : l.at ≡ l.j * (l._r - 1) % l.base * l.leap;
+      place : l.place ≡ (l.base - l._r) * l.m + (l.last - (l.base - 1) * l.m);
+      within : l.place ≤ l.last;
       products : l.work.products ≡ l.fn.work.products + (l._r - 1);
       butterflies : l.work.butterflies ≡ l.fn.work.butterflies;
       steps : l.work.steps ≡ l.fn.work.steps;
-      sum : get_or l.table 0 g.F.Field.field.zero ≡ g.F.Field.field.one → g.T.DomainCoeff.meaning l.sum ≡ sum_below g.T.DomainCoeff.group l._r (λ r. g.T.DomainCoeff.group.scale (get_or l.table (l.j * r % l.base * l.leap) g.F.Field.field.zero) (item g.T.DomainCoeff.group (map g.T.DomainCoeff.meaning l.parts) (r * l.m + l.i)));
+      sum : m l.sum ≡ sum_below V l._r (λ k. V.scale (power g.F.Field.field l.factor k) (item V (map m l.parts) ((l.base - l._r + k) * l.m + (l.last - (l.base - 1) * l.m))));
     }
