@@ -8,7 +8,6 @@ use Rattle.ark_math.specs.Field.{FieldOn, IsField, power}
 use Rattle.ark_math.specs.Module.{ModuleOn, IsModule, sum_below, item}
 use Rattle.ark_math.specs.Halves.{sum_at, reversed, IsHalfTable, AreLevels}
 use Rattle.ark_math.proofs.Groups.{zero_plus, scale_zero, one_times}
-use Rattle.ark_math.proofs.Halving.{half_strides, mul_within}
 use Rattle.ark_math.proofs.Lists.{read_front, read_back, read_order}
 use Rattle.ark_math.proofs.Powers.{power-add, power-mul, power_comm, negated_one_even}
 use Rattle.ark_math.proofs.Regrouped.{sum_below-past}
@@ -160,24 +159,26 @@ module _ {F : Type 0} (K : FieldOn F) (N : IsField K) where
       let at : (i : ℕ) → get_or rest i K.zero ≡ get_or tables (2 ^ suc n + i) K.zero = λ i. get_or-drop (2 ^ suc n) tables i K.zero in
       let next : IsHalfTable K (power K w 2) (take h rest) = record {
         powers = λ i b.
-          let c : i < h = omega (arith, b, len_next) in
-          get_or-take h rest i K.zero c
-          ∙ at i
-          ∙ seconds i (omega (arith, c, two))
-          ∙ sym (get_or-take (2 ^ suc n) tables (2 * i) K.zero (omega (arith, c, two)))
-          ∙ first.powers (2 * i) (omega (arith, c, len_first))
-          ∙ power-mul K N w 2 i;
+            let c : i < h = omega (arith, b, len_next) in
+            get_or-take h rest i K.zero c
+            ∙ at i
+            ∙ seconds i (omega (arith, c, two))
+            ∙ sym (get_or-take (2 ^ suc n) tables (2 * i) K.zero (omega (arith, c, two)))
+            ∙ first.powers (2 * i) (omega (arith, c, len_first))
+            ∙ power-mul K N w 2 i;
         half = λ b.
-          ap (power K (power K w 2)) len_next
-          ∙ sym (power-mul K N w 2 h)
-          ∙ ap (power K w) (sym len_first)
-          ∙ first.half (omega (arith, len_first, pow_pos n));
-      } in
-      (first, levels_from_first n (power K w 2) rest len_rest next
-        (λ k b. at (h + k)
-          ∙ seconds (h + k) (omega (arith, b, two))
-          ∙ ap (λ t. get_or tables t K.zero) (let e : 2 * (h + k) ≡ 2 ^ suc n + 2 * k = omega (arith, two) in e)
-          ∙ sym (at (2 * k))))
+            ap (power K (power K w 2)) len_next
+            ∙ sym (power-mul K N w 2 h)
+            ∙ ap (power K w) (sym len_first)
+            ∙ first.half (omega (arith, len_first, pow_pos n));
+      } in (
+        first,
+        levels_from_first n (power K w 2) rest len_rest next
+            (λ k b. at (h + k)
+            ∙ seconds (h + k) (omega (arith, b, two))
+            ∙ ap (λ t. get_or tables t K.zero) (let e : 2 * (h + k) ≡ 2 ^ suc n + 2 * k = omega (arith, two) in e)
+            ∙ sym (at (2 * k))),
+      )
 
   -- the same at any size, that of one item too, where there are no twiddles
   pub levels_of_size : (n size : ℕ) (w : F) (tables : List F) → size ≡ 2 ^ n → length tables ≡ size → IsHalfTable K w (take (size / 2) tables) → ((k : ℕ) → k < size / 2 → get_or tables (size / 2 + k) K.zero ≡ get_or tables (2 * k) K.zero) → AreLevels K w n tables

@@ -432,9 +432,9 @@ impl<F: FftField> Radix2EvaluationDomain<F> {
     {
         let len = coeffs.len();
         let log_len = len.next_power_of_two().ilog2();
-        let n = self.coset.size as usize;
-        let tables = level_tables(alloc, self.coset.group_gen, n)?;
-        coeffs.resize(n, T::zero())?;
+        let size = self.coset.size as usize;
+        let tables = level_tables(alloc, self.coset.group_gen, size)?;
+        coeffs.resize(size, T::zero())?;
         let xs = coeffs.as_mut_slice();
         shift_to_coset(work, &mut xs[..len], self.coset.offset);
         short_in_order(

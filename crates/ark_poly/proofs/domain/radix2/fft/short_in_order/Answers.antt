@@ -3,7 +3,7 @@ use Rattle.std.proofs.Math.Nat.{one-mul}
 use Rattle.std.proofs.Math.Pow.{pow_mono, pow_pos, pow-lt}
 use Rattle.std.proofs.lemmas.Nat.{pow-add}
 use Rattle.ark_math.specs.Module.{item}
-use Rattle.ark_math.specs.Halves.{sum_at, reversed}
+use Rattle.ark_math.specs.Halves.{reversed}
 use Rattle.ark_math.proofs.Halving.{few_levels}
 use Rattle.ark_math.proofs.Joining.{AreBlocks, blocks_spread, first_items}
 use Rattle.ark_poly.proofs.domain.radix2.fft.short_in_order.Goals as goal
