@@ -6,7 +6,7 @@ use Rattle.std.proofs.Math.Nat.{div-lt_iff_lt-mul}
 use Rattle.std.proofs.Math.Pow.{pow_mono}
 use Rattle.ark_math.specs.Field.{FieldOn, IsField, power}
 use Rattle.ark_math.specs.Module.{ModuleOn, IsModule, sum_below, item}
-use Rattle.ark_math.specs.Halves.{sum_at, reversed, IsHalfTable, AreLevels}
+use Rattle.ark_math.specs.Halves.{sum_at, reversed, ArePowers, IsHalfTable, AreLevels}
 use Rattle.ark_math.proofs.Groups.{zero_plus, scale_zero, one_times}
 use Rattle.ark_math.proofs.Lists.{read_front, read_back, read_order}
 use Rattle.ark_math.proofs.Powers.{power-add, power-mul, power_comm, negated_one_even}
@@ -187,3 +187,22 @@ module _ {F : Type 0} (K : FieldOn F) (N : IsField K) where
       let h : size / 2 ≡ 2 ^ n = omega (arith, is) in
       levels_from_first n w tables (omega (arith, is, len)) (subst (λ t. IsHalfTable K w (take t tables)) h first)
       (subst (λ t. (k : ℕ) → k < t → get_or tables (t + k) K.zero ≡ get_or tables (2 * k) K.zero) h seconds)
+
+  even_power : (n s : ℕ) → s ≡ 2 ^ n → 0 < s / 2 → 2 * (s / 2) ≡ s
+  even_power zero s is some = omega (arith, is, some)
+  even_power (suc n) s is some = omega (arith, is)
+
+  -- the tables of all levels but the last one
+  pub levels_below : (n size : ℕ) (w : F) (tables : List F) → size ≡ 2 ^ n → length tables ≡ size / 2 → (0 < n → power K w (size / 2) ≡ K.negated K.one) → ArePowers K (power K w 2) (size / 2 / 2) (take (size / 2 / 2) tables) → ((k : ℕ) → k < size / 2 / 2 → get_or tables (size / 2 / 2 + k) K.zero ≡ get_or tables (2 * k) K.zero) → AreLevels K (power K w 2) (n - 1) tables
+  levels_below zero size w tables is len half first seconds = tt
+  levels_below (suc n) size w tables is len half first seconds =
+      let h : size / 2 ≡ 2 ^ n = omega (arith, is) in
+      let same : n ≡ suc n - 1 = omega arith in
+      let pos : 0 < suc n = omega arith in
+      let halved : IsHalfTable K (power K w 2) (take (size / 2 / 2) tables) = record {
+        powers = λ i b. first.powers i (omega (arith, b, first.len));
+        half = λ b.
+            let even : 2 * (size / 2 / 2) ≡ size / 2 = even_power n (size / 2) h (omega (arith, b, first.len)) in
+            ap (power K (power K w 2)) first.len ∙ sym (power-mul K N w 2 (size / 2 / 2)) ∙ ap (power K w) even ∙ half pos;
+      } in
+      subst (λ k. AreLevels K (power K w 2) k tables) same (levels_of_size n (size / 2) (power K w 2) tables h len halved seconds)

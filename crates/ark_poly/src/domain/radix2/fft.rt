@@ -252,20 +252,48 @@ fn spread_out<T: Copy>(xs: &mut [T], items: usize, block: usize)
     }
 }
 
-/// The transform of the first 2 ^ log_len items at the tables' root, in place and in order, by butterflies of as many
-/// levels.
+/// The same at a root, where the tables are those of all levels but the last. The last one's twiddles take their place once
+/// they have been used.
+fn join_levels<F: FftField, T: DomainCoeff<F>>(
+    work: &mut Work,
+    xs: &mut [T],
+    tables: &mut [F],
+    root: F,
+    levels: u32,
+    log_len: u32,
+)
+    requires size { length xs.old ≡ 2 ^ levels }
+    requires whole { length tables.old ≡ 2 ^ levels / 2 }
+    requires within { log_len ≤ levels }
+    ensures sums { (c : ℕ → T.Meaning) → AreLevels F.field (power F.field root 2) (levels - 1) tables.old → (0 < levels → power F.field root (2 ^ levels / 2) ≡ F.field.negated F.field.one) → ((p : ℕ) → p < 2 ^ levels → item T.group (map T.meaning xs.old) p ≡ c (reversed log_len (p / 2 ^ (levels - log_len)))) → (p : ℕ) → p < 2 ^ levels → item T.group (map T.meaning xs.new) p ≡ sum_at F.field T.group (2 ^ log_len) root c p }
+    ensures butterflies { work.new.butterflies ≡ work.old.butterflies + 2 ^ levels / 2 * log_len }
+    ensures products { work.new.products ≡ work.old.products + 2 ^ levels / 2 * log_len }
+    ensures steps { work.new.steps ≡ work.old.steps }
+{
+    if log_len > 0 {
+        let half = xs.len() / 2;
+        let (lo, hi) = xs.split_at_mut(half);
+        join_halves(work, lo, tables, levels - 1, log_len - 1);
+        join_halves(work, hi, tables, levels - 1, log_len - 1);
+        fill_with_powers(root, tables);
+        join_across(work, lo, hi, tables);
+    }
+}
+
+/// The transform of the first 2 ^ log_len items at the root, in place and in order, by butterflies of as many levels.
 fn short_in_order<F: FftField, T: DomainCoeff<F>>(
     work: &mut Work,
     xs: &mut [T],
-    tables: &[F],
+    tables: &mut [F],
+    root: F,
     levels: u32,
     log_len: u32,
 )
     requires size { length xs.old ≡ 2 ^ levels }
     requires fits { length xs.old < 2 ^ 64 }
-    requires whole { length tables.now ≡ length xs.old }
+    requires whole { length tables.old ≡ length xs.old / 2 }
     requires within { log_len ≤ levels }
-    ensures sums { (w : F) → AreLevels F.field w levels tables.now → (i : ℕ) → i < length xs.old → item T.group (map T.meaning xs.new) i ≡ sum_at F.field T.group (2 ^ log_len) w (item T.group (map T.meaning xs.old)) i }
+    ensures sums { AreLevels F.field (power F.field root 2) (levels - 1) tables.old → (0 < levels → power F.field root (length xs.old / 2) ≡ F.field.negated F.field.one) → (i : ℕ) → i < length xs.old → item T.group (map T.meaning xs.new) i ≡ sum_at F.field T.group (2 ^ log_len) root (item T.group (map T.meaning xs.old)) i }
     ensures butterflies { work.new.butterflies ≡ work.old.butterflies + length xs.old / 2 * log_len }
     ensures products { work.new.products ≡ work.old.products + length xs.old / 2 * log_len }
     ensures steps { work.new.steps ≡ work.old.steps }
@@ -274,7 +302,7 @@ fn short_in_order<F: FftField, T: DomainCoeff<F>>(
     let items = xs.len() >> log_block;
     restore_order(&mut xs[..items], log_len);
     spread_out(xs, items, 1 << log_block);
-    join_halves(work, xs, tables, levels, log_len);
+    join_levels(work, xs, tables, root, levels, log_len);
 }
 
 /// Scales each item.
@@ -340,11 +368,13 @@ fn continue_powers<F: FftField>(known: &[F], rest: &mut [F], count: usize, next:
     }
 }
 
-/// Fills a list of ones with the powers of a root from 0 on. No product waits for the one before it.
+/// Fills a list with the powers of a root from 0 on. No product waits for the one before it.
 fn fill_with_powers<F: FftField>(root: F, xs: &mut [F])
-    requires ones { 0 < length xs.old → get_or xs.old 0 F.field.zero ≡ F.field.one }
     ensures { ArePowers F.field root (length xs.old) xs.new }
 {
+    if let Some(first) = xs.first_mut() {
+        *first = F::one();
+    }
     let mut known = 1;
     let mut next = root;
     'double: while known < xs.len() {
@@ -433,14 +463,16 @@ impl<F: FftField> Radix2EvaluationDomain<F> {
         let len = coeffs.len();
         let log_len = len.next_power_of_two().ilog2();
         let size = self.coset.size as usize;
-        let tables = level_tables(alloc, self.coset.group_gen, size)?;
+        let root = self.coset.group_gen;
+        let mut tables = level_tables(alloc, root * root, size / 2)?;
         coeffs.resize(size, T::zero())?;
         let xs = coeffs.as_mut_slice();
         shift_to_coset(work, &mut xs[..len], self.coset.offset);
         short_in_order(
             work,
             xs,
-            tables.as_slice(),
+            tables.as_mut_slice(),
+            root,
             self.coset.log_size_of_group,
             log_len,
         );

@@ -1,16 +1,18 @@
 use Rattle.std.proofs.Common.{◌≡◌, ℕ, map, length, get_or, take, drop, ◌++◌, ◌+◌, ◌-◌, ◌*◌, ◌/◌, ◌^◌, ◌<◌, ◌≤◌, arith, sym, ap, subst, ◌∙◌, length-take-le, length-append, length-drop}
 use Rattle.std.proofs.lemmas.List.{length-map}
-use Rattle.std.proofs.Math.Pow.{pow_mono}
+use Rattle.std.proofs.Math.Pow.{pow_mono, pow_pos}
 use Rattle.ark_math.specs.Cost.{IsLog2Up}
 use Rattle.ark_math.specs.Domain.{Domain, radix2}
-use Rattle.ark_math.specs.Halves.{ArePowers}
+use Rattle.ark_math.specs.Field.{power}
+use Rattle.ark_math.specs.Halves.{ArePowers, AreLevels}
 use Rattle.ark_math.specs.Root.{HasOrder}
 use Rattle.ark_math.specs.Module.{item}
-use Rattle.ark_math.proofs.Joining.{sum_of_few, levels_of_size}
+use Rattle.ark_math.proofs.Joining.{sum_of_few, levels_below}
 use Rattle.ark_math.proofs.Lists.{read_fitted, written_back}
-use Rattle.ark_math.proofs.Radix2.{forward}
+use Rattle.ark_math.proofs.Powers.{half_of_order}
+use Rattle.ark_math.proofs.Reversal.{pow_pred}
 use Rattle.ark_math.proofs.Sizes.{power_of_two, next_log, log_of_short, log_within}
-use Rattle.ark_math.proofs.Transforms.{AreShifted, shifted_front, shifted_past}
+use Rattle.ark_math.proofs.Transforms.{AreShifted, is_transform, shifted_front, shifted_past}
 use Rattle.ark_base.proofs.Cost.{radix2_cost}
 use Rattle.ark_poly.proofs.domain.radix2.Radix2EvaluationDomain.fft_short.Goals as goal
 
@@ -41,9 +43,16 @@ returns-clause-transform g c =
     let fit : (j : ℕ) → j < t.size → item V (map m fitted) j ≡ item V (map m old) j = λ j l.
     ap (λ xs. item V (map m xs) j) (c.as_mut_slice-xs.ensures.value ∙ c.in_ok-resize.ensures.items)
     ∙ read_fitted m V.zero old t.size _ c.zero.result (ap m c.zero.ensures ∙ g.met.T.DomainCoeff.zero_meaning) j l in
-    let tables = c.as_slice.result.now in
-    let first : ArePowers K t.group_gen (t.size / 2) (take (t.size / 2) tables) = subst (λ xs. ArePowers K t.group_gen (t.size / 2) (take (t.size / 2) xs)) (sym c.as_slice.ensures.value) c.in_ok-tables.ensures.first in
-    let seconds : (k : ℕ) → k < t.size / 2 → get_or tables (t.size / 2 + k) K.zero ≡ get_or tables (2 * k) K.zero = subst (λ xs. (k : ℕ) → k < t.size / 2 → get_or xs (t.size / 2 + k) K.zero ≡ get_or xs (2 * k) K.zero) (sym c.as_slice.ensures.value) c.in_ok-tables.ensures.seconds in
+    let h = t.size / 2 in
+    let tables = c.as_mut_slice.result.now in
+    let product : c.mul.result ≡ K.times t.group_gen t.group_gen = g.met.F.Field.mul_law _ _ _ c.mul.ensures in
+    let square : c.mul.result ≡ power K t.group_gen 2 = product ∙ ap (K.times t.group_gen) (sym (N.times_one t.group_gen)) in
+    let first : ArePowers K (power K t.group_gen 2) (h / 2) (take (h / 2) tables) = subst (λ w. ArePowers K w (h / 2) (take (h / 2) tables)) square (subst (λ xs. ArePowers K c.mul.result (h / 2) (take (h / 2) xs)) (sym c.as_mut_slice.ensures.value) c.in_ok-tables.ensures.first) in
+    let seconds : (k : ℕ) → k < h / 2 → get_or tables (h / 2 + k) K.zero ≡ get_or tables (2 * k) K.zero = subst (λ xs. (k : ℕ) → k < h / 2 → get_or xs (h / 2 + k) K.zero ≡ get_or xs (2 * k) K.zero) (sym c.as_mut_slice.ensures.value) c.in_ok-tables.ensures.seconds in
+    let half : 0 < t.log_size_of_group → power K t.group_gen h ≡ K.negated K.one = λ pos.
+    let twice : h * 2 ≡ t.size = omega (arith, is_power, pow_pred t.log_size_of_group pos) in
+    half_of_order K N t.group_gen h (omega (arith, is_power, pow_pred t.log_size_of_group pos, pow_pos (t.log_size_of_group - 1))) (subst (HasOrder K t.group_gen) (sym twice) order) in
+    let levels : AreLevels K (power K t.group_gen 2) (t.log_size_of_group - 1) tables = levels_below K N t.log_size_of_group t.size t.group_gen tables is_power (ap length c.as_mut_slice.ensures.value ∙ c.in_ok-tables.ensures.len) half first seconds in
     let len = c.len-len.result in
     let front = c.shift_to_coset.new.xs in
     let mid = front ++ drop len fitted in
@@ -59,13 +68,13 @@ returns-clause-transform g c =
     let p = c.next_power_of_two.ensures in
     let e = c.ilog2-log_len.ensures in
     let log : IsLog2Up len c.ilog2-log_len.result = next_log _ _ _ (p.power, p.lower_bound, p.upper_bound) e.power_le e.next_power_gt in
-    let h = 2 ^ c.ilog2-log_len.result in
-    let le : h ≤ 2 ^ t.log_size_of_group = pow_mono (log_within t.size len _ _ (omega arith) is_power log) in
+    let few = 2 ^ c.ilog2-log_len.result in
+    let le : few ≤ 2 ^ t.log_size_of_group = pow_mono (log_within t.size len _ _ (omega arith) is_power log) in
     ap (map m) (written_back now _ _ (omega (arith, c.in_ok-resize.ensures.len)))
-    ∙ forward N L m d t.log_size_of_group is_power order (take (t.size / 2) tables) old mid now first size_mid size_now shifted
-    (λ w half i l.
-    c.short_in_order.ensures.sums w (levels_of_size K N t.log_size_of_group t.size w tables is_power (ap length c.as_slice.ensures.value ∙ c.in_ok-tables.ensures.len) half seconds) i l
-    ∙ sym (sum_of_few N L h (length mid) w (item V (map m mid)) i (omega arith)
+    ∙ is_transform N L d (map m old) (map m now) (item V (map m mid)) shifted (length-map now m ∙ size_now)
+    (λ i l.
+    c.short_in_order.ensures.sums levels (λ pos. ap (λ k. power K t.group_gen (k / 2)) size_mid ∙ half pos) i (omega (arith, l, size_mid))
+    ∙ sym (sum_of_few N L few t.size t.group_gen (item V (map m mid)) i (omega (arith, le, is_power))
     (λ j above within. shifted_past N L d (map m old) (item V (map m mid)) shifted j (omega (arith, length-map old m, log.0)) (omega arith))))
 
 pub returns-clause-cost : goal.returns-clause-cost

@@ -2,6 +2,7 @@ use Rattle.std.proofs.Common.{◌≡◌, ◌-◌, ◌/◌, ◌<◌, ◌≤◌, �
 use Rattle.std.proofs.Math.Nat.{one-mul}
 use Rattle.std.proofs.Math.Pow.{pow_mono, pow_pos, pow-lt}
 use Rattle.std.proofs.lemmas.Nat.{pow-add}
+use Rattle.ark_math.specs.Field.{power}
 use Rattle.ark_math.specs.Module.{item}
 use Rattle.ark_math.specs.Halves.{reversed}
 use Rattle.ark_math.proofs.Halving.{few_levels}
@@ -61,7 +62,7 @@ spread_out-requires g c =
     }
 
 pub returns-clause-sums : goal.returns-clause-sums
-returns-clause-sums g c = λ w tables i l.
+returns-clause-sums g c = λ levels half i l.
     let V = g.T.DomainCoeff.group in
     let m = g.T.DomainCoeff.meaning in
     let N = g.met.F.Field.field_laws in
@@ -84,4 +85,4 @@ returns-clause-sums g c = λ w tables i l.
     c.restore_order.ensures p d b ∙ ap (λ t. get_or (take t old) (reversed e p) d) items in
     let blocks : AreBlocks N L m n e c.spread_out.new.xs (item V (map m old)) =
     blocks_spread N L m n e old front (drop k old) c.spread_out.new.xs c.requires.within c.requires.size len_front len_now len_mid order (λ p d h. c.spread_out.ensures p d h ∙ ap (λ t. get_or (front ++ drop k old) (p / t) d) block) in
-    c.join_halves.ensures.sums w (item V (map m old)) tables blocks i (omega (arith, l, c.requires.size))
+    c.join_levels.ensures.sums (item V (map m old)) levels (λ pos. ap (λ t. power g.F.Field.field c.args.root (t / 2)) (sym c.requires.size) ∙ half pos) blocks i (omega (arith, l, c.requires.size))
