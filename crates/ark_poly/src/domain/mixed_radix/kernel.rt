@@ -42,11 +42,10 @@ fn rooted_sum<F: FftField, T: DomainCoeff<F>>(
     sum
 }
 
-/// One step: joins the parts' values at place i.
-fn step<F: FftField, T: DomainCoeff<F>>(
+/// One step's products before its sums: twists each part's item at place i.
+fn twist<F: FftField, T: DomainCoeff<F>>(
     work: &mut Work,
     parts: &mut [T],
-    whole: &mut [T],
     table: &[F],
     base: usize,
     m: usize,
@@ -54,18 +53,16 @@ fn step<F: FftField, T: DomainCoeff<F>>(
     i: usize,
 )
     requires parts_size { length parts.old ≡ base * m }
-    requires whole_size { length whole.old ≡ base * m }
     requires table_size { length table.now ≡ base * (m * stride) }
     requires small { length table.now < 2 ^ 64 }
     requires odd { 1 < base }
     requires some { 0 < stride }
     requires place { i < m }
-    ensures products { work.new.products ≡ work.old.products + (base * base - 1) }
+    ensures products { work.new.products ≡ work.old.products + (base - 1) }
     ensures butterflies { work.new.butterflies ≡ work.old.butterflies }
     ensures steps { work.new.steps ≡ work.old.steps + 1 }
-    ensures joined { get_or table.now 0 F.field.zero ≡ F.field.one → (j : ℕ) → j < base → item T.group (map T.meaning whole.new) (j * m + i) ≡ joined F.field T.group table.now base m stride (item T.group (map T.meaning parts.old)) j i }
+    ensures twisted { get_or table.now 0 F.field.zero ≡ F.field.one → (r : ℕ) → r < base → item T.group (map T.meaning parts.new) (r * m + i) ≡ T.group.scale (get_or table.now (r * i * stride) F.field.zero) (item T.group (map T.meaning parts.old) (r * m + i)) }
     ensures other_parts { (r k : ℕ) → k < m → k ≢ i → item T.group (map T.meaning parts.new) (r * m + k) ≡ item T.group (map T.meaning parts.old) (r * m + k) }
-    ensures other_places { (j k : ℕ) → k < m → k ≢ i → item T.group (map T.meaning whole.new) (j * m + k) ≡ item T.group (map T.meaning whole.old) (j * m + k) }
 {
     let turn = i * stride;
     let mut place = i;
@@ -75,11 +72,57 @@ fn step<F: FftField, T: DomainCoeff<F>>(
         at += turn;
         work.scale(&mut parts[place], table[at]);
     }
-    let leap = m * stride;
-    for j in 0..base {
-        whole[j * m + i] = rooted_sum(work, parts, base, m, table[j * leap], place);
-    }
     work.step();
+}
+
+/// Twists the parts' items, and counts a step for each place.
+fn twist_each<F: FftField, T: DomainCoeff<F>>(
+    work: &mut Work,
+    parts: &mut [T],
+    table: &[F],
+    base: usize,
+    m: usize,
+    stride: usize,
+)
+    requires parts_size { length parts.old ≡ base * m }
+    requires table_size { length table.now ≡ base * (m * stride) }
+    requires small { length table.now < 2 ^ 64 }
+    requires odd { 1 < base }
+    requires some { 0 < stride }
+    ensures products { work.new.products ≡ work.old.products + (base - 1) * m }
+    ensures butterflies { work.new.butterflies ≡ work.old.butterflies }
+    ensures steps { work.new.steps ≡ work.old.steps + m }
+    ensures twisted { get_or table.now 0 F.field.zero ≡ F.field.one → (r i : ℕ) → r < base → i < m → item T.group (map T.meaning parts.new) (r * m + i) ≡ T.group.scale (get_or table.now (r * i * stride) F.field.zero) (item T.group (map T.meaning parts.old) (r * m + i)) }
+{
+    for i in 0..m {
+        twist(work, parts, table, base, m, stride, i);
+    }
+}
+
+/// Row j of the whole: at each place the sum of the parts' items, times the powers of the row's factor.
+fn sum_row<F: FftField, T: DomainCoeff<F>>(
+    work: &mut Work,
+    parts: &[T],
+    whole: &mut [T],
+    base: usize,
+    m: usize,
+    factor: F,
+    j: usize,
+)
+    requires parts_size { length parts.now ≡ base * m }
+    requires whole_size { length whole.old ≡ base * m }
+    requires row { j < base }
+    ensures products { work.new.products ≡ work.old.products + (base - 1) * m }
+    ensures butterflies { work.new.butterflies ≡ work.old.butterflies }
+    ensures steps { work.new.steps ≡ work.old.steps }
+    ensures sums { (i : ℕ) → i < m → item T.group (map T.meaning whole.new) (j * m + i) ≡ sum_below T.group base (λ r. T.group.scale (power F.field factor r) (item T.group (map T.meaning parts.now) (r * m + i))) }
+    ensures other_rows { (k i : ℕ) → i < m → k ≢ j → item T.group (map T.meaning whole.new) (k * m + i) ≡ item T.group (map T.meaning whole.old) (k * m + i) }
+{
+    let row = j * m;
+    let last = (base - 1) * m;
+    for i in 0..m {
+        whole[row + i] = rooted_sum(work, parts, base, m, factor, last + i);
+    }
 }
 
 /// Joins the parts at each place.
@@ -103,8 +146,12 @@ fn join<F: FftField, T: DomainCoeff<F>>(
     ensures steps { work.new.steps ≡ work.old.steps + m }
     ensures joined { get_or table.now 0 F.field.zero ≡ F.field.one → (j i : ℕ) → j < base → i < m → item T.group (map T.meaning whole.new) (j * m + i) ≡ joined F.field T.group table.now base m stride (item T.group (map T.meaning parts.old)) j i }
 {
-    for i in 0..m {
-        step(work, parts, whole, table, base, m, stride, i);
+    twist_each(work, parts, table, base, m, stride);
+    if m > 0 {
+        let leap = m * stride;
+        for j in 0..base {
+            sum_row(work, parts, whole, base, m, table[j * leap], j);
+        }
     }
 }
 

@@ -1,7 +1,6 @@
 use Rattle.std.proofs.Common.{◌≡◌, ◌≢◌, ℕ, map, get_or, ◌+◌, ◌-◌, ◌*◌, ◌≤◌, ◌<◌}
-use Rattle.ark_math.specs.Mixed.{joined}
 use Rattle.ark_math.specs.Module.{item}
-use Rattle.ark_poly.proofs.domain.mixed_radix.kernel.step.Given as goal
+use Rattle.ark_poly.proofs.domain.mixed_radix.kernel.twist.Given as goal
 
 abbrev pub invariant-loop-r : goal.invariant-loop-r
 invariant-loop-r g l =
@@ -17,16 +16,4 @@ invariant-loop-r g l =
       done : get_or l.table 0 g.F.Field.field.zero ≡ g.F.Field.field.one → (r : ℕ) → r < l._r → item V (map m l.parts) (r * l.m + l.i) ≡ V.scale (get_or l.table (r * l.i * l.stride) g.F.Field.field.zero) (item V (map m l.fn.parts) (r * l.m + l.i));
       rest : (r : ℕ) → l._r ≤ r → item V (map m l.parts) (r * l.m + l.i) ≡ item V (map m l.fn.parts) (r * l.m + l.i);
       others : (r k : ℕ) → k < l.m → k ≢ l.i → item V (map m l.parts) (r * l.m + k) ≡ item V (map m l.fn.parts) (r * l.m + k);
-    }
-
-abbrev pub invariant-loop-j : goal.invariant-loop-j
-invariant-loop-j g l =
-    let V = g.T.DomainCoeff.group in
-    let m = g.T.DomainCoeff.meaning in
-    record {
-      products : l.work.products ≡ l.fn.work.products + (l.base - 1) + l.j * (l.base - 1);
-      butterflies : l.work.butterflies ≡ l.fn.work.butterflies;
-      steps : l.work.steps ≡ l.fn.work.steps;
-      done : get_or l.table 0 g.F.Field.field.zero ≡ g.F.Field.field.one → (j : ℕ) → j < l.j → item V (map m l.whole) (j * l.m + l.i) ≡ joined g.F.Field.field V l.table l.base l.m l.stride (item V (map m l.fn.parts)) j l.i;
-      others : (j k : ℕ) → k < l.m → k ≢ l.i → item V (map m l.whole) (j * l.m + k) ≡ item V (map m l.fn.whole) (j * l.m + k);
     }

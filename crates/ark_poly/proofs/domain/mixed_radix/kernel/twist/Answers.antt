@@ -1,12 +1,10 @@
 use Rattle.std.proofs.Common.{rules, ◌≡◌, ◌≢◌, ℕ, set, map, length, get_or, ◌+◌, ◌-◌, ◌*◌, ◌≤◌, ◌<◌, ap, sym, ◌∙◌, arith, subst, ⊎_elim}
 use Rattle.std.proofs.lemmas.Bool.{cases_eq}
 use Rattle.std.proofs.lemmas.List.{get_or_read}
-use Rattle.ark_math.specs.Field.{power}
-use Rattle.ark_math.specs.Mixed.{joined}
-use Rattle.ark_math.specs.Module.{item, sum_below}
+use Rattle.ark_math.specs.Module.{item}
 use Rattle.ark_math.proofs.Lists.{read_at, written_same, written_other}
-use Rattle.ark_math.proofs.Parts.{place_below, twist_below, leap_below, next_place, next_twist, square_less, columns_differ, rows_differ, joined_twisted, step_row}
-use Rattle.ark_poly.proofs.domain.mixed_radix.kernel.step.Goals as goal
+use Rattle.ark_math.proofs.Parts.{place_below, twist_below, next_place, next_twist, columns_differ, rows_differ}
+use Rattle.ark_poly.proofs.domain.mixed_radix.kernel.twist.Goals as goal
 
 pub overflow_add-place : goal.overflow_add-place
 overflow_add-place g c =
@@ -94,65 +92,3 @@ loop-r-preserved g c =
       others = λ r k kl ne.
           written_other m V.zero xs at (r * c.args.m + k) new (λ w. columns_differ c.args.m r0 i0 r k c.requires.place kl ne (w ∙ place)) ∙ v.others r k kl ne;
     }
-
-pub offset_bounds-table-j : goal.offset_bounds-table-j
-offset_bounds-table-j g c =
-    let l = leap_below c.args.base c.args.m c.args.stride c.loop-j.j c.args.i c.loop-j-test.true c.requires.place c.requires.some in
-    let b : c.loop-j.j * (c.args.m * c.args.stride) < length c.args.table.now = omega arith in
-    search rules
-
-pub bounds-table-j : goal.bounds-table-j
-bounds-table-j g c =
-    let l = leap_below c.args.base c.args.m c.args.stride c.loop-j.j c.args.i c.loop-j-test.true c.requires.place c.requires.some in
-    omega arith
-
-pub offset_bounds-whole-j : goal.offset_bounds-whole-j
-offset_bounds-whole-j g c =
-    let l = place_below c.args.base c.args.m c.loop-j.j c.args.i c.loop-j-test.true c.requires.place in
-    let b : c.loop-j.j * c.args.m + c.args.i < length c.loop-j.whole = omega arith in
-    search rules
-
-pub loop-j-preserved : goal.loop-j-preserved
-loop-j-preserved g c =
-    let K = g.F.Field.field in
-    let V = g.T.DomainCoeff.group in
-    let m = g.T.DomainCoeff.meaning in
-    let j0 = c.loop-j.j in
-    let i0 = c.args.i in
-    let xs = c.loop-j.whole in
-    let v = c.loop-j.invariant in
-    let at = j0 * c.args.m + i0 in
-    let l = place_below c.args.base c.args.m j0 i0 c.loop-j-test.true c.requires.place in
-    let b : at < length xs = omega arith in
-    let old = λ (k : ℕ). item V (map m c.args.parts.now) k in
-    let new = c.rooted_sum.result in
-    let leap = j0 * (c.args.m * c.args.stride) in
-    let k = leap_below c.args.base c.args.m c.args.stride j0 i0 c.loop-j-test.true c.requires.place c.requires.some in
-    let a : leap < length c.args.table.now = omega arith in
-    let root : c.index-table-j.result ≡ get_or c.args.table.now leap K.zero = get_or_read c.args.table.now _ _ a c.index-table-j.is K.zero in
-    let end : c.loop-r._r ≡ c.args.base = omega arith in
-    let last : c.loop-r.place ≡ (c.args.base - 1) * c.args.m + i0 = c.loop-r.invariant.place ∙ ap (λ t. (t - 1) * c.args.m + i0) end in
-    record {
-      products = omega (arith, step_row c.loop-j.j (c.args.base - 1));
-      butterflies = omega arith;
-      steps = omega arith;
-      done = λ one j jl.
-          ⊎_elim
-          (λ (e : j ≡ j0).
-          subst (λ t. item V (map m (set xs at new)) (t * c.args.m + i0) ≡ joined K V c.args.table.now c.args.base c.args.m c.args.stride old t i0) (sym e)
-          (written_same m V.zero xs at new b
-          ∙ (c.rooted_sum.ensures.sum i0 last
-          ∙ (ap (λ x. sum_below V c.args.base (λ r. V.scale (power K x r) (item V (map m c.loop-r.parts) (r * c.args.m + i0)))) root
-          ∙ joined_twisted K V c.args.table.now c.args.base c.args.m c.args.stride (item V (map m c.loop-r.parts)) old j0 i0 (λ r rl. c.loop-r.invariant.done one r (omega arith))))))
-          (λ (ne : j ≢ j0). written_other m V.zero xs at (j * c.args.m + i0) new (rows_differ c.args.m j0 i0 j i0 c.requires.place c.requires.place ne) ∙ v.done one j (omega arith))
-          (cases_eq j j0);
-      others = λ j k kl ne.
-          written_other m V.zero xs at (j * c.args.m + k) new (columns_differ c.args.m j0 i0 j k c.requires.place kl ne) ∙ v.others j k kl ne;
-    }
-
-pub returns-clause-products : goal.returns-clause-products
-returns-clause-products g c =
-    let pos : 0 < c.args.base = omega arith in
-    let end : c.loop-j.j ≡ c.args.base = omega arith in
-    let f : c.loop-j.work.products ≡ c.args.work.now.products + (c.args.base - 1) + c.args.base * (c.args.base - 1) = rw end at c.loop-j.invariant.products in
-    omega (arith, f, square_less c.args.base pos)
