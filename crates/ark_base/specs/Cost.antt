@@ -1,16 +1,13 @@
 -- How far one transform moves the counts.
-use Rattle.std.specs.Prelude.{◌≡◌, ℕ, ◌+◌, Bool}
-use Rattle.ark_math.specs.Root.{Adicity, odd_base}
+use Rattle.std.specs.Prelude.{◌≡◌, ℕ, ◌+◌}
+use Rattle.ark_math.specs.Root.{Adicity}
 use Rattle.ark_math.specs.Domain.{Domain}
-use Rattle.ark_math.specs.Cost.{Counts, IsCost, AreProducts}
-use Rattle.ark_base.specs.declared.work.Work.{Work}
+use Rattle.ark_math.specs.Cost.{Counts, Direction, IsCost}
 
--- by the cost of a transform, forward or not, of a list of this length over the domain
-pub record GrowsByCost {F : Type 0} (s : Adicity) (d : Domain F) (len : ℕ) (forward : Bool) (before after : Work) : Type 0 where
-  pub cost : Counts
-  pub is_cost : IsCost s d.kind d.size len forward cost
-  pub products : ℕ
-  pub are_products : AreProducts (odd_base s.odd) d.size cost products
-  pub butterflies_grow : after.butterflies ≡ before.butterflies + cost.butterflies
-  pub steps_grow : after.steps ≡ before.steps + cost.steps
-  pub products_grow : after.products ≡ before.products + products
+-- by the cost of one transform of a list of this length over the domain
+pub record GrowsByCost {F : Type 0} (s : Adicity) (d : Domain F) (len : ℕ) (direction : Direction) (before after : Counts) : Type 0 where
+  pub growth : Counts
+  pub is_cost : IsCost s d.kind d.size len direction growth
+  pub products : after.products ≡ before.products + growth.products
+  pub butterflies : after.butterflies ≡ before.butterflies + growth.butterflies
+  pub steps : after.steps ≡ before.steps + growth.steps

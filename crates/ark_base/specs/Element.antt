@@ -1,23 +1,15 @@
--- The field of the numbers below a prime.
-use Rattle.std.specs.Prelude.{◌≡◌, ◌≢◌, ℕ, suc, zero, ◌+◌, ◌*◌, ◌-◌, ◌/◌, ◌%◌, ◌^◌, ◌<◌}
-use Rattle.std.proofs.lemmas.Bool.{and_parts, and_from, eqb-true, eq-eqb}
-use Rattle.std.proofs.Common.{option_map, Option, None, Some, IsSome, ◌↔◌, subst, refl, true, ◌==◌, ◌&&◌, Decides, sym, ap, ◌∙◌, arith, mod-eq_of_lt, mod-lt, le_of_lt, lt_of_le_of_lt, mul-add, mul_assoc, mul_comm, add_assoc, add_comm, mul-one, add-zero, suc-ne-zero, ne_of_gt, div-le_self}
-use Rattle.std.proofs.Math.Nat.{mod-add-mod, add-mod-mod, mod_self, add-mod, pow-zero, pow-succ', zero-mod}
-use Rattle.std.proofs.lemmas.Nat.{mul-mod_first, mul-mod_second}
-use mathlib.Core.HLevel.{is_prop→PathP}
-use native.Mathlib.Bridge.{le_prop}
-use Rattle.ark_math.specs.Field.{FieldOn, IsField, power, natural}
-use Rattle.ark_math.specs.Prime.{IsPrime, power_mod}
-use Rattle.ark_math.specs.Module.{IsModule, IsItself, itself}
-use Rattle.ark_math.specs.Root.{Adicity, adicity_of, AreRoots, AreGreatest, odd_base, greatest_size}
-use Rattle.ark_math.specs.Generator.{Generates, IsGenerator, IsModulus, for_odd, root_by}
-use Rattle.ark_math.proofs.Groups.{itself_is_module}
-use Rattle.ark_math.proofs.Prime.{has_inverse}
-use Rattle.ark_math.proofs.PowerMod.{power_mod-is}
-use Rattle.ark_math.proofs.Roots.{roots_from_generator}
+-- The field of the numbers below a prime, by its elements.
+use Rattle.std.specs.Prelude.{ℕ, ◌+◌, ◌*◌, ◌-◌, ◌%◌, ◌<◌}
+use Rattle.std.proofs.Common.{option_map, Option, mod-lt, le_of_lt}
+use Rattle.ark_math.specs.Field.{FieldOn}
+use Rattle.ark_math.specs.Prime.{IsPrime}
+use Rattle.ark_math.specs.Root.{Adicity, adicity_of}
+use Rattle.ark_math.specs.Generator.{IsModulus, root_by}
+use Rattle.ark_math.proofs.Numbers.Residues.{below_modulus}
 use Rattle.ark_base.specs.declared.prime_field.PrimeField.{PrimeField}
 use Rattle.ark_base.specs.declared.prime_field.PrimeModulus.{Ghosts}
 
+-- a number below the modulus, as an element
 abbrev pub residue : {M : Type 0} {g : Ghosts M} (v : ℕ) → v < g.MODULUS → PrimeField M g
 residue v h = record { value = v; marker = record {}; reduced = h }
 
@@ -25,9 +17,11 @@ residue v h = record { value = v; marker = record {}; reduced = h }
 abbrev pub number : {M : Type 0} {g : Ghosts M} → PrimeField M g → ℕ
 number x = x.value
 
+-- the element that a number leaves as its remainder
 abbrev pub residue_of : {M : Type 0} {g : Ghosts M} → IsPrime g.MODULUS → ℕ → PrimeField M g
 residue_of {g = g} P v = residue (v % g.MODULUS) (mod-lt v (le_of_lt P.above_one))
 
+-- sums, products and negatives modulo the prime
 abbrev pub prime_field : {M : Type 0} {g : Ghosts M} → IsPrime g.MODULUS → FieldOn (PrimeField M g)
 prime_field {g = g} P = record {
   zero = residue 0 (le_of_lt P.above_one);
@@ -37,90 +31,6 @@ prime_field {g = g} P = record {
   negated = λ x. residue_of P (g.MODULUS - x.value);
 }
 
-pub same_from_value : {M : Type 0} {g : Ghosts M} (x y : PrimeField M g) → x.value ≡ y.value → x ≡ y
-same_from_value {g = g} x y e = λ i. record {
-  value = e i;
-  marker = x.marker;
-  reduced = is_prop→PathP (λ j. e j < g.MODULUS) (λ j. le_prop) x.reduced y.reduced i;
-}
-
-module _ (p : ℕ) (P : IsPrime p) where
-  plus_assoc : (x y z : ℕ) → ((x + y) % p + z) % p ≡ (x + (y + z) % p) % p
-  plus_assoc x y z = mod-add-mod (x + y) p z ∙ ap (λ v. v % p) (add_assoc x y z) ∙ sym (add-mod-mod x (y + z) p)
-
-  plus_negated : (x : ℕ) → x < p → (x + (p - x) % p) % p ≡ 0
-  plus_negated x h =
-      let e : x + (p - x) ≡ p = omega arith in
-      add-mod-mod x (p - x) p ∙ ap (λ v. v % p) e ∙ mod_self p
-
-  times_assoc : (x y z : ℕ) → ((x * y) % p * z) % p ≡ (x * ((y * z) % p)) % p
-  times_assoc x y z = mul-mod_first (x * y) z p ∙ ap (λ v. v % p) (mul_assoc x y z) ∙ sym (mul-mod_second x (y * z) p)
-
-  times_plus : (x y z : ℕ) → (x * ((y + z) % p)) % p ≡ ((x * y) % p + (x * z) % p) % p
-  times_plus x y z = mul-mod_second x (y + z) p ∙ ap (λ v. v % p) (mul-add x y z) ∙ add-mod (x * y) (x * z) p
-
-  inverts : (x : ℕ) → x < p → x ≢ 0 → (y : ℕ) × ((x * (y % p)) % p ≡ 1)
-  inverts x h ne =
-      let inverse = has_inverse p P x (omega arith) h in
-      (inverse.0, mul-mod_second x inverse.0 p ∙ inverse.1)
-
-pub prime_field_laws : {M : Type 0} {g : Ghosts M} (P : IsPrime g.MODULUS) → IsField (prime_field {M = M} {g = g} P)
-prime_field_laws {g = g} P =
-    let p = g.MODULUS in
-    record {
-      plus_assoc = λ x y z. same_from_value _ _ (plus_assoc p P x.value y.value z.value);
-      plus_comm = λ x y. same_from_value _ _ (ap (λ v. v % p) (add_comm x.value y.value));
-      plus_zero = λ x. same_from_value _ _ (ap (λ v. v % p) (add-zero x.value) ∙ mod-eq_of_lt x.reduced);
-      plus_negated = λ x. same_from_value _ _ (plus_negated p P x.value x.reduced);
-      times_assoc = λ x y z. same_from_value _ _ (times_assoc p P x.value y.value z.value);
-      times_comm = λ x y. same_from_value _ _ (ap (λ v. v % p) (mul_comm x.value y.value));
-      times_one = λ x. same_from_value _ _ (ap (λ v. v % p) (mul-one x.value) ∙ mod-eq_of_lt x.reduced);
-      times_plus = λ x y z. same_from_value _ _ (times_plus p P x.value y.value z.value);
-      one_not_zero = λ e. suc-ne-zero 0 (ap (λ x. x.value) e);
-      inverts = λ x ne.
-          let y = inverts p P x.value x.reduced (λ e. ne (same_from_value _ _ e)) in
-          (residue_of P y.0, same_from_value _ _ y.1);
-    }
-
-module _ (M : Type 0) (g : Ghosts M) (P : IsPrime g.MODULUS) where
-  power_value : (x : PrimeField M g) (n : ℕ) → (power (prime_field {M = M} {g = g} P) x n).value ≡ x.value ^ n % g.MODULUS
-  power_value x zero = sym (ap (λ v. v % g.MODULUS) (pow-zero x.value) ∙ mod-eq_of_lt P.above_one)
-  power_value x (suc n) =
-      let p = g.MODULUS in
-      ap (λ v. (x.value * v) % p) (power_value x n) ∙ mul-mod_second x.value (x.value ^ n) p ∙ ap (λ v. v % p) (sym (pow-succ' x.value n))
-
-  natural_value : (n : ℕ) → (natural (prime_field {M = M} {g = g} P) n).value ≡ n % g.MODULUS
-  natural_value zero = sym (zero-mod g.MODULUS)
-  natural_value (suc n) =
-      let p = g.MODULUS in
-      ap (λ v. (v + 1) % p) (natural_value n) ∙ mod-add-mod n p 1 ∙ ap (λ v. v % p) (omega arith)
-
-  -- the power of a residue, by squaring
-  fast_value : (v n : ℕ) → v < g.MODULUS → n < 2 ^ 32 → (power (prime_field {M = M} {g = g} P) (residue_of {M = M} {g = g} P v) n).value ≡ power_mod g.MODULUS 32 v n
-  fast_value v n h small =
-      let p = g.MODULUS in
-      power_value (residue_of P v) n ∙ ap (λ w. w ^ n % p) (mod-eq_of_lt h) ∙ sym (power_mod-is p 32 v n small)
-
-  generates : {s : Adicity} {v : ℕ} → g.MODULUS < 2 ^ 32 → IsGenerator g.MODULUS s v → Generates (prime_field {M = M} {g = g} P) s (g.MODULUS - 1) (residue_of P v)
-  generates {s = s} {v = v} small G =
-      let p = g.MODULUS in
-      let above = P.above_one in
-      record {
-        positive = omega arith;
-        odd = G.odd;
-        divided = G.divided;
-        base = G.base;
-        whole = same_from_value _ _ (fast_value v (p - 1) G.below (omega arith) ∙ G.whole);
-        half = λ lo e. G.half lo (sym (fast_value v ((p - 1) / 2) G.below (omega arith)) ∙ ap (λ x. x.value) e);
-        part = λ lo e. G.part lo (sym (fast_value v ((p - 1) / odd_base s.odd) G.below (lt_of_le_of_lt (div-le_self (p - 1) (odd_base s.odd)) (omega arith))) ∙ ap (λ x. x.value) e);
-      }
-
-pub power_mod-below : {p : ℕ} → IsPrime p → (v n : ℕ) → power_mod p 32 v n < p
-power_mod-below P v n = mod-lt _ (le_of_lt P.above_one)
-
-pub below_modulus : {p : ℕ} → IsPrime p → (r v n : ℕ) → r ≡ power_mod p 32 v n → r < p
-below_modulus {p} P r v n e = subst (λ x. x < p) (sym e) (power_mod-below P v n)
-
 -- what a modulus shows of its constants
 abbrev pub Shown : {M : Type 0} → Ghosts M → Type 0
 Shown g = IsModulus g.MODULUS (adicity_of g.TWO_ADICITY g.SMALL_SUBGROUP_BASE g.SMALL_SUBGROUP_BASE_ADICITY) g.GENERATOR g.TWO_ADIC_ROOT_OF_UNITY g.LARGE_SUBGROUP_ROOT_OF_UNITY g.GREATEST_SIZE
@@ -128,13 +38,14 @@ Shown g = IsModulus g.MODULUS (adicity_of g.TWO_ADICITY g.SMALL_SUBGROUP_BASE g.
 abbrev pub adicity : {M : Type 0} → Ghosts M → Adicity
 adicity g = adicity_of g.TWO_ADICITY g.SMALL_SUBGROUP_BASE g.SMALL_SUBGROUP_BASE_ADICITY
 
+-- the field that a modulus gives
+abbrev pub field_of : {M : Type 0} {g : Ghosts M} → Shown g → FieldOn (PrimeField M g)
+field_of S = prime_field S.prime
+
 abbrev pub generator_of : {M : Type 0} {g : Ghosts M} → Shown g → PrimeField M g
 generator_of {g = g} S = residue g.GENERATOR S.generator.below
 
-pub prime_field_equals : {M : Type 0} {g : Ghosts M} (a b : PrimeField M g) → Decides (a.value == b.value && true) (a ≡ b)
-prime_field_equals a b =
-    (λ t. same_from_value a b (eqb-true _ _ (and_parts _ _ t).0), λ e. and_from _ _ (eq-eqb _ _ (ap (λ x. x.value) e)) refl)
-
+-- the generator's power of order n
 abbrev pub prime_root : {M : Type 0} {g : Ghosts M} → Shown g → ℕ → PrimeField M g
 prime_root {M = M} {g = g} S = root_by (prime_field {M = M} {g = g} S.prime) (g.MODULUS - 1) (generator_of S)
 
@@ -143,77 +54,3 @@ two_adic_root {g = g} S = residue g.TWO_ADIC_ROOT_OF_UNITY (below_modulus S.prim
 
 abbrev pub large_root : {M : Type 0} {g : Ghosts M} → Shown g → Option (PrimeField M g)
 large_root {g = g} S = option_map (residue_of S.prime) g.LARGE_SUBGROUP_ROOT_OF_UNITY
-
-module _ (M : Type 0) (g : Ghosts M) (S : Shown g) where
-  abbrev K : FieldOn (PrimeField M g)
-  K = prime_field {M = M} {g = g} S.prime
-
-  generator_residue : generator_of {M = M} {g = g} S ≡ residue_of S.prime g.GENERATOR
-  generator_residue = same_from_value _ _ (sym (mod-eq_of_lt S.generator.below))
-
-  pub prime_roots : AreRoots (prime_field {M = M} {g = g} S.prime) (adicity g) (prime_root {M = M} {g = g} S)
-  prime_roots =
-      let above = S.prime.above_one in
-      subst (λ x. AreRoots K (adicity g) (root_by K (g.MODULUS - 1) x)) (sym generator_residue)
-      (roots_from_generator K (prime_field_laws S.prime) (adicity g) (g.MODULUS - 1) (residue_of S.prime g.GENERATOR) (generates M g S.prime S.small S.generator)
-      (λ n lo hi e. ne_of_gt lo (sym (mod-eq_of_lt (omega arith)) ∙ sym (natural_value M g S.prime n) ∙ ap (λ x. x.value) e)))
-
-  pub generator_not_zero : generator_of {M = M} {g = g} S ≢ (prime_field {M = M} {g = g} S.prime).zero
-  generator_not_zero e = ne_of_gt S.generator.positive (ap (λ x. x.value) e)
-
-  -- a power of the generator, by squaring
-  root_value : (n : ℕ) → (prime_root {M = M} {g = g} S n).value ≡ power_mod g.MODULUS 32 g.GENERATOR ((g.MODULUS - 1) / n)
-  root_value n =
-      let above = S.prime.above_one in
-      let small = S.small in
-      let k = (g.MODULUS - 1) / n in
-      ap (λ x. (power K x k).value) generator_residue
-      ∙ fast_value M g S.prime g.GENERATOR k S.generator.below (lt_of_le_of_lt (div-le_self (g.MODULUS - 1) n) (omega arith))
-
-  -- a constant is there exactly with the base, and is the power that it has to be
-  record IsLarge (o : Option (ℕ × ℕ)) (l : Option ℕ) (v : ℕ) : Type 0 where
-    together : IsSome (option_map (residue_of {M = M} {g = g} S.prime) l) ↔ IsSome o
-    is : (x : PrimeField M g) → option_map (residue_of {M = M} {g = g} S.prime) l ≡ Some x → x ≡ residue_of S.prime v
-
-  large : (o : Option (ℕ × ℕ)) (l : Option ℕ) (v : ℕ) → l ≡ for_odd o v → IsLarge o l v
-  large None l v e = subst (λ m. IsLarge None m v) (sym e) (record { together = ((λ h. h), (λ h. h)); is = λ x h. cc })
-  large (Some p) l v e = subst (λ m. IsLarge (Some p) m v) (sym e) (record { together = ((λ h. refl), (λ h. refl)); is = λ x h. cc })
-
-  pub prime_greatest : AreGreatest (adicity g) (prime_root {M = M} {g = g} S) (two_adic_root {M = M} {g = g} S) (large_root {M = M} {g = g} S)
-  prime_greatest =
-      let l = large (adicity g).odd g.LARGE_SUBGROUP_ROOT_OF_UNITY _ S.large_is in
-      record {
-        two_adic_is = λ fits. same_from_value _ _ (S.two_adic_is ∙ sym (root_value (2 ^ (adicity g).two)));
-        large_is = λ x e fits. l.is x e ∙ same_from_value _ _ (mod-eq_of_lt (power_mod-below S.prime _ _) ∙ sym (root_value (greatest_size (adicity g))));
-        together = l.together;
-      }
-
-  pub prime_itself : IsItself (prime_field {M = M} {g = g} S.prime) (itself (prime_field {M = M} {g = g} S.prime)) (λ x. x)
-  prime_itself = record {
-    one_to_one = λ x y e. e;
-    onto = λ m. (m, refl);
-    zero_kept = refl;
-    plus_kept = λ x y. refl;
-    negated_kept = λ x. refl;
-    times_kept = λ a x. refl;
-  }
-
-pub prime_module_laws : {M : Type 0} {g : Ghosts M} (P : IsPrime g.MODULUS) → IsModule (prime_field {M = M} {g = g} P) (itself (prime_field {M = M} {g = g} P))
-prime_module_laws P = itself_is_module (prime_field P) (prime_field_laws P)
-
--- a number's residue is one, that many times over
-pub natural_residue : {M : Type 0} {g : Ghosts M} (P : IsPrime g.MODULUS) (n : ℕ) (r : PrimeField M g) → r ≡ residue_of P n → r ≡ natural (prime_field {M = M} {g = g} P) n
-natural_residue {M = M} {g = g} P n r e = e ∙ same_from_value _ _ (sym (natural_value M g P n))
-
-pub natural_number : {M : Type 0} {g : Ghosts M} (P : IsPrime g.MODULUS) (x : PrimeField M g) → x ≡ natural (prime_field {M = M} {g = g} P) (number x)
-natural_number P x = natural_residue P x.value x (same_from_value _ _ (sym (mod-eq_of_lt x.reduced)))
-
-from_odd : (o : Option (ℕ × ℕ)) (w v : ℕ) → for_odd o w ≡ Some v → v ≡ w
-from_odd None w v e = cc
-from_odd (Some p) w v e = cc
-
-pub large_below : {M : Type 0} (g : Ghosts M) (S : Shown g) (v : ℕ) → g.LARGE_SUBGROUP_ROOT_OF_UNITY ≡ Some v → v < g.MODULUS
-large_below g S v e = below_modulus S.prime v _ _ (from_odd (adicity g).odd _ v (sym S.large_is ∙ e))
-
-pub some_large : {M : Type 0} {g : Ghosts M} (S : Shown g) (x : PrimeField M g) → g.LARGE_SUBGROUP_ROOT_OF_UNITY ≡ Some x.value → Some x ≡ large_root S
-some_large S x e = ap Some (same_from_value _ _ (sym (mod-eq_of_lt x.reduced))) ∙ ap (option_map (residue_of S.prime)) (sym e)

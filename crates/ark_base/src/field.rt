@@ -1,6 +1,6 @@
 //! Fields, modules over them, and fields with roots of unity.
 
-ghost use Rattle.std.specs.Prelude.{◌≡◌, ◌≢◌, ◌↔◌, ℕ, ◌<◌, ◌^◌, Option, Decides, IsSome, MatchOption};
+ghost use Rattle.std.specs.Prelude.{◌≡◌, ◌≢◌, ◌↔◌, ℕ, ◌<◌, ◌^◌, Option, Decides, IfSome, IsSome, IsNone};
 ghost use Rattle.ark_math.specs.Field.{FieldOn, IsField, minus, power, natural};
 ghost use Rattle.ark_math.specs.Module.{ModuleOn, IsModule, IsItself};
 ghost use Rattle.ark_math.specs.Root.{Adicity, IsSupported, AreRoots, AreGreatest};
@@ -58,7 +58,8 @@ pub trait Field: Copy
 
     /// The inverse, and `None` exactly at zero.
     fn inverse(&self) -> Option<Self>
-        ensures { MatchOption result (self.now ≡ field.zero) (λ y. field.times self.now y ≡ field.one) };
+        ensures some { IfSome result (λ y. field.times self.now y ≡ field.one) }
+        ensures none { IsNone result ↔ (self.now ≡ field.zero) };
 
     /// Replaces the value by its square.
     fn square_in_place(&mut self)
@@ -130,8 +131,8 @@ pub trait Field: Copy
     ghost neg_law: { (a r : Self) → Self.neg_gives a r → r ≡ field.negated a };
 }
 
-/// A module over a field: the values that domains transform. Each value has a meaning, and the laws speak of meanings,
-/// so two values may differ in a part that the meaning ignores.
+/// A module over a field: the values that domains transform. Each value has a meaning, and the laws speak of
+/// meanings, so two values may differ in a part that the meaning ignores.
 pub trait DomainCoeff<F: Field>: Copy
     + Add<Self, Output = Self>
     + Sub<Self, Output = Self>
@@ -155,23 +156,28 @@ pub trait DomainCoeff<F: Field>: Copy
 
     ghost can_add_meaning: { (a b : Self) → Self.can_add a b };
 
-    ghost add_meaning: { (a b r : Self) → Self.add_gives a b r → meaning r ≡ group.plus (meaning a) (meaning b) };
+    ghost add_meaning: { (a b r : Self) → Self.add_gives a b r
+        → meaning r ≡ group.plus (meaning a) (meaning b) };
 
     ghost can_sub_meaning: { (a b : Self) → Self.can_sub a b };
 
-    ghost sub_meaning: { (a b r : Self) → Self.sub_gives a b r → meaning r ≡ group.plus (meaning a) (group.negated (meaning b)) };
+    ghost sub_meaning: { (a b r : Self) → Self.sub_gives a b r
+        → meaning r ≡ group.plus (meaning a) (group.negated (meaning b)) };
 
     ghost can_add_assign_meaning: { (a b : Self) → Self.can_add_assign a b };
 
-    ghost add_assign_meaning: { (a b r : Self) → Self.add_assign_gives a b r → meaning r ≡ group.plus (meaning a) (meaning b) };
+    ghost add_assign_meaning: { (a b r : Self) → Self.add_assign_gives a b r
+        → meaning r ≡ group.plus (meaning a) (meaning b) };
 
     ghost can_sub_assign_meaning: { (a b : Self) → Self.can_sub_assign a b };
 
-    ghost sub_assign_meaning: { (a b r : Self) → Self.sub_assign_gives a b r → meaning r ≡ group.plus (meaning a) (group.negated (meaning b)) };
+    ghost sub_assign_meaning: { (a b r : Self) → Self.sub_assign_gives a b r
+        → meaning r ≡ group.plus (meaning a) (group.negated (meaning b)) };
 
     ghost can_mul_assign_meaning: { (a : Self) (f : F) → Self.can_mul_assign a f };
 
-    ghost mul_assign_meaning: { (a : Self) (f : F) (r : Self) → Self.mul_assign_gives a f r → meaning r ≡ group.scale f (meaning a) };
+    ghost mul_assign_meaning: { (a : Self) (f : F) (r : Self) → Self.mul_assign_gives a f r
+        → meaning r ≡ group.scale f (meaning a) };
 }
 
 /// A field with roots of unity of some sizes `2^a * q^b`. As a module over itself it is the field.
@@ -210,9 +216,10 @@ pub trait FftField: Field + DomainCoeff<Self> {
     /// The root of order `2^a * q^b` with both exponents at their greatest.
     const LARGE_SUBGROUP_ROOT_OF_UNITY: Option<Self>;
 
-    /// The root of unity of order `n`, and `None` exactly at a size that isn't supported.
+    /// The root of unity of order `n`, where this is a supported size, and `None` at each other.
     fn get_root_of_unity(n: u64) -> Option<Self>
-        ensures { MatchOption result (IsSupported adicity n → ⊥) (λ r. IsSupported adicity n × (r ≡ root n)) };
+        ensures some { IfSome result (λ r. r ≡ root n) }
+        ensures supported { IsSome result ↔ IsSupported adicity n };
 
     ghost adicity_law: { adicity ≡ adicity_of TWO_ADICITY SMALL_SUBGROUP_BASE SMALL_SUBGROUP_BASE_ADICITY };
 

@@ -61,7 +61,10 @@ impl<F: Field> Zero for Lanes<F> {
 impl<F: Field> Add<Lanes<F>> for Lanes<F> {
     type Output = Lanes<F>;
 
-    ghost add_gives = { λ a b r. r ≡ record { first = F.field.plus a.first b.first; second = F.field.plus a.second b.second } };
+    ghost add_gives = { λ a b r. r ≡ record {
+      first = F.field.plus a.first b.first;
+      second = F.field.plus a.second b.second;
+    } };
 
     fn add(self, rhs: Lanes<F>) -> Lanes<F> {
         Lanes {
@@ -74,7 +77,10 @@ impl<F: Field> Add<Lanes<F>> for Lanes<F> {
 impl<F: Field> Sub<Lanes<F>> for Lanes<F> {
     type Output = Lanes<F>;
 
-    ghost sub_gives = { λ a b r. r ≡ record { first = minus F.field a.first b.first; second = minus F.field a.second b.second } };
+    ghost sub_gives = { λ a b r. r ≡ record {
+      first = minus F.field a.first b.first;
+      second = minus F.field a.second b.second;
+    } };
 
     fn sub(self, rhs: Lanes<F>) -> Lanes<F> {
         Lanes {
@@ -85,7 +91,10 @@ impl<F: Field> Sub<Lanes<F>> for Lanes<F> {
 }
 
 impl<F: Field> AddAssign<Lanes<F>> for Lanes<F> {
-    ghost add_assign_gives = { λ a b r. r ≡ record { first = F.field.plus a.first b.first; second = F.field.plus a.second b.second } };
+    ghost add_assign_gives = { λ a b r. r ≡ record {
+      first = F.field.plus a.first b.first;
+      second = F.field.plus a.second b.second;
+    } };
 
     fn add_assign(&mut self, rhs: Lanes<F>) {
         *self = *self + rhs;
@@ -93,7 +102,10 @@ impl<F: Field> AddAssign<Lanes<F>> for Lanes<F> {
 }
 
 impl<F: Field> SubAssign<Lanes<F>> for Lanes<F> {
-    ghost sub_assign_gives = { λ a b r. r ≡ record { first = minus F.field a.first b.first; second = minus F.field a.second b.second } };
+    ghost sub_assign_gives = { λ a b r. r ≡ record {
+      first = minus F.field a.first b.first;
+      second = minus F.field a.second b.second;
+    } };
 
     fn sub_assign(&mut self, rhs: Lanes<F>) {
         *self = *self - rhs;
@@ -101,7 +113,10 @@ impl<F: Field> SubAssign<Lanes<F>> for Lanes<F> {
 }
 
 impl<F: Field> MulAssign<F> for Lanes<F> {
-    ghost mul_assign_gives = { λ a f r. r ≡ record { first = F.field.times f a.first; second = F.field.times f a.second } };
+    ghost mul_assign_gives = { λ a f r. r ≡ record {
+      first = F.field.times f a.first;
+      second = F.field.times f a.second;
+    } };
 
     fn mul_assign(&mut self, factor: F) {
         self.first = factor * self.first;
@@ -111,7 +126,7 @@ impl<F: Field> MulAssign<F> for Lanes<F> {
 
 impl<F: Field> DomainCoeff<F> for Lanes<F> {
     ghost use Rattle.std.proofs.Common.{refl, ap, ap₂};
-    ghost use Rattle.ark_math.proofs.Groups.{itself_is_module, paired_is_module, pair_Decides};
+    ghost use Rattle.ark_math.proofs.Algebra.Groups.{itself_is_module, paired_is_module, pair_Decides};
 
     ghost Meaning = { F × F };
 
@@ -119,9 +134,11 @@ impl<F: Field> DomainCoeff<F> for Lanes<F> {
 
     ghost group = { paired (itself F.field) (itself F.field) };
 
-    ghost module_laws = { paired_is_module (itself_is_module F.field F.field_laws) (itself_is_module F.field F.field_laws) };
+    ghost module_laws = { paired_is_module (itself_is_module F.field F.field_laws)
+        (itself_is_module F.field F.field_laws) };
 
-    ghost equality_meaning = { λ a b. pair_Decides (F.equality_law a.first b.first) (F.equality_law a.second b.second) };
+    ghost equality_meaning = { λ a b.
+        pair_Decides (F.equality_law a.first b.first) (F.equality_law a.second b.second) };
 
     ghost zero_meaning = { refl };
 

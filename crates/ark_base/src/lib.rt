@@ -1,6 +1,7 @@
 //! Fields and modules with laws, prime fields of one word, and what the crates above share.
 #![tactic(auto)]
 
+mod counter;
 mod error;
 mod field;
 mod inversion;
@@ -17,6 +18,8 @@ pub use inversion::batch_inversion;
 pub use lanes::Lanes;
 pub use numbers::{k_adicity, log2};
 pub use polynomial::Polynomial;
-pub use prime_field::{F5, F433, F65537, Fermat, Five, Mixed, PrimeField, PrimeModulus};
+pub use prime_field::{
+    F5, F433, F65537, Modulus5, Modulus433, Modulus65537, PrimeField, PrimeModulus,
+};
 pub use sink::{Failed, IoSink, Sink};
 pub use work::Work;

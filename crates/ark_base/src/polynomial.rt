@@ -1,6 +1,6 @@
 //! What all forms of polynomials share.
 
-ghost use Rattle.std.specs.Prelude.{◌≡◌, ℕ, Decides, IfOk, IsOkUnless};
+ghost use Rattle.std.specs.Prelude.{◌≡◌, ◌↔◌, ℕ, Decides, IsTrue, IfOk, IsOkUnless};
 
 use crate::error::PolyError;
 use crate::field::Field;
@@ -8,11 +8,11 @@ use std::alloc::Global;
 use std::fmt::Debug;
 use std::hash::Hash;
 
-/// A polynomial over a field, in any number of variables. Two of them are equal exactly where the polynomials that they
-/// denote are.
+/// A polynomial over a field, in any number of variables. Two of them are equal exactly where the polynomials that
+/// they denote are.
 ///
-/// A point fits where it has the variables that the polynomial needs. Two polynomials can be added where their forms
-/// have a sum of the same kind.
+/// A point fits where it has the variables that the polynomial needs. Two polynomials can be added where their
+/// forms have a sum of the same kind.
 pub trait Polynomial<F: Field>: Clone + Debug + Hash + Eq + Drop {
     /// The points at which it is evaluated.
     type Point: Clone + Ord + Debug + Hash;
@@ -42,7 +42,7 @@ pub trait Polynomial<F: Field>: Clone + Debug + Hash + Eq + Drop {
 
     /// Whether it can be evaluated at this point.
     fn point_fits(&self, point: &Self::Point) -> bool
-        ensures { Decides result (fits self.now point.now) };
+        ensures { IsTrue result ↔ fits self.now point.now };
 
     /// The value at a point that fits.
     fn evaluate(&self, alloc: Global, point: &Self::Point) -> Result<F, PolyError>
@@ -57,11 +57,11 @@ pub trait Polynomial<F: Field>: Clone + Debug + Hash + Eq + Drop {
 
     /// Whether it is the zero polynomial.
     fn is_zero(&self) -> bool
-        ensures { Decides result (meaning self.now ≡ zero) };
+        ensures { IsTrue result ↔ (meaning self.now ≡ zero) };
 
     /// Whether it has a sum with the other one.
     fn addable(&self, other: &Self) -> bool
-        ensures { Decides result (addable (meaning self.now) (meaning other.now)) };
+        ensures { IsTrue result ↔ addable (meaning self.now) (meaning other.now) };
 
     /// The sum of two polynomials that can be added. A point that fits both fits it.
     fn add(&self, alloc: Global, other: &Self) -> Result<Self, PolyError>
@@ -73,7 +73,8 @@ pub trait Polynomial<F: Field>: Clone + Debug + Hash + Eq + Drop {
     /// The difference of two polynomials that can be added. A point that fits both fits it.
     fn sub(&self, alloc: Global, other: &Self) -> Result<Self, PolyError>
         requires { addable (meaning self.now) (meaning other.now) }
-        ensures difference { IfOk result (λ p. meaning p ≡ sum (meaning self.now) (negated (meaning other.now))) }
+        ensures difference { IfOk result (λ p.
+            meaning p ≡ sum (meaning self.now) (negated (meaning other.now))) }
         ensures fits { IfOk result (λ p. (x : Self.Point) → fits self.now x → fits other.now x → fits p x) }
         ensures memory { IsOkUnless result PolyError.Memory };
 
@@ -88,6 +89,8 @@ pub trait Polynomial<F: Field>: Clone + Debug + Hash + Eq + Drop {
     ghost clone_law: { (a b : Self) → Self.is_clone a b → meaning b ≡ meaning a };
 
     ghost clone_fits: { (a b : Self) → Self.is_clone a b → (x : Self.Point) → fits a x → fits b x };
+
+    ghost degree_zero: { has_degree zero 0 };
 
     ghost degree_law: { (a : Meaning) (d e : ℕ) → has_degree a d → has_degree a e → d ≡ e };
 
@@ -105,7 +108,9 @@ pub trait Polynomial<F: Field>: Clone + Debug + Hash + Eq + Drop {
 
     ghost sum_assoc: { (a b c : Meaning) → addable a b → addable b c → sum (sum a b) c ≡ sum a (sum b c) };
 
-    ghost value_sum: { (a b : Meaning) (x : Self.Point) (y z : F) → addable a b → has_value a x y → has_value b x z → has_value (sum a b) x (F.field.plus y z) };
+    ghost value_sum: { (a b : Meaning) (x : Self.Point) (y z : F) → addable a b
+        → has_value a x y → has_value b x z → has_value (sum a b) x (F.field.plus y z) };
 
-    ghost value_negated: { (a : Meaning) (x : Self.Point) (y : F) → has_value a x y → has_value (negated a) x (F.field.negated y) };
+    ghost value_negated: { (a : Meaning) (x : Self.Point) (y : F) → has_value a x y
+        → has_value (negated a) x (F.field.negated y) };
 }

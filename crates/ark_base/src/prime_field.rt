@@ -1,13 +1,14 @@
 //! The fields of the integers modulo a prime below 2^32, on one word each.
 
-ghost use Rattle.std.specs.Prelude.{◌≡◌, ℕ, true, false, ◌+◌, ◌*◌, ◌-◌, ◌%◌, ◌/◌, ◌<◌, ◌≤◌, ◌^◌, ◌↔◌, Option, None, Some, IsSome, refl};
+ghost use Rattle.std.specs.Prelude.{◌≡◌, ℕ, true, false, ◌+◌, ◌*◌, ◌-◌, ◌%◌, ◌/◌, ◌<◌, ◌≤◌, ◌^◌, ◌↔◌, Option};
+ghost use Rattle.std.specs.Prelude.{None, Some, IsSome, refl};
 ghost use Rattle.std.proofs.Common.{lit<, ◌∙◌};
 ghost use Rattle.ark_math.specs.Field.{FieldOn, minus, natural};
 ghost use Rattle.ark_math.specs.Module.{itself};
 ghost use Rattle.ark_math.specs.Root.{adicity_of};
 ghost use Rattle.ark_math.specs.Generator.{IsModulus};
-ghost use Rattle.ark_math.proofs.Prime.{prime_from_test};
-ghost use Rattle.ark_math.proofs.Generator.{generator_from_test};
+ghost use Rattle.ark_math.proofs.Numbers.Prime.{prime_from_test};
+ghost use Rattle.ark_math.proofs.Roots.Generator.{generator_from_test};
 
 use crate::field::{DomainCoeff, FftField, Field, One, Zero};
 use rand::{Rng, RngExt};
@@ -16,7 +17,8 @@ use std::default::Default;
 use std::marker::PhantomData;
 use std::ops::{Add, AddAssign, Mul, MulAssign, Neg, Sub, SubAssign};
 
-/// A prime below 2^32 and its constants. A field is added by one impl, whose fact `modulus` is a few computed checks.
+/// A prime below 2^32 and its constants. A field is added by one impl, whose fact `modulus` is a few computed
+/// checks.
 pub trait PrimeModulus {
     ghost MODULUS: { ℕ };
 
@@ -34,7 +36,9 @@ pub trait PrimeModulus {
 
     ghost GREATEST_SIZE: { ℕ };
 
-    ghost modulus: { IsModulus MODULUS (adicity_of TWO_ADICITY SMALL_SUBGROUP_BASE SMALL_SUBGROUP_BASE_ADICITY) GENERATOR TWO_ADIC_ROOT_OF_UNITY LARGE_SUBGROUP_ROOT_OF_UNITY GREATEST_SIZE };
+    ghost modulus: { IsModulus MODULUS
+        (adicity_of TWO_ADICITY SMALL_SUBGROUP_BASE SMALL_SUBGROUP_BASE_ADICITY)
+        GENERATOR TWO_ADIC_ROOT_OF_UNITY LARGE_SUBGROUP_ROOT_OF_UNITY GREATEST_SIZE };
 
     ghost together: { IsSome SMALL_SUBGROUP_BASE ↔ IsSome SMALL_SUBGROUP_BASE_ADICITY };
 
@@ -82,13 +86,13 @@ impl<M: PrimeModulus> Clone for PrimeField<M> {
 }
 
 impl<M: PrimeModulus> PrimeField<M> {
-    ghost use Rattle.ark_base.specs.Element.{prime_field, number};
+    ghost use Rattle.ark_base.specs.Element.{field_of, number};
 
     /// The number below the modulus that the element is: it is so many ones added up.
     pub fn value(self) -> u64
         ensures number { result ≡ number self }
         ensures below { result < M.MODULUS }
-        ensures natural { self ≡ natural (prime_field M.modulus.prime) result }
+        ensures natural { self ≡ natural (field_of M.modulus) result }
     {
         self.value
     }
@@ -107,8 +111,8 @@ impl<M: PrimeModulus> PrimeField<M> {
         (M::MODULUS - 1).is_power_of_two()
     }
 
-    /// The residue of a product of two numbers below the modulus. A Fermat prime's predecessor is minus one, and quotient
-    /// and rest by it are bits; modulo a small prime half the bits are enough.
+    /// The residue of a product of two numbers below the modulus. A Fermat prime's predecessor is minus one, and
+    /// quotient and rest by it are bits; modulo a small prime half the bits are enough.
     fn reduce_product(value: u64) -> Self
         requires { value ≤ (M.MODULUS - 1) * (M.MODULUS - 1) }
         ensures { result.value ≡ value % M.MODULUS }
@@ -143,8 +147,8 @@ impl<M: PrimeModulus> PrimeField<M> {
         }
     }
 
-    /// Whether a number below twice the modulus is below the modulus. Where products need no division, loops are compiled to
-    /// take two items at a time, and the sign of a difference is what those instructions compare.
+    /// Whether a number below twice the modulus is below the modulus. Where products need no division, loops are
+    /// compiled to take two items at a time, and the sign of a difference is what those instructions compare.
     fn is_below(value: u64) -> bool
         requires { value < 2 * M.MODULUS }
         ensures below { result ≡ true → value < M.MODULUS }
@@ -159,9 +163,9 @@ impl<M: PrimeModulus> PrimeField<M> {
 }
 
 impl<M: PrimeModulus> Zero for PrimeField<M> {
-    ghost use Rattle.ark_base.specs.Element.{prime_field};
+    ghost use Rattle.ark_base.specs.Element.{field_of};
 
-    ghost zero = { (prime_field M.modulus.prime).zero };
+    ghost zero = { (field_of M.modulus).zero };
 
     fn zero() -> Self {
         PrimeField {
@@ -176,9 +180,9 @@ impl<M: PrimeModulus> Zero for PrimeField<M> {
 }
 
 impl<M: PrimeModulus> One for PrimeField<M> {
-    ghost use Rattle.ark_base.specs.Element.{prime_field};
+    ghost use Rattle.ark_base.specs.Element.{field_of};
 
-    ghost one = { (prime_field M.modulus.prime).one };
+    ghost one = { (field_of M.modulus).one };
 
     fn one() -> Self {
         PrimeField {
@@ -193,9 +197,9 @@ impl<M: PrimeModulus> One for PrimeField<M> {
 }
 
 impl<M: PrimeModulus> Default for PrimeField<M> {
-    ghost use Rattle.ark_base.specs.Element.{prime_field};
+    ghost use Rattle.ark_base.specs.Element.{field_of};
 
-    ghost is_default = { λ x. x ≡ (prime_field M.modulus.prime).zero };
+    ghost is_default = { λ x. x ≡ (field_of M.modulus).zero };
 
     fn default() -> Self {
         Zero::zero()
@@ -214,11 +218,11 @@ impl<M: PrimeModulus> From<u64> for PrimeField<M> {
 }
 
 impl<M: PrimeModulus> Add<PrimeField<M>> for PrimeField<M> {
-    ghost use Rattle.ark_base.specs.Element.{prime_field};
+    ghost use Rattle.ark_base.specs.Element.{field_of};
 
     type Output = PrimeField<M>;
 
-    ghost add_gives = { λ a b r. r ≡ (prime_field M.modulus.prime).plus a b };
+    ghost add_gives = { λ a b r. r ≡ (field_of M.modulus).plus a b };
 
     fn add(self, rhs: PrimeField<M>) -> PrimeField<M> {
         PrimeField::reduce_once(self.value + rhs.value)
@@ -226,9 +230,9 @@ impl<M: PrimeModulus> Add<PrimeField<M>> for PrimeField<M> {
 }
 
 impl<M: PrimeModulus> AddAssign<PrimeField<M>> for PrimeField<M> {
-    ghost use Rattle.ark_base.specs.Element.{prime_field};
+    ghost use Rattle.ark_base.specs.Element.{field_of};
 
-    ghost add_assign_gives = { λ a b r. r ≡ (prime_field M.modulus.prime).plus a b };
+    ghost add_assign_gives = { λ a b r. r ≡ (field_of M.modulus).plus a b };
 
     fn add_assign(&mut self, rhs: PrimeField<M>) {
         *self = *self + rhs;
@@ -236,11 +240,11 @@ impl<M: PrimeModulus> AddAssign<PrimeField<M>> for PrimeField<M> {
 }
 
 impl<M: PrimeModulus> Sub<PrimeField<M>> for PrimeField<M> {
-    ghost use Rattle.ark_base.specs.Element.{prime_field};
+    ghost use Rattle.ark_base.specs.Element.{field_of};
 
     type Output = PrimeField<M>;
 
-    ghost sub_gives = { λ a b r. r ≡ minus (prime_field M.modulus.prime) a b };
+    ghost sub_gives = { λ a b r. r ≡ minus (field_of M.modulus) a b };
 
     fn sub(self, rhs: PrimeField<M>) -> PrimeField<M> {
         PrimeField::reduce_once(self.value + (M::MODULUS - rhs.value))
@@ -248,9 +252,9 @@ impl<M: PrimeModulus> Sub<PrimeField<M>> for PrimeField<M> {
 }
 
 impl<M: PrimeModulus> SubAssign<PrimeField<M>> for PrimeField<M> {
-    ghost use Rattle.ark_base.specs.Element.{prime_field};
+    ghost use Rattle.ark_base.specs.Element.{field_of};
 
-    ghost sub_assign_gives = { λ a b r. r ≡ minus (prime_field M.modulus.prime) a b };
+    ghost sub_assign_gives = { λ a b r. r ≡ minus (field_of M.modulus) a b };
 
     fn sub_assign(&mut self, rhs: PrimeField<M>) {
         *self = *self - rhs;
@@ -258,11 +262,11 @@ impl<M: PrimeModulus> SubAssign<PrimeField<M>> for PrimeField<M> {
 }
 
 impl<M: PrimeModulus> Mul<PrimeField<M>> for PrimeField<M> {
-    ghost use Rattle.ark_base.specs.Element.{prime_field};
+    ghost use Rattle.ark_base.specs.Element.{field_of};
 
     type Output = PrimeField<M>;
 
-    ghost mul_gives = { λ a b r. r ≡ (prime_field M.modulus.prime).times a b };
+    ghost mul_gives = { λ a b r. r ≡ (field_of M.modulus).times a b };
 
     fn mul(self, rhs: PrimeField<M>) -> PrimeField<M> {
         PrimeField::reduce_product(self.value as u32 as u64 * rhs.value as u32 as u64)
@@ -270,9 +274,9 @@ impl<M: PrimeModulus> Mul<PrimeField<M>> for PrimeField<M> {
 }
 
 impl<M: PrimeModulus> MulAssign<PrimeField<M>> for PrimeField<M> {
-    ghost use Rattle.ark_base.specs.Element.{prime_field};
+    ghost use Rattle.ark_base.specs.Element.{field_of};
 
-    ghost mul_assign_gives = { λ a b r. r ≡ (prime_field M.modulus.prime).times a b };
+    ghost mul_assign_gives = { λ a b r. r ≡ (field_of M.modulus).times a b };
 
     fn mul_assign(&mut self, rhs: PrimeField<M>) {
         *self = *self * rhs;
@@ -280,11 +284,11 @@ impl<M: PrimeModulus> MulAssign<PrimeField<M>> for PrimeField<M> {
 }
 
 impl<M: PrimeModulus> Neg for PrimeField<M> {
-    ghost use Rattle.ark_base.specs.Element.{prime_field};
+    ghost use Rattle.ark_base.specs.Element.{field_of};
 
     type Output = PrimeField<M>;
 
-    ghost neg_gives = { λ a r. r ≡ (prime_field M.modulus.prime).negated a };
+    ghost neg_gives = { λ a r. r ≡ (field_of M.modulus).negated a };
 
     fn neg(self) -> PrimeField<M> {
         PrimeField::reduce_once(M::MODULUS - self.value)
@@ -292,9 +296,10 @@ impl<M: PrimeModulus> Neg for PrimeField<M> {
 }
 
 impl<M: PrimeModulus> Field for PrimeField<M> {
-    ghost use Rattle.ark_base.specs.Element.{prime_field, prime_field_laws, prime_field_equals, natural_residue};
+    ghost use Rattle.ark_base.specs.Element.{field_of};
+    ghost use Rattle.ark_base.specs.ElementLaws.{prime_field_laws, prime_field_equals, natural_residue};
 
-    ghost field = { prime_field M.modulus.prime };
+    ghost field = { field_of M.modulus };
 
     /// By Euclid's algorithm. At each step a factor times the value leaves the remainder beside it.
     fn inverse(&self) -> Option<Self> {
@@ -372,13 +377,14 @@ impl<M: PrimeModulus> Field for PrimeField<M> {
 }
 
 impl<M: PrimeModulus> DomainCoeff<PrimeField<M>> for PrimeField<M> {
-    ghost use Rattle.ark_base.specs.Element.{prime_field, prime_field_laws, prime_module_laws, prime_field_equals};
+    ghost use Rattle.ark_base.specs.Element.{field_of};
+    ghost use Rattle.ark_base.specs.ElementLaws.{prime_field_laws, prime_module_laws, prime_field_equals};
 
     ghost Meaning = { Self };
 
     ghost meaning = { λ x. x };
 
-    ghost group = { itself (prime_field M.modulus.prime) };
+    ghost group = { itself (field_of M.modulus) };
 
     ghost module_laws = { prime_module_laws M.modulus.prime };
 
@@ -408,7 +414,9 @@ impl<M: PrimeModulus> DomainCoeff<PrimeField<M>> for PrimeField<M> {
 }
 
 impl<M: PrimeModulus> FftField for PrimeField<M> {
-    ghost use Rattle.ark_base.specs.Element.{prime_root, prime_roots, generator_of, generator_not_zero, two_adic_root, large_root, prime_greatest, prime_itself};
+    ghost use Rattle.ark_base.specs.Element.{prime_root, generator_of, two_adic_root, large_root};
+    ghost use Rattle.ark_base.specs.ElementLaws.{prime_roots, generator_not_zero, prime_greatest};
+    ghost use Rattle.ark_base.specs.ElementLaws.{prime_itself};
 
     ghost adicity = { adicity_of M.TWO_ADICITY M.SMALL_SUBGROUP_BASE M.SMALL_SUBGROUP_BASE_ADICITY };
 
@@ -474,9 +482,9 @@ impl<M: PrimeModulus> FftField for PrimeField<M> {
 }
 
 /// The prime 5.
-pub struct Five;
+pub struct Modulus5;
 
-impl PrimeModulus for Five {
+impl PrimeModulus for Modulus5 {
     const MODULUS: u64 = 5;
 
     ghost MODULUS = { 5 };
@@ -522,9 +530,9 @@ impl PrimeModulus for Five {
 }
 
 /// The prime 433, which is one more than 2^4 * 3^3.
-pub struct Mixed;
+pub struct Modulus433;
 
-impl PrimeModulus for Mixed {
+impl PrimeModulus for Modulus433 {
     const MODULUS: u64 = 433;
 
     ghost MODULUS = { 433 };
@@ -570,9 +578,9 @@ impl PrimeModulus for Mixed {
 }
 
 /// The prime 65537, which is one more than 2^16.
-pub struct Fermat;
+pub struct Modulus65537;
 
-impl PrimeModulus for Fermat {
+impl PrimeModulus for Modulus65537 {
     const MODULUS: u64 = 65537;
 
     ghost MODULUS = { 65537 };
@@ -618,10 +626,10 @@ impl PrimeModulus for Fermat {
 }
 
 /// The field of 5 elements.
-pub type F5 = PrimeField<Five>;
+pub type F5 = PrimeField<Modulus5>;
 
 /// The field of 433 elements, with mixed radix sizes `2^a * 3^b`.
-pub type F433 = PrimeField<Mixed>;
+pub type F433 = PrimeField<Modulus433>;
 
 /// The field of 65537 elements.
-pub type F65537 = PrimeField<Fermat>;
+pub type F65537 = PrimeField<Modulus65537>;

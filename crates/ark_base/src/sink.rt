@@ -1,11 +1,10 @@
 //! Where calls write bytes.
-ghost use Rattle.std.specs.Prelude.{◌≡◌, ◌+◌, ◌++◌, ℕ, List, [], Option, OnOk, OnErr, IfOk, IsOk};
-ghost use Rattle.std.specs.Borrow.{ftrue};
+ghost use Rattle.std.specs.Prelude.{◌≡◌, ℕ, List, [], Option, OnOk, OnErr, IfOk, IsOk};
 ghost use Rattle.std.specs.Io.KnownBytes.{Appends};
 ghost use Rattle.ark_base.specs.Transfer.{AppendsBeginning, CountsFailure};
 
+use crate::counter::Counter;
 use std::io::Write;
-use std::marker::Model;
 use thiserror::Error;
 
 /// The writer or the reader of a call failed.
@@ -29,30 +28,6 @@ pub trait Sink {
         ensures counted { CountsFailure result (failures self.old) (failures self.new) };
 }
 
-// How many calls failed so far, for contracts alone. It takes no bytes. Its functions are proved by hand.
-#[derive(Drop)]
-pub(crate) struct Failures {
-    pub ghost count: { ℕ },
-}
-
-impl Model for Failures {
-    ghost also_owns = { λ _. ftrue };
-}
-
-impl Failures {
-    pub(crate) fn none() -> Failures
-        ensures { result ≡ record { count = 0 } }
-    {
-        Failures {}
-    }
-
-    pub(crate) fn after_failure(_before: &Failures) -> Failures
-        ensures { result ≡ record { count = _before.now.count + 1 } }
-    {
-        Failures {}
-    }
-}
-
 /// A `Sink` over any `Write`.
 ///
 /// A `write` that takes nothing, and every error, `Interrupted` too, is `Failed`: no `write` is tried again.
@@ -60,7 +35,7 @@ impl Failures {
 #[derive(Drop)]
 pub struct IoSink<W> {
     inner: W,
-    failures: Failures,
+    failures: Counter,
 }
 
 impl<W> IoSink<W> {
@@ -73,7 +48,7 @@ impl<W> IoSink<W> {
     {
         IoSink {
             inner,
-            failures: Failures::none(),
+            failures: Counter::zero(),
         }
     }
 
@@ -107,7 +82,7 @@ impl<W: Write> Sink for IoSink<W> {
             match self.inner.write(rest) {
                 Ok(count) if 0 < count => rest = &rest[count..],
                 _ => {
-                    self.failures = Failures::after_failure(&self.failures);
+                    self.failures.add_one();
                     return Err(Failed);
                 }
             }

@@ -1,21 +1,29 @@
 //! What a kernel did, counted for contracts alone.
 
-ghost use Rattle.std.specs.Prelude.{◌≡◌, ℕ, ◌+◌};
-ghost use Rattle.std.specs.Borrow.{ftrue};
+ghost use Rattle.std.specs.Prelude.{◌≡◌, ◌+◌};
 
+use crate::counter::Counter;
+use crate::field::{DomainCoeff, Field};
 use std::marker::Model;
-use std::ops::MulAssign;
 
 /// Counts of what a kernel did. They have no greatest value, and take no bytes at run time.
 #[derive(Drop)]
 pub struct Work {
-    pub ghost products: { ℕ },
-    pub ghost butterflies: { ℕ },
-    pub ghost steps: { ℕ },
+    products: Counter,
+    butterflies: Counter,
+    steps: Counter,
 }
 
 impl Model for Work {
-    ghost also_owns = { λ _. ftrue };
+    ghost use Rattle.ark_math.specs.Cost.{Counts};
+
+    ghost Value = { Counts };
+
+    ghost view = { λ w. record {
+      products = w.products.count;
+      butterflies = w.butterflies.count;
+      steps = w.steps.count;
+    } };
 }
 
 impl Work {
@@ -23,19 +31,22 @@ impl Work {
     pub fn new() -> Work
         ensures { result ≡ record { products = 0; butterflies = 0; steps = 0 } }
     {
-        Work {}
+        Work {
+            products: Counter::zero(),
+            butterflies: Counter::zero(),
+            steps: Counter::zero(),
+        }
     }
 
     /// Multiplies a module value by a field element, and counts a product.
-    pub fn scale<F, T: MulAssign<F>>(&mut self, value: &mut T, factor: F)
-        requires { T.can_mul_assign value.old factor }
-        ensures product { T.mul_assign_gives value.old factor value.new }
+    pub fn scale<F: Field, T: DomainCoeff<F>>(&mut self, value: &mut T, factor: F)
+        ensures product { T.meaning value.new ≡ T.group.scale factor (T.meaning value.old) }
         ensures products { self.new.products ≡ self.old.products + 1 }
         ensures butterflies { self.new.butterflies ≡ self.old.butterflies }
         ensures steps { self.new.steps ≡ self.old.steps }
     {
         *value *= factor;
-        *self = Work::after_product(self);
+        self.products.add_one();
     }
 
     /// Counts a butterfly.
@@ -44,7 +55,7 @@ impl Work {
         ensures butterflies { self.new.butterflies ≡ self.old.butterflies + 1 }
         ensures steps { self.new.steps ≡ self.old.steps }
     {
-        *self = Work::after_butterfly(self);
+        self.butterflies.add_one();
     }
 
     /// Counts a step.
@@ -53,24 +64,6 @@ impl Work {
         ensures butterflies { self.new.butterflies ≡ self.old.butterflies }
         ensures steps { self.new.steps ≡ self.old.steps + 1 }
     {
-        *self = Work::after_step(self);
-    }
-
-    fn after_product(_before: &Work) -> Work
-        ensures { result ≡ record { products = _before.now.products + 1; butterflies = _before.now.butterflies; steps = _before.now.steps } }
-    {
-        Work {}
-    }
-
-    fn after_butterfly(_before: &Work) -> Work
-        ensures { result ≡ record { products = _before.now.products; butterflies = _before.now.butterflies + 1; steps = _before.now.steps } }
-    {
-        Work {}
-    }
-
-    fn after_step(_before: &Work) -> Work
-        ensures { result ≡ record { products = _before.now.products; butterflies = _before.now.butterflies; steps = _before.now.steps + 1 } }
-    {
-        Work {}
+        self.steps.add_one();
     }
 }

@@ -4,13 +4,15 @@
 
 mod batches;
 mod draws;
+mod large_field;
 mod polynomials;
 mod transforms;
 
-use ark_base::{F433, F65537, Fermat, FftField, Field, Mixed};
+use ark_base::{F433, F65537, FftField, Field, Modulus433, Modulus65537};
 use ark_poly::{EvaluationDomain, MixedRadixEvaluationDomain, Radix2EvaluationDomain};
 use batches::report;
 use draws::Draws;
+use large_field::{F2013265921, Modulus2013265921};
 use polynomials::{Product, Value, Weights};
 use std::alloc::{AllocGlobal, Global};
 use std::env;
@@ -27,7 +29,11 @@ fn main(rt: HostRuntime) -> anyhow::Result<()> {
     report_radix2(&rt, rt.alloc(), timed, &mut draws)?;
     report_mixed_radix(&rt, rt.alloc(), timed, &mut draws)?;
     report_largest(&rt, rt.alloc(), timed, &mut draws)?;
-    report_dense(&rt, rt.alloc(), timed, &mut draws)
+    report_dense(&rt, rt.alloc(), timed, &mut draws)?;
+    if timed {
+        report_growth(&rt, rt.alloc(), &mut draws)?;
+    }
+    Ok(())
 }
 
 fn report_radix2(
@@ -40,12 +46,32 @@ fn report_radix2(
         let Some(domain) = Radix2EvaluationDomain::<F65537>::new(size) else {
             continue;
         };
-        let items = draws.list::<Fermat>(alloc, size)?;
+        let items = draws.list::<Modulus65537>(alloc, size)?;
         let mut forward = InPlace::forward("radix2_fft_in_place", domain, items);
         report(rt, alloc, timed, &mut forward)?;
-        let items = draws.list::<Fermat>(alloc, size)?;
+        let items = draws.list::<Modulus65537>(alloc, size)?;
         let mut inverse = InPlace::inverse("radix2_ifft_in_place", domain, items);
         report(rt, alloc, timed, &mut inverse)?;
+    }
+    Ok(())
+}
+
+// How the time grows with the size, over a field with great domains.
+fn report_growth(
+    rt: &(impl Print + Clock),
+    alloc: Global,
+    draws: &mut Draws,
+) -> anyhow::Result<()> {
+    for size in [1 << 16, 1 << 18, 1 << 20, 1 << 22] {
+        let Some(domain) = Radix2EvaluationDomain::<F2013265921>::new(size) else {
+            continue;
+        };
+        let items = draws.list::<Modulus2013265921>(alloc, size)?;
+        let mut forward = InPlace::forward("growth_fft_in_place", domain, items);
+        report(rt, alloc, true, &mut forward)?;
+        let items = draws.list::<Modulus2013265921>(alloc, size)?;
+        let mut inverse = InPlace::inverse("growth_ifft_in_place", domain, items);
+        report(rt, alloc, true, &mut inverse)?;
     }
     Ok(())
 }
@@ -60,10 +86,10 @@ fn report_mixed_radix(
         let Some(domain) = MixedRadixEvaluationDomain::<F433>::new(size) else {
             continue;
         };
-        let items = draws.list::<Mixed>(alloc, size)?;
+        let items = draws.list::<Modulus433>(alloc, size)?;
         let mut forward = InPlace::forward("mixed_fft_in_place", domain, items);
         report(rt, alloc, timed, &mut forward)?;
-        let items = draws.list::<Mixed>(alloc, size)?;
+        let items = draws.list::<Modulus433>(alloc, size)?;
         let mut inverse = InPlace::inverse("mixed_ifft_in_place", domain, items);
         report(rt, alloc, timed, &mut inverse)?;
     }
@@ -81,11 +107,11 @@ fn report_largest(
         return Ok(());
     };
     if let Some(coset) = domain.get_coset(F65537::GENERATOR) {
-        let items = draws.list::<Fermat>(alloc, 1 << 16)?;
+        let items = draws.list::<Modulus65537>(alloc, 1 << 16)?;
         let mut forward = InPlace::forward("coset_fft_in_place", coset, items);
         report(rt, alloc, timed, &mut forward)?;
     }
-    let items = draws.list::<Fermat>(alloc, 1 << 10)?;
+    let items = draws.list::<Modulus65537>(alloc, 1 << 10)?;
     let mut short = OfShortList::new(alloc, "degree_aware_fft_1024_over", domain, items);
     report(rt, alloc, timed, &mut short)?;
     let mut far = Weights::new(alloc, "lagrange_all", domain, F65537::from(0));

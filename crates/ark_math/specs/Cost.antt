@@ -1,5 +1,5 @@
 -- What a transform costs, in butterflies, steps and products.
-use Rattle.std.specs.Prelude.{◌≡◌, ℕ, ◌+◌, ◌-◌, ◌*◌, ◌/◌, ◌^◌, ◌≤◌, Bool, true, false, nat_le, if◌then◌else◌}
+use Rattle.std.specs.Prelude.{◌≡◌, ℕ, ◌+◌, ◌-◌, ◌*◌, ◌/◌, ◌^◌, ◌≤◌, nat_le, if◌then◌else◌}
 use Rattle.ark_math.specs.Root.{Adicity, Splits, odd_base}
 use Rattle.ark_math.specs.Domain.{Kind, radix2, mixed_radix}
 
@@ -7,22 +7,35 @@ use Rattle.ark_math.specs.Domain.{Kind, radix2, mixed_radix}
 abbrev pub IsLog2Up : ℕ → ℕ → Type 0
 IsLog2Up n e = (n ≤ 2 ^ e) × ((k : ℕ) → n ≤ 2 ^ k → e ≤ k)
 
--- how far the counts move, products by scalings aside
+-- which way a transform goes: from coefficients to values, or back
+pub data Direction : Type 0 where
+  forward : Direction
+  inverse : Direction
+
+-- counts of products, butterflies and steps, or how far each of them grows
 pub record Counts : Type 0 where
+  pub products : ℕ
   pub butterflies : ℕ
   pub steps : ℕ
 
--- the items that a transform of radix 2 of a list of this length goes by, forward or not: a list of at most a quarter of
--- the n items goes forward as it is, each other as n
-abbrev pub counted_items : ℕ → ℕ → Bool → ℕ
-counted_items n len true = if nat_le len (n / 4) then len else n
-counted_items n len false = n
+-- the items that a transform of radix 2 of a list of this length goes by: a list of at most a quarter of the n items goes
+-- forward as it is, each other as n
+abbrev pub counted_items : ℕ → ℕ → Direction → ℕ
+counted_items n len forward = if nat_le len (n / 4) then len else n
+counted_items n len inverse = n
 
--- of a list of this length over a domain of this kind and size, forward or not
-abbrev pub IsCost : Adicity → Kind → ℕ → ℕ → Bool → Counts → Type 0
-IsCost s radix2 n len forward c = (e : ℕ) × IsLog2Up (counted_items n len forward) e × (c.butterflies ≡ n / 2 * e) × (c.steps ≡ 0)
-IsCost s mixed_radix n len forward c = (twos : ℕ) × (odds : ℕ) × Splits s n twos odds × (c.butterflies ≡ twos * n / 2) × (c.steps ≡ odds * n / odd_base s.odd)
+-- the butterflies and steps of a transform of a list of this length over n places: n / 2 butterflies for each level of
+-- the counted items; or n / 2 for each factor of two, and n / base steps for each factor of the base
+abbrev pub GoesBy : Adicity → Kind → ℕ → ℕ → Direction → ℕ → ℕ → Type 0
+GoesBy s radix2 n len direction butterflies steps =
+    (levels : ℕ) × IsLog2Up (counted_items n len direction) levels × (butterflies ≡ n / 2 * levels) × (steps ≡ 0)
+GoesBy s mixed_radix n len direction butterflies steps =
+    (twos : ℕ) × (odds : ℕ) × Splits s n twos odds × (butterflies ≡ twos * n / 2) × (steps ≡ odds * n / odd_base s.odd)
 
--- products grow by one a butterfly, base ^ 2 - 1 a step, and at most one scaling a place
-abbrev pub AreProducts : ℕ → ℕ → Counts → ℕ → Type 0
-AreProducts base n c products = (scalings : ℕ) × (scalings ≤ n) × (products ≡ c.butterflies + (base * base - 1) * c.steps + scalings)
+-- one such transform may cost this growth: a product a butterfly, base ^ 2 - 1 products a step, and at most one scaling
+-- a place
+pub record IsCost (s : Adicity) (kind : Kind) (n len : ℕ) (direction : Direction) (growth : Counts) : Type 0 where
+  pub goes_by : GoesBy s kind n len direction growth.butterflies growth.steps
+  pub scalings : ℕ
+  pub few : scalings ≤ n
+  pub products : growth.products ≡ growth.butterflies + (odd_base s.odd * odd_base s.odd - 1) * growth.steps + scalings

@@ -1,7 +1,7 @@
--- Domains: the n places offset * root ^ i of a subgroup or a coset.
+-- Domains: the n elements offset * root ^ i of a subgroup or a coset.
 use Rattle.std.specs.Prelude.{◌≡◌, ◌≢◌, ℕ, ◌*◌, ◌^◌, ◌%◌, ◌<◌, ◌≤◌, IsSome, List}
 use Rattle.ark_math.specs.Field.{FieldOn, power}
-use Rattle.ark_math.specs.Module.{listed}
+use Rattle.ark_math.specs.Module.{tabulate}
 use Rattle.ark_math.specs.Root.{Adicity, Splits, IsSupported}
 
 -- powers of two alone, or of two and the field's odd base
@@ -15,7 +15,11 @@ pub record Domain (F : Type 0) : Type 0 where
   pub root : F
   pub offset : F
 
--- its place i, for every i
+-- the domain of this kind, size, root and offset
+abbrev pub domain_of : {F : Type 0} → Kind → ℕ → F → F → Domain F
+domain_of kind size root offset = record { kind = kind; size = size; root = root; offset = offset }
+
+-- its element i, for every i
 abbrev pub element : {F : Type 0} → FieldOn F → Domain F → ℕ → F
 element K d i = K.times d.offset (power K d.root i)
 
@@ -34,9 +38,9 @@ pub record IsDomain {F : Type 0} (K : FieldOn F) (s : Adicity) (root : ℕ → F
   pub root_of : d.root ≡ root d.size
   pub offset_not_zero : d.offset ≢ K.zero
 
--- its n places in order
+-- its n elements in order
 abbrev pub elements : {F : Type 0} → FieldOn F → Domain F → List F
-elements K d = listed d.size (element K d)
+elements K d = tabulate d.size (element K d)
 
 -- the least number at or above k that is P
 pub record IsLeast (P : ℕ → Type 0) (k n : ℕ) : Type 0 where

@@ -3,12 +3,12 @@ pub mod Cost
 pub mod Domain
 pub mod Field
 pub mod Generator
-pub mod Halves
-pub mod Mixed
 pub mod Module
+pub mod NormalForms
 pub mod Points
 pub mod Prime
 pub mod Root
 pub mod Rows
+pub mod Sizes
 pub mod Transform
 pub mod Univariate

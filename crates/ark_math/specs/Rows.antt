@@ -1,12 +1,15 @@
 -- Examples, computed from the definitions.
-use Rattle.std.specs.Prelude.{◌≡◌, ℕ, ◌+◌, ◌-◌, ◌*◌, ◌%◌, [], ◌∷◌, true, false, refl}
+use Rattle.std.specs.Prelude.{◌≡◌, ℕ, ◌+◌, ◌-◌, ◌*◌, ◌%◌, Some, None, [], ◌∷◌, true, false, ◌==◌, refl}
 use Rattle.ark_math.specs.Field.{FieldOn}
-use Rattle.ark_math.specs.Module.{itself, listed, sum_below}
+use Rattle.ark_math.specs.Module.{itself, tabulate, sum_below}
 use Rattle.ark_math.specs.Domain.{Domain, element, radix2, mixed_radix}
+use Rattle.ark_math.specs.Root.{Adicity}
+use Rattle.ark_math.specs.Sizes.{size_of_kind, general_size}
 use Rattle.ark_math.specs.Transform.{transform}
-use Rattle.ark_math.specs.Cost.{counted_items}
+use Rattle.ark_math.specs.Cost.{forward, inverse, counted_items}
 use Rattle.ark_math.specs.Univariate.{added, product, of_list, of_pairs, value_below}
 use Rattle.ark_math.specs.Points.{vanishing, reindexed}
+use Rattle.ark_math.specs.NormalForms.{trim, gather}
 
 abbrev modulo : ℕ → FieldOn ℕ
 modulo p = record { zero = 0; one = 1; plus = λ x y. (x + y) % p; times = λ x y. (x * y) % p; negated = λ x. (p - x) % p }
@@ -26,7 +29,7 @@ back_over_four = refl
 over_coset : transform (modulo 5) (itself (modulo 5)) two (1 ∷ 1 ∷ []) ≡ 3 ∷ 4 ∷ []
 over_coset = refl
 
-coset_places : listed 2 (element (modulo 5) two) ≡ 2 ∷ 3 ∷ []
+coset_places : tabulate 2 (element (modulo 5) two) ≡ 2 ∷ 3 ∷ []
 coset_places = refl
 
 short_list : transform (modulo 65537) (itself (modulo 65537)) (record { kind = radix2; size = 8; root = 4096; offset = 1 }) (1 ∷ 2 ∷ []) ≡ 3 ∷ 8193 ∷ 65026 ∷ 33 ∷ 65536 ∷ 57346 ∷ 513 ∷ 65506 ∷ []
@@ -38,19 +41,25 @@ long_list_is_cut = refl
 over_six : transform (modulo 433) (itself (modulo 433)) (record { kind = mixed_radix; size = 6; root = 199; offset = 1 }) (0 ∷ 1 ∷ []) ≡ 1 ∷ 199 ∷ 198 ∷ 432 ∷ 234 ∷ 235 ∷ []
 over_six = refl
 
-product_without_domain : listed 5 (product (modulo 5) (of_list (modulo 5) (1 ∷ 0 ∷ 1 ∷ [])) (of_list (modulo 5) (1 ∷ 0 ∷ 1 ∷ []))) ≡ 1 ∷ 0 ∷ 2 ∷ 0 ∷ 1 ∷ []
+product_without_domain : tabulate 5 (product (modulo 5) (of_list (modulo 5) (1 ∷ 0 ∷ 1 ∷ [])) (of_list (modulo 5) (1 ∷ 0 ∷ 1 ∷ []))) ≡ 1 ∷ 0 ∷ 2 ∷ 0 ∷ 1 ∷ []
 product_without_domain = refl
 
-sum_that_cancels : listed 3 (added (modulo 5) (of_list (modulo 5) (1 ∷ 2 ∷ [])) (of_list (modulo 5) (4 ∷ 3 ∷ []))) ≡ 0 ∷ 0 ∷ 0 ∷ []
+sum_that_cancels : tabulate 3 (added (modulo 5) (of_list (modulo 5) (1 ∷ 2 ∷ [])) (of_list (modulo 5) (4 ∷ 3 ∷ []))) ≡ 0 ∷ 0 ∷ 0 ∷ []
 sum_that_cancels = refl
 
-pairs_add_up : listed 3 (of_pairs (modulo 5) ((2, 0) ∷ (1, 1) ∷ (1, 4) ∷ (0, 3) ∷ [])) ≡ 3 ∷ 0 ∷ 0 ∷ []
+pairs_add_up : tabulate 3 (of_pairs (modulo 5) ((2, 0) ∷ (1, 1) ∷ (1, 4) ∷ (0, 3) ∷ [])) ≡ 3 ∷ 0 ∷ 0 ∷ []
 pairs_add_up = refl
+
+zeros_trimmed : trim (λ x. x == 0) (1 ∷ 0 ∷ 2 ∷ 0 ∷ 0 ∷ []) ≡ 1 ∷ 0 ∷ 2 ∷ []
+zeros_trimmed = refl
+
+pairs_gathered : gather (λ x. x == 0) (modulo 5).plus ((2, 0) ∷ (3, 1) ∷ (1, 1) ∷ (3, 1) ∷ (1, 4) ∷ (0, 3) ∷ []) ≡ (0, 3) ∷ (3, 2) ∷ []
+pairs_gathered = refl
 
 value_at_three : value_below (modulo 5) 2 (of_list (modulo 5) (1 ∷ 2 ∷ [])) 3 ≡ 2
 value_at_three = refl
 
-coset_vanishing : listed 3 (vanishing (modulo 5) two) ≡ 1 ∷ 0 ∷ 1 ∷ []
+coset_vanishing : tabulate 3 (vanishing (modulo 5) two) ≡ 1 ∷ 0 ∷ 1 ∷ []
 coset_vanishing = refl
 
 -- the values of 1 + 2x + 3x^2, weighted by 4, 4, 4, 4, give its value at zero
@@ -58,18 +67,40 @@ weights_at_zero : sum_below (itself (modulo 5)) 4 (λ i. (modulo 5).times 4 (val
 weights_at_zero = refl
 
 -- one at 2 and 3, zero at 1 and 4
-filter_of_coset : listed 4 (λ i. value_below (modulo 5) 3 (of_list (modulo 5) (3 ∷ 0 ∷ 2 ∷ [])) (element (modulo 5) four i)) ≡ 0 ∷ 1 ∷ 0 ∷ 1 ∷ []
+filter_of_coset : tabulate 4 (λ i. value_below (modulo 5) 3 (of_list (modulo 5) (3 ∷ 0 ∷ 2 ∷ [])) (element (modulo 5) four i)) ≡ 0 ∷ 1 ∷ 0 ∷ 1 ∷ []
 filter_of_coset = refl
 
 reindexed_eight : reindexed 8 2 ≡ 0 ∷ 4 ∷ 1 ∷ 2 ∷ 3 ∷ 5 ∷ 6 ∷ 7 ∷ []
 reindexed_eight = refl
 
 -- sixteen places: four items take 8 * 2 butterflies, and five take 8 * 4
-four_of_sixteen : counted_items 16 4 true ≡ 4
+four_of_sixteen : counted_items 16 4 forward ≡ 4
 four_of_sixteen = refl
 
-five_of_sixteen : counted_items 16 5 true ≡ 16
+five_of_sixteen : counted_items 16 5 forward ≡ 16
 five_of_sixteen = refl
 
-four_of_sixteen_back : counted_items 16 4 false ≡ 16
+four_of_sixteen_back : counted_items 16 4 inverse ≡ 16
 four_of_sixteen_back = refl
+
+-- over 433, whose sizes are 2^a * 3^b with a at most 4 and b at most 3
+abbrev adicity_433 : Adicity
+adicity_433 = record { two = 4; odd = Some (3, 3) }
+
+general_16 : general_size adicity_433 16 ≡ Some (radix2, 16)
+general_16 = refl
+
+general_17 : general_size adicity_433 17 ≡ Some (mixed_radix, 18)
+general_17 = refl
+
+general_433 : general_size adicity_433 433 ≡ None
+general_433 = refl
+
+radix2_17 : size_of_kind adicity_433 radix2 17 ≡ None
+radix2_17 = refl
+
+mixed_13 : size_of_kind adicity_433 mixed_radix 13 ≡ Some 16
+mixed_13 = refl
+
+mixed_without_base : size_of_kind (record { two = 16; odd = None }) mixed_radix 1 ≡ None
+mixed_without_base = refl

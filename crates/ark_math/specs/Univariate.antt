@@ -1,6 +1,6 @@
 -- Polynomials by their coefficients: a form denotes a function from exponents (or from terms) to coefficients, and two
 -- polynomials are equal if all their coefficients are.
-use Rattle.std.specs.Prelude.{◌≡◌, ◌≢◌, ◌↔◌, ℕ, suc, ◌+◌, ◌-◌, ◌<◌, ◌≤◌, List, [], ◌∷◌, length, get_or, All, ◌==◌, if◌then◌else◌}
+use Rattle.std.specs.Prelude.{◌≡◌, ◌≢◌, ℕ, suc, ◌+◌, ◌-◌, ◌<◌, ◌≤◌, List, [], ◌∷◌, length, get_or, All, ◌==◌, if◌then◌else◌}
 use Rattle.std.specs.List.{AllPairs}
 use Rattle.ark_math.specs.Field.{FieldOn, power, minus}
 use Rattle.ark_math.specs.Module.{sum_below, itself}
@@ -75,15 +75,3 @@ of_pairs K (p ∷ ps) = added K (monomial K p.0 p.1) (of_pairs K ps)
 pub record IsSparse {F : Type 0} (K : FieldOn F) (ps : List (ℕ × F)) : Type 0 where
   pub rising : AllPairs (λ p q. p.0 < q.0) ps
   pub some : All (λ p. p.1 ≢ K.zero) ps
-
--- polynomials of a form P denote meanings, which are polynomials in one variable by their coefficients, and keep the
--- list of these
-pub record AreUnivariate {F P M : Type 0} (K : FieldOn F) (listed : P → List F) (meaning : P → M) (zero : M) (sum : M → M → M) (negated : M → M) (has_degree : M → ℕ → Type 0) (has_value : M → F → F → Type 0) : Type 0 where
-  pub coefficients : M → ℕ → F
-  pub listed_kept : (p : P) → coefficients (meaning p) ≡ of_list K (listed p)
-  pub one_to_one : (a b : M) → coefficients a ≡ coefficients b → a ≡ b
-  pub zero_kept : coefficients zero ≡ nothing K
-  pub sum_kept : (a b : M) → coefficients (sum a b) ≡ added K (coefficients a) (coefficients b)
-  pub negated_kept : (a : M) → coefficients (negated a) ≡ opposite K (coefficients a)
-  pub degree_kept : (a : M) (d : ℕ) → has_degree a d ↔ IsDegree K (coefficients a) d
-  pub value_kept : (a : M) (x y : F) → has_value a x y ↔ IsValue K (coefficients a) x y

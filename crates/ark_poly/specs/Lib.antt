@@ -1,3 +1,2 @@
--- The words of this crate's own types.
-pub mod Elements
-pub mod Sparse
+-- What contracts see of this crate's own types.
+pub mod Values

@@ -1,59 +1,54 @@
-//! Calls over lists of numbers.
+//! Elements by their numbers, and domains by their offsets.
 
-use ark_base::{PolyError, PrimeField, PrimeModulus};
-use ark_poly::{EvaluationDomain, Radix2EvaluationDomain};
+use ark_base::{FftField, Field, PolyError};
+use ark_poly::EvaluationDomain;
 use std::alloc::{AllocError, Global};
 
 /// The numbers as elements.
-pub fn elements<M: PrimeModulus>(
-    alloc: Global,
-    numbers: &[u64],
-) -> Result<Vec<PrimeField<M>>, AllocError> {
+pub fn elements<F: Field>(alloc: Global, numbers: &[u64]) -> Result<Vec<F>, AllocError> {
     let mut elements = Vec::with_capacity(alloc, numbers.len())?;
     for number in numbers {
-        elements.push(PrimeField::from(*number))?;
+        elements.push(F::from(*number))?;
     }
     Ok(elements)
 }
 
-/// The elements as numbers.
-pub fn numbers<M: PrimeModulus>(
-    alloc: Global,
-    elements: &[PrimeField<M>],
-) -> Result<Vec<u64>, AllocError> {
-    let mut numbers = Vec::with_capacity(alloc, elements.len())?;
-    for element in elements {
-        numbers.push(element.value())?;
-    }
-    Ok(numbers)
+/// The domain for so many coefficients with this offset.
+pub fn coset<F: FftField, D: EvaluationDomain<F>>(
+    num_coeffs: usize,
+    offset: u64,
+) -> Result<D, PolyError> {
+    D::new_coset(num_coeffs, F::from(offset)).ok_or(PolyError::NoDomain)
 }
 
-/// The transform over the radix 2 domain for `size` with this offset.
-pub fn fft<M: PrimeModulus>(
+/// The transform of these numbers over the domain.
+pub fn fft<F: FftField, D: EvaluationDomain<F>>(
     alloc: Global,
-    size: usize,
-    offset: u64,
-    items: &[u64],
-) -> Result<Vec<u64>, PolyError> {
-    let Some(domain) = Radix2EvaluationDomain::new_coset(size, PrimeField::<M>::from(offset)) else {
-        return Err(PolyError::NoDomain);
-    };
-    let items = elements::<M>(alloc, items)?;
-    let values = domain.fft(alloc, items.as_slice())?;
-    Ok(numbers::<M>(alloc, values.as_slice())?)
+    domain: &D,
+    coeffs: &[u64],
+) -> Result<Vec<F>, PolyError> {
+    let coeffs = elements::<F>(alloc, coeffs)?;
+    domain.fft(alloc, &coeffs)
 }
 
 /// Its inverse.
-pub fn ifft<M: PrimeModulus>(
+pub fn ifft<F: FftField, D: EvaluationDomain<F>>(
     alloc: Global,
-    size: usize,
-    offset: u64,
-    values: &[u64],
-) -> Result<Vec<u64>, PolyError> {
-    let Some(domain) = Radix2EvaluationDomain::new_coset(size, PrimeField::<M>::from(offset)) else {
-        return Err(PolyError::NoDomain);
-    };
-    let values = elements::<M>(alloc, values)?;
-    let items = domain.ifft(alloc, values.as_slice())?;
-    Ok(numbers::<M>(alloc, items.as_slice())?)
+    domain: &D,
+    evals: &[u64],
+) -> Result<Vec<F>, PolyError> {
+    let evals = elements::<F>(alloc, evals)?;
+    domain.ifft(alloc, &evals)
+}
+
+/// The elements of the domain as its iterator gives them.
+pub fn listed<F: FftField, D: EvaluationDomain<F>>(
+    alloc: Global,
+    domain: &D,
+) -> Result<Vec<F>, AllocError> {
+    let mut elements = Vec::with_capacity(alloc, domain.size())?;
+    for element in domain.elements() {
+        elements.push(element)?;
+    }
+    Ok(elements)
 }

@@ -1,50 +1,61 @@
-use crate::calls::numbers;
+use crate::calls::{coset, elements, listed};
 use ark_base::{F5, F433, F65537, FftField, One, PolyError, Zero};
 use ark_poly::{
     EvaluationDomain, GeneralEvaluationDomain, MixedRadixEvaluationDomain, Radix2EvaluationDomain,
 };
+use rand_pcg::Pcg64;
+use std::alloc::{AllocError, Global};
+use std::fmt::Debug;
+use std::string::String;
 use std::test::Fail;
 
-fn size<F: FftField, D: EvaluationDomain<F>>(num_coeffs: usize) -> Option<usize> {
-    match D::new(num_coeffs) {
-        Some(domain) => Some(domain.size()),
-        None => None,
+// The first number of coefficients of which the domain's size is another than the one beside it.
+fn wrong_size<F: FftField, D: EvaluationDomain<F>>(
+    rows: &[(usize, Option<usize>)],
+) -> Option<usize> {
+    for (asked, size) in rows {
+        let found = match D::new(*asked) {
+            Some(domain) => Some(domain.size()),
+            None => None,
+        };
+        if found != *size || D::compute_size_of_domain(*asked) != *size {
+            return Some(*asked);
+        }
     }
+    None
 }
 
 #[test]
-fn radix2_sizes(rt: HostRuntime) -> Result<(), Fail> {
-    for (asked, got) in [
+fn radix2_sizes(rt: HostRuntime) {
+    let rows = [
         (0, Some(1)),
         (1, Some(1)),
         (3, Some(4)),
         (4, Some(4)),
         (5, None),
-    ] {
-        assert_eq!(rt; size::<F5, Radix2EvaluationDomain<F5>>(asked), got);
-        assert_eq!(rt;
-            Radix2EvaluationDomain::<F5>::compute_size_of_domain(asked),
-            got
-        );
-    }
-    for (asked, got) in [
+    ];
+    assert_eq!(rt; wrong_size::<F5, Radix2EvaluationDomain<F5>>(&rows), None);
+    let rows = [
         (0, Some(1)),
         (9, Some(16)),
         (16, Some(16)),
         (17, None),
         (usize::MAX, None),
-    ] {
-        assert_eq!(rt; size::<F433, Radix2EvaluationDomain<F433>>(asked), got);
-    }
-    for (asked, got) in [(65536, Some(65536)), (65537, None)] {
-        assert_eq!(rt; size::<F65537, Radix2EvaluationDomain<F65537>>(asked), got);
-    }
-    Ok(())
+    ];
+    assert_eq!(rt;
+        wrong_size::<F433, Radix2EvaluationDomain<F433>>(&rows),
+        None
+    );
+    let rows = [(65536, Some(65536)), (65537, None)];
+    assert_eq!(rt;
+        wrong_size::<F65537, Radix2EvaluationDomain<F65537>>(&rows),
+        None
+    );
 }
 
 #[test]
-fn mixed_sizes(rt: HostRuntime) -> Result<(), Fail> {
-    for (asked, got) in [
+fn mixed_sizes(rt: HostRuntime) {
+    let rows = [
         (0, Some(1)),
         (5, Some(6)),
         (7, Some(8)),
@@ -53,50 +64,45 @@ fn mixed_sizes(rt: HostRuntime) -> Result<(), Fail> {
         (217, Some(432)),
         (433, None),
         (usize::MAX, None),
-    ] {
-        assert_eq!(rt; size::<F433, MixedRadixEvaluationDomain<F433>>(asked), got);
-        assert_eq!(rt;
-            MixedRadixEvaluationDomain::<F433>::compute_size_of_domain(asked),
-            got
-        );
-    }
-    assert!(rt; MixedRadixEvaluationDomain::<F5>::new(1) == None);
-    assert!(rt; MixedRadixEvaluationDomain::<F65537>::new(1) == None);
+    ];
     assert_eq!(rt;
-        MixedRadixEvaluationDomain::<F5>::compute_size_of_domain(0),
+        wrong_size::<F433, MixedRadixEvaluationDomain<F433>>(&rows),
         None
     );
-    for (asked, twos) in [(12, 2), (27, 0), (432, 4)] {
-        let Some(domain) = MixedRadixEvaluationDomain::<F433>::new(asked) else {
-            return Err(Fail::from(PolyError::NoDomain));
-        };
-        assert_eq!(rt; domain.log_size_of_group(), twos);
-    }
-    Ok(())
+    let rows = [(0, None), (1, None)];
+    assert_eq!(rt;
+        wrong_size::<F5, MixedRadixEvaluationDomain<F5>>(&rows),
+        None
+    );
+    assert_eq!(rt;
+        wrong_size::<F65537, MixedRadixEvaluationDomain<F65537>>(&rows),
+        None
+    );
 }
 
 #[test]
-fn general_sizes(rt: HostRuntime) -> Result<(), Fail> {
-    for (asked, got) in [
+fn general_sizes(rt: HostRuntime) {
+    let rows = [
         (0, Some(1)),
         (5, Some(8)),
         (17, Some(18)),
         (432, Some(432)),
         (433, None),
         (usize::MAX, None),
-    ] {
-        assert_eq!(rt; size::<F433, GeneralEvaluationDomain<F433>>(asked), got);
-        assert_eq!(rt;
-            GeneralEvaluationDomain::<F433>::compute_size_of_domain(asked),
-            got
-        );
-    }
-    for (asked, got) in [(3, Some(4)), (5, None)] {
-        assert_eq!(rt; size::<F5, GeneralEvaluationDomain<F5>>(asked), got);
-        assert_eq!(rt;
-            GeneralEvaluationDomain::<F5>::compute_size_of_domain(asked),
-            got
-        );
+    ];
+    assert_eq!(rt;
+        wrong_size::<F433, GeneralEvaluationDomain<F433>>(&rows),
+        None
+    );
+    let rows = [(3, Some(4)), (5, None)];
+    assert_eq!(rt; wrong_size::<F5, GeneralEvaluationDomain<F5>>(&rows), None);
+}
+
+#[test]
+fn exponents_of_two(rt: HostRuntime) -> Result<(), Fail> {
+    for (size, twos) in [(12, 2), (27, 0), (432, 4)] {
+        let domain: MixedRadixEvaluationDomain<F433> = coset(size, 1)?;
+        assert_eq!(rt; domain.log_size_of_group(), twos);
     }
     Ok(())
 }
@@ -104,100 +110,198 @@ fn general_sizes(rt: HostRuntime) -> Result<(), Fail> {
 // Of one size and offset, domains of two kinds differ.
 #[test]
 fn general_kinds(rt: HostRuntime) -> Result<(), Fail> {
-    let (Some(even), Some(mixed)) = (
-        Radix2EvaluationDomain::<F433>::new(16),
-        MixedRadixEvaluationDomain::<F433>::new(16),
-    ) else {
-        return Err(Fail::from(PolyError::NoDomain));
-    };
+    let even: Radix2EvaluationDomain<F433> = coset(16, 1)?;
+    let mixed: MixedRadixEvaluationDomain<F433> = coset(16, 1)?;
     assert_eq!(rt; mixed.size(), 16);
     assert_eq!(rt; mixed.group_gen(), even.group_gen());
     let even = GeneralEvaluationDomain::Radix2(even);
-    let mixed = GeneralEvaluationDomain::MixedRadix(mixed);
     assert!(rt; GeneralEvaluationDomain::new(16) == Some(even));
-    assert!(rt; even != mixed);
-    assert!(rt;
-        matches!(
-            GeneralEvaluationDomain::<F433>::new(17),
-            Some(GeneralEvaluationDomain::MixedRadix(_))
-        )
-    );
+    assert!(rt; even != GeneralEvaluationDomain::MixedRadix(mixed));
     Ok(())
 }
 
 #[test]
-fn getters(rt: HostRuntime) -> Result<(), Fail> {
-    let alloc = rt.alloc();
-    let Some(domain) = Radix2EvaluationDomain::new_coset(2, F5::from(2)) else {
-        return Err(Fail::from(PolyError::NoDomain));
-    };
-    let mut elements = Vec::new(alloc);
-    for element in domain.elements() {
-        elements.push(element)?;
+fn a_general_domain_of_the_mixed_kind(rt: HostRuntime) -> Result<(), Fail> {
+    let domain = GeneralEvaluationDomain::<F433>::new(17);
+    assert!(rt; matches!(domain, Some(GeneralEvaluationDomain::MixedRadix(_))));
+    Ok(())
+}
+
+// The size as an element, its inverse, the root, its inverse, the offset, its inverse, and its power.
+fn getters<F: FftField, D: EvaluationDomain<F>>(domain: &D) -> [F; 7] {
+    [
+        domain.size_as_field_element(),
+        domain.size_inv(),
+        domain.group_gen(),
+        domain.group_gen_inv(),
+        domain.coset_offset(),
+        domain.coset_offset_inv(),
+        domain.coset_offset_pow_size(),
+    ]
+}
+
+// Whether the offset zero is refused, and the offset one gives the subgroup, which is another than this coset.
+fn has_cosets<F: FftField, D: EvaluationDomain<F>>(coset: &D) -> bool {
+    let subgroup = D::new(coset.size());
+    coset.get_coset(F::zero()) == None
+        && coset.get_coset(F::one()) == subgroup
+        && subgroup != Some(*coset)
+}
+
+// Whether the iterator gives the elements in order, as many as there are.
+fn has_elements<F: FftField, D: EvaluationDomain<F>>(
+    alloc: Global,
+    domain: &D,
+) -> Result<bool, AllocError> {
+    let elements = listed(alloc, domain)?;
+    let mut same = elements.len() == domain.size();
+    for (i, element) in elements.iter().enumerate() {
+        same = same && *element == domain.element(i);
     }
-    assert_eq!(rt;
-        numbers(alloc, elements.as_slice())?.as_slice(),
-        [2, 3].as_slice()
-    );
-    assert_eq!(rt; domain.element(1).value(), 3);
-    assert_eq!(rt; domain.element(usize::MAX).value(), 3);
+    Ok(same)
+}
+
+#[test]
+fn radix2_getters(rt: HostRuntime) -> Result<(), Fail> {
+    let alloc = rt.alloc();
+    let domain: Radix2EvaluationDomain<F5> = coset(2, 2)?;
+    assert_eq!(rt; listed(alloc, &domain)?, elements(alloc, &[2, 3])?);
+    assert_eq!(rt; domain.element(usize::MAX), F5::from(3));
+    assert!(rt; has_elements(alloc, &domain)?);
     assert_eq!(rt; domain.size(), 2);
     assert_eq!(rt; domain.log_size_of_group(), 1);
-    assert_eq!(rt; domain.size_as_field_element().value(), 2);
-    assert_eq!(rt; domain.size_inv().value(), 3);
-    assert_eq!(rt; domain.group_gen().value(), 4);
-    assert_eq!(rt; domain.group_gen_inv().value(), 4);
-    assert_eq!(rt; domain.coset_offset().value(), 2);
-    assert_eq!(rt; domain.coset_offset_inv().value(), 3);
-    assert_eq!(rt; domain.coset_offset_pow_size().value(), 4);
-    assert!(rt; domain.get_coset(F5::zero()) == None);
-    assert!(rt; Radix2EvaluationDomain::<F5>::new(2) == domain.get_coset(F5::one()));
-    assert!(rt; Radix2EvaluationDomain::<F5>::new(2) != Some(domain));
+    assert_eq!(rt; getters(&domain), [2, 3, 4, 4, 2, 3, 4].map(F5::from));
+    assert!(rt; has_cosets(&domain));
     Ok(())
 }
 
 #[test]
 fn general_getters(rt: HostRuntime) -> Result<(), Fail> {
-    let alloc = rt.alloc();
-    let Some(domain) = GeneralEvaluationDomain::new_coset(18, F433::from(2)) else {
-        return Err(Fail::from(PolyError::NoDomain));
-    };
-    let mut elements = Vec::new(alloc);
-    for element in domain.elements() {
-        elements.push(element)?;
-    }
-    assert_eq!(rt; elements.len(), 18);
-    for i in 0..18 {
-        assert_eq!(rt; elements[i], domain.element(i));
-    }
-    assert_eq!(rt; domain.element(0).value(), 2);
-    assert_eq!(rt; domain.element(1).value(), 274);
+    let domain: GeneralEvaluationDomain<F433> = coset(18, 2)?;
+    assert_eq!(rt; domain.element(0), F433::from(2));
+    assert_eq!(rt; domain.element(1), F433::from(274));
+    assert!(rt; has_elements(rt.alloc(), &domain)?);
     assert_eq!(rt; domain.size(), 18);
     assert_eq!(rt; domain.log_size_of_group(), 1);
-    assert_eq!(rt; domain.size_as_field_element().value(), 18);
-    assert_eq!(rt; domain.size_inv() * F433::from(18), F433::one());
-    assert_eq!(rt; domain.group_gen().value(), 137);
-    assert_eq!(rt; domain.group_gen_inv() * F433::from(137), F433::one());
-    assert_eq!(rt; domain.coset_offset().value(), 2);
-    assert_eq!(rt; domain.coset_offset_inv().value(), 217);
-    assert_eq!(rt; domain.coset_offset_pow_size().value(), 179);
-    assert!(rt; domain.get_coset(F433::zero()) == None);
-    assert!(rt; GeneralEvaluationDomain::<F433>::new(18) == domain.get_coset(F433::one()));
-    assert!(rt; GeneralEvaluationDomain::<F433>::new(18) != Some(domain));
+    assert_eq!(rt;
+        getters(&domain),
+        [18, 409, 137, 177, 2, 217, 179].map(F433::from)
+    );
+    assert!(rt; has_cosets(&domain));
     Ok(())
 }
 
 #[test]
 fn containment(rt: HostRuntime) -> Result<(), Fail> {
-    let whole = Radix2EvaluationDomain::<F433>::new(4).ok_or(PolyError::NoDomain)?;
-    let half = Radix2EvaluationDomain::<F433>::new(2).ok_or(PolyError::NoDomain)?;
-    let rest = half.get_coset(F433::from(179)).ok_or(PolyError::NoDomain)?;
-    let outside = half.get_coset(F433::from(5)).ok_or(PolyError::NoDomain)?;
-    assert!(rt; whole.contains_subdomain(&whole));
-    assert!(rt; whole.contains_subdomain(&half));
-    assert!(rt; whole.contains_subdomain(&rest));
-    assert!(rt; !whole.contains_subdomain(&outside));
-    assert!(rt; !half.contains_subdomain(&whole));
-    assert!(rt; !half.contains_subdomain(&rest));
+    for (whole, part, contained) in [
+        ((4, 1), (4, 1), true),
+        ((4, 1), (2, 1), true),
+        ((4, 1), (2, 179), true),
+        ((4, 1), (2, 5), false),
+        ((2, 1), (4, 1), false),
+        ((2, 1), (2, 179), false),
+    ] {
+        let outer: Radix2EvaluationDomain<F433> = coset(whole.0, whole.1)?;
+        let inner = coset(part.0, part.1)?;
+        assert_eq!(rt;
+            outer.contains_subdomain(&inner),
+            contained,
+            "{part:?} in {whole:?}"
+        );
+    }
+    Ok(())
+}
+
+// Whether a clone is the domain and has its elements.
+fn is_cloned<F: FftField, D: EvaluationDomain<F>>(
+    alloc: Global,
+    domain: &D,
+) -> Result<bool, AllocError> {
+    let copy = domain.clone()?;
+    Ok(copy == *domain && listed(alloc, &copy)? == listed(alloc, domain)?)
+}
+
+#[test]
+fn clones(rt: HostRuntime) -> Result<(), Fail> {
+    let alloc = rt.alloc();
+    let even: Radix2EvaluationDomain<F433> = coset(16, 2)?;
+    let mixed: MixedRadixEvaluationDomain<F433> = coset(18, 2)?;
+    assert!(rt; is_cloned(alloc, &even)?);
+    assert!(rt; is_cloned(alloc, &mixed)?);
+    assert!(rt; is_cloned(alloc, &GeneralEvaluationDomain::Radix2(even))?);
+    assert!(rt; is_cloned(alloc, &GeneralEvaluationDomain::MixedRadix(mixed))?);
+    Ok(())
+}
+
+// How `Debug` writes the coset with the offset five of the domain for so many coefficients.
+fn text<D: EvaluationDomain<F433>>(alloc: Global, num_coeffs: usize) -> Result<String, Fail> {
+    let domain: D = coset(num_coeffs, 5)?;
+    Ok(format!(in alloc; "{domain:?}")?)
+}
+
+#[test]
+fn texts(rt: HostRuntime) -> Result<(), Fail> {
+    let alloc = rt.alloc();
+    assert_eq!(rt;
+        text::<Radix2EvaluationDomain<F433>>(alloc, 9)?.as_str(),
+        "Radix-2 multiplicative subgroup of size 16"
+    );
+    assert_eq!(rt;
+        text::<MixedRadixEvaluationDomain<F433>>(alloc, 9)?.as_str(),
+        "Mixed-radix multiplicative subgroup of size 9"
+    );
+    Ok(())
+}
+
+#[test]
+fn general_texts(rt: HostRuntime) -> Result<(), Fail> {
+    let alloc = rt.alloc();
+    assert_eq!(rt;
+        text::<GeneralEvaluationDomain<F433>>(alloc, 9)?.as_str(),
+        "Radix2(Radix-2 multiplicative subgroup of size 16)"
+    );
+    assert_eq!(rt;
+        text::<GeneralEvaluationDomain<F433>>(alloc, 17)?.as_str(),
+        "MixedRadix(Mixed-radix multiplicative subgroup of size 18)"
+    );
+    Ok(())
+}
+
+#[test]
+fn samples(rt: HostRuntime) -> Result<(), Fail> {
+    let mut rng = Pcg64::new(7, 11);
+    let domain: Radix2EvaluationDomain<F65537> = coset(1024, 5)?;
+    assert_eq!(rt; domain.sample_element_outside_domain(&mut rng, 0), None);
+    let mut last = None;
+    for _ in 0..100 {
+        let sample = domain.sample_element_outside_domain(&mut rng, 64);
+        let point = sample.ok_or(PolyError::NoDomain)?;
+        assert!(rt; !domain.evaluate_vanishing_polynomial(point).is_zero());
+        assert!(rt; domain.elements().all(|element| element != point));
+        assert!(rt; sample != last);
+        last = sample;
+    }
+    Ok(())
+}
+
+// Four of the five elements are in the domain, so many first draws are.
+#[test]
+fn samples_after_draws_inside(rt: HostRuntime) -> Result<(), Fail> {
+    let domain: Radix2EvaluationDomain<F5> = coset(4, 1)?;
+    for seed in 0..64 {
+        let mut rng = Pcg64::new(seed, 5);
+        let sample = domain.sample_element_outside_domain(&mut rng, 1000);
+        assert_eq!(rt; sample, Some(F5::zero()), "seed {seed}");
+    }
+    Ok(())
+}
+
+// A generator that is drawn from again with the same seed gives the same point.
+#[test]
+fn samples_of_one_seed(rt: HostRuntime) -> Result<(), Fail> {
+    let domain: Radix2EvaluationDomain<F65537> = coset(1024, 5)?;
+    let first = domain.sample_element_outside_domain(&mut Pcg64::new(3, 5), 64);
+    let second = domain.sample_element_outside_domain(&mut Pcg64::new(3, 5), 64);
+    assert_eq!(rt; first, second);
     Ok(())
 }

@@ -1,127 +1,152 @@
-use ark_base::{
-    F5, F433, F65537, Fermat, FftField, Field, Five, Mixed, One, PrimeField, PrimeModulus, Zero,
-    batch_inversion,
-};
+use ark_base::{F5, F433, F65537, FftField, Field, One, Zero, batch_inversion};
 use rand_pcg::Pcg64;
 use std::test::Fail;
 
-fn root<M: PrimeModulus>(n: u64) -> Option<u64> {
-    match PrimeField::<M>::get_root_of_unity(n) {
-        Some(root) => Some(root.value()),
-        None => None,
+// The first size whose root is another than the one beside it.
+fn wrong_root<F: FftField>(rows: &[(u64, Option<u64>)]) -> Option<u64> {
+    for (n, root) in rows {
+        if F::get_root_of_unity(*n) != root.map(F::from) {
+            return Some(*n);
+        }
     }
+    None
 }
 
 #[test]
-fn roots_of_each_size(rt: HostRuntime) -> Result<(), Fail> {
-    for (n, value) in [(1, 1), (2, 4), (4, 2)] {
-        assert_eq!(rt; root::<Five>(n), Some(value), "size {n}");
-    }
-    for (n, value) in [
-        (1, 1),
-        (2, 432),
-        (3, 198),
-        (4, 179),
-        (6, 199),
-        (8, 354),
-        (9, 150),
-        (12, 64),
-        (16, 238),
-        (18, 137),
-        (24, 425),
-        (27, 17),
-        (36, 70),
-        (48, 295),
-        (54, 59),
-        (72, 37),
-        (108, 192),
-        (144, 125),
-        (216, 25),
-        (432, 5),
-    ] {
-        assert_eq!(rt; root::<Mixed>(n), Some(value), "size {n}");
-    }
-    for (n, value) in [
-        (1, 1),
-        (2, 65536),
-        (4, 65281),
-        (8, 4096),
-        (16, 64),
-        (32, 65529),
-        (65536, 3),
-    ] {
-        assert_eq!(rt; root::<Fermat>(n), Some(value), "size {n}");
-    }
-    for n in [0, 3, 5, 8, 1 << 63] {
-        assert_eq!(rt; root::<Five>(n), None, "size {n}");
-    }
-    for n in [0, 5, 32, 81, 433, 864] {
-        assert_eq!(rt; root::<Mixed>(n), None, "size {n}");
-    }
-    for n in [0, 3, 131072] {
-        assert_eq!(rt; root::<Fermat>(n), None, "size {n}");
-    }
-    Ok(())
+fn roots_of_each_size(rt: HostRuntime) {
+    let rows = [
+        (1, Some(1)),
+        (2, Some(4)),
+        (4, Some(2)),
+        (0, None),
+        (3, None),
+        (5, None),
+        (8, None),
+        (1 << 63, None),
+    ];
+    assert_eq!(rt; wrong_root::<F5>(&rows), None);
+    let rows = [
+        (1, Some(1)),
+        (2, Some(65536)),
+        (4, Some(65281)),
+        (8, Some(4096)),
+        (16, Some(64)),
+        (32, Some(65529)),
+        (65536, Some(3)),
+        (0, None),
+        (3, None),
+        (131072, None),
+    ];
+    assert_eq!(rt; wrong_root::<F65537>(&rows), None);
 }
 
 #[test]
-fn constants_of_the_fields(rt: HostRuntime) -> Result<(), Fail> {
-    assert_eq!(rt; F5::GENERATOR.value(), 2);
-    assert_eq!(rt; F433::GENERATOR.value(), 5);
-    assert_eq!(rt; F65537::GENERATOR.value(), 3);
-    assert_eq!(rt; F5::TWO_ADICITY, 2);
-    assert_eq!(rt; F433::TWO_ADICITY, 4);
-    assert_eq!(rt; F65537::TWO_ADICITY, 16);
-    assert_eq!(rt; F5::TWO_ADIC_ROOT_OF_UNITY.value(), 2);
-    assert_eq!(rt; F433::TWO_ADIC_ROOT_OF_UNITY.value(), 238);
-    assert_eq!(rt; F65537::TWO_ADIC_ROOT_OF_UNITY.value(), 3);
-    assert_eq!(rt; F5::SMALL_SUBGROUP_BASE, None);
-    assert_eq!(rt; F433::SMALL_SUBGROUP_BASE, Some(3));
-    assert_eq!(rt; F433::SMALL_SUBGROUP_BASE_ADICITY, Some(3));
-    assert!(rt; F65537::LARGE_SUBGROUP_ROOT_OF_UNITY == None);
-    assert!(rt; F433::LARGE_SUBGROUP_ROOT_OF_UNITY == Some(F433::from(5)));
-    Ok(())
+fn roots_of_each_mixed_size(rt: HostRuntime) {
+    let rows = [
+        (1, Some(1)),
+        (2, Some(432)),
+        (3, Some(198)),
+        (4, Some(179)),
+        (6, Some(199)),
+        (8, Some(354)),
+        (9, Some(150)),
+        (12, Some(64)),
+        (16, Some(238)),
+        (18, Some(137)),
+        (24, Some(425)),
+        (27, Some(17)),
+        (36, Some(70)),
+        (48, Some(295)),
+        (54, Some(59)),
+        (72, Some(37)),
+        (108, Some(192)),
+        (144, Some(125)),
+        (216, Some(25)),
+        (432, Some(5)),
+        (0, None),
+        (5, None),
+        (32, None),
+        (81, None),
+        (433, None),
+        (864, None),
+    ];
+    assert_eq!(rt; wrong_root::<F433>(&rows), None);
+}
+
+// The generator, the greatest exponent of two, and the root of that order.
+fn constants<F: FftField>() -> (F, u32, F) {
+    (F::GENERATOR, F::TWO_ADICITY, F::TWO_ADIC_ROOT_OF_UNITY)
+}
+
+// The odd base, its greatest exponent, and the root of the greatest order.
+fn odd_constants<F: FftField>() -> (Option<u32>, Option<u32>, Option<F>) {
+    (
+        F::SMALL_SUBGROUP_BASE,
+        F::SMALL_SUBGROUP_BASE_ADICITY,
+        F::LARGE_SUBGROUP_ROOT_OF_UNITY,
+    )
 }
 
 #[test]
-fn arithmetic(rt: HostRuntime) -> Result<(), Fail> {
-    let (a, b) = (F433::from(400), F433::from(500));
-    assert_eq!(rt; b.value(), 67);
-    assert_eq!(rt; (a + b).value(), 34);
-    assert_eq!(rt; (b - a).value(), 100);
-    assert_eq!(rt; (a * b).value(), 387);
-    assert_eq!(rt; (-a).value(), 33);
-    assert_eq!(rt; (-F433::zero()).value(), 0);
-    let mut c = a;
-    c += b;
-    c -= a;
-    c *= a;
-    assert_eq!(rt; c.value(), 387);
-    c.square_in_place();
-    assert_eq!(rt; c.value(), 384);
-    assert_eq!(rt; F433::from(2).pow(9).value(), 79);
-    assert_eq!(rt; F433::zero().pow(0).value(), 1);
-    assert_eq!(rt; F65537::from(3).pow(65536).value(), 1);
+fn constants_of_the_fields(rt: HostRuntime) {
+    assert_eq!(rt; constants(), (F5::from(2), 2, F5::from(2)));
+    assert_eq!(rt; constants(), (F433::from(5), 4, F433::from(238)));
+    assert_eq!(rt; constants(), (F65537::from(3), 16, F65537::from(3)));
+    assert_eq!(rt; odd_constants::<F5>(), (None, None, None));
+    assert_eq!(rt; odd_constants(), (Some(3), Some(3), Some(F433::from(5))));
+    assert_eq!(rt; odd_constants::<F65537>(), (None, None, None));
+}
+
+// Each operator's answer for two elements: by value, and then in place.
+fn answers<F: Field>(a: F, b: F) -> [F; 8] {
+    let mut sum = a;
+    sum += b;
+    let mut difference = b;
+    difference -= a;
+    let mut product = a;
+    product *= b;
+    let mut square = product;
+    square.square_in_place();
+    [a + b, sum, b - a, difference, a * b, product, square, -a]
+}
+
+#[test]
+fn arithmetic(rt: HostRuntime) {
+    assert_eq!(rt;
+        answers(F433::from(400), F433::from(500)),
+        [34, 34, 100, 100, 387, 387, 384, 33].map(F433::from)
+    );
+    assert_eq!(rt; F433::from(500).value(), 67);
     assert_eq!(rt; F5::from(u64::MAX).value(), 0);
     assert!(rt; F5::default().is_zero());
     assert!(rt; F5::from(6).is_one());
     assert!(rt; F5::from(10) == F5::zero());
     assert!(rt; F5::one() < F5::from(2));
-    Ok(())
+    assert_eq!(rt; -F433::zero(), F433::zero());
 }
 
 #[test]
-fn inverses(rt: HostRuntime) -> Result<(), Fail> {
-    for (value, inverse) in [(1, 1), (2, 3), (3, 2), (4, 4)] {
-        assert!(rt;
-            F5::from(value).inverse() == Some(F5::from(inverse)),
-            "{value}"
-        );
+fn powers(rt: HostRuntime) {
+    for (base, exponent, power) in [(2, 9, 79), (0, 0, 1), (2, 0, 1), (5, 432, 1), (0, 7, 0)] {
+        assert_eq!(rt; F433::from(base).pow(exponent), F433::from(power));
     }
-    assert!(rt; F433::from(2).inverse() == Some(F433::from(217)));
-    assert!(rt; F65537::from(3).inverse() == Some(F65537::from(21846)));
-    assert!(rt; F65537::zero().inverse() == None);
-    Ok(())
+    assert_eq!(rt; F65537::from(3).pow(65536), F65537::one());
+}
+
+#[test]
+fn inverses(rt: HostRuntime) {
+    for (value, inverse) in [
+        (0, None),
+        (1, Some(1)),
+        (2, Some(3)),
+        (3, Some(2)),
+        (4, Some(4)),
+    ] {
+        assert_eq!(rt; F5::from(value).inverse(), inverse.map(F5::from));
+    }
+    assert_eq!(rt; F433::from(2).inverse(), Some(F433::from(217)));
+    assert_eq!(rt; F65537::from(3).inverse(), Some(F65537::from(21846)));
+    assert_eq!(rt; F65537::zero().inverse(), None);
 }
 
 #[test]
@@ -135,15 +160,14 @@ fn inverses_in_a_batch(rt: HostRuntime) -> Result<(), Fail> {
 
 // Draws differ, and none is past the modulus.
 #[test]
-fn drawn_elements(rt: HostRuntime) -> Result<(), Fail> {
+fn drawn_elements(rt: HostRuntime) {
     let mut rng = Pcg64::new(5, 8);
     let mut seen = [false; 5];
     for _ in 0..200 {
-        if let Some(place) = seen.get_mut(F5::rand(&mut rng).value() as usize) {
-            *place = true;
+        if let Some(value) = seen.get_mut(F5::rand(&mut rng).value() as usize) {
+            *value = true;
         }
         assert!(rt; F65537::rand(&mut rng).value() < 65537);
     }
     assert_eq!(rt; seen, [true; 5]);
-    Ok(())
 }

@@ -1,10 +1,10 @@
 // Transforms of every kind and at every size that a field with a base has.
 
-use crate::calls::{elements, numbers};
-use crate::four::Four;
-use crate::plain;
-use ark_base::{F433, FftField, Field, Mixed, One, PolyError, Zero};
+use crate::calls::{coset, elements, fft};
+use crate::plain::agrees;
+use ark_base::{F433, FftField, Field, One, PolyError, Zero};
 use ark_poly::{EvaluationDomain, GeneralEvaluationDomain, MixedRadixEvaluationDomain};
+use ark_test_types::four::Four;
 use rand_pcg::Pcg64;
 use std::alloc::Global;
 use std::test::Fail;
@@ -14,31 +14,26 @@ const SIZES: [usize; 20] = [
 ];
 
 #[test]
-fn six_places(rt: HostRuntime) -> Result<(), Fail> {
+fn six_elements(rt: HostRuntime) -> Result<(), Fail> {
     let alloc = rt.alloc();
-    let Some(domain) = MixedRadixEvaluationDomain::<F433>::new(5) else {
-        return Err(Fail::from(PolyError::NoDomain));
-    };
+    let domain: MixedRadixEvaluationDomain<F433> = coset(5, 1)?;
     assert_eq!(rt; domain.size(), 6);
-    assert_eq!(rt; domain.group_gen().value(), 199);
-    let values = domain.fft(alloc, &elements::<Mixed>(alloc, &[0, 1])?)?;
+    assert_eq!(rt; domain.group_gen(), F433::from(199));
     assert_eq!(rt;
-        numbers(alloc, &values)?.as_slice(),
-        [1, 199, 198, 432, 234, 235].as_slice()
+        fft(alloc, &domain, &[0, 1])?,
+        elements(alloc, &[1, 199, 198, 432, 234, 235])?
     );
     Ok(())
 }
 
 // Whether the transforms over a subgroup and one coset of it are the plain sums.
-fn both_agree<D: EvaluationDomain<F433>>(
+fn both_agree<F: FftField, D: EvaluationDomain<F>>(
     alloc: Global,
     rng: &mut Pcg64,
     subgroup: D,
 ) -> Result<bool, PolyError> {
-    let coset = subgroup
-        .get_coset(F433::from(7))
-        .ok_or(PolyError::NoDomain)?;
-    Ok(plain::agrees(alloc, rng, &subgroup)? && plain::agrees(alloc, rng, &coset)?)
+    let coset = subgroup.get_coset(F::GENERATOR).ok_or(PolyError::NoDomain)?;
+    Ok(agrees(alloc, rng, &subgroup)? && agrees(alloc, rng, &coset)?)
 }
 
 #[test]
@@ -46,17 +41,21 @@ fn plain_sums_at_every_size(rt: HostRuntime) -> Result<(), Fail> {
     let alloc = rt.alloc();
     let mut rng = Pcg64::new(2, 3);
     for size in SIZES {
-        let (Some(mixed), Some(general)) = (
-            MixedRadixEvaluationDomain::<F433>::new(size),
-            GeneralEvaluationDomain::<F433>::new(size),
-        ) else {
-            return Err(Fail::from(PolyError::NoDomain));
-        };
+        let mixed: MixedRadixEvaluationDomain<F433> = coset(size, 1)?;
         assert_eq!(rt; mixed.size(), size);
         assert!(rt; both_agree(alloc, &mut rng, mixed)?, "size {size}");
-        assert!(rt; both_agree(alloc, &mut rng, general)?, "size {size}");
         let mixed = GeneralEvaluationDomain::MixedRadix(mixed);
         assert!(rt; both_agree(alloc, &mut rng, mixed)?, "size {size}");
+    }
+    Ok(())
+}
+
+#[test]
+fn plain_sums_over_general_domains(rt: HostRuntime) -> Result<(), Fail> {
+    let mut rng = Pcg64::new(5, 3);
+    for size in SIZES {
+        let domain: GeneralEvaluationDomain<F433> = coset(size, 1)?;
+        assert!(rt; both_agree(rt.alloc(), &mut rng, domain)?, "size {size}");
     }
     Ok(())
 }
@@ -70,52 +69,52 @@ fn four(number: u8) -> Four {
 }
 
 #[test]
-fn four_elements(rt: HostRuntime) -> Result<(), Fail> {
-    let alloc = rt.alloc();
-    let Some(GeneralEvaluationDomain::Radix2(one)) = GeneralEvaluationDomain::<Four>::new(1) else {
-        return Err(Fail::from(PolyError::NoDomain));
-    };
-    assert_eq!(rt; one.size(), 1);
-    let Some(three) = GeneralEvaluationDomain::<Four>::new(2) else {
-        return Err(Fail::from(PolyError::NoDomain));
-    };
-    assert!(rt; matches!(three, GeneralEvaluationDomain::MixedRadix(_)));
-    assert_eq!(rt; three.size(), 3);
+fn domains_of_four_elements(rt: HostRuntime) -> Result<(), Fail> {
+    let one = GeneralEvaluationDomain::<Four>::new(1);
+    assert!(rt; matches!(one, Some(GeneralEvaluationDomain::Radix2(even)) if even.size() == 1));
+    let three = GeneralEvaluationDomain::<Four>::new(2);
+    assert!(rt; matches!(three, Some(GeneralEvaluationDomain::MixedRadix(_))));
     assert!(rt; GeneralEvaluationDomain::<Four>::new(4) == None);
-    let items = [four(1), four(1)];
-    let values = [four(0), four(3), four(2)];
-    assert_eq!(rt; three.fft(alloc, &items)?.as_slice(), values.as_slice());
-    assert_eq!(rt;
-        three.ifft(alloc, &values)?.as_slice(),
-        [four(1), four(1), four(0)].as_slice()
-    );
-    let mut rng = Pcg64::new(5, 8);
-    let Some(coset) = three.get_coset(four(3)) else {
-        return Err(Fail::from(PolyError::NoDomain));
-    };
-    assert!(rt; plain::agrees(alloc, &mut rng, &three)?);
-    assert!(rt; plain::agrees(alloc, &mut rng, &coset)?);
     Ok(())
 }
 
 #[test]
-fn field_of_four_elements(rt: HostRuntime) -> Result<(), Fail> {
-    for i in 0..4 {
-        let x = four(i);
+fn transforms_of_three_elements(rt: HostRuntime) -> Result<(), Fail> {
+    let alloc = rt.alloc();
+    let three: GeneralEvaluationDomain<Four> = coset(2, 1)?;
+    assert_eq!(rt; three.size(), 3);
+    let values = [four(0), four(3), four(2)];
+    let fitted = [four(1), four(1), four(0)];
+    assert_eq!(rt;
+        three.fft(alloc, &[four(1), four(1)])?.as_slice(),
+        values.as_slice()
+    );
+    assert_eq!(rt; three.ifft(alloc, &values)?.as_slice(), fitted.as_slice());
+    assert!(rt; both_agree(alloc, &mut Pcg64::new(5, 8), three)?);
+    Ok(())
+}
+
+#[test]
+fn field_of_four_elements(rt: HostRuntime) {
+    for x in [0, 1, 2, 3].map(four) {
         assert_eq!(rt; x + x, Four::zero());
         assert_eq!(rt; -x, x);
         assert_eq!(rt; x - Four::one(), x + Four::one());
         assert_eq!(rt; x.pow(4), x);
-        match x.inverse() {
-            Some(inverse) => assert_eq!(rt; x * inverse, Four::one()),
-            None => assert_eq!(rt; x, Four::zero()),
-        }
     }
-    assert_eq!(rt; four(2) * four(2), four(3));
-    assert_eq!(rt; four(2) * four(3), four(1));
+}
+
+#[test]
+fn products_of_four_elements(rt: HostRuntime) {
+    for (x, y, product) in [(2, 2, 3), (2, 3, 1), (3, 3, 2), (0, 3, 0), (1, 2, 2)] {
+        assert_eq!(rt; four(x) * four(y), four(product));
+    }
+    for (x, inverse) in [(0, None), (1, Some(1)), (2, Some(3)), (3, Some(2))] {
+        assert_eq!(rt; four(x).inverse(), inverse.map(four));
+    }
+    for (n, root) in [(1, Some(1)), (2, None), (3, Some(2))] {
+        assert_eq!(rt; Four::get_root_of_unity(n), root.map(four));
+    }
     assert_eq!(rt; Four::from(7), Four::one());
     assert_eq!(rt; Four::default(), Four::zero());
-    assert_eq!(rt; Four::get_root_of_unity(3), Some(four(2)));
-    assert_eq!(rt; Four::get_root_of_unity(2), None);
-    Ok(())
 }

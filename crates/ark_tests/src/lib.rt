@@ -1,8 +1,9 @@
-//! What the tests of several crates share, and the tests: rows of known answers, the kernels beside plain bodies, and
-//! modules whose meaning is a part of the value.
+//! The tests of all crates, and callers whose contracts say a count in numbers: rows of known answers, the kernels
+//! beside plain bodies, and modules whose meaning is a part of the value.
 #![tactic(auto)]
 
-pub mod calls;
+#[cfg(test)]
+mod calls;
 #[cfg(test)]
 mod counted;
 pub mod counts;
@@ -11,12 +12,14 @@ mod domains;
 #[cfg(test)]
 mod errors;
 #[cfg(test)]
+mod evaluations;
+#[cfg(test)]
 mod fields;
-pub mod four;
 #[cfg(test)]
 mod kinds;
-pub mod nothing;
-pub mod plain;
+pub mod outside;
+#[cfg(test)]
+mod plain;
 #[cfg(test)]
 mod points;
 #[cfg(test)]
@@ -29,7 +32,6 @@ mod recorded;
 mod sinks;
 #[cfg(test)]
 mod sparse;
-pub mod traced;
 #[cfg(test)]
 mod traces;
 #[cfg(test)]

@@ -15,69 +15,185 @@ pub fn ran(alloc: Global, words: &[&str]) -> Result<(String, u8), Fail> {
     Ok((String::from_utf8(out.into_inner())?, status))
 }
 
-// Words, what the program writes for them, and its status.
-const ROWS: [(&[&str], &str, u8); 37] = [
-    (&["5", "fft", "4", "1", "1,2,3,4"], "0,4,3,2\n", 0),
-    (&["5", "fft", "2", "2", "1,1"], "3,4\n", 0),
-    (&["5", "fft", "3", "1", "1"], "1,1,1,1\n", 0),
-    (&["5", "fft", "2", "1", "1,1,1"], "2,0\n", 0),
-    (&["5", "fft", "4", "1", ""], "0,0,0,0\n", 0),
-    (&["5", "fft", "5", "1", "1"], "error 2: NoDomain\n", 1),
-    (&["5", "fft", "4", "0", "1"], "error 2: NoDomain\n", 1),
-    (&["5", "fft", "4", "5", "1"], "error 2: NoDomain\n", 1),
-    (&["7", "fft", "4", "1", "1"], "usage\n", 2),
-    (&["5", "fft", "4", "1", "1,x"], "usage\n", 2),
-    (&["5", "fft", "4", "1"], "usage\n", 2),
-    (&["5", "fft", "4", "1", "1", "1"], "usage\n", 2),
-    (&["5", "fft", "4", "1", "1,,1"], "usage\n", 2),
-    (&["5", "fft", "", "1", "1"], "usage\n", 2),
-    (&["5", "FFT", "4", "1", "1"], "usage\n", 2),
-    (
-        &["5", "fft", "18446744073709551616", "1", "1"],
-        "usage\n",
-        2,
-    ),
-    (
-        &["5", "fft", "18446744073709551615", "1", "1"],
-        "error 2: NoDomain\n",
-        1,
-    ),
-    (&["5"], "usage\n", 2),
-    (&[], "usage\n", 2),
-    (&["5", "ifft", "4", "1", "1,2,3,4"], "0,3,2,1\n", 0),
-    (&["5", "ifft", "2", "2", "3,4"], "1,1\n", 0),
-    (&["433", "fft", "4", "1", "1,2,3,4"], "10,73,431,356\n", 0),
-    (&["433", "ifft", "4", "1", "10,73,431,356"], "1,2,3,4\n", 0),
-    (
-        &["433", "fft", "17", "1", "0,1"],
-        "1,137,150,199,417,406,198,280,256,432,296,283,234,16,27,235,153,177\n",
-        0,
-    ),
-    (
-        &["65537", "fft", "8", "1", "1,2"],
-        "3,8193,65026,33,65536,57346,513,65506\n",
-        0,
-    ),
-    (&["433", "size", "5"], "8\n", 0),
-    (&["433", "size", "17"], "18\n", 0),
-    (&["433", "size", "432"], "432\n", 0),
-    (&["433", "size", "433"], "error 2: NoDomain\n", 1),
-    (&["5", "size", "5"], "error 2: NoDomain\n", 1),
-    (&["5", "size", "18446744073709551616"], "usage\n", 2),
-    (&["5", "size"], "usage\n", 2),
-    (&["5", "size", "1", "1"], "usage\n", 2),
-    (&["5", "eval", "1,2", "3"], "2\n", 0),
-    (&["5", "eval", "1,2", "8"], "2\n", 0),
-    (&["5", "eval", "", "4"], "0\n", 0),
-    (&["65537", "eval", "1,2", "65538"], "3\n", 0),
+/// Whether the program writes this line for these words, and ends with this status.
+fn writes(alloc: Global, words: &[&str], line: &str, status: u8) -> Result<bool, Fail> {
+    let (text, ended) = ran(alloc, words)?;
+    Ok(text.strip_suffix('\n') == Some(line) && ended == status)
+}
+
+const TRANSFORMS_MOD_5: [(&[&str], &str); 9] = [
+    (&["5", "fft", "4", "1", "1,2,3,4"], "0,4,3,2"),
+    (&["5", "fft", "2", "2", "1,1"], "3,4"),
+    (&["5", "fft", "3", "1", "1"], "1,1,1,1"),
+    (&["5", "fft", "2", "1", "1,1,1"], "2,0"),
+    (&["5", "fft", "4", "1", ""], "0,0,0,0"),
+    (&["5", "fft", "1", "1", "3,1"], "3"),
+    (&["5", "ifft", "4", "1", "1,2,3,4"], "0,3,2,1"),
+    (&["5", "ifft", "2", "2", "3,4"], "1,1"),
+    (&["5", "ifft", "1", "1", "3"], "3"),
 ];
 
 #[test]
-fn rows(rt: HostRuntime) -> Result<(), Fail> {
-    for (words, text, status) in ROWS {
-        let (written, ended) = ran(rt.alloc(), words)?;
-        assert_eq!(rt; written.as_str(), text, "{words:?}");
-        assert_eq!(rt; ended, status, "{words:?}");
+fn transforms_mod_5(rt: HostRuntime) -> Result<(), Fail> {
+    for (words, line) in TRANSFORMS_MOD_5 {
+        assert!(rt; writes(rt.alloc(), words, line, 0)?, "{words:?}");
+    }
+    Ok(())
+}
+
+const TRANSFORMS: [(&[&str], &str); 5] = [
+    (&["433", "fft", "4", "1", "1,2,3,4"], "10,73,431,356"),
+    (&["433", "ifft", "4", "1", "10,73,431,356"], "1,2,3,4"),
+    (
+        &["433", "fft", "17", "1", "0,1"],
+        "1,137,150,199,417,406,198,280,256,432,296,283,234,16,27,235,153,177",
+    ),
+    (
+        &["65537", "fft", "8", "1", "1,2"],
+        "3,8193,65026,33,65536,57346,513,65506",
+    ),
+    (&["65537", "fft", "8", "1", ""], "0,0,0,0,0,0,0,0"),
+];
+
+#[test]
+fn transforms(rt: HostRuntime) -> Result<(), Fail> {
+    for (words, line) in TRANSFORMS {
+        assert!(rt; writes(rt.alloc(), words, line, 0)?, "{words:?}");
+    }
+    Ok(())
+}
+
+const VALUES: [(&[&str], &str); 5] = [
+    (&["5", "eval", "1,2", "3"], "2"),
+    (&["5", "eval", "1,2", "8"], "2"),
+    (&["5", "eval", "", "4"], "0"),
+    (&["5", "eval", "1,0,0,0,1", "2"], "2"),
+    (&["65537", "eval", "1,2", "65538"], "3"),
+];
+
+#[test]
+fn values(rt: HostRuntime) -> Result<(), Fail> {
+    for (words, line) in VALUES {
+        assert!(rt; writes(rt.alloc(), words, line, 0)?, "{words:?}");
+    }
+    Ok(())
+}
+
+const SIZES: [(&[&str], &str); 8] = [
+    (&["65537", "size", "0"], "1"),
+    (&["433", "size", "5"], "8"),
+    (&["433", "size", "17"], "18"),
+    (&["433", "size", "25"], "27"),
+    (&["433", "size", "217"], "432"),
+    (&["433", "size", "432"], "432"),
+    (&["65537", "size", "007"], "8"),
+    (
+        &[
+            "65537",
+            "size",
+            "000000000000000000000000000000000000000042",
+        ],
+        "64",
+    ),
+];
+
+#[test]
+fn sizes(rt: HostRuntime) -> Result<(), Fail> {
+    for (words, line) in SIZES {
+        assert!(rt; writes(rt.alloc(), words, line, 0)?, "{words:?}");
+    }
+    Ok(())
+}
+
+const WITHOUT_DOMAIN: [(&[&str], &str); 8] = [
+    (&["5", "fft", "5", "1", "1"], "error 2: NoDomain"),
+    (&["5", "fft", "4", "0", "1"], "error 2: NoDomain"),
+    (&["5", "fft", "4", "5", "1"], "error 2: NoDomain"),
+    (&["5", "ifft", "4", "0", "1"], "error 2: NoDomain"),
+    (
+        &["5", "fft", "18446744073709551615", "1", "1"],
+        "error 2: NoDomain",
+    ),
+    (&["433", "size", "433"], "error 2: NoDomain"),
+    (&["5", "size", "5"], "error 2: NoDomain"),
+    (
+        &["65537", "size", "18446744073709551615"],
+        "error 2: NoDomain",
+    ),
+];
+
+#[test]
+fn without_a_domain(rt: HostRuntime) -> Result<(), Fail> {
+    for (words, line) in WITHOUT_DOMAIN {
+        assert!(rt; writes(rt.alloc(), words, line, 1)?, "{words:?}");
+    }
+    Ok(())
+}
+
+const NO_COMMANDS: [(&[&str], &str); 10] = [
+    (&[], "usage"),
+    (&["5"], "usage"),
+    (&["7", "fft", "4", "1", "1"], "usage"),
+    (&["7", "size", "1"], "usage"),
+    (&["5", "FFT", "4", "1", "1"], "usage"),
+    (&["5", "fft", "4", "1"], "usage"),
+    (&["5", "fft", "4", "1", "1", "1"], "usage"),
+    (&["5", "eval", "1"], "usage"),
+    (&["5", "size"], "usage"),
+    (&["5", "size", "1", "1"], "usage"),
+];
+
+#[test]
+fn words_that_are_no_command(rt: HostRuntime) -> Result<(), Fail> {
+    for (words, line) in NO_COMMANDS {
+        assert!(rt; writes(rt.alloc(), words, line, 2)?, "{words:?}");
+    }
+    Ok(())
+}
+
+const NO_NUMBERS: [&str; 10] = [
+    "",
+    "+1",
+    "-1",
+    " 1",
+    "1 ",
+    "1x",
+    "1,2",
+    "0x1",
+    "١",
+    "18446744073709551616",
+];
+
+#[test]
+fn words_that_are_no_number(rt: HostRuntime) -> Result<(), Fail> {
+    for word in NO_NUMBERS {
+        assert!(rt;
+            writes(rt.alloc(), &["5", "size", word], "usage", 2)?,
+            "{word:?}"
+        );
+    }
+    Ok(())
+}
+
+const NO_LISTS: [&str; 9] = [
+    ",",
+    "1,",
+    ",1",
+    "1,,2",
+    "1, 2",
+    "1,+2",
+    "1;2",
+    "1,x",
+    "18446744073709551616",
+];
+
+#[test]
+fn words_that_are_no_list(rt: HostRuntime) -> Result<(), Fail> {
+    for word in NO_LISTS {
+        assert!(rt;
+            writes(rt.alloc(), &["5", "eval", word, "1"], "usage", 2)?,
+            "{word:?}"
+        );
     }
     Ok(())
 }

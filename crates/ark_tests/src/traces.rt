@@ -1,9 +1,9 @@
 // How many distinct products are behind the answers of the kernels, seen from outside.
 
-use crate::plain;
-use crate::traced::{Numbered, Products, Traced};
 use ark_base::{F433, F65537, FftField, PolyError, Work};
+use ark_fft::domain::radix2::plain::fft_plain;
 use ark_poly::{EvaluationDomain, MixedRadixEvaluationDomain, Radix2EvaluationDomain};
+use ark_test_types::traced::{Numbered, Products, Traced};
 use std::alloc::{AllocError, Global};
 use std::test::Fail;
 
@@ -25,49 +25,62 @@ fn behind<F: Numbered>(answers: &[Traced<F>]) -> Option<usize> {
     all.count()
 }
 
-// The products behind a transform of this many items, and behind its inverse, over the subgroup and a coset.
-fn traced<F: FftField + Numbered, D: EvaluationDomain<F>>(
+// Whether there are products behind the answers, and at most so many.
+fn has_at_most<F: Numbered>(most: usize, answers: &[Traced<F>]) -> bool {
+    match behind(answers) {
+        Some(count) => 0 < count && count <= most,
+        None => false,
+    }
+}
+
+// Whether that is so of a transform of this many items, over the subgroup and over a coset.
+fn forward_takes<F: FftField + Numbered, D: EvaluationDomain<F>>(
     alloc: Global,
     size: usize,
     count: u64,
-) -> Result<[Option<usize>; 4], PolyError> {
+    most: usize,
+) -> Result<bool, PolyError> {
     let subgroup = D::new(size).ok_or(PolyError::NoDomain)?;
     let coset = subgroup.get_coset(F::GENERATOR).ok_or(PolyError::NoDomain)?;
     let items = items::<F>(alloc, count)?;
-    Ok([
-        behind(&subgroup.fft(alloc, &items)?),
-        behind(&subgroup.ifft(alloc, &items)?),
-        behind(&coset.fft(alloc, &items)?),
-        behind(&coset.ifft(alloc, &items)?),
-    ])
+    Ok(
+        has_at_most(most, &subgroup.fft(alloc, &items)?)
+            && has_at_most(most, &coset.fft(alloc, &items)?),
+    )
+}
+
+// Whether it is of the inverse.
+fn inverse_takes<F: FftField + Numbered, D: EvaluationDomain<F>>(
+    alloc: Global,
+    size: usize,
+    count: u64,
+    most: usize,
+) -> Result<bool, PolyError> {
+    let subgroup = D::new(size).ok_or(PolyError::NoDomain)?;
+    let coset = subgroup.get_coset(F::GENERATOR).ok_or(PolyError::NoDomain)?;
+    let items = items::<F>(alloc, count)?;
+    Ok(
+        has_at_most(most, &subgroup.ifft(alloc, &items)?)
+            && has_at_most(most, &coset.ifft(alloc, &items)?),
+    )
 }
 
 #[test]
 fn products_behind_the_answers(rt: HostRuntime) -> Result<(), Fail> {
+    type Domain = Radix2EvaluationDomain<F65537>;
     let alloc = rt.alloc();
-    let whole = traced::<F65537, Radix2EvaluationDomain<F65537>>(alloc, 64, 64)?;
-    for count in whole {
-        assert!(rt;
-            count.is_some_and(|count| 0 < count && count <= 256),
-            "{whole:?}"
-        );
-    }
-    let [short, _, short_over_coset, _] = traced::<F65537, Radix2EvaluationDomain<F65537>>(
-        alloc, 64, 16,
-    )?;
-    for count in [short, short_over_coset] {
-        assert!(rt;
-            count.is_some_and(|count| 0 < count && count <= 192),
-            "{count:?}"
-        );
-    }
-    let mixed = traced::<F433, MixedRadixEvaluationDomain<F433>>(alloc, 27, 27)?;
-    for count in mixed {
-        assert!(rt;
-            count.is_some_and(|count| 0 < count && count <= 243),
-            "{mixed:?}"
-        );
-    }
+    assert!(rt; forward_takes::<F65537, Domain>(alloc, 64, 64, 256)?);
+    assert!(rt; inverse_takes::<F65537, Domain>(alloc, 64, 64, 256)?);
+    assert!(rt; forward_takes::<F65537, Domain>(alloc, 64, 16, 192)?);
+    Ok(())
+}
+
+#[test]
+fn products_behind_the_answers_of_steps(rt: HostRuntime) -> Result<(), Fail> {
+    type Domain = MixedRadixEvaluationDomain<F433>;
+    let alloc = rt.alloc();
+    assert!(rt; forward_takes::<F433, Domain>(alloc, 27, 27, 243)?);
+    assert!(rt; inverse_takes::<F433, Domain>(alloc, 27, 27, 243)?);
     Ok(())
 }
 
@@ -75,54 +88,55 @@ fn products_behind_the_answers(rt: HostRuntime) -> Result<(), Fail> {
 #[test]
 fn plain_sums_are_seen(rt: HostRuntime) -> Result<(), Fail> {
     let alloc = rt.alloc();
-    let Some(domain) = Radix2EvaluationDomain::<F65537>::new(64) else {
-        return Err(Fail::from(PolyError::NoDomain));
-    };
-    let items = items::<F65537>(alloc, 64)?;
-    let sums = plain::sums(alloc, &domain, &items)?;
-    assert!(rt; sums == domain.fft(alloc, &items)?);
-    assert_eq!(rt; behind(&sums), None);
+    let domain = Radix2EvaluationDomain::<F65537>::new(64).ok_or(PolyError::NoDomain)?;
+    let mut list = items::<F65537>(alloc, 64)?;
+    let values = domain.fft(alloc, &list)?;
+    fft_plain(domain.coset(), alloc, &mut list, &mut Work::new())?;
+    assert!(rt; values == list);
+    assert_eq!(rt; behind(&list), None);
     Ok(())
+}
+
+fn traced(numbers: [u64; 4]) -> [Traced<F433>; 4] {
+    numbers.map(|number| Traced::new(F433::from(number)))
 }
 
 // The calls that are generic over modules go by meanings: what is behind the values plays no part.
 #[test]
-fn calls_over_values_with_a_trace(rt: HostRuntime) -> Result<(), Fail> {
-    type Domain = Radix2EvaluationDomain<F433>;
+fn transforms_of_values_with_a_trace(rt: HostRuntime) -> Result<(), Fail> {
     let alloc = rt.alloc();
-    let domain = Domain::new(4).ok_or(PolyError::NoDomain)?;
-    let items = items::<F433>(alloc, 4)?;
-    let values = domain.fft(alloc, &items)?;
-    assert_eq!(rt;
-        values.as_slice(),
-        [10, 73, 431, 356]
-            .map(|value| Traced::new(F433::from(value)))
-            .as_slice()
-    );
-    let mut again = items.clone()?;
-    domain.fft_in_place(alloc, &mut again)?;
-    assert!(rt; again == values);
-    domain.ifft_in_place(alloc, &mut again)?;
-    assert!(rt; again == items);
-    domain.fft_counted(alloc, &mut again, &mut Work::new())?;
-    assert!(rt; again == values);
-    domain.ifft_counted(alloc, &mut again, &mut Work::new())?;
-    assert!(rt; again == items);
-    assert!(rt; domain.ifft(alloc, &values)? == items);
-    let mut powers = items.clone()?;
-    Domain::distribute_powers(powers.as_mut_slice(), F433::from(2));
-    assert!(rt;
-        powers.as_slice()
-            == [1, 4, 12, 32]
-                .map(|value| Traced::new(F433::from(value)))
-                .as_slice()
-    );
-    Domain::distribute_powers_and_mul_by_const(again.as_mut_slice(), F433::from(2), F433::from(3));
-    assert!(rt;
-        again.as_slice()
-            == [3, 12, 36, 96]
-                .map(|value| Traced::new(F433::from(value)))
-                .as_slice()
-    );
+    let domain = Radix2EvaluationDomain::<F433>::new(4).ok_or(PolyError::NoDomain)?;
+    let (items, values) = (traced([1, 2, 3, 4]), traced([10, 73, 431, 356]));
+    let mut list = domain.fft(alloc, &items)?;
+    assert_eq!(rt; list.as_slice(), values.as_slice());
+    domain.ifft_in_place(alloc, &mut list)?;
+    assert_eq!(rt; list.as_slice(), items.as_slice());
+    domain.fft_in_place(alloc, &mut list)?;
+    assert_eq!(rt; list.as_slice(), values.as_slice());
     Ok(())
+}
+
+#[test]
+fn counted_transforms_of_values_with_a_trace(rt: HostRuntime) -> Result<(), Fail> {
+    let alloc = rt.alloc();
+    let domain = Radix2EvaluationDomain::<F433>::new(4).ok_or(PolyError::NoDomain)?;
+    let (items, values) = (traced([1, 2, 3, 4]), traced([10, 73, 431, 356]));
+    let mut list = domain.ifft(alloc, &values)?;
+    assert_eq!(rt; list.as_slice(), items.as_slice());
+    domain.fft_counted(alloc, &mut list, &mut Work::new())?;
+    assert_eq!(rt; list.as_slice(), values.as_slice());
+    domain.ifft_counted(alloc, &mut list, &mut Work::new())?;
+    assert_eq!(rt; list.as_slice(), items.as_slice());
+    Ok(())
+}
+
+#[test]
+fn powers_of_values_with_a_trace(rt: HostRuntime) {
+    type Domain = Radix2EvaluationDomain<F433>;
+    let mut list = traced([1, 2, 3, 4]);
+    Domain::distribute_powers(&mut list, F433::from(2));
+    assert_eq!(rt; list, traced([1, 4, 12, 32]));
+    let mut list = traced([1, 2, 3, 4]);
+    Domain::distribute_powers_and_mul_by_const(&mut list, F433::from(2), F433::from(3));
+    assert_eq!(rt; list, traced([3, 12, 36, 96]));
 }

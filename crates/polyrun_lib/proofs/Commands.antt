@@ -1,91 +1,82 @@
--- How words are read, and what an outcome of theirs may write.
-use Rattle.std.proofs.Common.{◌≡◌, ℕ, ◌-◌, ◌<◌, List, [], ◌∷◌, length, get_or, map, take, drop, inl, inr, refl, sym, ap, ap₂, subst, ◌∙◌, arith}
-use Rattle.std.specs.Prelude.{Option, Some, None, Result, IfNone, codes}
-use Rattle.std.specs.declared.string.String.{String}
-use Rattle.std.specs.declared.alloc.Global.{Global}
+-- Words that are a command, words that are none, and what may be written for them.
+use Rattle.std.proofs.Common.{◌≡◌, ℕ, ◌-◌, ◌<◌, ◌≤◌, List, [], ◌∷◌, length, get_or, map, take, drop, inl, inr, refl, sym, ap, ap₂, subst, ◌∙◌, arith, eqb, false}
+use Rattle.std.specs.Prelude.{Option, Some, None, IfNone, codes}
+use Rattle.std.proofs.lemmas.Bool.{eqb-false}
 use Rattle.std.proofs.lemmas.List.{take_all}
+use Rattle.polyrun_lib.specs.declared.command.Direction.{Direction}
+use Rattle.polyrun_lib.specs.declared.command.Direction.TheVariants.{Forward, Inverse}
 use Rattle.ark_base.specs.declared.error.PolyError.{PolyError}
 use Rattle.polyrun_lib.specs.Lines.{refusal_line_of, usage_text}
-use Rattle.polyrun_lib.specs.Answer.{Known, Names, Command, forward, back, at, size_for, command_name, AreTransformed, AreEvaluated, AreSized, Reads, IsCommand, MayWrite}
-use Rattle.polyrun_lib.specs.Outcome.{MayRefuse, IsOutcome}
+use Rattle.polyrun_lib.specs.Answer.{Known, IsCommand, MayWrite}
+use Rattle.polyrun_lib.specs.Outcome.{MayRefuse}
+use Rattle.polyrun_lib.specs.Commands.{Command, transform_of, value_of, size_for, transform_name, command_name, IsNoTransform, AreEvaluated, Takes, Reads, IsNoCommand}
 
 pub IfNone-weaker : {T : Type 0} (o : Option T) {P Q : Type 0} → IfNone o P → (P → Q) → IfNone o Q
 IfNone-weaker None p f = f p
 IfNone-weaker (Some x) p f = tt
 
+-- ---- the items of a list
+
 pub map-first : {A B : Type 0} (f : A → B) (xs : List A) (x : A) → 0 < length xs → x ≡ get_or xs 0 x → map f xs ≡ f x ∷ map f (take (length xs - 1) (drop 1 xs))
 map-first f [] x some e = absurd (omega arith)
 map-first f (y ∷ ys) x some e = ap₂ (λ t rest. f t ∷ map f rest) (sym e) (sym (take_all (length (y ∷ ys) - 1) ys (omega arith)))
 
--- ---- commands over one field
+pub map-one : {A B : Type 0} (f : A → B) (xs : List A) (x : A) → 1 ≤ length xs → length xs < 2 → x ≡ get_or xs 0 x → map f xs ≡ f x ∷ []
+map-one f [] x least most e = absurd (omega arith)
+map-one f (y ∷ []) x least most e = ap (λ t. f t ∷ []) (sym e)
+map-one f (y ∷ z ∷ xs) x least most e = absurd (omega arith)
 
--- the words after the name of a command
-pub rest_of : (words : List (List ℕ)) (name : List ℕ) (rest : List (List ℕ)) (c : Command) → words ≡ name ∷ rest → (r : Reads words c) → (name ≡ command_name c) × (r.0 ≡ rest)
-rest_of words name rest c e r =
+pub map-two : {A B : Type 0} (f : A → B) (xs : List A) (x y : A) → 2 ≤ length xs → length xs < 3 → x ≡ get_or xs 0 x → y ≡ get_or xs 1 y → map f xs ≡ f x ∷ f y ∷ []
+map-two f [] x y least most d e = absurd (omega arith)
+map-two f (z ∷ xs) x y least most d e = ap₂ (λ t rest. f t ∷ rest) (sym d) (map-one f xs y (omega arith) (omega arith) e)
+
+pub map-three : {A B : Type 0} (f : A → B) (xs : List A) (x y z : A) → 3 ≤ length xs → length xs < 4 → x ≡ get_or xs 0 x → y ≡ get_or xs 1 y → z ≡ get_or xs 2 z
+    → map f xs ≡ f x ∷ f y ∷ f z ∷ []
+map-three f [] x y z least most d e g = absurd (omega arith)
+map-three f (v ∷ xs) x y z least most d e g = ap₂ (λ t rest. f t ∷ rest) (sym d) (map-two f xs y z (omega arith) (omega arith) e g)
+
+-- ---- what is read
+
+-- the words after a command's name
+named : (words : List (List ℕ)) (name : List ℕ) (rest : List (List ℕ)) (c : Command) → words ≡ name ∷ rest → Reads words c → (name ≡ command_name c) × Takes rest c
+named words name rest c e r =
     let both : command_name c ∷ r.0 ≡ name ∷ rest = sym r.1 ∙ e in
-    (sym (ap (λ l. get_or l 0 []) both), ap (λ l. drop 1 l) both)
+    (sym (ap (λ l. get_or l 0 []) both), subst (λ w. Takes w c) (ap (λ l. drop 1 l) both) r.2)
 
-pub not_forward : (words : List (List ℕ)) (name : List ℕ) (rest : List (List ℕ)) → words ≡ name ∷ rest → name ≡ codes "fft" → ((k h : ℕ) (xs : List ℕ) → AreTransformed rest k h xs → ⊥) → (c : Command) → Reads words c → ⊥
-not_forward words name rest e is none (forward k h xs) r =
-    none k h xs (subst (λ w. AreTransformed w k h xs) (rest_of words name rest (forward k h xs) e r).1 r.2)
-not_forward words name rest e is none (back k h xs) r = let t = ap (λ l. get_or l 0 0) (sym (rest_of words name rest (back k h xs) e r).0 ∙ is) in absurd (omega arith)
-not_forward words name rest e is none (at xs x) r = let t = ap (λ l. get_or l 0 0) (sym (rest_of words name rest (at xs x) e r).0 ∙ is) in absurd (omega arith)
-not_forward words name rest e is none (size_for k) r = let t = ap (λ l. get_or l 0 0) (sym (rest_of words name rest (size_for k) e r).0 ∙ is) in absurd (omega arith)
+pub reads : (words : List (List ℕ)) (name : List ℕ) (rest : List (List ℕ)) (c : Command) → words ≡ name ∷ rest → name ≡ command_name c → Takes rest c → Reads words c
+reads words name rest c e is takes = (rest, e ∙ ap (λ n. n ∷ rest) is, takes)
 
-pub not_back : (words : List (List ℕ)) (name : List ℕ) (rest : List (List ℕ)) → words ≡ name ∷ rest → name ≡ codes "ifft" → ((k h : ℕ) (xs : List ℕ) → AreTransformed rest k h xs → ⊥) → (c : Command) → Reads words c → ⊥
-not_back words name rest e is none (forward k h xs) r = let t = ap (λ l. get_or l 0 0) (sym (rest_of words name rest (forward k h xs) e r).0 ∙ is) in absurd (omega arith)
-not_back words name rest e is none (back k h xs) r =
-    none k h xs (subst (λ w. AreTransformed w k h xs) (rest_of words name rest (back k h xs) e r).1 r.2)
-not_back words name rest e is none (at xs x) r = let t = ap (λ l. get_or l 0 0) (sym (rest_of words name rest (at xs x) e r).0 ∙ is) in absurd (omega arith)
-not_back words name rest e is none (size_for k) r = let t = ap (λ l. get_or l 0 0) (sym (rest_of words name rest (size_for k) e r).0 ∙ is) in absurd (omega arith)
+-- names whose first bytes differ
+differ : {name : List ℕ} (a b : List ℕ) → eqb (get_or a 0 0) (get_or b 0 0) ≡ false → name ≡ a → name ≡ b → ⊥
+differ a b test e f = eqb-false _ _ test (ap (λ l. get_or l 0 0) (sym e ∙ f))
 
-pub not_at : (words : List (List ℕ)) (name : List ℕ) (rest : List (List ℕ)) → words ≡ name ∷ rest → name ≡ codes "eval" → ((xs : List ℕ) (x : ℕ) → AreEvaluated rest xs x → ⊥) → (c : Command) → Reads words c → ⊥
-not_at words name rest e is none (forward k h xs) r = let t = ap (λ l. get_or l 0 0) (sym (rest_of words name rest (forward k h xs) e r).0 ∙ is) in absurd (omega arith)
-not_at words name rest e is none (back k h xs) r = let t = ap (λ l. get_or l 0 0) (sym (rest_of words name rest (back k h xs) e r).0 ∙ is) in absurd (omega arith)
-not_at words name rest e is none (at xs x) r =
-    none xs x (subst (λ w. AreEvaluated w xs x) (rest_of words name rest (at xs x) e r).1 r.2)
-not_at words name rest e is none (size_for k) r = let t = ap (λ l. get_or l 0 0) (sym (rest_of words name rest (size_for k) e r).0 ∙ is) in absurd (omega arith)
+pub not_transform : (words : List (List ℕ)) (name : List ℕ) (rest : List (List ℕ)) (direction : Direction) → words ≡ name ∷ rest → name ≡ transform_name direction
+    → IsNoTransform rest → IsNoCommand words
+not_transform words name rest direction e is none (transform_of way k h xs) r = none k h xs (named words name rest (transform_of way k h xs) e r).1
+not_transform words name rest Forward e is none (value_of xs x) r = differ (codes "eval") (codes "fft") refl (named words name rest (value_of xs x) e r).0 is
+not_transform words name rest Inverse e is none (value_of xs x) r = differ (codes "eval") (codes "ifft") refl (named words name rest (value_of xs x) e r).0 is
+not_transform words name rest Forward e is none (size_for k) r = differ (codes "size") (codes "fft") refl (named words name rest (size_for k) e r).0 is
+not_transform words name rest Inverse e is none (size_for k) r = differ (codes "size") (codes "ifft") refl (named words name rest (size_for k) e r).0 is
 
-pub not_size : (words : List (List ℕ)) (name : List ℕ) (rest : List (List ℕ)) → words ≡ name ∷ rest → name ≡ codes "size" → ((k : ℕ) → AreSized rest k → ⊥) → (c : Command) → Reads words c → ⊥
-not_size words name rest e is none (forward k h xs) r = let t = ap (λ l. get_or l 0 0) (sym (rest_of words name rest (forward k h xs) e r).0 ∙ is) in absurd (omega arith)
-not_size words name rest e is none (back k h xs) r = let t = ap (λ l. get_or l 0 0) (sym (rest_of words name rest (back k h xs) e r).0 ∙ is) in absurd (omega arith)
-not_size words name rest e is none (at xs x) r = let t = ap (λ l. get_or l 0 0) (sym (rest_of words name rest (at xs x) e r).0 ∙ is) in absurd (omega arith)
-not_size words name rest e is none (size_for k) r =
-    none k (subst (λ w. AreSized w k) (rest_of words name rest (size_for k) e r).1 r.2)
-
-pub reads_forward : (words : List (List ℕ)) (name : List ℕ) (rest : List (List ℕ)) (f : Known) (outcome : Result (String Global) PolyError) → words ≡ name ∷ rest → name ≡ codes "fft"
-    → ((k : ℕ) × (h : ℕ) × (xs : List ℕ) × AreTransformed rest k h xs × IsOutcome f (forward k h xs) outcome) → (c : Command) × Reads words c × IsOutcome f c outcome
-reads_forward words name rest f outcome e is t = (forward t.0 t.1 t.2, (rest, e ∙ ap (λ n. n ∷ rest) is, t.3), t.4)
-
-pub reads_back : (words : List (List ℕ)) (name : List ℕ) (rest : List (List ℕ)) (f : Known) (outcome : Result (String Global) PolyError) → words ≡ name ∷ rest → name ≡ codes "ifft"
-    → ((k : ℕ) × (h : ℕ) × (xs : List ℕ) × AreTransformed rest k h xs × IsOutcome f (back k h xs) outcome) → (c : Command) × Reads words c × IsOutcome f c outcome
-reads_back words name rest f outcome e is t = (back t.0 t.1 t.2, (rest, e ∙ ap (λ n. n ∷ rest) is, t.3), t.4)
-
-pub reads_at : (words : List (List ℕ)) (name : List ℕ) (rest : List (List ℕ)) (f : Known) (outcome : Result (String Global) PolyError) → words ≡ name ∷ rest → name ≡ codes "eval"
-    → ((xs : List ℕ) × (x : ℕ) × AreEvaluated rest xs x × IsOutcome f (at xs x) outcome) → (c : Command) × Reads words c × IsOutcome f c outcome
-reads_at words name rest f outcome e is t = (at t.0 t.1, (rest, e ∙ ap (λ n. n ∷ rest) is, t.2), t.3)
-
-pub reads_size : (words : List (List ℕ)) (name : List ℕ) (rest : List (List ℕ)) (f : Known) (outcome : Result (String Global) PolyError) → words ≡ name ∷ rest → name ≡ codes "size"
-    → ((k : ℕ) × AreSized rest k × IsOutcome f (size_for k) outcome) → (c : Command) × Reads words c × IsOutcome f c outcome
-reads_size words name rest f outcome e is t = (size_for t.0, (rest, e ∙ ap (λ n. n ∷ rest) is, t.1), t.2)
+pub not_evaluated : (words : List (List ℕ)) (name : List ℕ) (rest : List (List ℕ)) → words ≡ name ∷ rest → name ≡ codes "eval"
+    → ((xs : List ℕ) (x : ℕ) → AreEvaluated rest xs x → ⊥) → IsNoCommand words
+not_evaluated words name rest e is none (transform_of Forward k h xs) r = differ (codes "fft") (codes "eval") refl (named words name rest (transform_of Forward k h xs) e r).0 is
+not_evaluated words name rest e is none (transform_of Inverse k h xs) r = differ (codes "ifft") (codes "eval") refl (named words name rest (transform_of Inverse k h xs) e r).0 is
+not_evaluated words name rest e is none (value_of xs x) r = none xs x (named words name rest (value_of xs x) e r).1
+not_evaluated words name rest e is none (size_for k) r = differ (codes "size") (codes "eval") refl (named words name rest (size_for k) e r).0 is
 
 -- ---- a field and a command
 
-pub is_command : (words : List (List ℕ)) (word : List ℕ) (rest : List (List ℕ)) (f : Known) (outcome : Result (String Global) PolyError) → words ≡ word ∷ rest → Names word f
-    → ((c : Command) × Reads rest c × IsOutcome f c outcome) → (f : Known) × (c : Command) × IsCommand words f c × IsOutcome f c outcome
-is_command words word rest f outcome e names t = (f, t.0, (word, rest, e, names, t.1), t.2)
-
-pub no_reading : (words : List (List ℕ)) (word : List ℕ) (rest : List (List ℕ)) → words ≡ word ∷ rest → ((c : Command) → Reads rest c → ⊥) → (f : Known) (c : Command) → IsCommand words f c → ⊥
-no_reading words word rest e none f c h =
+pub no_field : (words : List (List ℕ)) (word : List ℕ) (rest : List (List ℕ)) → words ≡ word ∷ rest → IsNoCommand rest → (f : Known) (c : Command) → IsCommand words f c → ⊥
+no_field words word rest e none f c h =
     let both : h.0 ∷ h.1 ≡ word ∷ rest = sym h.2 ∙ e in
     none c (subst (λ w. Reads w c) (ap (λ l. drop 1 l) both) h.4)
 
 -- ---- what may be written
 
-pub may_write_refusal : (words : List (List ℕ)) (f : Known) (c : Command) (refusal : PolyError) → IsCommand words f c → MayRefuse f c refusal → MayWrite words (refusal_line_of refusal) 1
-may_write_refusal words f c refusal h (inl refuses) = inl (inl (f, c, h, inr (refusal, refuses, refl, refl)))
-may_write_refusal words f c refusal h (inr memory) =
-    inr ((memory.0.0, inl (f, c, h, inl (memory.0.1, refl))), ap refusal_line_of memory.1, refl)
+pub may_write_error : (words : List (List ℕ)) (f : Known) (c : Command) (error : PolyError) → IsCommand words f c → MayRefuse f c error → MayWrite words (refusal_line_of error) 1
+may_write_error words f c error h (inl refuses) = inl (inl (f, c, h, inr (error, refuses, refl, refl)))
+may_write_error words f c error h (inr memory) = inr ((f, c, h, memory.0), ap refusal_line_of memory.1, refl)
 
 pub may_write_usage : (words : List (List ℕ)) → ((f : Known) (c : Command) → IsCommand words f c → ⊥) → MayWrite words usage_text 2
 may_write_usage words none = inl (inr (none, refl, refl))

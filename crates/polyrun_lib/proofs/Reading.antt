@@ -43,11 +43,11 @@ pieces-joined word (next ∷ words) number (following ∷ numbers) are =
     ∙ ap (λ xs. word ∷ xs) (pieces-joined next words following numbers are.1)
 
 pub IsList-from_pieces : (word : List ℕ) (numbers : List ℕ) → AreNumbers (pieces word) numbers → IsList word numbers
-IsList-from_pieces word numbers are = (pieces word, sym (join_with_byte-slice_split comma word), are)
+IsList-from_pieces word numbers are = record { words = pieces word; joins = sym (join_with_byte-slice_split comma word); spelled = are }
 
 -- a list is empty, of the empty word, or the numbers of the pieces
 pub pieces_from_IsList : (word : List ℕ) (numbers : List ℕ) → IsList word numbers → ((word ≡ []) × (numbers ≡ [])) ⊎ AreNumbers (pieces word) numbers
-pieces_from_IsList word numbers list = by_words list.0 numbers list.1 list.2
+pieces_from_IsList word numbers list = by_words list.words numbers list.joins list.spelled
   where
     by_words : (words : List (List ℕ)) (numbers : List ℕ) → word ≡ joined words → AreNumbers words numbers → ((word ≡ []) × (numbers ≡ [])) ⊎ AreNumbers (pieces word) numbers
     by_words [] [] e are = inl (e, refl)

@@ -4,9 +4,9 @@ use Rattle.ark_math.specs.Field.{FieldOn}
 use Rattle.ark_math.specs.Module.{itself}
 use Rattle.ark_math.specs.Domain.{Domain, HasNoSize, IsDomain}
 use Rattle.ark_math.specs.Transform.{transform, value_at, IsInverse}
-use Rattle.ark_math.proofs.Carried.{Carries, carried, power-carried, value_at-carried, transform-carried, IsInverse-carried}
-use Rattle.ark_math.proofs.Inversion.{inverse_exists}
-use Rattle.ark_math.proofs.Domains.{root_order, size_not_zero}
+use Rattle.ark_math.proofs.Transforms.Carried.{Carries, carried, power-carried, value_at-carried, transform-carried, IsInverse-carried}
+use Rattle.ark_math.proofs.Transforms.Inversion.{inverse_exists}
+use Rattle.ark_math.proofs.Domains.Domains.{root_order, size_not_zero}
 use Rattle.std.proofs.lemmas.List.{map-id}
 use Rattle.ark_base.specs.declared.prime_field.PrimeField.{PrimeField}
 use Rattle.ark_base.specs.declared.prime_field.PrimeModulus.{Ghosts}
@@ -15,26 +15,28 @@ use Rattle.std.specs.declared.string.String.{String}
 use Rattle.std.specs.declared.alloc.Global.{Global}
 use Rattle.ark_base.specs.declared.error.PolyError.{PolyError}
 use Rattle.ark_base.specs.declared.error.PolyError.TheVariants.{Memory}
-use Rattle.ark_base.specs.Element.{Shown, adicity, prime_field, prime_field_laws, prime_module_laws, prime_root, prime_roots, residue_of, generator_of, same_from_value}
+use Rattle.ark_base.specs.Element.{Shown, adicity, prime_field, prime_root, residue_of, generator_of, number}
+use Rattle.ark_base.specs.ElementLaws.{prime_field_laws, prime_module_laws, prime_roots, same_from_value}
 use Rattle.polyrun_lib.specs.Lines.{line_of}
-use Rattle.polyrun_lib.specs.Answer.{Known, known, Command, operations, reduced, forward, back, at, domain_of, IsChosen, IsDomainFor, HasNoDomain, Gives}
+use Rattle.polyrun_lib.specs.declared.command.Direction.{Direction}
+use Rattle.polyrun_lib.specs.declared.command.Direction.TheVariants.{Forward, Inverse}
+use Rattle.polyrun_lib.specs.Commands.{Command, transform_of, value_of}
+use Rattle.polyrun_lib.specs.Answer.{Known, operations, reduced, domain_of, IsChosen, IsDomainFor, HasNoDomain, Gives, TakesMemory}
 use Rattle.polyrun_lib.specs.Outcome.{MayRefuse, IsOutcome}
 
 -- the field that a modulus shows
 abbrev pub shown_field : {M : Type 0} → Ghosts M → Known
-shown_field g = known g.MODULUS g.TWO_ADICITY g.SMALL_SUBGROUP_BASE g.SMALL_SUBGROUP_BASE_ADICITY g.GENERATOR
-
-abbrev pub value : {M : Type 0} {g : Ghosts M} → PrimeField M g → ℕ
-value x = x.value
+shown_field g = record { modulus = g.MODULUS; adicity = adicity g; generator = g.GENERATOR }
 
 -- a line that is what the command gives, or want of memory for it
-pub outcome_line : (f : Known) (c : Command) (outcome : Result (String Global) PolyError) (line : List ℕ) → Gives f c line → IfOk outcome (λ text. string_bytes text ≡ line) → IsOkUnless outcome Memory → IsOutcome f c outcome
-outcome_line f c (Ok text) line gives same memory = subst (Gives f c) (sym same) gives
-outcome_line f c (Err refusal) line gives same memory = inr ((line, gives), memory)
+pub outcome_line : (f : Known) (asked c : Command) (outcome : Result (String Global) PolyError) (line : List ℕ) → asked ≡ c → Gives f c line
+    → IfOk outcome (λ text. string_bytes text ≡ line) → IsOkUnless outcome Memory → IsOutcome f asked outcome
+outcome_line f asked c (Ok text) line e gives same memory = subst (λ a. Gives f a (string_bytes text)) (sym e) (subst (Gives f c) (sym same) gives)
+outcome_line f asked c (Err error) line e gives same memory = inr ((line, subst (λ a. Gives f a line) (sym e) gives), memory)
 
-pub outcome_error : (f : Known) (c : Command) (outcome : Result (String Global) PolyError) (refusal : PolyError) → IsErrAnd outcome (λ e. e ≡ refusal) → MayRefuse f c refusal → IsOutcome f c outcome
-outcome_error f c (Ok text) refusal same refused = absurd same
-outcome_error f c (Err e) refusal same refused = subst (MayRefuse f c) (sym same) refused
+pub outcome_error : (f : Known) (asked c : Command) (outcome : Result (String Global) PolyError) (error : PolyError) → asked ≡ c → IsErrAnd outcome (λ e. e ≡ error) → MayRefuse f c error → IsOutcome f asked outcome
+outcome_error f asked c (Ok text) error e same refused = absurd same
+outcome_error f asked c (Err told) error e same refused = subst (λ a. MayRefuse f a told) (sym e) (subst (MayRefuse f c) (sym same) refused)
 
 module _ (M : Type 0) (g : Ghosts M) (S : Shown g) where
   abbrev K : FieldOn (PrimeField M g)
@@ -43,84 +45,83 @@ module _ (M : Type 0) (g : Ghosts M) (S : Shown g) where
   abbrev pub IsOurs : Domain (PrimeField M g) → Type 0
   IsOurs d = IsDomain (prime_field {M = M} {g = g} S.prime) (adicity g) (prime_root {M = M} {g = g} S) d
 
-  value_carries : Carries (prime_field {M = M} {g = g} S.prime) (operations (shown_field g)) (value {M = M} {g = g})
-  value_carries = record { zero_kept = refl; one_kept = refl; plus_kept = λ x y. refl; times_kept = λ x y. refl }
+  number_carries : Carries (prime_field {M = M} {g = g} S.prime) (operations (shown_field g)) (number {M = M} {g = g})
+  number_carries = record { zero_kept = refl; one_kept = refl; plus_kept = λ x y. refl; times_kept = λ x y. refl }
 
   zero_offset : (h : ℕ) → h % g.MODULUS ≡ 0 → residue_of {M = M} {g = g} S.prime h ≡ (prime_field {M = M} {g = g} S.prime).zero
   zero_offset h e = same_from_value _ _ e
 
-  domain_carried : (d : Domain (PrimeField M g)) (h : ℕ) → IsOurs d → d.offset ≡ residue_of S.prime h → carried (value {M = M} {g = g}) d ≡ domain_of (shown_field g) d.kind d.size h
+  domain_carried : (d : Domain (PrimeField M g)) (h : ℕ) → IsOurs d → d.offset ≡ residue_of S.prime h → carried (number {M = M} {g = g}) d ≡ domain_of (shown_field g) d.kind d.size h
   domain_carried d h lawful e =
       ap₂ (λ root offset. record { kind = d.kind; size = d.size; root = root; offset = offset })
-      (ap (value {M = M} {g = g}) lawful.root_of ∙ power-carried value_carries (generator_of {M = M} {g = g} S) ((g.MODULUS - 1) / d.size))
-      (ap (value {M = M} {g = g}) e)
+      (ap (number {M = M} {g = g}) lawful.root_of ∙ power-carried number_carries (generator_of {M = M} {g = g} S) ((g.MODULUS - 1) / d.size))
+      (ap (number {M = M} {g = g}) e)
 
-  is_domain_for : (d : Domain (PrimeField M g)) (k h : ℕ) → IsChosen (adicity g) k d.kind d.size → IsOurs d → d.offset ≡ residue_of S.prime h → IsDomainFor (shown_field g) k h (carried (value {M = M} {g = g}) d)
+  is_domain_for : (d : Domain (PrimeField M g)) (k h : ℕ) → IsChosen (adicity g) k d.kind d.size → IsOurs d → d.offset ≡ residue_of S.prime h → IsDomainFor (shown_field g) k h (carried (number {M = M} {g = g}) d)
   is_domain_for d k h chosen lawful e =
       (d.kind, d.size, chosen, (λ z. lawful.offset_not_zero (e ∙ zero_offset h z)), domain_carried d h lawful e)
 
   pub has_no_domain : (k h : ℕ) (offset : PrimeField M g) → offset ≡ residue_of S.prime h → (offset ≡ (prime_field {M = M} {g = g} S.prime).zero) ⊎ HasNoSize (IsChosen (adicity g)) k → HasNoDomain (shown_field g) k h
-  has_no_domain k h offset e (inl zero) = inr (ap (value {M = M} {g = g}) (sym e ∙ zero))
+  has_no_domain k h offset e (inl zero) = inr (ap (number {M = M} {g = g}) (sym e ∙ zero))
   has_no_domain k h offset e (inr none) = inl none
 
-  pub gives_forward : (d : Domain (PrimeField M g)) (k h : ℕ) (xs : List ℕ) (items after : List (PrimeField M g)) → IsChosen (adicity g) k d.kind d.size → IsOurs d → d.offset ≡ residue_of S.prime h
-      → map (value {M = M} {g = g}) items ≡ reduced (shown_field g) xs → map (λ x. x) after ≡ transform K (itself K) d (map (λ x. x) items)
-      → Gives (shown_field g) (forward k h xs) (line_of (map (value {M = M} {g = g}) after))
-  gives_forward d k h xs items after chosen lawful offset same e = (
-    carried value d,
-    is_domain_for d k h chosen lawful offset,
-    ap line_of
-        (ap (map value) (sym (map-id after) ∙ e ∙ ap (transform K (itself K) d) (map-id items))
-        ∙ transform-carried value_carries d items
-        ∙ ap (transform (operations (shown_field g)) (itself (operations (shown_field g))) (carried value d)) same),
-  )
-
   -- values are below the prime
-  reduced_values : (u : List (PrimeField M g)) → reduced (shown_field g) (map (value {M = M} {g = g}) u) ≡ map (value {M = M} {g = g}) u
+  reduced_values : (u : List (PrimeField M g)) → reduced (shown_field g) (map (number {M = M} {g = g}) u) ≡ map (number {M = M} {g = g}) u
   reduced_values [] = refl
   reduced_values (x ∷ xs) = ap₂ (λ y ys. y ∷ ys) (mod-eq_of_lt x.reduced) (reduced_values xs)
 
-  pub gives_back : (d : Domain (PrimeField M g)) (k h : ℕ) (xs : List ℕ) (items after : List (PrimeField M g)) → IsChosen (adicity g) k d.kind d.size → IsOurs d → d.offset ≡ residue_of S.prime h
-      → map (value {M = M} {g = g}) items ≡ reduced (shown_field g) xs → IsInverse K (itself K) d (map (λ x. x) items) (map (λ x. x) after)
-      → Gives (shown_field g) (back k h xs) (line_of (map (value {M = M} {g = g}) after))
-  gives_back d k h xs items after chosen lawful offset same inverse =
+  -- what a transform's call promises of the list before and after it
+  abbrev pub IsDone : Direction → Domain (PrimeField M g) → List (PrimeField M g) → List (PrimeField M g) → Type 0
+  IsDone Forward d items after = map (λ x. x) after ≡ transform K (itself K) d (map (λ x. x) items)
+  IsDone Inverse d items after = IsInverse K (itself K) d (map (λ x. x) items) (map (λ x. x) after)
+
+  pub gives_transform : (direction : Direction) (d : Domain (PrimeField M g)) (k h : ℕ) (xs : List ℕ) (items after : List (PrimeField M g)) → IsChosen (adicity g) k d.kind d.size → IsOurs d → d.offset ≡ residue_of S.prime h
+      → map (number {M = M} {g = g}) items ≡ reduced (shown_field g) xs → IsDone direction d items after
+      → Gives (shown_field g) (transform_of direction k h xs) (line_of (map (number {M = M} {g = g}) after))
+  gives_transform Forward d k h xs items after chosen lawful offset same e = (
+    carried number d,
+    map number after,
+    is_domain_for d k h chosen lawful offset,
+    ap (map number) (sym (map-id after) ∙ e ∙ ap (transform K (itself K) d) (map-id items))
+        ∙ transform-carried number_carries d items
+        ∙ ap (transform (operations (shown_field g)) (itself (operations (shown_field g))) (carried number d)) same,
+    refl,
+  )
+  gives_transform Inverse d k h xs items after chosen lawful offset same inverse =
       let L = operations (shown_field g) in
       let inverse_of : List (PrimeField M g) → List (PrimeField M g) → Type 0 = λ v u. IsInverse K (itself K) d v u in
       let plain = subst (λ u. inverse_of items u) (map-id after) (subst (λ v. inverse_of v (map (λ x. x) after)) (map-id items) inverse) in (
-        carried value d,
-        map value after,
+        carried number d,
+        map number after,
         is_domain_for d k h chosen lawful offset,
-        subst (λ v. IsInverse L (itself L) (carried value d) v (map value after)) same (IsInverse-carried value_carries d items after plain),
-        reduced_values after,
+        (subst (λ v. IsInverse L (itself L) (carried number d) v (map number after)) same (IsInverse-carried number_carries d items after plain), reduced_values after),
         refl,
       )
-
-  -- there is an answer where the memory for it is refused
-  pub some_forward : (d : Domain (PrimeField M g)) (k h : ℕ) (xs : List ℕ) → IsChosen (adicity g) k d.kind d.size → IsOurs d → d.offset ≡ residue_of S.prime h → (text : List ℕ) × Gives (shown_field g) (forward k h xs) text
-  some_forward d k h xs chosen lawful offset = (_, (carried value d, is_domain_for d k h chosen lawful offset, refl))
 
   elements_of : List ℕ → List (PrimeField M g)
   elements_of xs = map (residue_of S.prime) xs
 
-  values_of_elements : (xs : List ℕ) → map (value {M = M} {g = g}) (elements_of xs) ≡ reduced (shown_field g) xs
+  values_of_elements : (xs : List ℕ) → map (number {M = M} {g = g}) (elements_of xs) ≡ reduced (shown_field g) xs
   unfolding elements_of
   values_of_elements [] = refl
   values_of_elements (x ∷ xs) = ap (λ ys. x % g.MODULUS ∷ ys) (values_of_elements xs)
 
-  pub some_back : (d : Domain (PrimeField M g)) (k h : ℕ) (xs : List ℕ) → IsChosen (adicity g) k d.kind d.size → IsOurs d → d.offset ≡ residue_of S.prime h → (text : List ℕ) × Gives (shown_field g) (back k h xs) text
-  some_back d k h xs chosen lawful offset =
+  -- there is an answer where the memory for it is refused
+  pub some_transform : (direction : Direction) (d : Domain (PrimeField M g)) (k h : ℕ) (xs : List ℕ) → IsChosen (adicity g) k d.kind d.size → IsOurs d → d.offset ≡ residue_of S.prime h → TakesMemory (shown_field g) (transform_of direction k h xs)
+  some_transform Forward d k h xs chosen lawful offset = (_, (carried number d, _, is_domain_for d k h chosen lawful offset, refl, refl))
+  some_transform Inverse d k h xs chosen lawful offset =
       let roots = prime_roots M g S in
       let inverse = inverse_exists (prime_field_laws S.prime) (prime_module_laws S.prime) d (root_order K (adicity g) (prime_root S) d roots lawful) (size_not_zero K (adicity g) (prime_root S) d roots lawful) lawful.offset_not_zero (elements_of xs) in
       let same : map (λ (x : PrimeField M g). x) inverse.0 ≡ inverse.0 = map-id inverse.0 in
       let also : map (λ (x : PrimeField M g). x) (elements_of xs) ≡ elements_of xs = map-id (elements_of xs) in (
         _,
-        gives_back d k h xs (elements_of xs) inverse.0 chosen lawful offset (values_of_elements xs)
+        gives_transform Inverse d k h xs (elements_of xs) inverse.0 chosen lawful offset (values_of_elements xs)
             (subst (λ v. IsInverse K (itself K) d v (map (λ x. x) inverse.0)) (sym also) (subst (λ u. IsInverse K (itself K) d (elements_of xs) u) (sym same) inverse.1)),
       )
 
-  pub gives_at : (xs : List ℕ) (x : ℕ) (items : List (PrimeField M g)) (at_x y : PrimeField M g) → map (value {M = M} {g = g}) items ≡ reduced (shown_field g) xs → at_x ≡ residue_of S.prime x → y ≡ value_at K (itself K) items at_x
-      → Gives (shown_field g) (at xs x) (line_of (map (value {M = M} {g = g}) (y ∷ [])))
-  gives_at xs x items at_x y same e f =
+  pub gives_value : (xs : List ℕ) (x : ℕ) (items : List (PrimeField M g)) (at_x y : PrimeField M g) → map (number {M = M} {g = g}) items ≡ reduced (shown_field g) xs → at_x ≡ residue_of S.prime x → y ≡ value_at K (itself K) items at_x
+      → Gives (shown_field g) (value_of xs x) (line_of (map (number {M = M} {g = g}) (y ∷ [])))
+  gives_value xs x items at_x y same e f =
       let L = operations (shown_field g) in
       ap (λ t. line_of (t ∷ []))
-      (ap value f ∙ value_at-carried value_carries items at_x ∙ ap₂ (value_at L (itself L)) same (ap value e))
+      (ap number f ∙ value_at-carried number_carries items at_x ∙ ap₂ (value_at L (itself L)) same (ap number e))

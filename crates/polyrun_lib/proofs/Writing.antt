@@ -31,7 +31,7 @@ written-start numbers i before after below start e f = rw (f, e, start, written-
 
 -- what is written of numbers spells them
 pub IsList-joined_decimal : (numbers : List ℕ) → ((i : ℕ) → get_or numbers i 0 < 2 ^ 64) → IsList (joined (map decimal numbers)) numbers
-IsList-joined_decimal numbers small = (map decimal numbers, refl, each numbers small)
+IsList-joined_decimal numbers small = record { words = map decimal numbers; joins = refl; spelled = each numbers small }
   where
     each : (numbers : List ℕ) → ((i : ℕ) → get_or numbers i 0 < 2 ^ 64) → AreNumbers (map decimal numbers) numbers
     each [] small = tt

@@ -1,5 +1,6 @@
--- What a word spells, what a line says, what the program answers, and examples of each.
+-- What a word spells, which words are a command, what a line says, what the program answers, and examples of each.
 pub mod Words
+pub mod Commands
 pub mod Lines
 pub mod Answer
 pub mod Outcome

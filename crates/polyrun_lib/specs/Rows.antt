@@ -4,11 +4,13 @@ use Rattle.std.specs.Fmt.{digits}
 use Rattle.std.proofs.Common.{refl, sym, subst, inr, true≢false, lit<, lit≤, lt→ltb}
 use Rattle.std.proofs.Math.Nat.{pow-le-pow_right, lt_of_le_of_lt, not-le_of_lt}
 use Rattle.ark_math.specs.Domain.{radix2, mixed_radix, IsSize}
-use Rattle.ark_math.proofs.Sizes.{power_lt, size_power}
+use Rattle.ark_math.proofs.Domains.Sizes.{power_lt, size_power}
 use Rattle.ark_base.specs.declared.error.PolyError.TheVariants.{NoDomain}
+use Rattle.polyrun_lib.specs.declared.command.Direction.TheVariants.{Forward, Inverse}
 use Rattle.polyrun_lib.specs.Words.{IsNumber, IsList}
 use Rattle.polyrun_lib.specs.Lines.{line_of}
-use Rattle.polyrun_lib.specs.Answer.{Known, field_5, field_433, forward, back, at, size_for, domain_of, IsDomainFor, Gives, Refuses}
+use Rattle.polyrun_lib.specs.Commands.{transform_of, value_of, size_for}
+use Rattle.polyrun_lib.specs.Answer.{Known, field_5, field_433, domain_of, IsDomainFor, Gives, Refuses}
 
 -- zeros may stand first
 zeros : IsNumber (codes "007") 7
@@ -35,17 +37,17 @@ too_large n number = let P : ℕ → Type 0 = λ m. m < 2 ^ 64 in lt→ltb _ _ (
 
 -- the empty word is the empty list
 no_numbers : IsList (codes "") []
-no_numbers = ([], refl, tt)
+no_numbers = record { words = []; joins = refl; spelled = tt }
 
 two_numbers : IsList (codes "5,12") (5 ∷ 12 ∷ [])
-two_numbers = (
-  codes "5" ∷ codes "12" ∷ [],
-  refl,
-  (
+two_numbers = record {
+  words = codes "5" ∷ codes "12" ∷ [];
+  joins = refl;
+  spelled = (
     record { digits = (lit< tt, (lit< tt, tt)); value = refl; fits = lit< tt },
     (record { digits = (lit< tt, (lit< tt, (lit< tt, tt))); value = refl; fits = lit< tt }, tt),
-  ),
-)
+  );
+}
 
 -- a list's line ends in a newline, and an empty list has an empty line
 some_line : line_of (5 ∷ 0 ∷ 12 ∷ []) ≡ codes "5,0,12" ++ 10 ∷ []
@@ -70,24 +72,24 @@ domain_of_4 = (
   refl,
 )
 
-some_transform : Gives field_5 (forward 4 1 (1 ∷ 2 ∷ 3 ∷ 4 ∷ [])) (codes "0,4,3,2" ++ 10 ∷ [])
+some_transform : Gives field_5 (transform_of Forward 4 1 (1 ∷ 2 ∷ 3 ∷ 4 ∷ [])) (codes "0,4,3,2" ++ 10 ∷ [])
 unfolding digits
-some_transform = (domain_of field_5 radix2 4 1, domain_of_4, refl)
+some_transform = (domain_of field_5 radix2 4 1, 0 ∷ 4 ∷ 3 ∷ 2 ∷ [], domain_of_4, refl, refl)
 
-some_inverse : Gives field_5 (back 4 1 (1 ∷ 2 ∷ 3 ∷ 4 ∷ [])) (codes "0,3,2,1" ++ 10 ∷ [])
+some_inverse : Gives field_5 (transform_of Inverse 4 1 (1 ∷ 2 ∷ 3 ∷ 4 ∷ [])) (codes "0,3,2,1" ++ 10 ∷ [])
 unfolding digits
-some_inverse = (domain_of field_5 radix2 4 1, 0 ∷ 3 ∷ 2 ∷ 1 ∷ [], domain_of_4, record { size = refl; values = refl }, refl, refl)
+some_inverse = (domain_of field_5 radix2 4 1, 0 ∷ 3 ∷ 2 ∷ 1 ∷ [], domain_of_4, (record { size = refl; values = refl }, refl), refl)
 
 -- the numbers are reduced
-some_value : Gives field_5 (at (1 ∷ 2 ∷ []) 8) (codes "2" ++ 10 ∷ [])
+some_value : Gives field_5 (value_of (1 ∷ 2 ∷ []) 8) (codes "2" ++ 10 ∷ [])
 unfolding digits
 some_value = refl
 
-no_value : Gives field_5 (at [] 4) (codes "0" ++ 10 ∷ [])
+no_value : Gives field_5 (value_of [] 4) (codes "0" ++ 10 ∷ [])
 unfolding digits
 no_value = refl
 
-zero_offset : Refuses field_5 (forward 4 0 (1 ∷ [])) NoDomain
+zero_offset : Refuses field_5 (transform_of Forward 4 0 (1 ∷ [])) NoDomain
 zero_offset = (inr refl, refl)
 
 -- ---- sizes

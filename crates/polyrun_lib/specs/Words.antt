@@ -25,8 +25,10 @@ AreNumbers [] (number ∷ numbers) = ⊥
 AreNumbers (word ∷ words) [] = ⊥
 
 -- the numbers, joined by commas: the empty word is the empty list
-abbrev pub IsList : List ℕ → List ℕ → Type 0
-IsList word numbers = (words : List (List ℕ)) × (word ≡ joined words) × AreNumbers words numbers
+pub record IsList (word numbers : List ℕ) : Type 0 where
+  pub words : List (List ℕ)
+  pub joins : word ≡ joined words
+  pub spelled : AreNumbers words numbers
 
 -- some list
 abbrev pub SpellsList : List ℕ → Type 0

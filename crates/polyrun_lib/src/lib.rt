@@ -1,6 +1,7 @@
 //! The program's answers: it reads the words of a command line, and writes the lines of an answer.
 #![tactic(auto)]
 
+mod command;
 mod lines;
 mod program;
 mod words;

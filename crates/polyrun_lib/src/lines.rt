@@ -12,7 +12,8 @@ pub fn line(alloc: Global, numbers: &[u64]) -> Result<String, AllocError>
     ensures text { IfOk result (λ text. string_bytes text ≡ line_of numbers.now) }
 
     // Up to its newline it spells the numbers.
-    ensures spelled { IfOk result (λ text. (word : List ℕ) × (string_bytes text ≡ ended word) × IsList word numbers.now) }
+    ensures spelled { IfOk result (λ text. (word : List ℕ)
+        × (string_bytes text ≡ ended word) × IsList word numbers.now) }
 {
     let mut text = String::new(alloc);
     for (i, number) in numbers.iter().enumerate() {
@@ -36,7 +37,7 @@ pub fn row_line(alloc: Global, number: u64, is_good: bool) -> Result<String, All
     }
 }
 
-/// The line that tells of a refusal.
+/// The line that reports an error.
 pub fn refusal_line(refusal: PolyError) -> &'static str
     ensures { result.now ≡ refusal_line_of refusal }
 {
@@ -55,25 +56,4 @@ pub fn usage_line() -> &'static str
     ensures { result.now ≡ usage_text }
 {
     "usage\n"
-}
-
-#[cfg(test)]
-mod tests {
-    use super::*;
-    use std::test::Fail;
-
-    #[test]
-    fn writes(rt: HostRuntime) -> Result<(), Fail> {
-        assert_eq!(rt; line(rt.alloc(), &[])?.as_str(), "\n");
-        assert_eq!(rt; line(rt.alloc(), &[7])?.as_str(), "7\n");
-        assert_eq!(rt;
-            line(rt.alloc(), &[0, 18446744073709551615, 10])?.as_str(),
-            "0,18446744073709551615,10\n"
-        );
-        assert_eq!(rt; row_line(rt.alloc(), 12, true)?.as_str(), "12 ok\n");
-        assert_eq!(rt; row_line(rt.alloc(), 1, false)?.as_str(), "1 bad\n");
-        assert_eq!(rt; refusal_line(PolyError::NoDomain), "error 2: NoDomain\n");
-        assert_eq!(rt; usage_line(), "usage\n");
-        Ok(())
-    }
 }

@@ -1,11 +1,14 @@
 //! Domains of either kind.
 
+ghost use Rattle.std.specs.Prelude.{◌≡◌};
 ghost use Rattle.ark_math.specs.Domain.{radix2, mixed_radix, IsGeneral};
-ghost use Rattle.ark_poly.specs.declared.domain.general.GeneralEvaluationDomain.TheVariants.{Radix2, MixedRadix};
+ghost use Rattle.ark_poly.specs.declared.domain.general.GeneralEvaluationDomain.TheVariants.{Radix2};
+ghost use Rattle.ark_poly.specs.declared.domain.general.GeneralEvaluationDomain.TheVariants.{MixedRadix};
 
 pub use crate::domain::utils::Elements;
 use crate::domain::{EvaluationDomain, MixedRadixEvaluationDomain, Radix2EvaluationDomain};
 use ark_base::{DomainCoeff, FftField, PolyError, Work};
+use ark_fft::domain::Coset;
 use std::alloc::{AllocError, Global};
 
 /// A domain of either kind: for a number of coefficients the radix 2 domain wherever there is one, even where a mixed
@@ -19,6 +22,10 @@ pub enum GeneralEvaluationDomain<F: FftField> {
 }
 
 impl<F: FftField> Clone for GeneralEvaluationDomain<F> {
+    ghost is_clone = { λ a b. b ≡ a };
+
+    ghost is_infallible = { λ _. Unit {0} };
+
     fn clone(&self) -> Result<Self, AllocError> {
         Ok(*self)
     }
@@ -35,9 +42,9 @@ macro_rules! over_both {
 }
 
 impl<F: FftField> EvaluationDomain<F> for GeneralEvaluationDomain<F> {
-    ghost use Rattle.ark_math.proofs.Domains.{same_domain, other_kind, radix2_is_not_mixed, radix2_domain, mixed_domain};
-    ghost use Rattle.ark_math.proofs.GeneralSizes.{general_sizes, one_general_size};
-    ghost use Rattle.std.proofs.lemmas.Bool.Decides.{not_from_Decides};
+    ghost use Rattle.ark_math.proofs.Domains.Domains.{same_domain, other_kind, radix2_is_not_mixed};
+    ghost use Rattle.ark_math.proofs.Domains.Domains.{radix2_domain, mixed_domain};
+    ghost use Rattle.ark_math.proofs.Domains.GeneralSizes.{general_sizes, one_general_size};
     ghost use Rattle.std.proofs.Common.{sym};
 
     type Elements = GeneralElements<F>;
@@ -75,40 +82,8 @@ impl<F: FftField> EvaluationDomain<F> for GeneralEvaluationDomain<F> {
         }
     }
 
-    fn size(&self) -> usize {
-        over_both!(self, domain => domain.size())
-    }
-
-    fn log_size_of_group(&self) -> u64 {
-        over_both!(self, domain => domain.log_size_of_group())
-    }
-
-    fn size_as_field_element(&self) -> F {
-        over_both!(self, domain => domain.size_as_field_element())
-    }
-
-    fn size_inv(&self) -> F {
-        over_both!(self, domain => domain.size_inv())
-    }
-
-    fn group_gen(&self) -> F {
-        over_both!(self, domain => domain.group_gen())
-    }
-
-    fn group_gen_inv(&self) -> F {
-        over_both!(self, domain => domain.group_gen_inv())
-    }
-
-    fn coset_offset(&self) -> F {
-        over_both!(self, domain => domain.coset_offset())
-    }
-
-    fn coset_offset_inv(&self) -> F {
-        over_both!(self, domain => domain.coset_offset_inv())
-    }
-
-    fn coset_offset_pow_size(&self) -> F {
-        over_both!(self, domain => domain.coset_offset_pow_size())
+    fn coset(&self) -> &Coset<F> {
+        over_both!(self, domain => domain.coset())
     }
 
     fn elements(&self) -> GeneralElements<F> {
@@ -134,28 +109,24 @@ impl<F: FftField> EvaluationDomain<F> for GeneralEvaluationDomain<F> {
     }
 
     ghost lawful = { elim [
-      | Radix2 d ↦ radix2_domain F.field F.adicity F.root d.coset.size d.coset.log_size_of_group d.coset.odd_exponent _ _
-          (record { product = d.coset.product; twos_within = d.coset.twos_within; odds_within = d.coset.odds_within; fits = d.coset.fits })
-          d.even
-          ((F.equality_law _ _).0 d.coset.root_is)
-          (not_from_Decides _ (F.equality_law _ _) d.coset.offset_not_zero)
-      | MixedRadix d ↦ mixed_domain F.field F.adicity F.root d.coset.size d.coset.log_size_of_group d.coset.odd_exponent _ _
-          (record { product = d.coset.product; twos_within = d.coset.twos_within; odds_within = d.coset.odds_within; fits = d.coset.fits })
-          d.based
-          ((F.equality_law _ _).0 d.coset.root_is)
-          (not_from_Decides _ (F.equality_law _ _) d.coset.offset_not_zero)
+      | Radix2 d ↦ radix2_domain F.field F.adicity F.root F.equality_law d.coset.splits d.even d.coset.root_is d.coset.offset_not_zero
+      | MixedRadix d ↦ mixed_domain F.field F.adicity F.root F.equality_law d.coset.splits d.based d.coset.root_is d.coset.offset_not_zero
     ] };
 
     ghost equality = { elim [
       | Radix2 a ↦ elim [
-        | Radix2 b ↦ same_domain radix2 F.root _ _ _ _ _ _ _ ((F.equality_law _ _).0 a.coset.root_is) ((F.equality_law _ _).0 b.coset.root_is) (F.equality_law _ _)
+        | Radix2 b ↦ same_domain radix2 F.root F.equality_law a.coset.root_is b.coset.root_is
         | MixedRadix b ↦ other_kind _ _ radix2_is_not_mixed
       ]
       | MixedRadix a ↦ elim [
         | Radix2 b ↦ other_kind _ _ (λ e. radix2_is_not_mixed (sym e))
-        | MixedRadix b ↦ same_domain mixed_radix F.root _ _ _ _ _ _ _ ((F.equality_law _ _).0 a.coset.root_is) ((F.equality_law _ _).0 b.coset.root_is) (F.equality_law _ _)
+        | MixedRadix b ↦ same_domain mixed_radix F.root F.equality_law a.coset.root_is b.coset.root_is
       ]
     ] };
+
+    ghost clone_law = { λ a b e. e };
+
+    ghost clones_law = { λ a. tt };
 
     ghost sizes = { general_sizes F.adicity };
 
@@ -167,7 +138,7 @@ impl<F: FftField> EvaluationDomain<F> for GeneralEvaluationDomain<F> {
 pub struct GeneralElements<F: FftField>(Elements<F>);
 
 impl<F: FftField> Iterator for GeneralElements<F> {
-    ghost use Rattle.ark_poly.specs.Elements.{left};
+    ghost use Rattle.ark_fft.specs.Elements.{left};
     ghost use Rattle.std.specs.Iterator.{YieldsFirst, item_count};
 
     type Item = F;

@@ -1,7 +1,7 @@
 //! Polynomials by their coefficients.
 
-ghost use Rattle.std.specs.Prelude.{◌≡◌, List, IfOk, IsOkUnless};
-ghost use Rattle.ark_math.specs.Univariate.{of_list, AreUnivariate};
+ghost use Rattle.std.specs.Prelude.{◌≡◌, ◌↔◌, ℕ, List, IfOk, IsOkUnless};
+ghost use Rattle.ark_math.specs.Univariate.{of_list, nothing, added, opposite, IsTrimmed, IsDegree, IsValue};
 
 pub mod univariate;
 
@@ -25,11 +25,32 @@ pub trait DenseUVPolynomial<F: Field>: Polynomial<F, Point = F> {
     fn from_coefficients_vec(coeffs: Vec<F>) -> Self
         ensures { of_list F.field (listed result) ≡ of_list F.field coeffs.items };
 
-    /// The coefficients.
+    /// The coefficients, the lowest first. The last one isn't zero, so their number less one is the degree; zero has
+    /// none.
     fn coeffs(&self) -> &[F]
-        ensures { result.now ≡ listed self.now };
+        ensures same { result.now ≡ listed self.now }
+        ensures trimmed { IsTrimmed F.field result.now };
 
-    ghost univariate: { AreUnivariate F.field listed Self.meaning Self.zero Self.sum Self.negated Self.has_degree Self.has_value };
+    // A polynomial's coefficients by their exponents.
+    ghost coefficients: { Self.Polynomial.Meaning → ℕ → F };
+
+    ghost coefficients_law: { (p : Self) → coefficients (Self.meaning p) ≡ of_list F.field (listed p) };
+
+    ghost one_to_one: { (a b : Self.Polynomial.Meaning) → coefficients a ≡ coefficients b → a ≡ b };
+
+    ghost zero_coefficients: { coefficients Self.Polynomial.zero ≡ nothing F.field };
+
+    ghost sum_coefficients: { (a b : Self.Polynomial.Meaning) → coefficients (Self.sum a b)
+        ≡ added F.field (coefficients a) (coefficients b) };
+
+    ghost negated_coefficients: { (a : Self.Polynomial.Meaning) → coefficients (Self.negated a)
+        ≡ opposite F.field (coefficients a) };
+
+    ghost degree_coefficients: { (a : Self.Polynomial.Meaning) (d : ℕ) → Self.has_degree a d
+        ↔ IsDegree F.field (coefficients a) d };
+
+    ghost value_coefficients: { (a : Self.Polynomial.Meaning) (x y : F) → Self.has_value a x y
+        ↔ IsValue F.field (coefficients a) x y };
 
     ghost fits_law: { (p : Self) (x : F) → Self.fits p x };
 

@@ -1,7 +1,7 @@
 use Rattle.std.proofs.Common.{◌≡◌, Decides, ◌∙◌, ◌-◌, ◌+◌, ◌<◌, length, sym, ap, subst, arith, rules, [], ◌∷◌, ◌++◌, get_or}
-use Rattle.std.proofs.lemmas.Bool.{some_since}
+use Rattle.std.proofs.lemmas.Bool.{true_from_ne_false}
 use Rattle.std.proofs.lemmas.List.{get_or_read}
-use Rattle.ark_math.proofs.Inversions.{AreInverted, AreProducts, products_not_zero, products_zero, products_some, inverted_zero, inverted_some}
+use Rattle.ark_math.proofs.Algebra.Inversions.{AreInverted, AreProducts, products_not_zero, products_zero, products_some, inverted_zero, inverted_some}
 use Rattle.ark_base.proofs.inversion.batch_inversion.Goals.{then-not-is_zero, else-not-is_zero}
 use Rattle.ark_base.proofs.inversion.batch_inversion.Goals as goal
 
@@ -10,8 +10,8 @@ unwrap-inverse-requires g c =
     let F = g.row.F.Denot in
     let t = λ (x : F). g.F.PartialEq.eq x g.F.Zero.zero in
     let decides : (x : F) → Decides (t x) (x ≡ g.F.Field.field.zero) = λ x. subst (λ z. Decides (t x) (x ≡ z)) g.met.F.Field.zero_law (g.met.F.Field.equality_law x g.F.Zero.zero) in
-    some_since _ _ _ c.inverse.ensures
-    (λ z. products_not_zero g.F.Field.field g.met.F.Field.field_laws t decides c.args.items.now c.loop-i.products.items c.loop-i.i c.loop-i.next c.loop-i.after c.loop-i.invariant (sym (g.met.F.Field.mul_law _ _ _ c.mul.ensures) ∙ z))
+    true_from_ne_false _
+    (λ none. products_not_zero g.F.Field.field g.met.F.Field.field_laws t decides c.args.items.now c.loop-i.products.items c.loop-i.i c.loop-i.next c.loop-i.after c.loop-i.invariant (sym (g.met.F.Field.mul_law _ _ _ c.mul.ensures) ∙ c.inverse.ensures.none.0 none))
 
 pub loop-i-2-preserved-then-not-is_zero-2 : goal.loop-i-2-preserved-then-not-is_zero-2
 loop-i-2-preserved-then-not-is_zero-2 g c =

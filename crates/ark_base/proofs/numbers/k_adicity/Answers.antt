@@ -1,6 +1,6 @@
 use Rattle.std.proofs.Common.{sym, subst, arith}
 use Rattle.ark_math.specs.Root.{IsGreatestPower}
-use Rattle.ark_math.proofs.GreatestPowers.{greatest_power, divided, few_factors}
+use Rattle.ark_math.proofs.Numbers.GreatestPowers.{greatest_power, divided, few_factors}
 use Rattle.ark_base.proofs.numbers.k_adicity.Goals as goal
 
 pub overflow_add-adicity : goal.overflow_add-adicity

@@ -1,5 +1,5 @@
 use Rattle.std.proofs.Common.{arith}
-use Rattle.ark_math.proofs.GreatestPowers.{log2_up}
+use Rattle.ark_math.proofs.Numbers.GreatestPowers.{log2_up}
 use Rattle.ark_base.proofs.numbers.log2.Goals as goal
 
 pub returns-else-x-lt2 : goal.returns-else-x-lt2

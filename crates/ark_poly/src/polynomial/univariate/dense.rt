@@ -1,27 +1,73 @@
 //! Polynomials in one variable by the list of their coefficients.
 
-ghost use Rattle.std.specs.Prelude.{◌≡◌, ◌≢◌, ◌↔◌, ℕ, ◌+◌, ◌-◌, ◌<◌, ◌≤◌, length, ◌⊎◌, IfOk, IfErr, IsOk, IsOkUnless, replicate};
-ghost use Rattle.std.proofs.Props.{props};
+ghost use Rattle.std.specs.Prelude.{◌≡◌, ◌↔◌, ℕ, ◌+◌, ◌-◌, ◌<◌, length, ◌⊎◌, IfOk, IfErr, IsOk, IsOkUnless};
+ghost use Rattle.std.specs.Cmp.{on_equiv, on_per};
+ghost use Rattle.std.specs.Cmp.Lexicographic.{pointwise, lists_equiv, lists_per};
+ghost use Rattle.std.specs.Hash as fed;
+ghost use Rattle.std.specs.Hash.{on_Alike, items_Alike};
+ghost use Rattle.ark_math.specs.NormalForms.{trim};
 ghost use Rattle.ark_math.specs.Points.{AreValues};
-ghost use Rattle.ark_math.specs.Univariate.{IsTrimmed, IsBelow, IsDegree, IsValue, of_list, nothing, added, opposite, product};
+ghost use Rattle.ark_math.specs.Univariate.{IsTrimmed, IsDegree, IsValue, of_list, nothing, added, opposite};
+ghost use Rattle.ark_math.specs.Univariate.{product};
 
 use crate::domain::EvaluationDomain;
 use crate::evaluations::univariate::Evaluations;
 use crate::polynomial::{DenseUVPolynomial, Polynomial};
 use ark_base::{FftField, Field, PolyError};
+use ark_coeffs::dense::{add_each, add_product, extended, subtract_each, trimmed_len};
 use std::alloc::{AllocError, Global};
 use std::fmt::{self, Debug, Formatter, Write};
+use std::hash::{Hash, Hasher};
+use std::marker::Model;
 
-/// A polynomial by its coefficients: that of `x^i` stands at place `i`, and the last one is never zero.
+/// A polynomial by its coefficients, the lowest first; the last one is never zero.
+///
+/// Contracts see the list of the coefficients.
 #[derive(Drop)]
-#[derive_where(PartialEq, Eq, Hash; F)]
 pub struct DensePolynomial<F: Field> {
     coeffs: Vec<F>,
-    ghost trimmed: { IsTrimmed F.field coeffs.items } by { Prim.hlevel props },
+}
+
+impl<F: Field> Model for DensePolynomial<F> {
+    ghost use Rattle.std.specs.Prelude.{List};
+    ghost use Rattle.ark_math.specs.Univariate.{IsTrimmed};
+
+    ghost Value = { List F };
+
+    ghost view = { λ p. p.coeffs.items };
+
+    ghost invariant = { λ p. IsTrimmed F.field p.coeffs.items };
+}
+
+// `==` has laws at every list of coefficients, also at those with zeros at their end, which no polynomial keeps: hence
+// it compares what is left without these.
+impl<F: Field> PartialEq for DensePolynomial<F> {
+    ghost eq = { λ p q. pointwise F.eq (trim (λ x. F.eq x F.zero) p) (trim (λ x. F.eq x F.zero) q) };
+
+    ghost laws = { on_per (λ p. trim (λ x. F.eq x F.zero) p) (lists_per F.PartialEq.laws) };
+
+    fn eq(&self, other: &Self) -> bool {
+        self.coeffs == other.coeffs
+    }
+}
+
+impl<F: Field> Eq for DensePolynomial<F> {
+    ghost laws = { on_equiv (λ p. trim (λ x. F.eq x F.zero) p) (lists_equiv F.Eq.laws) };
+}
+
+impl<F: Field> Hash for DensePolynomial<F> {
+    ghost hash_input = { λ p. fed.slice F.hash_input (trim (λ x. F.eq x F.zero) p) };
+
+    ghost respects_eq = { (on_Alike (λ p. trim (λ x. F.eq x F.zero) p)
+        (items_Alike (record { fed = F.respects_eq }))).fed };
+
+    fn hash<H: Hasher>(&self, state: &mut H) {
+        self.coeffs.hash(state);
+    }
 }
 
 impl<F: Field> Clone for DensePolynomial<F> {
-    ghost is_clone = { λ p q. q.coeffs.items ≡ p.coeffs.items };
+    ghost is_clone = { λ p q. q ≡ p };
 
     fn clone(&self) -> Result<Self, AllocError> {
         Ok(DensePolynomial {
@@ -46,77 +92,18 @@ impl<F: Field> Debug for DensePolynomial<F> {
     }
 }
 
-/// How many coefficients there are up to the last that isn't zero.
-fn trimmed_len<F: Field>(coeffs: &[F]) -> usize
-    ensures within { result ≤ length coeffs.now }
-    ensures rest { IsBelow F.field result (of_list F.field coeffs.now) }
-    ensures last { 0 < result → of_list F.field coeffs.now (result - 1) ≢ F.field.zero }
-{
-    for i in (0..coeffs.len()).rev() {
-        if !coeffs[i].is_zero() {
-            return i + 1;
-        }
-    }
-    0
-}
-
-/// Adds to each coefficient the one at its place.
-fn add_each<F: Field>(coeffs: &mut [F], other: &[F])
-    requires { length other.now ≤ length coeffs.old }
-    ensures { of_list F.field coeffs.new ≡ added F.field (of_list F.field coeffs.old) (of_list F.field other.now) }
-{
-    for i in 0..other.len() {
-        coeffs[i] += other[i];
-    }
-}
-
-/// Subtracts from each coefficient the one at its place.
-fn subtract_each<F: Field>(coeffs: &mut [F], other: &[F])
-    requires { length other.now ≤ length coeffs.old }
-    ensures { of_list F.field coeffs.new ≡ added F.field (of_list F.field coeffs.old) (opposite F.field (of_list F.field other.now)) }
-{
-    for i in 0..other.len() {
-        coeffs[i] -= other[i];
-    }
-}
-
-/// Adds the product of two lists of coefficients.
-fn add_product<F: Field>(coeffs: &mut [F], left: &[F], right: &[F])
-    requires zeros { coeffs.old ≡ replicate (length left.now + length right.now - 1) F.field.zero }
-    ensures { of_list F.field coeffs.new ≡ product F.field (of_list F.field left.now) (of_list F.field right.now) }
-{
-    for i in 0..left.len() {
-        for j in 0..right.len() {
-            coeffs[i + j] += left[i] * right[j];
-        }
-    }
-}
-
-impl<F: Field> DensePolynomial<F> {
-    /// A copy of the coefficients, with zeros up to this length.
-    fn extended(&self, alloc: Global, len: usize) -> Result<Vec<F>, AllocError>
-        requires { length self.now.coeffs.items ≤ len }
-        ensures same { IfOk result (λ c. of_list F.field c.items ≡ of_list F.field self.now.coeffs.items) }
-        ensures len { IfOk result (λ c. length c.items ≡ len) }
-    {
-        let mut coeffs = Vec::with_capacity(alloc, len)?;
-        coeffs.extend_from_slice(&self.coeffs)?;
-        coeffs.resize(len, F::zero())?;
-        Ok(coeffs)
-    }
-}
-
 impl<F: Field> Polynomial<F> for DensePolynomial<F> {
-    ghost use Rattle.std.proofs.Common.{ap};
-    ghost use Rattle.ark_math.proofs.Univariate.{coefficients_are_module, one_degree};
-    ghost use Rattle.ark_math.proofs.UnivariateLists.{trimmed_Decides};
-    ghost use Rattle.ark_math.proofs.UnivariateValues.{one_value, value-added, value-opposite};
+    ghost use Rattle.std.proofs.Common.{[], ap};
+    ghost use Rattle.ark_math.proofs.Polynomials.Univariate.{coefficients_are_module, one_degree};
+    ghost use Rattle.ark_math.proofs.Polynomials.Trimmed.{trim_equality};
+    ghost use Rattle.ark_math.proofs.Polynomials.UnivariateLists.{trimmed-nil, trimmed_degree};
+    ghost use Rattle.ark_math.proofs.Polynomials.UnivariateValues.{one_value, value-added, value-opposite};
 
     type Point = F;
 
     ghost Meaning = { ℕ → F };
 
-    ghost meaning = { λ p. of_list F.field p.coeffs.items };
+    ghost meaning = { of_list F.field };
 
     ghost has_degree = { IsDegree F.field };
 
@@ -141,7 +128,7 @@ impl<F: Field> Polynomial<F> for DensePolynomial<F> {
     }
 
     fn evaluate(&self, _alloc: Global, point: &F) -> Result<F, PolyError>
-        ensures value { IfOk result (IsValue F.field (⟦<DensePolynomial<F> as Polynomial<F>>⟧.meaning self.now) point.now) }
+        ensures value { IfOk result (IsValue F.field (of_list F.field self.now) point.now) }
         ensures succeeds { IsOk result }
     {
         let mut value = F::zero();
@@ -167,14 +154,14 @@ impl<F: Field> Polynomial<F> for DensePolynomial<F> {
 
     fn add(&self, alloc: Global, other: &Self) -> Result<Self, PolyError> {
         let len = self.coeffs.len().max(other.coeffs.len());
-        let mut coeffs = self.extended(alloc, len)?;
+        let mut coeffs = extended(alloc, &self.coeffs, len)?;
         add_each(coeffs.as_mut_slice(), &other.coeffs);
         Ok(DensePolynomial::from_coefficients_vec(coeffs))
     }
 
     fn sub(&self, alloc: Global, other: &Self) -> Result<Self, PolyError> {
         let len = self.coeffs.len().max(other.coeffs.len());
-        let mut coeffs = self.extended(alloc, len)?;
+        let mut coeffs = extended(alloc, &self.coeffs, len)?;
         subtract_each(coeffs.as_mut_slice(), &other.coeffs);
         Ok(DensePolynomial::from_coefficients_vec(coeffs))
     }
@@ -183,11 +170,13 @@ impl<F: Field> Polynomial<F> for DensePolynomial<F> {
         DensePolynomial::zero(alloc)?.sub(alloc, self)
     }
 
-    ghost equality_law = { λ a b. trimmed_Decides F.field F.equality_law a.coeffs.items b.coeffs.items a.trimmed b.trimmed };
+    ghost equality_law = { trim_equality F.field F.eq F.zero F.equality_law F.zero_law };
 
     ghost clone_law = { λ a b e. ap (of_list F.field) e };
 
     ghost clone_fits = { λ a b e x fits. fits };
+
+    ghost degree_zero = { trimmed_degree F.field [] (trimmed-nil F.field) };
 
     ghost degree_law = { one_degree F.field };
 
@@ -213,34 +202,42 @@ impl<F: Field> Polynomial<F> for DensePolynomial<F> {
 impl<F: Field> DenseUVPolynomial<F> for DensePolynomial<F> {
     ghost use Rattle.std.proofs.Common.{refl};
 
-    ghost listed = { λ p. p.coeffs.items };
+    ghost listed = { λ p. p };
 
     fn from_coefficients_slice(alloc: Global, coeffs: &[F]) -> Result<Self, PolyError> {
         Ok(Self::from_coefficients_vec(Vec::from_slice(alloc, coeffs)?))
     }
 
     fn from_coefficients_vec(coeffs: Vec<F>) -> Self
-        ensures { of_list F.field (⟦<DensePolynomial<F> as DenseUVPolynomial<F>>⟧.listed result) ≡ of_list F.field coeffs.items }
+        ensures { of_list F.field result ≡ of_list F.field coeffs.items }
     {
         let mut coeffs = coeffs;
         coeffs.truncate(trimmed_len(&coeffs));
         DensePolynomial { coeffs }
     }
 
-    fn coeffs(&self) -> &[F] {
+    fn coeffs(&self) -> &[F]
+        ensures same { result.now ≡ self.now }
+        ensures trimmed { IsTrimmed F.field result.now }
+    {
         &self.coeffs
     }
 
-    ghost univariate = { record {
-      coefficients = λ a. a;
-      listed_kept = λ p. refl;
-      one_to_one = λ a b e. e;
-      zero_kept = refl;
-      sum_kept = λ a b. refl;
-      negated_kept = λ a. refl;
-      degree_kept = λ a d. ((λ h. h), (λ h. h));
-      value_kept = λ a x y. ((λ h. h), (λ h. h));
-    } };
+    ghost coefficients = { λ a. a };
+
+    ghost coefficients_law = { λ p. refl };
+
+    ghost one_to_one = { λ a b e. e };
+
+    ghost zero_coefficients = { refl };
+
+    ghost sum_coefficients = { λ a b. refl };
+
+    ghost negated_coefficients = { λ a. refl };
+
+    ghost degree_coefficients = { λ a d. ((λ h. h), (λ h. h)) };
+
+    ghost value_coefficients = { λ a x y. ((λ h. h), (λ h. h)) };
 
     ghost fits_law = { λ p x. tt };
 
@@ -249,13 +246,16 @@ impl<F: Field> DenseUVPolynomial<F> for DensePolynomial<F> {
 
 impl<F: Field> DensePolynomial<F> {
     /// The product, by all products of two coefficients. `Overflow` exactly where neither factor is zero and the
-    /// product's length is past `usize::MAX`.
+    /// product's length is past `usize::MAX`: never in practice, since two lists whose items take a byte or more can't
+    /// be so long.
     pub fn naive_mul(&self, alloc: Global, other: &Self) -> Result<Self, PolyError>
-        ensures product { IfOk result (λ p. ⟦<DensePolynomial<F> as Polynomial<F>>⟧.meaning p ≡ product F.field (⟦<DensePolynomial<F> as Polynomial<F>>⟧.meaning self.now) (⟦<DensePolynomial<F> as Polynomial<F>>⟧.meaning other.now)) }
-        ensures overflow { (result ≡ Err PolyError.Overflow) ↔ (0 < length (⟦<DensePolynomial<F> as DenseUVPolynomial<F>>⟧.listed self.now)) × (0 < length (⟦<DensePolynomial<F> as DenseUVPolynomial<F>>⟧.listed other.now)) × (usize.MAX < length (⟦<DensePolynomial<F> as DenseUVPolynomial<F>>⟧.listed self.now) + length (⟦<DensePolynomial<F> as DenseUVPolynomial<F>>⟧.listed other.now) - 1) }
+        ensures product { IfOk result (λ p. of_list F.field p
+            ≡ product F.field (of_list F.field self.now) (of_list F.field other.now)) }
+        ensures overflow { (result ≡ Err PolyError.Overflow) ↔ (0 < length self.now) × (0 < length other.now)
+            × (usize.MAX < length self.now + length other.now - 1) }
         ensures errors { IfErr result (λ e. (e ≡ PolyError.Memory) ⊎ (e ≡ PolyError.Overflow)) }
     {
-        if self.is_zero() || other.is_zero() {
+        if self.coeffs.is_empty() || other.coeffs.is_empty() {
             return Self::zero(alloc);
         }
         let len = self
@@ -277,7 +277,8 @@ impl<F: FftField> DensePolynomial<F> {
         alloc: Global,
         domain: D,
     ) -> Result<Evaluations<F, D>, PolyError>
-        ensures values { IfOk result (λ v. AreValues F.field (D.domain domain) (⟦<DensePolynomial<F> as Polynomial<F>>⟧.meaning self) v.evals.items) }
+        ensures values { IfOk result (λ v. AreValues F.field (D.domain domain) (of_list F.field self)
+            v.evals) }
         ensures domain { IfOk result (λ v. v.domain ≡ domain) }
         ensures memory { IsOkUnless result PolyError.Memory }
     {
@@ -290,7 +291,8 @@ impl<F: FftField> DensePolynomial<F> {
         alloc: Global,
         domain: D,
     ) -> Result<Evaluations<F, D>, PolyError>
-        ensures values { IfOk result (λ v. AreValues F.field (D.domain domain) (⟦<DensePolynomial<F> as Polynomial<F>>⟧.meaning self.now) v.evals.items) }
+        ensures values { IfOk result (λ v. AreValues F.field (D.domain domain) (of_list F.field self.now)
+            v.evals) }
         ensures domain { IfOk result (λ v. v.domain ≡ domain) }
         ensures memory { IsOkUnless result PolyError.Memory }
     {

@@ -1,27 +1,76 @@
 //! Polynomials in one variable by the coefficients that aren't zero.
 
-ghost use Rattle.std.specs.Prelude.{◌≡◌, ℕ, ◌<◌, ◌≤◌, OnOk, Decides, IfOk, IsOk, IsOkUnless};
-ghost use Rattle.std.specs.List.{All};
-ghost use Rattle.std.specs.List.Sorted.{IsNonDecreasingBy};
-ghost use Rattle.std.proofs.Props.{props};
-ghost use Rattle.ark_math.specs.Univariate.{IsSparse, IsDegree, IsValue, of_pairs, nothing, added, monomial};
+ghost use Rattle.std.specs.Prelude.{◌≡◌, ◌↔◌, ◌==◌, ◌&&◌, ◌++◌, IfOk, IsOk, IsOkUnless, IsTrue};
+ghost use Rattle.std.specs.Cmp.{and_equiv, and_per, nat_eq_equiv, on_equiv, on_per, partial_equiv_from_equiv};
+ghost use Rattle.std.specs.Cmp.{unsigned_Decides};
+ghost use Rattle.std.specs.Cmp.Lexicographic.{pointwise, lists_equiv, lists_per};
+ghost use Rattle.std.specs.Hash as fed;
+ghost use Rattle.std.specs.Hash.{and-Alike, items_Alike, on_Alike, same_Alike};
+ghost use Rattle.ark_math.specs.NormalForms.{gather};
+ghost use Rattle.ark_math.specs.Univariate.{IsSparse, IsDegree, IsValue, of_pairs, nothing};
 
 use ark_base::{Field, PolyError};
+use ark_coeffs::sparse::merged_terms;
 use std::alloc::{AllocError, Global};
 use std::fmt::{self, Debug, Formatter, Write};
+use std::hash::{Hash, Hasher};
+use std::marker::Model;
 
 /// A polynomial by its terms that aren't zero: pairs of degree and coefficient, by rising degrees.
+///
+/// Contracts see the list of the pairs.
 #[derive(Drop)]
-#[derive_where(PartialEq, Eq, Hash; F)]
 pub struct SparsePolynomial<F: Field> {
     coeffs: Vec<(usize, F)>,
-    ghost sparse: { IsSparse F.field coeffs.items } by { Prim.hlevel props },
+}
+
+impl<F: Field> Model for SparsePolynomial<F> {
+    ghost use Rattle.std.specs.Prelude.{ℕ, List};
+    ghost use Rattle.ark_math.specs.Univariate.{IsSparse};
+
+    ghost Value = { List (ℕ × F) };
+
+    ghost view = { λ p. p.coeffs.items };
+
+    ghost invariant = { λ p. IsSparse F.field p.coeffs.items };
+}
+
+// `==` has laws at every list of pairs, also at those that no polynomial keeps: hence it compares these gathered.
+impl<F: Field> PartialEq for SparsePolynomial<F> {
+    ghost eq = { λ p q.
+        pointwise (λ x y. (x.0 == y.0) && F.eq x.1 y.1)
+        (gather (λ x. F.eq x F.zero) F.field.plus p)
+        (gather (λ x. F.eq x F.zero) F.field.plus q) };
+
+    ghost laws = { on_per (λ p. gather (λ x. F.eq x F.zero) F.field.plus p)
+        (lists_per (and_per (on_per (λ t. t.0) (partial_equiv_from_equiv nat_eq_equiv))
+        (on_per (λ t. t.1) F.PartialEq.laws))) };
+
+    fn eq(&self, other: &Self) -> bool {
+        self.coeffs == other.coeffs
+    }
+}
+
+impl<F: Field> Eq for SparsePolynomial<F> {
+    ghost laws = { on_equiv (λ p. gather (λ x. F.eq x F.zero) F.field.plus p)
+        (lists_equiv (and_equiv (on_equiv (λ t. t.0) nat_eq_equiv) (on_equiv (λ t. t.1) F.Eq.laws))) };
+}
+
+impl<F: Field> Hash for SparsePolynomial<F> {
+    ghost hash_input = { λ p. fed.slice (λ t. fed.usize t.0 ++ F.hash_input t.1)
+        (gather (λ x. F.eq x F.zero) F.field.plus p) };
+
+    ghost respects_eq = { (on_Alike (λ p. gather (λ x. F.eq x F.zero) F.field.plus p)
+        (items_Alike (and-Alike (on_Alike (λ t. t.0) (same_Alike fed.usize unsigned_Decides))
+        (on_Alike (λ t. t.1) (record { fed = F.respects_eq }))))).fed };
+
+    fn hash<H: Hasher>(&self, state: &mut H) {
+        self.coeffs.hash(state);
+    }
 }
 
 impl<F: Field> Clone for SparsePolynomial<F> {
-    ghost use Rattle.ark_poly.specs.Sparse.{pairs};
-
-    ghost is_clone = { λ p q. pairs q ≡ pairs p };
+    ghost is_clone = { λ p q. q ≡ p };
 
     fn clone(&self) -> Result<Self, AllocError> {
         Ok(SparsePolynomial {
@@ -44,54 +93,10 @@ impl<F: Field> Debug for SparsePolynomial<F> {
     }
 }
 
-/// Adds a term of a higher degree than the others, unless it's zero.
-fn push_term<F: Field>(
-    terms: &mut Vec<(usize, F)>,
-    degree: usize,
-    coefficient: F,
-) -> Result<(), PolyError>
-    requires sparse { IsSparse F.field terms.old.items }
-    requires below { All (λ t. t.0 < degree) terms.old.items }
-    ensures sparse { OnOk result (IsSparse F.field terms.new.items) }
-    ensures sum { OnOk result (of_pairs F.field terms.new.items ≡ added F.field (of_pairs F.field terms.old.items) (monomial F.field degree coefficient)) }
-    ensures below { OnOk result ((next : ℕ) → degree < next → All (λ t. t.0 < next) terms.new.items) }
-    ensures memory { IsOkUnless result PolyError.Memory }
-{
-    if !coefficient.is_zero() {
-        terms.push((degree, coefficient))?;
-    }
-    Ok(())
-}
-
-/// The sums of like terms that aren't zero, of terms whose degrees don't fall.
-fn merged_terms<F: Field>(alloc: Global, terms: &[(usize, F)]) -> Result<Vec<(usize, F)>, PolyError>
-    requires { IsNonDecreasingBy (λ t. t.0) terms.now }
-    ensures sparse { IfOk result (λ m. IsSparse F.field m.items) }
-    ensures sum { IfOk result (λ m. of_pairs F.field m.items ≡ of_pairs F.field terms.now) }
-    ensures memory { IsOkUnless result PolyError.Memory }
-{
-    let mut merged = Vec::new(alloc);
-    let mut degree = 0;
-    let mut sum = F::zero();
-    for i in 0..terms.len() {
-        let term = terms[i];
-        if term.0 != degree {
-            push_term(&mut merged, degree, sum)?;
-            degree = term.0;
-            sum = F::zero();
-        }
-        sum += term.1;
-    }
-    push_term(&mut merged, degree, sum)?;
-    Ok(merged)
-}
-
 impl<F: Field> SparsePolynomial<F> {
-    ghost use Rattle.ark_poly.specs.Sparse.{pairs, denoted};
-
     /// The sum of these terms, given by degree and coefficient: in any order, repeated or zero.
     pub fn from_coefficients_slice(alloc: Global, coeffs: &[(usize, F)]) -> Result<Self, PolyError>
-        ensures sum { IfOk result (λ p. denoted F.field p ≡ of_pairs F.field coeffs.now) }
+        ensures sum { IfOk result (λ p. of_pairs F.field p ≡ of_pairs F.field coeffs.now) }
         ensures memory { IsOkUnless result PolyError.Memory }
     {
         Self::from_coefficients_vec(alloc, Vec::from_slice(alloc, coeffs)?)
@@ -99,7 +104,7 @@ impl<F: Field> SparsePolynomial<F> {
 
     /// The sum of these terms, given by degree and coefficient: in any order, repeated or zero.
     pub fn from_coefficients_vec(alloc: Global, coeffs: Vec<(usize, F)>) -> Result<Self, PolyError>
-        ensures sum { IfOk result (λ p. denoted F.field p ≡ of_pairs F.field coeffs.items) }
+        ensures sum { IfOk result (λ p. of_pairs F.field p ≡ of_pairs F.field coeffs.items) }
         ensures memory { IsOkUnless result PolyError.Memory }
     {
         let mut coeffs = coeffs;
@@ -111,7 +116,7 @@ impl<F: Field> SparsePolynomial<F> {
 
     /// The terms that aren't zero, by rising degrees.
     pub fn coeffs(&self) -> &[(usize, F)]
-        ensures pairs { result.now ≡ pairs self.now }
+        ensures same { result.now ≡ self.now }
         ensures sparse { IsSparse F.field result.now }
     {
         &self.coeffs
@@ -119,7 +124,7 @@ impl<F: Field> SparsePolynomial<F> {
 
     /// The degree; 0 for zero.
     pub fn degree(&self) -> usize
-        ensures { IsDegree F.field (denoted F.field self.now) result }
+        ensures { IsDegree F.field (of_pairs F.field self.now) result }
     {
         match self.coeffs.last() {
             None => 0,
@@ -129,7 +134,7 @@ impl<F: Field> SparsePolynomial<F> {
 
     /// The value at a point. Takes no memory, and is always `Ok`.
     pub fn evaluate(&self, _alloc: Global, point: &F) -> Result<F, PolyError>
-        ensures value { IfOk result (IsValue F.field (denoted F.field self.now) point.now) }
+        ensures value { IfOk result (IsValue F.field (of_pairs F.field self.now) point.now) }
         ensures succeeds { IsOk result }
     {
         let mut value = F::zero();
@@ -142,7 +147,7 @@ impl<F: Field> SparsePolynomial<F> {
 
     /// The zero polynomial. Takes no memory.
     pub fn zero(alloc: Global) -> Result<Self, PolyError>
-        ensures zero { IfOk result (λ p. denoted F.field p ≡ nothing F.field) }
+        ensures zero { IfOk result (λ p. of_pairs F.field p ≡ nothing F.field) }
         ensures memory { IsOkUnless result PolyError.Memory }
     {
         Ok(SparsePolynomial {
@@ -152,13 +157,14 @@ impl<F: Field> SparsePolynomial<F> {
 
     /// Whether it is the zero polynomial.
     pub fn is_zero(&self) -> bool
-        ensures { Decides result (denoted F.field self.now ≡ nothing F.field) }
+        ensures { IsTrue result ↔ (of_pairs F.field self.now ≡ nothing F.field) }
     {
         self.coeffs.is_empty()
     }
 
     /// A law: two are equal by `==` exactly where they denote the same polynomial.
     pub fn equality_law(&self, other: &Self)
-        ensures { Decides (⟦<SparsePolynomial<F> as PartialEq>⟧.eq self.now other.now) (denoted F.field self.now ≡ denoted F.field other.now) }
+        ensures { IsTrue (⟦<SparsePolynomial<F> as PartialEq>⟧.eq self.now other.now)
+            ↔ (of_pairs F.field self.now ≡ of_pairs F.field other.now) }
     {}
 }

@@ -1,17 +1,12 @@
-use Rattle.std.proofs.Common.{◌≤◌, ◌+◌, true, arith}
-use Rattle.std.proofs.lemmas.Result.{on_ok_weaker}
-use Rattle.ark_base.proofs.Cost.{grown}
-use Rattle.ark_tests.specs.Counts.{five_over_sixteen}
+use Rattle.ark_math.specs.Cost.{forward}
+use Rattle.ark_tests.proofs.Growths.{radix2_counts, five_over_sixteen}
 use Rattle.ark_tests.proofs.counts.five_over_sixteen.Goals as goal
 
 pub returns-clause-butterflies : goal.returns-clause-butterflies
-returns-clause-butterflies g c =
-    on_ok_weaker c.fft_counted.result
-    (λ h. (grown g.F.FftField.adicity g.met.F.FftField.roots_law.base _ _ true _ _ 16 5 _ c.requires.places c.requires.items (five_over_sixteen g.F.FftField.adicity) h).butterflies)
-    c.fft_counted.ensures.cost
+returns-clause-butterflies g c = (radix2_counts g.F.FftField.adicity g.met.F.FftField.roots_law.base _ forward c.requires.size c.requires.items (five_over_sixteen g.F.FftField.adicity) c.fft_counted.ensures.cost).butterflies
+
+pub returns-clause-steps : goal.returns-clause-steps
+returns-clause-steps g c = (radix2_counts g.F.FftField.adicity g.met.F.FftField.roots_law.base _ forward c.requires.size c.requires.items (five_over_sixteen g.F.FftField.adicity) c.fft_counted.ensures.cost).steps
 
 pub returns-clause-products : goal.returns-clause-products
-returns-clause-products g c =
-    on_ok_weaker c.fft_counted.result
-    (λ h. let k = grown g.F.FftField.adicity g.met.F.FftField.roots_law.base _ _ true _ _ 16 5 _ c.requires.places c.requires.items (five_over_sixteen g.F.FftField.adicity) h in omega (arith, k.products, c.requires.places))
-    c.fft_counted.ensures.cost
+returns-clause-products g c = (radix2_counts g.F.FftField.adicity g.met.F.FftField.roots_law.base _ forward c.requires.size c.requires.items (five_over_sixteen g.F.FftField.adicity) c.fft_counted.ensures.cost).products

@@ -2,7 +2,7 @@ use Rattle.std.proofs.Common.{map, sym, subst}
 use Rattle.std.specs.Prelude.{string_bytes}
 use Rattle.polyrun_lib.specs.Answer.{MayWrite}
 use Rattle.polyrun_lib.specs.Outcome.{IsOutcome}
-use Rattle.polyrun_lib.proofs.Commands.{may_write_refusal, may_write_usage}
+use Rattle.polyrun_lib.proofs.Commands.{may_write_error, may_write_usage}
 use Rattle.polyrun_lib.proofs.program.run.Goals as goal
 
 pub returns-in-Some-Err : goal.returns-in-Some-Err
@@ -11,7 +11,7 @@ returns-in-Some-Err g c =
     let of = c.in-Some-Err.ensures.some in (
       c.refusal_line.result.now,
       1,
-      subst (λ text. MayWrite words text 1) (sym c.refusal_line.ensures) (may_write_refusal words of.0 of.1 c.in-Some-Err.refusal of.2 (subst (IsOutcome of.0 of.1) c.in-Some-Err.field-0-is of.3)),
+      subst (λ text. MayWrite words text 1) (sym c.refusal_line.ensures) (may_write_error words of.0 of.1 c.in-Some-Err.error of.2 (subst (IsOutcome of.0 of.1) c.in-Some-Err.field-0-is of.3)),
       c.write-in-Some-Err.ensures,
     )
 

@@ -1,6 +1,6 @@
 use Rattle.std.proofs.Common.{◌≡◌, ◌/◌, ap, ◌∙◌}
 use Rattle.ark_math.specs.Field.{power}
-use Rattle.ark_math.proofs.Powers.{power_even, power_odd}
+use Rattle.ark_math.proofs.Algebra.Powers.{power_even, power_odd}
 use Rattle.ark_base.proofs.field.Field.pow.Goals.{then-left-eq1, else-left-eq1}
 use Rattle.ark_base.proofs.field.Field.pow.Goals as goal
 

@@ -1,4 +1,4 @@
-use Rattle.ark_base.specs.Element.{natural_number}
+use Rattle.ark_base.proofs.Element.{natural_number}
 use Rattle.ark_base.proofs.prime_field.PrimeField.value.Goals as goal
 
 pub returns-clause-natural : goal.returns-clause-natural

@@ -1,5 +1,5 @@
 use Rattle.std.proofs.Common.{◌∙◌, sym}
-use Rattle.ark_base.specs.Element.{large_below, some_large}
+use Rattle.ark_base.proofs.Element.{large_below, some_large}
 use Rattle.ark_base.proofs.prime_field.PrimeFieldFftField.LARGE_SUBGROUP_ROOT_OF_UNITY.Goals as goal
 
 pub invariant_of-result : goal.invariant_of-result

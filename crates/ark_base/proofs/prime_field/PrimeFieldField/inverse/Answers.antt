@@ -1,10 +1,7 @@
-use Rattle.std.proofs.Common.{pos_of_ne-zero}
-use Rattle.ark_math.proofs.Euclid.{euclid_starts, euclid_steps, euclid_ends}
-use Rattle.ark_base.specs.Element.{same_from_value}
+use Rattle.std.proofs.Common.{pos_of_ne-zero, refl}
+use Rattle.ark_math.proofs.Numbers.Euclid.{euclid_starts, euclid_steps, euclid_ends}
+use Rattle.ark_base.specs.ElementLaws.{same_from_value}
 use Rattle.ark_base.proofs.prime_field.PrimeFieldField.inverse.Goals as goal
-
-pub returns-then-self-eq0 : goal.returns-then-self-eq0
-returns-then-self-eq0 g c = same_from_value _ _ c.if-self-eq0.true
 
 pub divide-init : goal.divide-init
 divide-init g c =
@@ -16,7 +13,10 @@ divide-preserved g c =
     rw (c.MODULUS-in-divide.ensures, c.MODULUS.ensures, c.MODULUS-in-divide-2.ensures)
     (euclid_steps _ c.args.self.now.value _ _ _ _ (pos_of_ne-zero c.divide-test.true) c.divide.invariant)
 
-pub returns : goal.returns
-returns g c =
+pub returns-then-self-eq0-clause-none : goal.returns-then-self-eq0-clause-none
+returns-then-self-eq0-clause-none g c = (λ none. same_from_value _ _ c.if-self-eq0.true, λ zero. refl)
+
+pub returns-clause-some : goal.returns-clause-some
+returns-clause-some g c =
     let a = c.args.self.now in
     same_from_value _ _ (euclid_ends _ a.value _ c.divide.last_factor _ _ g.M.PrimeModulus.modulus.prime (pos_of_ne-zero c.if-self-eq0.false) a.reduced c.divide-test.false c.divide.invariant)

@@ -1,6 +1,6 @@
 use Rattle.std.proofs.Common.{arith}
 use Rattle.std.proofs.Math.Nat.{mul-le-mul}
-use Rattle.ark_base.specs.Element.{same_from_value}
+use Rattle.ark_base.specs.ElementLaws.{same_from_value}
 use Rattle.ark_base.proofs.prime_field.PrimeFieldMul.mul.Goals as goal
 
 pub reduce_product-requires : goal.reduce_product-requires

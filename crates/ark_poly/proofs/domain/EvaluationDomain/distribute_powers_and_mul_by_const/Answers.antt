@@ -1,9 +1,9 @@
 use Rattle.std.proofs.Common.{◌<◌, ◌≤◌, ℕ, map, length, get_or, sym, ap, ◌∙◌, arith, refl, add-one}
 use Rattle.ark_math.specs.Field.{power}
 use Rattle.ark_math.specs.Module.{item}
-use Rattle.ark_math.proofs.Lists.{read_at, written_more, written_rest}
-use Rattle.ark_math.proofs.Solve.{◌⊗◌}
-use Rattle.ark_math.proofs.Ring.{ring3}
+use Rattle.ark_math.proofs.Lists.Lists.{read_at, written_more, written_rest}
+use Rattle.ark_math.proofs.Algebra.Solve.{◌⊗◌}
+use Rattle.ark_math.proofs.Algebra.Ring.{ring3}
 use Rattle.ark_poly.proofs.domain.EvaluationDomain.distribute_powers_and_mul_by_const.Goals as goal
 
 pub loop-i-preserved : goal.loop-i-preserved

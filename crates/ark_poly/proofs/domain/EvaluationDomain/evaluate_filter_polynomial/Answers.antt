@@ -1,57 +1,43 @@
 use Rattle.std.proofs.Common.{◌≡◌, ◌≢◌, ◌∙◌, sym, ap, ap₂, subst, true≢false}
-use Rattle.std.proofs.lemmas.Bool.{some_since}
+use Rattle.std.proofs.lemmas.Bool.{true_from_ne_false}
 use Rattle.ark_math.specs.Field.{power, natural}
 use Rattle.ark_math.specs.Univariate.{IsValue}
-use Rattle.ark_math.proofs.Elements.{times_not_zero}
-use Rattle.ark_math.proofs.LawfulDomains.{scale_not_zero, filter_inside, filter_elsewhere}
+use Rattle.ark_math.proofs.Domains.Elements.{times_not_zero}
+use Rattle.ark_math.proofs.Domains.LawfulDomains.{lawful_domain, scale_not_zero, filter_inside, filter_elsewhere}
 use Rattle.ark_poly.proofs.domain.EvaluationDomain.evaluate_filter_polynomial.Goals as goal
 
 pub returns-then-is_zero-clause-value : goal.returns-then-is_zero-clause-value
 returns-then-is_zero-clause-value g c =
     let K = g.F.Field.field in
-    let N = g.met.F.Field.field_laws in
-    let s = g.F.FftField.adicity in
-    let root = g.F.FftField.root in
-    let R = g.met.F.FftField.roots_law in
-    let d = g.Self.EvaluationDomain.domain c.args.self.now in
-    let D = g.met.Self.EvaluationDomain.lawful c.args.self.now in
-    let e = g.Self.EvaluationDomain.domain c.args.subdomain.now in
-    let E = g.met.Self.EvaluationDomain.lawful c.args.subdomain.now in
+    let D = lawful_domain g.met.F.Field.field_laws g.met.F.FftField.roots_law (g.met.Self.EvaluationDomain.lawful c.args.self.now) in
+    let E = lawful_domain g.met.F.Field.field_laws g.met.F.FftField.roots_law (g.met.Self.EvaluationDomain.lawful c.args.subdomain.now) in
     let h = c.contains_subdomain.ensures.0 c.if-not-contains_subdomain.false in
     let w = c.evaluate_vanishing_polynomial-vanishing.result in
     let o : w ≡ K.zero = (g.met.F.Field.equality_law w g.F.Zero.zero).0 (sym c.is_zero.ensures ∙ c.if-is_zero.true) ∙ g.met.F.Field.zero_law in
-    let f = filter_inside K N s root R d D e E h c.args.tau w c.evaluate_vanishing_polynomial-vanishing.ensures.value o in
+    let f = filter_inside D E h c.args.tau w c.evaluate_vanishing_polynomial-vanishing.ensures.value o in
     (f.0, f.1, subst (IsValue K f.0 c.args.tau) (sym (c.one.ensures ∙ g.met.F.Field.one_law)) f.2)
 
 pub unwrap-requires : goal.unwrap-requires
 unwrap-requires g c =
     let K = g.F.Field.field in
     let N = g.met.F.Field.field_laws in
-    let s = g.F.FftField.adicity in
-    let root = g.F.FftField.root in
-    let R = g.met.F.FftField.roots_law in
     let d = g.Self.EvaluationDomain.domain c.args.self.now in
-    let D = g.met.Self.EvaluationDomain.lawful c.args.self.now in
+    let D = lawful_domain g.met.F.Field.field_laws g.met.F.FftField.roots_law (g.met.Self.EvaluationDomain.lawful c.args.self.now) in
     let w = c.evaluate_vanishing_polynomial-vanishing.result in
     let some : w ≢ K.zero = λ o.
     true≢false (sym ((g.met.F.Field.equality_law w g.F.Zero.zero).1 (o ∙ sym g.met.F.Field.zero_law)) ∙ sym c.is_zero.ensures ∙ c.if-is_zero.false) in
     let divisor : c.mul-divisor.result ≡ K.times (K.times (natural K d.size) (power K d.offset d.size)) w =
     g.met.F.Field.mul_law _ _ _ c.mul-divisor.ensures
     ∙ ap (λ t. K.times t w) (g.met.F.Field.mul_law _ _ _ c.mul.ensures ∙ ap₂ K.times c.size_as_field_element.ensures c.coset_offset_pow_size.ensures) in
-    some_since _ _ _ c.inverse.ensures
-    (λ z. times_not_zero K N _ w (scale_not_zero K N s root R d D) some (sym divisor ∙ z))
+    true_from_ne_false _
+    (λ none. times_not_zero K N _ w (scale_not_zero D) some (sym divisor ∙ c.inverse.ensures.none.0 none))
 
 pub returns-clause-value : goal.returns-clause-value
 returns-clause-value g c =
     let K = g.F.Field.field in
-    let N = g.met.F.Field.field_laws in
-    let s = g.F.FftField.adicity in
-    let root = g.F.FftField.root in
-    let R = g.met.F.FftField.roots_law in
     let d = g.Self.EvaluationDomain.domain c.args.self.now in
-    let D = g.met.Self.EvaluationDomain.lawful c.args.self.now in
-    let e = g.Self.EvaluationDomain.domain c.args.subdomain.now in
-    let E = g.met.Self.EvaluationDomain.lawful c.args.subdomain.now in
+    let D = lawful_domain g.met.F.Field.field_laws g.met.F.FftField.roots_law (g.met.Self.EvaluationDomain.lawful c.args.self.now) in
+    let E = lawful_domain g.met.F.Field.field_laws g.met.F.FftField.roots_law (g.met.Self.EvaluationDomain.lawful c.args.subdomain.now) in
     let times = g.met.F.Field.mul_law in
     let h = c.contains_subdomain.ensures.0 c.if-not-contains_subdomain.false in
     let w = c.evaluate_vanishing_polynomial-vanishing.result in
@@ -62,11 +48,11 @@ returns-clause-value g c =
     let divisor : c.mul-divisor.result ≡ K.times (K.times (natural K d.size) (power K d.offset d.size)) w =
     times _ _ _ c.mul-divisor.ensures
     ∙ ap (λ t. K.times t w) (times _ _ _ c.mul.ensures ∙ ap₂ K.times c.size_as_field_element.ensures c.coset_offset_pow_size.ensures) in
-    filter_elsewhere K N s root R d D e E h c.args.tau w z v c.mul-4.result
+    filter_elsewhere D E h c.args.tau w z v c.mul-4.result
     c.evaluate_vanishing_polynomial-vanishing.ensures.value
     c.evaluate_vanishing_polynomial.ensures.value
     some
-    (ap (λ t. K.times t v) (sym divisor) ∙ (rw c.unwrap.ensures at c.inverse.ensures))
+    (ap (λ t. K.times t v) (sym divisor) ∙ (rw c.unwrap.ensures at c.inverse.ensures.some))
     (times _ _ _ c.mul-4.ensures
     ∙ ap (λ t. K.times t v)
     (times _ _ _ c.mul-3.ensures

@@ -1,6 +1,6 @@
 use Rattle.std.proofs.Common.{◌∙◌, ap, sym, map, take}
 use Rattle.std.proofs.lemmas.List.{take-map}
-use Rattle.ark_math.proofs.Domains.{inverse-take, only-take}
+use Rattle.ark_math.proofs.Domains.Domains.{inverse-take, only-take}
 use Rattle.ark_poly.proofs.domain.EvaluationDomain.ifft.Goals as goal
 
 pub returns-clause-inverse : goal.returns-clause-inverse

@@ -1,5 +1,5 @@
-use Rattle.ark_poly.specs.Elements.{left}
-use Rattle.ark_poly.proofs.Elements.{yields_wrapped}
+use Rattle.ark_fft.specs.Elements.{left}
+use Rattle.ark_fft.proofs.Yielded.{yields_wrapped}
 use Rattle.ark_poly.proofs.domain.general.GeneralEvaluationDomainEvaluationDomain.elements.Goals as goal
 
 pub returns-in-Radix2-clause-yields : goal.returns-in-Radix2-clause-yields

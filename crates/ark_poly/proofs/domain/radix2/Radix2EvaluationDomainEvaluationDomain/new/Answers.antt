@@ -1,7 +1,7 @@
 use Rattle.std.proofs.Common.{subst, sym, ap, refl}
 use Rattle.std.specs.Option.{is_some}
 use Rattle.ark_math.specs.Domain.{radix2, IsLeast, IsSize}
-use Rattle.ark_math.proofs.Sizes.{radix2_none}
+use Rattle.ark_math.proofs.Domains.Sizes.{radix2_none}
 use Rattle.ark_poly.proofs.domain.radix2.Radix2EvaluationDomainEvaluationDomain.new.Goals as goal
 
 pub returns-in_err-size-clause-none : goal.returns-in_err-size-clause-none

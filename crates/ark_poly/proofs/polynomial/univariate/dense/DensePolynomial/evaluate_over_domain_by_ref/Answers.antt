@@ -3,15 +3,15 @@ use Rattle.std.proofs.lemmas.Bool.{cases_lt}
 use Rattle.std.proofs.lemmas.List.{get_or_append_left, get_or_push, length_push}
 use Rattle.ark_math.specs.Domain.{element}
 use Rattle.ark_math.specs.Univariate.{of_list, IsValue}
-use Rattle.ark_math.proofs.UnivariateLists.{of_list-below}
-use Rattle.ark_math.proofs.PlaceValues.{values_from}
+use Rattle.ark_math.proofs.Polynomials.UnivariateLists.{of_list-below}
+use Rattle.ark_math.proofs.OverDomains.PlaceValues.{values_from}
 use Rattle.ark_poly.proofs.polynomial.univariate.dense.DensePolynomial.evaluate_over_domain_by_ref.Goals as goal
 
 pub loop-i-preserved : goal.loop-i-preserved
 loop-i-preserved g c =
     let K = g.F.Field.field in
     let d = g.D.EvaluationDomain.domain c.args.domain in
-    let a = of_list K c.args.self.now.coeffs.items in
+    let a = of_list K c.args.self.now in
     let items = c.loop-i.evals.items in
     let value = c.in_ok-value.value in
     let pushed : c.push.new.self.items ≡ items ++ value ∷ [] = c.in_ok-push.ensures.items in
@@ -38,10 +38,10 @@ pub returns-clause-values : goal.returns-clause-values
 returns-clause-values g c =
     let K = g.F.Field.field in
     let d = g.D.EvaluationDomain.domain c.args.domain in
-    let coeffs = c.args.self.now.coeffs.items in
+    let coeffs = c.args.self.now in
     let is = c.from_vec_and_domain.ensures.evals in
     let end : c.loop-i.i ≡ c.size-i-end.result = omega arith in
     let size : c.loop-i.i ≡ d.size = end ∙ c.size-i-end.ensures in
-    values_from K g.met.F.Field.field_laws d (length coeffs) (of_list K coeffs) c.from_vec_and_domain.result.evals.items (of_list-below K coeffs)
+    values_from K g.met.F.Field.field_laws d (length coeffs) (of_list K coeffs) c.from_vec_and_domain.result.evals (of_list-below K coeffs)
     (ap length is ∙ c.loop-i.invariant.len ∙ size)
     (λ k h. subst (λ t. IsValue K (of_list K coeffs) (element K d k) t) (sym (ap (λ t. of_list K t k) is)) (c.loop-i.invariant.values k (subst (λ t. k < t) (sym size) h)))

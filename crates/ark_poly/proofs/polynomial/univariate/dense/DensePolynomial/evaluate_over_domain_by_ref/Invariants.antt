@@ -8,5 +8,5 @@ invariant-loop-i g l =
     let K = g.F.Field.field in
     record {
       len : length l.evals.items ≡ l.i;
-      values : (k : ℕ) → k < l.i → IsValue K (of_list K l.self.coeffs.items) (element K (g.D.EvaluationDomain.domain l.domain) k) (of_list K l.evals.items k);
+      values : (k : ℕ) → k < l.i → IsValue K (of_list K l.self) (element K (g.D.EvaluationDomain.domain l.domain) k) (of_list K l.evals.items k);
     }

@@ -1,19 +1,26 @@
-use Rattle.std.proofs.Common.{◌≡◌, sym, ap, ◌∙◌}
+use Rattle.std.proofs.Common.{◌≡◌, sym, ap, ◌∙◌, ◌==◌}
 use Rattle.ark_math.specs.Univariate.{of_list, nothing, product}
-use Rattle.ark_math.proofs.UnivariateProducts.{nothing-product, product-nothing}
-use Rattle.ark_poly.proofs.Results.{IfOk_more}
-use Rattle.ark_poly.proofs.polynomial.univariate.dense.DensePolynomial.naive_mul.Goals.{then-is_zero-via-then-is_zero, then-is_zero-via-else-is_zero+then-is_zero-2}
+use Rattle.ark_math.proofs.Polynomials.UnivariateLists.{trimmed_none_Decides}
+use Rattle.ark_math.proofs.Polynomials.UnivariateProducts.{nothing-product, product-nothing}
+use Rattle.ark_math.proofs.Outcomes.Results.{IfOk_more}
+use Rattle.ark_poly.proofs.polynomial.univariate.dense.DensePolynomial.naive_mul.Goals.{then-is_empty-via-then-is_empty, then-is_empty-via-else-is_empty+then-is_empty-2}
 use Rattle.ark_poly.proofs.polynomial.univariate.dense.DensePolynomial.naive_mul.Goals as goal
 
-pub returns-then-is_zero-clause-product : goal.returns-then-is_zero-clause-product
-returns-then-is_zero-clause-product g c =
+pub returns-then-is_empty-clause-product : goal.returns-then-is_empty-clause-product
+returns-then-is_empty-clause-product g c =
     let K = g.F.Field.field in
     let N = g.met.F.Field.field_laws in
-    let left = of_list K c.args.self.now.coeffs.items in
-    let right = of_list K c.args.other.now.coeffs.items in
+    let p = c.self.inside.coeffs in
+    let q = c.other.inside.coeffs in
+    let left = of_list K p.items in
+    let right = of_list K q.items in
     let none : product K left right ≡ nothing K =
-    elim c.then-is_zero.branch [
-      | then-is_zero-via-then-is_zero w ↦ ap (λ t. product K t right) (c.is_zero.ensures.0 w.if-is_zero.true) ∙ nothing-product K N right
-      | then-is_zero-via-else-is_zero+then-is_zero-2 w ↦ ap (product K left) (w.is_zero-else-is_zero.ensures.0 w.if-is_zero-2.true) ∙ product-nothing K N left
+    elim c.then-is_empty.branch [
+      | then-is_empty-via-then-is_empty w ↦
+          let zero : left ≡ nothing K = (trimmed_none_Decides K p.items c.is_empty.result c.self.invariant (c.is_empty.ensures ∙ ap (λ n. n == 0) p.ok.0)).0 w.if-is_empty.true in
+          ap (λ t. product K t right) zero ∙ nothing-product K N right
+      | then-is_empty-via-else-is_empty+then-is_empty-2 w ↦
+          let zero : right ≡ nothing K = (trimmed_none_Decides K q.items w.is_empty-else-is_empty.result c.other.invariant (w.is_empty-else-is_empty.ensures ∙ ap (λ n. n == 0) q.ok.0)).0 w.if-is_empty-2.true in
+          ap (product K left) zero ∙ product-nothing K N left
     ] in
-    IfOk_more c.zero.result (λ p e. e ∙ sym none) c.zero.ensures.zero
+    rw (← c.self.view_is, ← c.other.view_is) (IfOk_more c.zero.result (λ p e. e ∙ sym none) c.zero.ensures.zero)

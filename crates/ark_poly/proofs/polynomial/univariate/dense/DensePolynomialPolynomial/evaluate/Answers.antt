@@ -3,14 +3,14 @@ use Rattle.std.proofs.lemmas.List.{drop_all, get_or_read}
 use Rattle.ark_math.specs.Module.{itself}
 use Rattle.ark_math.specs.Transform.{value_at}
 use Rattle.ark_math.specs.Univariate.{of_list, IsValue}
-use Rattle.ark_math.proofs.Groups.{itself_is_module}
-use Rattle.ark_math.proofs.UnivariateValues.{value_at-drop, value-of_list}
+use Rattle.ark_math.proofs.Algebra.Groups.{itself_is_module}
+use Rattle.ark_math.proofs.Polynomials.UnivariateValues.{value_at-drop, value-of_list}
 use Rattle.ark_poly.proofs.polynomial.univariate.dense.DensePolynomialPolynomial.evaluate.Goals as goal
 
 pub loop-i-init : goal.loop-i-init
 loop-i-init g c =
     let K = g.F.Field.field in
-    let coeffs = c.args.self.now.coeffs in
+    let coeffs = c.self.inside.coeffs in
     let whole : length coeffs.items ≤ c.len-i.result = omega (arith, coeffs.ok.0, c.len-i.ensures) in
     c.zero-value.ensures
     ∙ g.met.F.Field.zero_law
@@ -20,11 +20,11 @@ pub loop-i-preserved : goal.loop-i-preserved
 loop-i-preserved g c =
     let K = g.F.Field.field in
     let N = g.met.F.Field.field_laws in
-    let coeffs = c.args.self.now.coeffs.items in
+    let coeffs = c.self.inside.coeffs.items in
     let x = c.args.point.now in
     let i = c.loop-i.i - 1 in
     let next : i + 1 ≡ c.loop-i.i = omega arith in
-    let inside : i < length coeffs = omega (arith, c.args.self.now.coeffs.ok.0, c.len-i.ensures, c.loop-i.auto.i) in
+    let inside : i < length coeffs = omega (arith, c.self.inside.coeffs.ok.0, c.len-i.ensures, c.loop-i.auto.i) in
     let coefficient : c.index.result.now ≡ get_or coeffs i K.zero = get_or_read coeffs i c.index.result.now inside c.index.ensures K.zero in
     let value : c.loop-i.value ≡ value_at K (itself K) (drop (i + 1) coeffs) x = c.loop-i.invariant ∙ ap (λ t. value_at K (itself K) (drop t coeffs) x) (sym next) in
     let step : c.mul.result ≡ K.times x (value_at K (itself K) (drop (i + 1) coeffs) x) =
@@ -37,8 +37,8 @@ loop-i-preserved g c =
 pub returns-clause-value : goal.returns-clause-value
 returns-clause-value g c =
     let K = g.F.Field.field in
-    let coeffs = c.args.self.now.coeffs.items in
+    let coeffs = c.self.inside.coeffs.items in
     let x = c.args.point.now in
     let end : c.loop-i.i ≡ 0 = omega arith in
     let is : c.loop-i.value ≡ value_at K (itself K) coeffs x = c.loop-i.invariant ∙ ap (λ t. value_at K (itself K) (drop t coeffs) x) end in
-    subst (λ t. IsValue K (of_list K coeffs) x t) (sym is) (value-of_list K g.met.F.Field.field_laws coeffs x)
+    rw (← c.self.view_is) (subst (λ t. IsValue K (of_list K coeffs) x t) (sym is) (value-of_list K g.met.F.Field.field_laws coeffs x))

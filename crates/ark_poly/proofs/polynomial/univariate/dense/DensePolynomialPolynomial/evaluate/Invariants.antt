@@ -6,4 +6,4 @@ use Rattle.ark_poly.proofs.polynomial.univariate.dense.DensePolynomialPolynomial
 abbrev pub invariant-loop-i : goal.invariant-loop-i
 invariant-loop-i g l =
     let K = g.F.Field.field in
-    l.value ≡ value_at K (itself K) (drop l.i l.self.coeffs.items) l.point
+    l.value ≡ value_at K (itself K) (drop l.i l.self-inside.coeffs.items) l.point

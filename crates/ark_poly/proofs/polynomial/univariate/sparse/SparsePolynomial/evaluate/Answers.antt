@@ -2,8 +2,8 @@ use Rattle.std.proofs.Common.{◌≡◌, ◌+◌, ◌≤◌, ◌<◌, length, ta
 use Rattle.std.proofs.lemmas.List.{take_all}
 use Rattle.ark_math.specs.Field.{power}
 use Rattle.ark_math.specs.Univariate.{of_pairs, nothing, IsValue}
-use Rattle.ark_math.proofs.UnivariateValues.{value-nothing}
-use Rattle.ark_math.proofs.UnivariatePairs.{value-of_pairs_take}
+use Rattle.ark_math.proofs.Polynomials.UnivariateValues.{value-nothing}
+use Rattle.ark_math.proofs.Polynomials.UnivariatePairs.{value-of_pairs_take}
 use Rattle.ark_poly.proofs.polynomial.univariate.sparse.SparsePolynomial.evaluate.Goals as goal
 
 pub loop-i-init : goal.loop-i-init
@@ -14,7 +14,7 @@ loop-i-init g c =
 pub loop-i-preserved : goal.loop-i-preserved
 loop-i-preserved g c =
     let K = g.F.Field.field in
-    let coeffs = c.args.self.now.coeffs in
+    let coeffs = c.self.inside.coeffs in
     let x = c.args.point.now in
     let term = c.index.result.now in
     let inside : c.loop-i.i < length coeffs.items = omega (arith, coeffs.ok.0, c.len-i-end.ensures, c.loop-i-test.true) in
@@ -27,6 +27,6 @@ loop-i-preserved g c =
 pub returns-clause-value : goal.returns-clause-value
 returns-clause-value g c =
     let K = g.F.Field.field in
-    let coeffs = c.args.self.now.coeffs in
+    let coeffs = c.self.inside.coeffs in
     let whole : length coeffs.items ≤ c.loop-i.i = omega (arith, coeffs.ok.0, c.len-i-end.ensures, c.loop-i-test.false) in
-    subst (λ t. IsValue K (of_pairs K t) c.args.point.now c.loop-i.value) (take_all c.loop-i.i coeffs.items whole) c.loop-i.invariant
+    rw (← c.self.view_is) (subst (λ t. IsValue K (of_pairs K t) c.args.point.now c.loop-i.value) (take_all c.loop-i.i coeffs.items whole) c.loop-i.invariant)

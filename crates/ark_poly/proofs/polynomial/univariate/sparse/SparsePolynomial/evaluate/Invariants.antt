@@ -5,4 +5,4 @@ use Rattle.ark_poly.proofs.polynomial.univariate.sparse.SparsePolynomial.evaluat
 abbrev pub invariant-loop-i : goal.invariant-loop-i
 invariant-loop-i g l =
     let K = g.F.Field.field in
-    IsValue K (of_pairs K (take l.i l.self.coeffs.items)) l.point l.value
+    IsValue K (of_pairs K (take l.i l.self-inside.coeffs.items)) l.point l.value

@@ -2,7 +2,7 @@ use Rattle.std.proofs.Common.{rules, ℕ, subst, sym, ap, ◌∙◌}
 use Rattle.std.specs.List.Sorted.{IsNonDecreasingBy}
 use Rattle.std.proofs.lemmas.List.Sorted.{IsNonDecreasingBy-from_sort_by_key}
 use Rattle.ark_math.specs.Univariate.{of_pairs}
-use Rattle.ark_math.proofs.SortedPairs.{of_pairs-permutation}
+use Rattle.ark_math.proofs.Polynomials.SortedPairs.{of_pairs-permutation}
 use Rattle.ark_poly.proofs.polynomial.univariate.sparse.SparsePolynomial.from_coefficients_vec.Goals as goal
 
 pub merged_terms-requires : goal.merged_terms-requires

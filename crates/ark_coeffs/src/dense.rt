@@ -1,0 +1,68 @@
+//! Coefficients by their exponents: item i of a list is the coefficient at i.
+
+ghost use Rattle.std.specs.Prelude.{◌≡◌, ◌≢◌, ℕ, ◌+◌, ◌-◌, ◌<◌, ◌≤◌, length, IfOk, replicate};
+ghost use Rattle.ark_math.specs.Univariate.{IsBelow, of_list, added, opposite, product};
+
+use ark_base::Field;
+use std::alloc::{AllocError, Global};
+
+/// How many coefficients there are up to the last that isn't zero.
+pub fn trimmed_len<F: Field>(coeffs: &[F]) -> usize
+    ensures within { result ≤ length coeffs.now }
+    ensures rest { IsBelow F.field result (of_list F.field coeffs.now) }
+    ensures last { 0 < result → of_list F.field coeffs.now (result - 1) ≢ F.field.zero }
+{
+    for i in (0..coeffs.len()).rev() {
+        if !coeffs[i].is_zero() {
+            return i + 1;
+        }
+    }
+    0
+}
+
+/// Adds to each coefficient the one of the same exponent.
+pub fn add_each<F: Field>(coeffs: &mut [F], other: &[F])
+    requires { length other.now ≤ length coeffs.old }
+    ensures { of_list F.field coeffs.new ≡ added F.field (of_list F.field coeffs.old)
+        (of_list F.field other.now) }
+{
+    for i in 0..other.len() {
+        coeffs[i] += other[i];
+    }
+}
+
+/// Subtracts from each coefficient the one of the same exponent.
+pub fn subtract_each<F: Field>(coeffs: &mut [F], other: &[F])
+    requires { length other.now ≤ length coeffs.old }
+    ensures { of_list F.field coeffs.new ≡ added F.field (of_list F.field coeffs.old)
+        (opposite F.field (of_list F.field other.now)) }
+{
+    for i in 0..other.len() {
+        coeffs[i] -= other[i];
+    }
+}
+
+/// Adds the product of two lists of coefficients.
+pub fn add_product<F: Field>(coeffs: &mut [F], left: &[F], right: &[F])
+    requires zeros { coeffs.old ≡ replicate (length left.now + length right.now - 1) F.field.zero }
+    ensures { of_list F.field coeffs.new ≡ product F.field (of_list F.field left.now)
+        (of_list F.field right.now) }
+{
+    for i in 0..left.len() {
+        for j in 0..right.len() {
+            coeffs[i + j] += left[i] * right[j];
+        }
+    }
+}
+
+/// A copy of the coefficients, with zeros up to this length.
+pub fn extended<F: Field>(alloc: Global, coeffs: &[F], len: usize) -> Result<Vec<F>, AllocError>
+    requires { length coeffs.now ≤ len }
+    ensures same { IfOk result (λ c. of_list F.field c.items ≡ of_list F.field coeffs.now) }
+    ensures len { IfOk result (λ c. length c.items ≡ len) }
+{
+    let mut copy = Vec::with_capacity(alloc, len)?;
+    copy.extend_from_slice(coeffs)?;
+    copy.resize(len, F::zero())?;
+    Ok(copy)
+}

@@ -1,0 +1,6 @@
+//! Arithmetic of the lists of coefficients behind the forms of polynomials.
+#![tactic(auto)]
+
+pub mod dense;
+pub mod rows;
+pub mod sparse;

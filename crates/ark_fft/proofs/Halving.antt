@@ -1,0 +1,171 @@
+-- The halving law of the transform, and its levels.
+use Rattle.std.proofs.Common.{◌≡◌, ℕ, zero, suc, ◌+◌, ◌*◌, ◌-◌, ◌/◌, ◌<◌, ◌≤◌, ◌^◌, List, length, get_or, map, ◌++◌, subst, ⊎_elim, sym, ◌∙◌, ap, ap₂, refl, arith}
+use Rattle.std.proofs.lemmas.Bool.{cases_lt}
+use Rattle.std.proofs.lemmas.Nat.{mul-add-lt, pow_pos}
+use Rattle.std.proofs.Math.Pow.{pow_mono}
+use Rattle.ark_math.specs.Field.{FieldOn, IsField, power}
+use Rattle.ark_math.specs.Root.{HasOrder}
+use Rattle.ark_math.specs.Module.{ModuleOn, IsModule, sum_below, item}
+use Rattle.ark_math.specs.Transform.{dft_at}
+use Rattle.ark_fft.specs.Halves.{reversed, IsHalfTable}
+use Rattle.ark_math.proofs.Algebra.Groups.{zero_plus}
+use Rattle.ark_math.proofs.Lists.Lists.{read_front, read_back, read_order}
+use Rattle.ark_math.proofs.Algebra.Powers.{power-add, power-mul, power_comm, negated_one_even, negated_one_odd, half_of_order}
+use Rattle.ark_fft.proofs.Reversal.{Half, low, high, half_of, pow_suc, pow_pred, reversed_low, reversed_high, reversed_below, reversed_twice}
+use Rattle.ark_math.proofs.Algebra.Sums.{sum_below-same, sum_below-plus, sum_below-add}
+use Rattle.ark_math.proofs.Algebra.Solve.{◌⊗◌, ◌•◌, ◌⊞◌, ◌⊟◌, unit, negative}
+use Rattle.ark_math.proofs.Algebra.Ring.{module2_2}
+
+pub mul_within : (i h s n : ℕ) → i < h → s * h ≡ n → 0 < s → i * s < n
+mul_within i h s n l e pos = omega (arith, mul-add-lt i s 0 h l pos)
+
+pub few_levels : (n : ℕ) → 2 ^ n < 2 ^ 64 → n < 64
+few_levels n l =
+    ⊎_elim (λ (a : n < 64). a)
+    (λ (b : 64 ≤ n). let m : 2 ^ 64 ≤ 2 ^ n = pow_mono b in absurd (omega arith))
+    (cases_lt n 64)
+
+pub some_level : (n size : ℕ) → size ≡ 2 ^ n → 1 < size → 0 < n
+some_level zero size is l = absurd (omega arith)
+some_level (suc n) size is l = omega arith
+
+pub one_item : (n size : ℕ) → size ≡ 2 ^ n → size ≤ 1 → n ≡ 0
+one_item zero size is l = refl
+one_item (suc n) size is l = absurd (omega (arith, pow_suc n, pow_pos n))
+
+-- at a level the strides of a half make the table, and so do the doubled strides of the level below
+pub half_strides : (n s t : ℕ) → 0 < n → 2 ^ n * s / 2 ≡ t → (s * 2 ^ (n - 1) ≡ t) × (2 ^ (n - 1) * (s * 2) / 2 ≡ t)
+half_strides n s t pos whole =
+    let e : 2 ^ n * s ≡ 2 ^ (n - 1) * s * 2 = ap (λ u. u * s) (pow_pred n pos) ∙ omega arith in
+    let f : 2 ^ (n - 1) * (s * 2) ≡ 2 ^ (n - 1) * s * 2 = omega arith in
+    let w : 2 ^ (n - 1) * s * 2 / 2 ≡ t = ap (λ u. u / 2) (sym e) ∙ whole in
+    (omega arith, ap (λ u. u / 2) f ∙ w)
+
+pub stride_within : (s h n : ℕ) → 0 < h → s * h ≡ n → n < 2 ^ 63 → s * 2 < 2 ^ 64
+stride_within s (suc h) n pos e l =
+    let f : s * suc h ≡ s * h + s = omega arith in
+    omega arith
+stride_within s zero n pos e l = absurd (omega arith)
+
+-- the butterflies of e levels of 2 ^ n items: those of the topmost, and those of its halves
+pub count_levels : (n e : ℕ) → 0 < e → e ≤ n → 2 ^ n / 2 * e ≡ 2 ^ (n - 1) + (2 ^ (n - 1) / 2 * (e - 1) + 2 ^ (n - 1) / 2 * (e - 1))
+count_levels zero e some within = absurd (omega arith)
+count_levels n zero some within = absurd (omega arith)
+count_levels (suc zero) (suc zero) some within = refl
+count_levels (suc zero) (suc (suc j)) some within = absurd (omega arith)
+count_levels (suc (suc k)) (suc j) some within =
+    let a : 2 ^ suc (suc k) / 2 ≡ 2 ^ k + 2 ^ k = omega (arith, pow_suc (suc k), pow_suc k) in
+    let b : 2 ^ suc k / 2 ≡ 2 ^ k = omega (arith, pow_suc k) in
+    let e : suc (suc k) - 1 ≡ suc k = omega arith in
+    let f : suc j - 1 ≡ j = omega arith in
+    let h : (2 ^ k + 2 ^ k) * suc j ≡ 2 ^ k + 2 ^ k + (2 ^ k * j + 2 ^ k * j) = omega arith in
+    ap (λ t. t * suc j) a
+    ∙ (h
+    ∙ sym (ap₂ (λ t u. 2 ^ t + (2 ^ t / 2 * u + 2 ^ t / 2 * u)) e f ∙ (ap (λ t. 2 ^ suc k + (t * j + t * j)) b ∙ ap (λ t. t + (2 ^ k * j + 2 ^ k * j)) (pow_suc k))))
+
+halved : (levels size half : ℕ) → size ≡ 2 ^ levels → half ≡ size / 2 → 0 < half → size ≡ half * 2
+halved zero size half is len pos = absurd (omega arith)
+halved (suc k) size half is len pos = omega (arith, pow_suc k)
+
+-- a table of half the powers of a root
+pub is_half_table : {F : Type 0} (K : FieldOn F) (N : IsField K) (levels size : ℕ) (w : F) (table : List F) → size ≡ 2 ^ levels → length table ≡ size / 2 → HasOrder K w size → ((i : ℕ) → i < length table → get_or table i K.zero ≡ power K w i) → IsHalfTable K w table
+is_half_table K N levels size w table is len order powers = record {
+  powers = powers;
+  half = λ pos. half_of_order K N w (length table) pos (subst (HasOrder K w) (halved levels size (length table) is len pos) order);
+}
+
+module _ {F M : Type 0} {K : FieldOn F} {V : ModuleOn F M} (N : IsField K) (L : IsModule K V) where
+  -- the two halves of a sum, joined term by term
+  joined : (m : ℕ) (x y : F) (f g : ℕ → M) → ((j : ℕ) → j < m → V.plus (V.scale (power K x j) (f j)) (V.scale (power K x (m + j)) (f (m + j))) ≡ V.scale (power K y j) (g j)) → sum_below V (m + m) (λ j. V.scale (power K x j) (f j)) ≡ sum_below V m (λ j. V.scale (power K y j) (g j))
+  joined m x y f g same =
+      sum_below-add L m m (λ j. V.scale (power K x j) (f j))
+      ∙ (sym (sum_below-plus L m (λ j. V.scale (power K x j) (f j)) (λ j. V.scale (power K x (m + j)) (f (m + j))))
+      ∙ sum_below-same V m _ _ same)
+
+  -- at an even place: the transform at w ^ 2 of the sums
+  pub at_even : (m : ℕ) (w : F) (f g : ℕ → M) (i : ℕ) → power K w m ≡ K.negated K.one → ((j : ℕ) → j < m → g j ≡ V.plus (f j) (f (m + j))) → dft_at K V (m + m) w f (2 * i) ≡ dft_at K V m (power K w 2) g i
+  at_even m w f g i half e =
+      let x = power K w (2 * i) in
+      let y = power K (power K w 2) i in
+      let one : power K x m ≡ K.one = power_comm K N w (2 * i) m ∙ negated_one_even K N (power K w m) i half in
+      let near : (j : ℕ) → power K x j ≡ power K y j = λ j. ap (λ t. power K t j) (power-mul K N w 2 i) in
+      let far : (j : ℕ) → power K x (m + j) ≡ power K y j = λ j.
+      power-add K N x m j ∙ (ap₂ K.times one (near j) ∙ (N.times_comm K.one (power K y j) ∙ N.times_one (power K y j))) in
+      joined m x y f g
+      (λ j l.
+      ap₂ (λ s t. V.plus (V.scale s (f j)) (V.scale t (f (m + j)))) (near j) (far j)
+      ∙ (sym (L.scale_plus (power K y j) (f j) (f (m + j))) ∙ ap (V.scale (power K y j)) (sym (e j l))))
+
+  -- at an odd place: that of the differences, each times its power of w
+  pub at_odd : (m : ℕ) (w : F) (f g : ℕ → M) (i : ℕ) → power K w m ≡ K.negated K.one → ((j : ℕ) → j < m → g j ≡ V.scale (power K w j) (V.plus (f j) (V.negated (f (m + j))))) → dft_at K V (m + m) w f (2 * i + 1) ≡ dft_at K V m (power K w 2) g i
+  at_odd m w f g i half e =
+      let x = power K w (2 * i + 1) in
+      let y = power K (power K w 2) i in
+      let minus : power K x m ≡ K.negated K.one = power_comm K N w (2 * i + 1) m ∙ negated_one_odd K N (power K w m) i half in
+      let near : (j : ℕ) → power K x j ≡ K.times (power K y j) (power K w j) = λ j.
+      let n : (2 * i + 1) * j ≡ 2 * i * j + j = omega arith in
+      sym (power-mul K N w (2 * i + 1) j)
+      ∙ (ap (power K w) n
+      ∙ (power-add K N w (2 * i * j) j
+      ∙ ap (λ t. K.times t (power K w j)) (power-mul K N w (2 * i) j ∙ ap (λ t. power K t j) (power-mul K N w 2 i)))) in
+      let far : (j : ℕ) → power K x (m + j) ≡ K.times (K.negated K.one) (K.times (power K y j) (power K w j)) = λ j.
+      power-add K N x m j ∙ ap₂ K.times minus (near j) in
+      joined m x y f g
+      (λ j l.
+      ap₂ (λ s t. V.plus (V.scale s (f j)) (V.scale t (f (m + j)))) (near j) (far j)
+      ∙ (module2_2 N L (λ p r a b. ((p ⊗ r) • a ⊞ (negative unit ⊗ (p ⊗ r)) • b, p • (r • (a ⊟ b)))) refl (power K y j) (power K w j) (f j) (f (m + j))
+      ∙ ap (V.scale (power K y j)) (sym (e j l))))
+
+  -- the transform at w, in reversed order, from those of the sums and of the differences at w ^ 2
+  level_at : (k : ℕ) (w : F) (f g h r : ℕ → M) → power K w (2 ^ k) ≡ K.negated K.one → ((j : ℕ) → j < 2 ^ k → g j ≡ V.plus (f j) (f (2 ^ k + j))) → ((j : ℕ) → j < 2 ^ k → h j ≡ V.scale (power K w j) (V.plus (f j) (V.negated (f (2 ^ k + j))))) → ((p : ℕ) → p < 2 ^ k → r p ≡ dft_at K V (2 ^ k) (power K w 2) g (reversed k p)) → ((p : ℕ) → p < 2 ^ k → r (2 ^ k + p) ≡ dft_at K V (2 ^ k) (power K w 2) h (reversed k p)) → (p : ℕ) → Half k p → r p ≡ dft_at K V (2 ^ suc k) w f (reversed (suc k) p)
+  level_at k w f g h r half sums differences of_lo of_hi _ (low p l) =
+      of_lo p l
+      ∙ (sym (at_even (2 ^ k) w f g (reversed k p) half sums)
+      ∙ ap₂ (λ n i. dft_at K V n w f i) (sym (pow_suc k)) (sym (reversed_low k p l)))
+  level_at k w f g h r half sums differences of_lo of_hi _ (high p l) =
+      of_hi p l
+      ∙ (sym (at_odd (2 ^ k) w f h (reversed k p) half differences)
+      ∙ ap₂ (λ n i. dft_at K V n w f i) (sym (pow_suc k)) (sym (reversed_high k p (2 ^ k + p) refl)))
+
+  -- one item is its own transform
+  pub no_level : (n : ℕ) (w : F) (f : ℕ → M) → n ≡ 0 → (p : ℕ) → p < 2 ^ n → f p ≡ dft_at K V (2 ^ n) w f (reversed n p)
+  no_level n w f e p l =
+      let b : p < 2 ^ 0 = rw e at l in
+      let z : p ≡ 0 = omega arith in
+      subst (λ t. f p ≡ dft_at K V (2 ^ t) w f (reversed t p)) (sym e)
+      (ap f z ∙ sym (zero_plus L (V.scale K.one (f 0)) ∙ L.one_scale (f 0)))
+
+module _ {F M X : Type 0} {K : FieldOn F} {V : ModuleOn F M} (N : IsField K) (L : IsModule K V) (m : X → M) where
+  -- one level, on lists: xs is lo and hi, the butterflies make them lo1 and hi1, and the levels below lo2 and hi2
+  pub one_level : (n : ℕ) (w : F) (s : ℕ) (table : List F) (xs lo hi lo1 hi1 lo2 hi2 : List X) → IsHalfTable K w table → 0 < n → 2 ^ n * s / 2 ≡ length table → 0 < s → xs ≡ lo ++ hi → length lo ≡ 2 ^ (n - 1) → length lo2 ≡ 2 ^ (n - 1) → ((i : ℕ) → i < length lo → item V (map m lo1) i ≡ V.plus (item V (map m lo) i) (item V (map m hi) i)) → ((i : ℕ) → i < length lo → item V (map m hi1) i ≡ V.scale (get_or table (i * s) K.zero) (V.plus (item V (map m lo) i) (V.negated (item V (map m hi) i)))) → ((p : ℕ) → p < 2 ^ (n - 1) → item V (map m lo2) p ≡ dft_at K V (2 ^ (n - 1)) (power K w (s * 2)) (item V (map m lo1)) (reversed (n - 1) p)) → ((p : ℕ) → p < 2 ^ (n - 1) → item V (map m hi2) p ≡ dft_at K V (2 ^ (n - 1)) (power K w (s * 2)) (item V (map m hi1)) (reversed (n - 1) p)) → (p : ℕ) → p < 2 ^ n → item V (map m (lo2 ++ hi2)) p ≡ dft_at K V (2 ^ n) (power K w s) (item V (map m xs)) (reversed n p)
+  one_level n w s table xs lo hi lo1 hi1 lo2 hi2 t pos whole some joins len_lo len_lo2 sums differences of_lo of_hi p l =
+      let k = n - 1 in
+      let suc_k : suc k ≡ n = omega arith in
+      let strides = half_strides n s (length table) pos whole in
+      let first : 0 * s < length table = mul_within 0 (2 ^ k) s (length table) (pow_pos k) strides.0 some in
+      let any : 0 < length table = omega arith in
+      let half : power K (power K w s) (2 ^ k) ≡ K.negated K.one = sym (power-mul K N w s (2 ^ k)) ∙ (ap (power K w) strides.0 ∙ t.half any) in
+      let old = item V (map m xs) in
+      let front : (i : ℕ) → i < 2 ^ k → item V (map m lo) i ≡ old i = λ i b. sym (ap (λ u. item V (map m u) i) joins ∙ read_front m V.zero lo hi i (omega arith)) in
+      let back : (i : ℕ) → item V (map m hi) i ≡ old (2 ^ k + i) = λ i. sym (ap (λ u. item V (map m u) (2 ^ k + i)) joins ∙ read_back m V.zero lo hi (2 ^ k) i len_lo) in
+      let squared : power K w (s * 2) ≡ power K (power K w s) 2 = power-mul K N w s 2 in
+      subst (λ u. item V (map m (lo2 ++ hi2)) p ≡ dft_at K V (2 ^ u) (power K w s) old (reversed u p)) suc_k
+      (level_at N L k (power K w s) old (item V (map m lo1)) (item V (map m hi1)) (item V (map m (lo2 ++ hi2))) half
+      (λ i b. sums i (omega arith) ∙ ap₂ V.plus (front i b) (back i))
+      (λ i b.
+      let within : i * s < length table = mul_within i (2 ^ k) s (length table) b strides.0 some in
+      let e : i * s ≡ s * i = omega arith in
+      differences i (omega arith)
+      ∙ ap₂ V.scale (t.powers (i * s) within ∙ (ap (power K w) e ∙ power-mul K N w s i)) (ap₂ (λ x y. V.plus x (V.negated y)) (front i b) (back i)))
+      (λ q b. read_front m V.zero lo2 hi2 q (omega arith) ∙ (of_lo q b ∙ ap (λ u. dft_at K V (2 ^ k) u (item V (map m lo1)) (reversed k q)) squared))
+      (λ q b. read_back m V.zero lo2 hi2 (2 ^ k) q len_lo2 ∙ (of_hi q b ∙ ap (λ u. dft_at K V (2 ^ k) u (item V (map m hi1)) (reversed k q)) squared))
+      p (half_of k p (rw suc_k l)))
+
+  -- all levels, their order restored
+  pub all_levels : (n : ℕ) (w : F) (old mid now : List X) → length mid ≡ 2 ^ n → length now ≡ 2 ^ n → ((p : ℕ) → p < 2 ^ n → item V (map m mid) p ≡ dft_at K V (2 ^ n) (power K w 1) (item V (map m old)) (reversed n p)) → ((p : ℕ) (d : X) → p < 2 ^ n → get_or now p d ≡ get_or mid (reversed n p) d) → (i : ℕ) → i < 2 ^ n → item V (map m now) i ≡ dft_at K V (2 ^ n) w (item V (map m old)) i
+  all_levels n w old mid now of_mid of_now halves order i l =
+      read_order m V.zero (reversed n) mid now
+      (λ q c. let d : q < 2 ^ n = omega arith in let e = reversed_below n q d in omega arith)
+      (λ q d c. order q d (omega arith)) i (omega arith)
+      ∙ (halves (reversed n i) (reversed_below n i l)
+      ∙ ap₂ (λ u j. dft_at K V (2 ^ n) u (item V (map m old)) j) (N.times_one w) (reversed_twice n i l))

@@ -1,0 +1,209 @@
+-- The transform by halves from the reversed order: the sum at x is that of the even items at x ^ 2, and x times that of the odd ones.
+use Rattle.std.proofs.Common.{◌≡◌, ℕ, suc, ◌+◌, ◌*◌, ◌-◌, ◌/◌, ◌%◌, ◌<◌, ◌≤◌, ◌^◌, List, length, get_or, take, drop, map, ◌++◌, zero, length-take-le, length-drop, subst, sym, ◌∙◌, ap, ap₂, refl, arith}
+use Rattle.std.proofs.lemmas.List.{get_or_append_left, get_or-take, get_or-drop}
+use Rattle.std.proofs.lemmas.Nat.{div-mul-add, pow_pos, pow-add}
+use Rattle.std.proofs.Math.Nat.{div-lt_iff_lt-mul}
+use Rattle.std.proofs.Math.Pow.{pow_mono}
+use Rattle.ark_math.specs.Field.{FieldOn, IsField, power}
+use Rattle.ark_math.specs.Module.{ModuleOn, IsModule, sum_below, item}
+use Rattle.ark_math.specs.Transform.{dft_at}
+use Rattle.ark_fft.specs.Halves.{reversed, ArePowers, IsHalfTable, AreLevels}
+use Rattle.ark_math.proofs.Algebra.Groups.{zero_plus, scale_zero, one_times}
+use Rattle.ark_math.proofs.Lists.Lists.{read_front, read_back, read_order}
+use Rattle.ark_math.proofs.Algebra.Powers.{power-add, power-mul, power_comm, negated_one_even}
+use Rattle.ark_math.proofs.Algebra.Regrouped.{sum_below-past}
+use Rattle.ark_fft.proofs.Reversal.{Half, low, high, half_of, pow_pred, reversed_low, reversed_high, reversed_below}
+use Rattle.ark_math.proofs.Algebra.Ring.{module1_2}
+use Rattle.ark_math.proofs.Algebra.Solve.{◌⊗◌, ◌•◌, ◌⊞◌, ◌⊟◌, unit, negative, origin}
+use Rattle.ark_fft.proofs.Split.{split}
+
+-- ---- blocks of 2 ^ b places
+
+block_below : (d b p : ℕ) → p < 2 ^ (d + b) → p / 2 ^ b < 2 ^ d
+block_below d b p l = (div-lt_iff_lt-mul {k = 2 ^ b} {x = p} {y = 2 ^ d} (pow_pos b)).1 (rw (pow-add 2 d b) at l)
+
+block_high : (d b p : ℕ) → (2 ^ (d + b) + p) / 2 ^ b ≡ 2 ^ d + p / 2 ^ b
+block_high d b p =
+    let pos : 0 < 2 ^ b = pow_pos b in
+    let less : p % 2 ^ b < 2 ^ b = omega arith in
+    let parts : 2 ^ b * (p / 2 ^ b) + p % 2 ^ b ≡ p = omega arith in
+    let whole : 2 ^ (d + b) + p ≡ (2 ^ d + p / 2 ^ b) * 2 ^ b + p % 2 ^ b = rw (pow-add 2 d b) (omega arith) in
+    ap (λ t. t / 2 ^ b) whole ∙ div-mul-add (2 ^ d + p / 2 ^ b) (2 ^ b) (p % 2 ^ b) less
+
+-- the first items of as many blocks
+pub first_items : (n e len : ℕ) → e ≤ n → len ≡ 2 ^ n → len / 2 ^ (n - e) ≡ 2 ^ e
+first_items n e len within is =
+    let width : e + (n - e) ≡ n = omega arith in
+    let whole : len ≡ 2 ^ e * 2 ^ (n - e) + 0 = is ∙ (ap (λ t. 2 ^ t) (sym width) ∙ (pow-add 2 e (n - e) ∙ omega arith)) in
+    ap (λ t. t / 2 ^ (n - e)) whole ∙ div-mul-add (2 ^ e) (2 ^ (n - e)) 0 (pow_pos (n - e))
+
+-- the blocks of a level are those of its halves, the even ones first
+module _ (n e : ℕ) (some : 0 < e) (within : e ≤ n) where
+  widths : (n - e ≡ n - 1 - (e - 1)) × (e ≡ suc (e - 1)) × (e - 1 + (n - e) ≡ n - 1)
+  widths = (omega arith, omega arith, omega arith)
+
+  pub blocks_front : (p : ℕ) → p < 2 ^ (n - 1) → reversed e (p / 2 ^ (n - e)) ≡ 2 * reversed (e - 1) (p / 2 ^ (n - 1 - (e - 1))) + 0
+  blocks_front p l =
+      let b : p < 2 ^ (e - 1 + (n - e)) = rw widths.2 l in
+      ap (λ t. reversed t (p / 2 ^ (n - e))) widths.1
+      ∙ (reversed_low (e - 1) (p / 2 ^ (n - e)) (block_below (e - 1) (n - e) p b)
+      ∙ (ap (λ t. 2 * reversed (e - 1) (p / 2 ^ t)) widths.0 ∙ omega arith))
+
+  pub blocks_back : (p : ℕ) → reversed e ((2 ^ (n - 1) + p) / 2 ^ (n - e)) ≡ 2 * reversed (e - 1) (p / 2 ^ (n - 1 - (e - 1))) + 1
+  blocks_back p =
+      let q : (2 ^ (n - 1) + p) / 2 ^ (n - e) ≡ 2 ^ (e - 1) + p / 2 ^ (n - e) = ap (λ t. (2 ^ t + p) / 2 ^ (n - e)) (sym widths.2) ∙ block_high (e - 1) (n - e) p in
+      ap (λ t. reversed t ((2 ^ (n - 1) + p) / 2 ^ (n - e))) widths.1
+      ∙ (reversed_high (e - 1) (p / 2 ^ (n - e)) _ q
+      ∙ ap (λ t. 2 * reversed (e - 1) (p / 2 ^ t) + 1) widths.0)
+
+module _ {F M : Type 0} {K : FieldOn F} {V : ModuleOn F M} (N : IsField K) (L : IsModule K V) where
+  -- f has zeros from h on
+  pub sum_of_few : (h n : ℕ) (w : F) (f : ℕ → M) (i : ℕ) → h ≤ n → ((j : ℕ) → h ≤ j → j < n → f j ≡ V.zero) → dft_at K V n w f i ≡ dft_at K V h w f i
+  sum_of_few h n w f i le zeros =
+      sum_below-past L h n _ le (λ j a b. ap (V.scale (power K (power K w i) j)) (zeros j a b) ∙ scale_zero L (power K (power K w i) j))
+
+  joined : (m : ℕ) (w : F) (f : ℕ → M) (i : ℕ) → dft_at K V (2 * m) w f i ≡ V.plus (dft_at K V m (power K w 2) (λ j. f (2 * j + 0)) i) (V.scale (power K w i) (dft_at K V m (power K w 2) (λ j. f (2 * j + 1)) i))
+  joined m w f i =
+      split N L 2 m w f i
+      ∙ module1_2 N L (λ x a b. (origin ⊞ unit • a ⊞ (x ⊗ unit) • b, a ⊞ x • b)) refl (power K w i) _ _
+
+  -- h places on, where w ^ h is minus one
+  joined_opposite : (m h : ℕ) (w : F) (f : ℕ → M) (i : ℕ) → power K w h ≡ K.negated K.one → dft_at K V (2 * m) w f (h + i) ≡ V.plus (dft_at K V m (power K w 2) (λ j. f (2 * j + 0)) i) (V.negated (V.scale (power K w i) (dft_at K V m (power K w 2) (λ j. f (2 * j + 1)) i)))
+  joined_opposite m h w f i half =
+      let one : power K (power K w 2) h ≡ K.one = power_comm K N w 2 h ∙ negated_one_even K N (power K w h) 1 half in
+      let same : power K (power K w 2) (h + i) ≡ power K (power K w 2) i =
+      power-add K N (power K w 2) h i ∙ (ap (λ t. K.times t (power K (power K w 2) i)) one ∙ one_times K N (power K (power K w 2) i)) in
+      let there : (g : ℕ → M) → dft_at K V m (power K w 2) g (h + i) ≡ dft_at K V m (power K w 2) g i = λ g.
+      ap (λ t. sum_below V m (λ j. V.scale (power K t j) (g j))) same in
+      joined m w f (h + i)
+      ∙ (ap₂ V.plus (there (λ j. f (2 * j + 0))) (ap₂ V.scale (power-add K N w h i ∙ ap (λ t. K.times t (power K w i)) half) (there (λ j. f (2 * j + 1))))
+      ∙ module1_2 N L (λ x a b. (a ⊞ (negative unit ⊗ x) • b, a ⊟ x • b)) refl (power K w i) _ _)
+
+  -- the sums at w from those of the even and the odd items at w ^ 2
+  joined_at : (k m : ℕ) (w : F) (c f g r : ℕ → M) → power K w (2 ^ k) ≡ K.negated K.one → ((p : ℕ) → p < 2 ^ k → f p ≡ dft_at K V m (power K w 2) (λ j. c (2 * j + 0)) p) → ((p : ℕ) → p < 2 ^ k → g p ≡ dft_at K V m (power K w 2) (λ j. c (2 * j + 1)) p) → ((p : ℕ) → p < 2 ^ k → r p ≡ V.plus (f p) (V.scale (power K w p) (g p))) → ((p : ℕ) → p < 2 ^ k → r (2 ^ k + p) ≡ V.plus (f p) (V.negated (V.scale (power K w p) (g p)))) → (p : ℕ) → Half k p → r p ≡ dft_at K V (2 * m) w c p
+  joined_at k m w c f g r half evens odds sums differences _ (low p l) =
+      sums p l ∙ (ap₂ (λ x y. V.plus x (V.scale (power K w p) y)) (evens p l) (odds p l) ∙ sym (joined m w c p))
+  joined_at k m w c f g r half evens odds sums differences _ (high p l) =
+      differences p l ∙ (ap₂ (λ x y. V.plus x (V.negated (V.scale (power K w p) y))) (evens p l) (odds p l) ∙ sym (joined_opposite m (2 ^ k) w c p half))
+
+module _ {F M X : Type 0} {K : FieldOn F} {V : ModuleOn F M} (N : IsField K) (L : IsModule K V) (m : X → M) where
+  -- the list has the items c 0, c 1, .. of 2 ^ e in the reversed order, each in a block of its own
+  abbrev pub AreBlocks : ℕ → ℕ → List X → (ℕ → M) → Type 0
+  AreBlocks n e xs c = (p : ℕ) → p < 2 ^ n → item V (map m xs) p ≡ c (reversed e (p / 2 ^ (n - e)))
+
+  pub blocks_of_front : (n e : ℕ) (xs lo hi : List X) (c : ℕ → M) → 0 < e → e ≤ n → xs ≡ lo ++ hi → length lo ≡ 2 ^ (n - 1) → AreBlocks n e xs c → AreBlocks (n - 1) (e - 1) lo (λ j. c (2 * j + 0))
+  blocks_of_front n e xs lo hi c some within joins len_lo blocks p l =
+      let pos : 0 < n = omega arith in
+      let b : p < 2 ^ n = omega (arith, pow_pred n pos) in
+      sym (ap (λ u. item V (map m u) p) joins ∙ read_front m V.zero lo hi p (omega arith))
+      ∙ (blocks p b ∙ ap c (blocks_front n e some within p l))
+
+  pub blocks_of_back : (n e : ℕ) (xs lo hi : List X) (c : ℕ → M) → 0 < e → e ≤ n → xs ≡ lo ++ hi → length lo ≡ 2 ^ (n - 1) → AreBlocks n e xs c → AreBlocks (n - 1) (e - 1) hi (λ j. c (2 * j + 1))
+  blocks_of_back n e xs lo hi c some within joins len_lo blocks p l =
+      let pos : 0 < n = omega arith in
+      let b : 2 ^ (n - 1) + p < 2 ^ n = omega (arith, pow_pred n pos) in
+      sym (ap (λ u. item V (map m u) (2 ^ (n - 1) + p)) joins ∙ read_back m V.zero lo hi (2 ^ (n - 1)) p len_lo)
+      ∙ (blocks (2 ^ (n - 1) + p) b ∙ ap c (blocks_back n e some within p))
+
+  -- one level, on lists: the halves are transformed to lo and hi, and joined to lo1 and hi1
+  pub joined_level : (n e : ℕ) (w : F) (twiddles : List F) (c : ℕ → M) (lo hi lo1 hi1 : List X) → IsHalfTable K w twiddles → 0 < e → e ≤ n → length twiddles ≡ 2 ^ (n - 1) → length lo ≡ 2 ^ (n - 1) → length lo1 ≡ 2 ^ (n - 1) → ((p : ℕ) → p < 2 ^ (n - 1) → item V (map m lo) p ≡ dft_at K V (2 ^ (e - 1)) (power K w 2) (λ j. c (2 * j + 0)) p) → ((p : ℕ) → p < 2 ^ (n - 1) → item V (map m hi) p ≡ dft_at K V (2 ^ (e - 1)) (power K w 2) (λ j. c (2 * j + 1)) p) → ((i : ℕ) → i < length lo → item V (map m lo1) i ≡ V.plus (item V (map m lo) i) (V.scale (get_or twiddles i K.zero) (item V (map m hi) i))) → ((i : ℕ) → i < length lo → item V (map m hi1) i ≡ V.plus (item V (map m lo) i) (V.negated (V.scale (get_or twiddles i K.zero) (item V (map m hi) i)))) → (p : ℕ) → p < 2 ^ n → item V (map m (lo1 ++ hi1)) p ≡ dft_at K V (2 ^ e) w c p
+  joined_level n e w twiddles c lo hi lo1 hi1 t some within len_twiddles len_lo len_lo1 evens odds sums differences p l =
+      let k = n - 1 in
+      let pos : 0 < n = omega arith in
+      let suc_k : suc k ≡ n = omega arith in
+      let any : 0 < length twiddles = omega (arith, len_twiddles, pow_pos k) in
+      let half : power K w (2 ^ k) ≡ K.negated K.one = sym (ap (power K w) len_twiddles) ∙ t.half any in
+      let size : 2 * 2 ^ (e - 1) ≡ 2 ^ e = omega (arith, pow_pred e some) in
+      let entry : (i : ℕ) → i < 2 ^ k → get_or twiddles i K.zero ≡ power K w i = λ i b. t.powers i (omega (arith, b, len_twiddles)) in
+      joined_at N L k (2 ^ (e - 1)) w c (item V (map m lo)) (item V (map m hi)) (item V (map m (lo1 ++ hi1))) half evens odds
+      (λ q b. read_front m V.zero lo1 hi1 q (omega arith) ∙ (sums q (omega arith) ∙ ap (λ u. V.plus (item V (map m lo) q) (V.scale u (item V (map m hi) q))) (entry q b)))
+      (λ q b. read_back m V.zero lo1 hi1 (2 ^ k) q len_lo1 ∙ (differences q (omega arith) ∙ ap (λ u. V.plus (item V (map m lo) q) (V.negated (V.scale u (item V (map m hi) q)))) (entry q b)))
+      p (half_of k p (rw suc_k l))
+      ∙ ap (λ u. dft_at K V u w c p) size
+
+  -- one item, in each place, is its own transform
+  pub one_block : (n e : ℕ) (w : F) (xs : List X) (c : ℕ → M) → e ≡ 0 → AreBlocks n e xs c → (p : ℕ) → p < 2 ^ n → item V (map m xs) p ≡ dft_at K V (2 ^ e) w c p
+  one_block n e w xs c none blocks p l =
+      blocks p l
+      ∙ (ap (λ t. c (reversed t (p / 2 ^ (n - e)))) none
+      ∙ (sym (zero_plus L (V.scale K.one (c 0)) ∙ L.one_scale (c 0)) ∙ ap (λ t. dft_at K V (2 ^ t) w c p) (sym none)))
+
+  -- the first items in reversed order, and then spread out
+  pub blocks_spread : (n e : ℕ) (old front rest now : List X) → e ≤ n → length old ≡ 2 ^ n → length front ≡ 2 ^ e → length now ≡ 2 ^ n → length (front ++ rest) ≡ 2 ^ n → ((p : ℕ) (d : X) → p < 2 ^ e → get_or front p d ≡ get_or (take (2 ^ e) old) (reversed e p) d) → ((p : ℕ) (d : X) → p < length (front ++ rest) → get_or now p d ≡ get_or (front ++ rest) (p / 2 ^ (n - e)) d) → AreBlocks n e now (item V (map m old))
+  blocks_spread n e old front rest now within of_old of_front of_now of_mid order copies p l =
+      let width : e + (n - e) ≡ n = omega arith in
+      let le : 2 ^ e ≤ 2 ^ n = pow_mono within in
+      let below : (q : ℕ) → q < 2 ^ n → q / 2 ^ (n - e) < 2 ^ e = λ q b. let c : q < 2 ^ (e + (n - e)) = rw width b in block_below e (n - e) q c in
+      read_order m V.zero (λ q. reversed e (q / 2 ^ (n - e))) old now
+      (λ q b. let c : q < 2 ^ n = omega arith in let r = reversed_below e (q / 2 ^ (n - e)) (below q c) in omega arith)
+      (λ q d b.
+      let c : q < 2 ^ n = omega arith in
+      let h = below q c in
+      copies q d (omega arith)
+      ∙ (get_or_append_left front rest d (q / 2 ^ (n - e)) (omega arith)
+      ∙ (order (q / 2 ^ (n - e)) d h ∙ get_or-take (2 ^ e) old (reversed e (q / 2 ^ (n - e))) d (reversed_below e (q / 2 ^ (n - e)) h))))
+      p (omega arith)
+
+-- ---- the tables of all levels
+
+module _ {F : Type 0} (K : FieldOn F) (N : IsField K) where
+  -- each table's powers are every second of those before it
+  pub levels_from_first : (n : ℕ) (w : F) (tables : List F) → length tables ≡ 2 * 2 ^ n → IsHalfTable K w (take (2 ^ n) tables) → ((k : ℕ) → k < 2 ^ n → get_or tables (2 ^ n + k) K.zero ≡ get_or tables (2 * k) K.zero) → AreLevels K w (suc n) tables
+  levels_from_first zero w tables len first seconds = (first, tt)
+  levels_from_first (suc n) w tables len first seconds =
+      let h = 2 ^ n in
+      let two : 2 ^ suc n ≡ 2 * h = omega arith in
+      let rest = drop (2 ^ suc n) tables in
+      let len_first : length (take (2 ^ suc n) tables) ≡ 2 * h = length-take-le (2 ^ suc n) tables (omega (arith, len)) ∙ two in
+      let len_rest : length rest ≡ 2 * h = length-drop (2 ^ suc n) tables ∙ omega (arith, len, two) in
+      let len_next : length (take h rest) ≡ h = length-take-le h rest (omega (arith, len_rest)) in
+      let at : (i : ℕ) → get_or rest i K.zero ≡ get_or tables (2 ^ suc n + i) K.zero = λ i. get_or-drop (2 ^ suc n) tables i K.zero in
+      let next : IsHalfTable K (power K w 2) (take h rest) = record {
+        powers = λ i b.
+            let c : i < h = omega (arith, b, len_next) in
+            get_or-take h rest i K.zero c
+            ∙ at i
+            ∙ seconds i (omega (arith, c, two))
+            ∙ sym (get_or-take (2 ^ suc n) tables (2 * i) K.zero (omega (arith, c, two)))
+            ∙ first.powers (2 * i) (omega (arith, c, len_first))
+            ∙ power-mul K N w 2 i;
+        half = λ b.
+            ap (power K (power K w 2)) len_next
+            ∙ sym (power-mul K N w 2 h)
+            ∙ ap (power K w) (sym len_first)
+            ∙ first.half (omega (arith, len_first, pow_pos n));
+      } in (
+        first,
+        levels_from_first n (power K w 2) rest len_rest next
+            (λ k b. at (h + k)
+            ∙ seconds (h + k) (omega (arith, b, two))
+            ∙ ap (λ t. get_or tables t K.zero) (let e : 2 * (h + k) ≡ 2 ^ suc n + 2 * k = omega (arith, two) in e)
+            ∙ sym (at (2 * k))),
+      )
+
+  -- the same at any size, that of one item too, where there are no twiddles
+  pub levels_of_size : (n size : ℕ) (w : F) (tables : List F) → size ≡ 2 ^ n → length tables ≡ size → IsHalfTable K w (take (size / 2) tables) → ((k : ℕ) → k < size / 2 → get_or tables (size / 2 + k) K.zero ≡ get_or tables (2 * k) K.zero) → AreLevels K w n tables
+  levels_of_size zero size w tables is len first seconds = tt
+  levels_of_size (suc n) size w tables is len first seconds =
+      let h : size / 2 ≡ 2 ^ n = omega (arith, is) in
+      levels_from_first n w tables (omega (arith, is, len)) (subst (λ t. IsHalfTable K w (take t tables)) h first)
+      (subst (λ t. (k : ℕ) → k < t → get_or tables (t + k) K.zero ≡ get_or tables (2 * k) K.zero) h seconds)
+
+  even_power : (n s : ℕ) → s ≡ 2 ^ n → 0 < s / 2 → 2 * (s / 2) ≡ s
+  even_power zero s is some = omega (arith, is, some)
+  even_power (suc n) s is some = omega (arith, is)
+
+  -- the tables of all levels but the last one
+  pub levels_below : (n size : ℕ) (w : F) (tables : List F) → size ≡ 2 ^ n → length tables ≡ size / 2 → (0 < n → power K w (size / 2) ≡ K.negated K.one) → ArePowers K (power K w 2) (size / 2 / 2) (take (size / 2 / 2) tables) → ((k : ℕ) → k < size / 2 / 2 → get_or tables (size / 2 / 2 + k) K.zero ≡ get_or tables (2 * k) K.zero) → AreLevels K (power K w 2) (n - 1) tables
+  levels_below zero size w tables is len half first seconds = tt
+  levels_below (suc n) size w tables is len half first seconds =
+      let h : size / 2 ≡ 2 ^ n = omega (arith, is) in
+      let same : n ≡ suc n - 1 = omega arith in
+      let pos : 0 < suc n = omega arith in
+      let halved : IsHalfTable K (power K w 2) (take (size / 2 / 2) tables) = record {
+        powers = λ i b. first.powers i (omega (arith, b, first.len));
+        half = λ b.
+            let even : 2 * (size / 2 / 2) ≡ size / 2 = even_power n (size / 2) h (omega (arith, b, first.len)) in
+            ap (power K (power K w 2)) first.len ∙ sym (power-mul K N w 2 (size / 2 / 2)) ∙ ap (power K w) even ∙ half pos;
+      } in
+      subst (λ k. AreLevels K (power K w 2) k tables) same (levels_of_size n (size / 2) (power K w 2) tables h len halved seconds)

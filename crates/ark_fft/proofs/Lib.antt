@@ -1,0 +1,12 @@
+-- Lemmas of the kernels, over plain lists and tables: the transform by halves (Halving, Reversal, Carries, Places, Joining, Radix2), by parts (Split, Parts, Blocks, Mixed), and the iterator over a domain (Yielded).
+pub mod Blocks
+pub mod Carries
+pub mod Halving
+pub mod Joining
+pub mod Mixed
+pub mod Parts
+pub mod Places
+pub mod Radix2
+pub mod Reversal
+pub mod Split
+pub mod Yielded

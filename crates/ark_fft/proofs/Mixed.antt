@@ -1,0 +1,167 @@
+-- The mixed radix transform and its inverse, from what the parts of the kernel leave; its sizes and counts.
+use Rattle.std.proofs.Common.{◌≡◌, ℕ, zero, suc, ◌+◌, ◌*◌, ◌-◌, ◌/◌, ◌^◌, ◌<◌, ◌≤◌, List, length, get_or, take, map, sym, ◌∙◌, ap, arith, subst}
+use Rattle.std.proofs.lemmas.List.{get_or-take, length-take-le, length-map}
+use Rattle.std.proofs.lemmas.Nat.{div-mul-add}
+use Rattle.std.proofs.Math.Nat.{pow-suc}
+use Rattle.ark_math.specs.Field.{FieldOn, IsField, power, natural}
+use Rattle.ark_math.specs.Module.{ModuleOn, IsModule, item}
+use Rattle.ark_math.specs.Root.{HasOrder}
+use Rattle.ark_math.specs.Domain.{Domain}
+use Rattle.ark_math.specs.Transform.{transform, IsInverse, dft_at}
+use Rattle.ark_fft.specs.Halves.{reversed, ArePowers, IsHalfTable}
+use Rattle.ark_fft.specs.Mixed.{IsPowerTable}
+use Rattle.ark_math.proofs.Transforms.Inverses.{is_inverse}
+use Rattle.ark_math.proofs.Roots.Orthogonal.{order_of_inverse}
+use Rattle.ark_math.proofs.Algebra.Powers.{half_of_order}
+use Rattle.ark_math.proofs.Algebra.Sums.{sum_below-same}
+use Rattle.ark_math.proofs.Transforms.Transforms.{AreShifted, is_transform}
+use Rattle.ark_math.proofs.Algebra.Groups.{zero_plus}
+use Rattle.ark_fft.proofs.Reversal.{pow_pred, reversed_below, reversed_twice}
+use Rattle.ark_math.proofs.Lists.Lists.{read_order}
+use Rattle.ark_math.proofs.Numbers.Factors.{part_size, parts_whole}
+
+-- half of a whole number of blocks of a power of two above one
+pub even_half : (n s l : ℕ) → 0 < n → 2 ^ n * s ≡ l → 2 * (l / 2) ≡ l
+even_half n s l pos whole =
+    let w : 2 ^ (n - 1) * s + 2 ^ (n - 1) * s ≡ l = omega (arith, rw (pow_pred n pos) at whole) in
+    omega arith
+
+pub length-half : {X : Type 0} (xs : List X) → length (take (length xs / 2) xs) ≡ length xs / 2
+length-half xs = let l : length xs / 2 ≤ length xs = omega arith in length-take-le (length xs / 2) xs l
+
+pub half_table : {F : Type 0} (K : FieldOn F) (N : IsField K) (w : F) (table : List F) → 2 * (length table / 2) ≡ length table → 0 < length table → IsPowerTable K w table → IsHalfTable K w (take (length table / 2) table)
+half_table K N w table even pos t =
+    let h = length table / 2 in
+    let n : length (take h table) ≡ h = length-half table in
+    let e : length table ≡ h * 2 = omega arith in
+    let pos_h : 0 < h = omega arith in
+    record {
+      powers = λ i l. let b : i < h = omega arith in get_or-take h table i K.zero b ∙ t.powers i (omega arith);
+      half = λ _. ap (power K w) n ∙ half_of_order K N w h pos_h (subst (HasOrder K w) e t.order);
+    }
+
+module _ {F M X : Type 0} {K : FieldOn F} {V : ModuleOn F M} (N : IsField K) (L : IsModule K V) (m : X → M) where
+  pub even_transformed : (n size : ℕ) (v : F) (old mid now : List X) → size ≡ 2 ^ n → length mid ≡ size → length now ≡ size → ((p : ℕ) → p < 2 ^ n → item V (map m mid) p ≡ dft_at K V (2 ^ n) v (item V (map m old)) (reversed n p)) → ((p : ℕ) (d : X) → p < 2 ^ n → get_or now p d ≡ get_or mid (reversed n p) d) → (p : ℕ) → p < size → item V (map m now) p ≡ dft_at K V size v (item V (map m old)) p
+  even_transformed n size v old mid now is of_mid of_now halves order p l =
+      let b : p < 2 ^ n = omega arith in
+      let r : reversed n p < 2 ^ n = reversed_below n p b in
+      read_order m V.zero (reversed n) mid now
+      (λ q c. let d : q < 2 ^ n = omega arith in let e = reversed_below n q d in omega arith)
+      (λ q d c. order q d (omega arith)) p (omega arith)
+      ∙ (halves (reversed n p) r
+      ∙ (ap (dft_at K V (2 ^ n) v (item V (map m old))) (reversed_twice n p b)
+      ∙ ap (λ t. dft_at K V t v (item V (map m old)) p) (sym is)))
+
+  pub one_transformed : (n size : ℕ) (v : F) (xs : List X) → size ≡ 2 ^ n → n ≡ 0 → (p : ℕ) → p < size → item V (map m xs) p ≡ dft_at K V size v (item V (map m xs)) p
+  one_transformed n size v xs is e p l =
+      let one : size ≡ 1 = is ∙ ap (λ t. 2 ^ t) e in
+      let z : p ≡ 0 = omega arith in
+      subst (λ t. item V (map m xs) t ≡ dft_at K V size v (item V (map m xs)) t) (sym z)
+      (sym (ap (λ t. dft_at K V t v (item V (map m xs)) 0) one ∙ (zero_plus L (V.scale K.one (item V (map m xs) 0)) ∙ L.one_scale (item V (map m xs) 0))))
+
+-- a level's steps, and those of the levels below it
+pub level_steps : (l q o size : ℕ) → 0 < q → 0 < o → size ≡ 2 ^ l * q ^ o → q * ((o - 1) * (size / q / q)) + size / q ≡ o * (size / q)
+level_steps l q zero size pos some e = absurd (omega arith)
+level_steps l q (suc zero) size pos some e =
+    let z : suc zero - 1 ≡ 0 = omega arith in
+    ap (λ t. q * (t * (size / q / q)) + size / q) z ∙ omega arith
+level_steps l q (suc (suc k)) size pos some e =
+    let n = size / q in
+    let z : suc (suc k) - 1 ≡ suc k = omega arith in
+    let some_k : 0 < suc k = omega arith in
+    let f : n ≡ 2 ^ l * q ^ suc k = part_size l q (suc (suc k)) size pos some e ∙ ap (λ t. 2 ^ l * q ^ t) z in
+    let w : q * (n / q) ≡ n = sym (parts_whole l q (suc k) n pos some_k f) in
+    let d : n / q ≡ n / q = omega arith in
+    ap (λ t. q * (t * (n / q)) + n) z
+    ∙ ((let g : q * (suc k * (n / q)) + n ≡ suc k * (q * (n / q)) + n = omega arith in g)
+    ∙ (ap (λ t. suc k * t + n) w ∙ omega arith))
+
+pub level_products : (a l q o size : ℕ) → 0 < q → 0 < o → size ≡ 2 ^ l * q ^ o → q * (a * ((o - 1) * (size / q / q))) + a * (size / q) ≡ a * (o * (size / q))
+level_products a l q o size pos some e =
+    let x = (o - 1) * (size / q / q) in
+    (let g : q * (a * x) + a * (size / q) ≡ a * (q * x + size / q) = omega arith in g) ∙ ap (λ t. a * t) (level_steps l q o size pos some e)
+
+-- one more block counted
+pub joined_more : (w0 w1 w2 r l p n : ℕ) → w1 ≡ w0 + r * (l * n / 2) → w2 ≡ w1 + l * p / 2 → p ≡ n → w2 ≡ w0 + (r + 1) * (l * n / 2)
+joined_more w0 w1 w2 r l p n e f g =
+    let h : l * p / 2 ≡ l * n / 2 = ap (λ t. l * t / 2) g in
+    let k : (r + 1) * (l * n / 2) ≡ r * (l * n / 2) + l * n / 2 = omega arith in
+    omega arith
+
+pub counted_more : (w0 w1 w2 r l x b p n q : ℕ) → w1 ≡ w0 + (r * (l * n / 2) + r * (x * (b * (n / q)))) → w2 ≡ w1 + l * p / 2 + x * (b * (p / q)) → p ≡ n → w2 ≡ w0 + ((r + 1) * (l * n / 2) + (r + 1) * (x * (b * (n / q))))
+counted_more w0 w1 w2 r l x b p n q e f g =
+    let h : x * (b * (p / q)) ≡ x * (b * (n / q)) = ap (λ t. x * (b * (t / q))) g in
+    let h2 : l * p / 2 ≡ l * n / 2 = ap (λ t. l * t / 2) g in
+    let k : (r + 1) * (x * (b * (n / q))) ≡ r * (x * (b * (n / q))) + x * (b * (n / q)) = omega arith in
+    let k2 : (r + 1) * (l * n / 2) ≡ r * (l * n / 2) + l * n / 2 = omega arith in
+    omega arith
+
+pub stepped_more : (w0 w1 w2 r b p n q : ℕ) → w1 ≡ w0 + r * (b * (n / q)) → w2 ≡ w1 + b * (p / q) → p ≡ n → w2 ≡ w0 + (r + 1) * (b * (n / q))
+stepped_more w0 w1 w2 r b p n q e f g =
+    let h : b * (p / q) ≡ b * (n / q) = ap (λ t. b * (t / q)) g in
+    let k : (r + 1) * (b * (n / q)) ≡ r * (b * (n / q)) + b * (n / q) = omega arith in
+    omega arith
+
+pub nothing_counted : (w o x : ℕ) → o ≡ 0 → w ≡ w + o * x
+nothing_counted w o x e = let f : o * x ≡ 0 = ap (λ t. t * x) e ∙ omega arith in omega arith
+
+-- the butterflies of q parts of n items are those of q * n items
+pub level_butterflies : (l q n x : ℕ) → n ≡ 2 ^ l * x → q * (l * n / 2) ≡ l * (q * n) / 2
+level_butterflies zero q n x e =
+    let a : 0 * n ≡ 0 = omega arith in
+    let b : 0 * (q * n) ≡ 0 = omega arith in
+    ap (λ t. q * (t / 2)) a ∙ ((let z : q * (0 / 2) ≡ 0 / 2 = omega arith in z) ∙ ap (λ t. t / 2) (sym b))
+level_butterflies (suc l) q n x e =
+    let h = 2 ^ l * x in
+    let d : n ≡ 2 * h = e ∙ (ap (λ t. t * x) (pow-suc 2 l) ∙ omega arith) in
+    let a : suc l * n ≡ suc l * h * 2 + 0 = ap (λ t. suc l * t) d ∙ omega arith in
+    let b : suc l * (q * n) ≡ suc l * (q * h) * 2 + 0 = ap (λ t. suc l * (q * t)) d ∙ omega arith in
+    let pos : 0 < 2 = omega arith in
+    ap (λ t. q * (t / 2)) a
+    ∙ (ap (λ t. q * t) (div-mul-add (suc l * h) 2 0 pos)
+    ∙ ((let z : q * (suc l * h) ≡ suc l * (q * h) = omega arith in z)
+    ∙ (sym (div-mul-add (suc l * (q * h)) 2 0 pos) ∙ ap (λ t. t / 2) (sym b))))
+
+pub level_joins : (l q o size : ℕ) → 0 < q → 0 < o → size ≡ 2 ^ l * q ^ o → q * (l * (size / q) / 2) ≡ l * size / 2
+level_joins l q o size pos some e =
+    level_butterflies l q (size / q) (q ^ (o - 1)) (part_size l q o size pos some e)
+    ∙ ap (λ t. l * t / 2) (sym (parts_whole l q o size pos some e))
+
+-- the butterflies of a power of two
+pub power_butterflies : (l size : ℕ) → size ≡ 2 ^ l → 2 ^ l / 2 * l ≡ l * size / 2
+power_butterflies zero size e =
+    let z : 0 * size ≡ 0 = omega arith in
+    (let y : 2 ^ 0 / 2 * 0 ≡ 0 / 2 = omega arith in y) ∙ ap (λ t. t / 2) (sym z)
+power_butterflies (suc k) size e =
+    let two : 2 ^ suc k ≡ 2 ^ k * 2 = pow-suc 2 k in
+    let half : 2 ^ suc k / 2 ≡ 2 ^ k = omega arith in
+    let d : suc k * size ≡ suc k * 2 ^ k * 2 + 0 = ap (λ t. suc k * t) (e ∙ two) ∙ omega arith in
+    let pos : 0 < 2 = omega arith in
+    ap (λ t. t * suc k) half ∙ ((let c : 2 ^ k * suc k ≡ suc k * 2 ^ k = omega arith in c) ∙ sym (ap (λ t. t / 2) d ∙ div-mul-add (suc k * 2 ^ k) 2 0 pos))
+
+module _ {F M X : Type 0} {K : FieldOn F} {V : ModuleOn F M} (N : IsField K) (L : IsModule K V) (m : X → M) where
+  -- what the kernel makes of a list, with this table
+  abbrev pub AreSums : List F → List X → List X → Type 0
+  AreSums table old now = (w : F) → IsPowerTable K w table → (i : ℕ) → i < length old → item V (map m now) i ≡ dft_at K V (length old) (power K w 1) (item V (map m old)) i
+
+  sums_at : (n : ℕ) (w : F) (table : List F) (old now : List X) → HasOrder K w n → ArePowers K w n table → length old ≡ n → AreSums table old now → (i : ℕ) → i < n → item V (map m now) i ≡ dft_at K V n w (item V (map m old)) i
+  sums_at n w table old now order t size sums i l =
+      let is : IsPowerTable K w table = record { powers = λ k b. t.powers k (omega (arith, t.len)); order = subst (HasOrder K w) (sym t.len) order } in
+      sums w is i (omega arith)
+      ∙ ap (λ k. dft_at K V k (power K w 1) (item V (map m old)) i) size
+      ∙ ap (λ x. dft_at K V n x (item V (map m old)) i) (N.times_one w)
+
+  module _ (d : Domain F) (order : HasOrder K d.root d.size) where
+    pub forward : (table : List F) (old mid now : List X) → ArePowers K d.root d.size table → length mid ≡ d.size → length now ≡ d.size → AreShifted N L d (map m old) (item V (map m mid)) → AreSums table mid now → map m now ≡ transform K V d (map m old)
+    forward table old mid now t of_mid of_now shifted sums =
+        is_transform N L d (map m old) (map m now) (item V (map m mid)) shifted (length-map now m ∙ of_now)
+        (sums_at d.size d.root table mid now order t of_mid sums)
+
+    pub backward : (v p f : F) (table : List F) (old fitted mid now : List X) → K.times d.root v ≡ K.one → K.times d.offset p ≡ K.one → K.times (natural K d.size) f ≡ K.one → ArePowers K v d.size table → length fitted ≡ d.size → length now ≡ d.size → ((j : ℕ) → j < d.size → item V (map m fitted) j ≡ item V (map m old) j) → AreSums table fitted mid → ((j : ℕ) → j < d.size → item V (map m now) j ≡ V.scale (K.times f (power K p j)) (item V (map m mid) j)) → IsInverse K V d (map m old) (map m now)
+    backward v p f table old fitted mid now root offset size t of_fitted of_now fit sums scaled =
+        is_inverse N L d v p f order root offset size (map m old) (map m now) (length-map now m ∙ of_now)
+        (λ j l.
+        scaled j l
+        ∙ ap (V.scale (K.times f (power K p j)))
+        (sums_at d.size v table fitted mid (order_of_inverse K N d.root v d.size order root) t of_fitted sums j l
+        ∙ sum_below-same V d.size _ _ (λ k b. ap (V.scale (power K (power K v j) k)) (fit k b))))

@@ -1,0 +1,45 @@
+-- The transform of radix 2 and its inverse, from what the parts of the in-order kernel leave.
+use Rattle.std.proofs.Common.{◌≡◌, ℕ, ◌/◌, ◌<◌, ◌^◌, List, length, map, sym, ◌∙◌, ap, subst, arith}
+use Rattle.std.proofs.lemmas.List.{length-map}
+use Rattle.ark_math.specs.Field.{FieldOn, IsField, power, natural}
+use Rattle.ark_math.specs.Root.{HasOrder}
+use Rattle.ark_math.specs.Module.{ModuleOn, IsModule, item}
+use Rattle.ark_math.specs.Domain.{Domain}
+use Rattle.ark_math.specs.Transform.{transform, IsInverse, dft_at}
+use Rattle.ark_fft.specs.Halves.{ArePowers, IsHalfTable}
+use Rattle.ark_fft.proofs.Halving.{is_half_table}
+use Rattle.ark_math.proofs.Transforms.Inverses.{is_inverse}
+use Rattle.ark_math.proofs.Roots.Orthogonal.{order_of_inverse}
+use Rattle.ark_math.proofs.Algebra.Powers.{power-one}
+use Rattle.ark_math.proofs.Algebra.Sums.{sum_below-same}
+use Rattle.ark_math.proofs.Transforms.Transforms.{AreShifted, is_transform}
+
+module _ {F M : Type 0} {K : FieldOn F} (V : ModuleOn F M) (N : IsField K) where
+  -- a scaling by one value is one by its powers of one
+  pub scaled_by_one : (p f : F) (j : ℕ) (x : M) → p ≡ K.one → V.scale f x ≡ V.scale (K.times f (power K p j)) x
+  scaled_by_one p f j x one = sym (ap (λ t. V.scale (K.times f (power K t j)) x) one ∙ ap (λ t. V.scale t x) (ap (K.times f) (power-one K N j) ∙ N.times_one f))
+
+module _ {F M X : Type 0} {K : FieldOn F} {V : ModuleOn F M} (N : IsField K) (L : IsModule K V) (m : X → M) where
+  -- what the kernel makes of a list, with this table
+  abbrev pub AreSums : List F → List X → List X → Type 0
+  AreSums table old now = (w : F) → IsHalfTable K w table → (i : ℕ) → i < length old → item V (map m now) i ≡ dft_at K V (length old) w (item V (map m old)) i
+
+  sums_at : (levels n : ℕ) (w : F) (table : List F) (old now : List X) → n ≡ 2 ^ levels → HasOrder K w n → ArePowers K w (n / 2) table → length old ≡ n → AreSums table old now → (i : ℕ) → i < n → item V (map m now) i ≡ dft_at K V n w (item V (map m old)) i
+  sums_at levels n w table old now is order t size sums =
+      let half = is_half_table K N levels n w table is t.len order (λ i l. t.powers i (omega (arith, t.len))) in
+      subst (λ k. (i : ℕ) → i < k → item V (map m now) i ≡ dft_at K V k w (item V (map m old)) i) size (sums w half)
+
+  module _ (d : Domain F) (levels : ℕ) (is : d.size ≡ 2 ^ levels) (order : HasOrder K d.root d.size) where
+    pub forward : (table : List F) (old mid now : List X) → ArePowers K d.root (d.size / 2) table → length mid ≡ d.size → length now ≡ d.size → AreShifted N L d (map m old) (item V (map m mid)) → AreSums table mid now → map m now ≡ transform K V d (map m old)
+    forward table old mid now t of_mid of_now shifted sums =
+        is_transform N L d (map m old) (map m now) (item V (map m mid)) shifted (length-map now m ∙ of_now)
+        (sums_at levels d.size d.root table mid now is order t of_mid sums)
+
+    pub backward : (v p f : F) (table : List F) (old fitted mid now : List X) → K.times d.root v ≡ K.one → K.times d.offset p ≡ K.one → K.times (natural K d.size) f ≡ K.one → ArePowers K v (d.size / 2) table → length fitted ≡ d.size → length now ≡ d.size → ((j : ℕ) → j < d.size → item V (map m fitted) j ≡ item V (map m old) j) → AreSums table fitted mid → ((j : ℕ) → j < d.size → item V (map m now) j ≡ V.scale (K.times f (power K p j)) (item V (map m mid) j)) → IsInverse K V d (map m old) (map m now)
+    backward v p f table old fitted mid now root offset size t of_fitted of_now fit sums scaled =
+        is_inverse N L d v p f order root offset size (map m old) (map m now) (length-map now m ∙ of_now)
+        (λ j l.
+        scaled j l
+        ∙ ap (V.scale (K.times f (power K p j)))
+        (sums_at levels d.size v table fitted mid is (order_of_inverse K N d.root v d.size order root) t of_fitted sums j l
+        ∙ sum_below-same V d.size _ _ (λ k b. ap (V.scale (power K (power K v j) k)) (fit k b))))

@@ -1,0 +1,143 @@
+-- Reading an index's bits backwards.
+use Rattle.std.proofs.Common.{◌≡◌, ℕ, zero, suc, ◌+◌, ◌-◌, ◌*◌, ◌/◌, ◌%◌, ◌^◌, ◌<◌, ◌≤◌, sym, ◌∙◌, ap, subst, ⊎_elim, refl, arith}
+use Rattle.std.proofs.lemmas.Bool.{cases_lt}
+use Rattle.std.proofs.lemmas.Nat.{pow_pos, div-mul-add}
+use Rattle.std.proofs.Math.Pow.{pow_mono}
+use Rattle.std.specs.Int.{reverse_bits_onto}
+use Rattle.std.proofs.lemmas.Bool.Decides.{nat_tests}
+use Rattle.ark_fft.specs.Halves.{reversed}
+
+pub pow_suc : (k : ℕ) → 2 ^ suc k ≡ 2 ^ k + 2 ^ k
+pow_suc k = omega arith
+
+pub reversed_low : (k p : ℕ) → p < 2 ^ k → reversed (suc k) p ≡ 2 * reversed k p
+reversed_low k p l = grind (arith, nat_tests)
+
+pub reversed_high : (k p q : ℕ) → q ≡ 2 ^ k + p → reversed (suc k) q ≡ 2 * reversed k p + 1
+reversed_high k p q e =
+    let l : 2 ^ k ≤ q = omega arith in
+    let s : q - 2 ^ k ≡ p = omega arith in
+    let h : reversed (suc k) q ≡ 2 * reversed k (q - 2 ^ k) + 1 = grind (arith, nat_tests) in
+    h ∙ ap (λ t. 2 * reversed k t + 1) s
+
+pub reversed_none : (k : ℕ) → reversed k 0 ≡ 0
+reversed_none zero = refl
+reversed_none (suc k) = reversed_low k 0 (pow_pos k) ∙ (let h = reversed_none k in omega arith)
+
+-- an index below 2 ^ suc k is p, or 2 ^ k + p, for a p below 2 ^ k
+pub data Half (k : ℕ) : ℕ → Type 0 where
+  low : (p : ℕ) → p < 2 ^ k → Half k p
+  high : (p : ℕ) → p < 2 ^ k → Half k (2 ^ k + p)
+
+pub half_of : (k q : ℕ) → q < 2 ^ suc k → Half k q
+half_of k q l =
+    ⊎_elim (λ a. low q a)
+    (λ b.
+    let p : q - 2 ^ k < 2 ^ k = omega (arith, pow_suc k) in
+    let e : 2 ^ k + (q - 2 ^ k) ≡ q = omega arith in
+    subst (Half k) e (high (q - 2 ^ k) p))
+    (cases_lt q (2 ^ k))
+
+below_step : (k q : ℕ) → Half k q → ((p : ℕ) → p < 2 ^ k → reversed k p < 2 ^ k) → reversed (suc k) q < 2 ^ suc k
+below_step k _ (low p l) h = omega (arith, reversed_low k p l, h p l, pow_suc k)
+below_step k _ (high p l) h = omega (arith, reversed_high k p (2 ^ k + p) refl, h p l, pow_suc k)
+
+pub reversed_below : (k p : ℕ) → p < 2 ^ k → reversed k p < 2 ^ k
+reversed_below zero p l = omega arith
+reversed_below (suc k) q l = below_step k q (half_of k q l) (λ p b. reversed_below k p b)
+
+even_step : (k q : ℕ) → Half k q → ((p : ℕ) → p < 2 ^ k → reversed (suc k) (2 * p) ≡ reversed k p) → reversed (suc (suc k)) (2 * q) ≡ reversed (suc k) q
+even_step k _ (low p l) h =
+    let b : 2 * p < 2 ^ suc k = omega (arith, pow_suc k) in
+    reversed_low (suc k) (2 * p) b ∙ (ap (λ t. 2 * t) (h p l) ∙ sym (reversed_low k p l))
+even_step k _ (high p l) h =
+    let e : 2 * (2 ^ k + p) ≡ 2 ^ suc k + 2 * p = omega (arith, pow_suc k) in
+    reversed_high (suc k) (2 * p) (2 * (2 ^ k + p)) e ∙ (ap (λ t. 2 * t + 1) (h p l) ∙ sym (reversed_high k p (2 ^ k + p) refl))
+
+pub reversed_even : (k p : ℕ) → p < 2 ^ k → reversed (suc k) (2 * p) ≡ reversed k p
+reversed_even zero p l =
+    let b : 2 * p < 2 ^ 0 = omega arith in
+    reversed_low 0 (2 * p) b
+reversed_even (suc k) q l = even_step k q (half_of k q l) (λ p b. reversed_even k p b)
+
+odd_step : (k q : ℕ) → Half k q → ((p : ℕ) → p < 2 ^ k → reversed (suc k) (2 * p + 1) ≡ 2 ^ k + reversed k p) → reversed (suc (suc k)) (2 * q + 1) ≡ 2 ^ suc k + reversed (suc k) q
+odd_step k _ (low p l) h =
+    let b : 2 * p + 1 < 2 ^ suc k = omega (arith, pow_suc k) in
+    omega (arith, reversed_low (suc k) (2 * p + 1) b, h p l, reversed_low k p l, pow_suc k)
+odd_step k _ (high p l) h =
+    let e : 2 * (2 ^ k + p) + 1 ≡ 2 ^ suc k + (2 * p + 1) = omega (arith, pow_suc k) in
+    omega (arith, reversed_high (suc k) (2 * p + 1) (2 * (2 ^ k + p) + 1) e, h p l, reversed_high k p (2 ^ k + p) refl, pow_suc k)
+
+pub reversed_odd : (k p : ℕ) → p < 2 ^ k → reversed (suc k) (2 * p + 1) ≡ 2 ^ k + reversed k p
+reversed_odd zero p l =
+    let e : 2 * p + 1 ≡ 2 ^ 0 + 0 = omega arith in
+    omega (arith, reversed_high 0 0 (2 * p + 1) e)
+reversed_odd (suc k) q l = odd_step k q (half_of k q l) (λ p b. reversed_odd k p b)
+
+twice_step : (k q : ℕ) → Half k q → ((p : ℕ) → p < 2 ^ k → reversed k (reversed k p) ≡ p) → reversed (suc k) (reversed (suc k) q) ≡ q
+twice_step k _ (low p l) h =
+    ap (reversed (suc k)) (reversed_low k p l)
+    ∙ (reversed_even k (reversed k p) (reversed_below k p l) ∙ h p l)
+twice_step k _ (high p l) h =
+    ap (reversed (suc k)) (reversed_high k p (2 ^ k + p) refl)
+    ∙ (reversed_odd k (reversed k p) (reversed_below k p l) ∙ ap (λ t. 2 ^ k + t) (h p l))
+
+-- a second reversal undoes the first
+pub reversed_twice : (k p : ℕ) → p < 2 ^ k → reversed k (reversed k p) ≡ p
+reversed_twice zero p l = omega arith
+reversed_twice (suc k) q l = twice_step k q (half_of k q l) (λ p b. reversed_twice k p b)
+
+-- the lowest bit becomes the highest
+pub reversed_lowest : (k q : ℕ) → q < 2 ^ suc k → reversed (suc k) q ≡ q % 2 * 2 ^ k + reversed k (q / 2)
+reversed_lowest k q l =
+    let b : q / 2 < 2 ^ k = omega (arith, pow_suc k) in
+    ⊎_elim
+    (λ (z : q % 2 < 1).
+    let e : q ≡ 2 * (q / 2) = omega arith in
+    let r : q % 2 ≡ 0 = omega arith in
+    ap (reversed (suc k)) e ∙ (reversed_even k (q / 2) b ∙ rw r (omega arith)))
+    (λ (o : 1 ≤ q % 2).
+    let e : q ≡ 2 * (q / 2) + 1 = omega arith in
+    let r : q % 2 ≡ 1 = omega arith in
+    ap (reversed (suc k)) e ∙ (reversed_odd k (q / 2) b ∙ rw r (omega arith)))
+    (cases_lt (q % 2) 1)
+
+-- a power of two is twice the one below it
+pub pow_pred : (n : ℕ) → 0 < n → 2 ^ n ≡ 2 ^ (n - 1) + 2 ^ (n - 1)
+pow_pred n pos = let e : n ≡ suc (n - 1) = omega arith in ap (λ u. 2 ^ u) e ∙ pow_suc (n - 1)
+
+reverse_bits_onto-is : (k n a : ℕ) → n < 2 ^ k → reverse_bits_onto k n a ≡ a * 2 ^ k + reversed k n
+unfolding reverse_bits_onto
+reverse_bits_onto-is zero n a l = omega arith
+reverse_bits_onto-is (suc k) n a l =
+    let h : reverse_bits_onto k (n / 2) (a * 2 + n % 2) ≡ (a * 2 + n % 2) * 2 ^ k + reversed k (n / 2) = reverse_bits_onto-is k (n / 2) (a * 2 + n % 2) (omega (arith, pow_suc k)) in
+    let r = reversed_lowest k n l in
+    let twice : a * 2 ^ suc k ≡ a * 2 ^ k + a * 2 ^ k = rw (pow_suc k) (omega arith) in
+    h ∙ omega arith
+
+reversed_wider : (k j n : ℕ) → n < 2 ^ k → reversed (j + k) n ≡ reversed k n * 2 ^ j
+reversed_wider k zero n l =
+    let e : 0 + k ≡ k = omega arith in
+    ap (λ t. reversed t n) e ∙ omega arith
+reversed_wider k (suc j) n l =
+    let e : suc j + k ≡ suc (j + k) = omega arith in
+    let h = reversed_wider k j n l in
+    let le : k ≤ j + k = omega arith in
+    let m : 2 ^ k ≤ 2 ^ (j + k) = pow_mono le in
+    let b : n < 2 ^ (j + k) = omega arith in
+    let twice : reversed k n * 2 ^ suc j ≡ reversed k n * 2 ^ j + reversed k n * 2 ^ j = rw (pow_suc j) (omega arith) in
+    ap (λ t. reversed t n) e ∙ (reversed_low (j + k) n b ∙ omega arith)
+
+reversed_shifted : (k j b n : ℕ) → j + k ≡ b → n < 2 ^ k → reversed b n / 2 ^ j ≡ reversed k n
+reversed_shifted k j b n e l =
+    let m : reversed b n ≡ reversed k n * 2 ^ j + 0 = ap (λ t. reversed t n) (sym e) ∙ (reversed_wider k j n l ∙ omega arith) in
+    ap (λ t. t / 2 ^ j) m ∙ div-mul-add (reversed k n) (2 ^ j) 0 (pow_pos j)
+
+-- the lowest k bits of n, from the reversal of all b of them
+pub shifted_reversal : (k b n : ℕ) → k ≤ b → n < 2 ^ k → reverse_bits_onto b n 0 / 2 ^ (b - k) ≡ reversed k n
+shifted_reversal k b n le l =
+    let m : 2 ^ k ≤ 2 ^ b = pow_mono le in
+    let i : n < 2 ^ b = omega arith in
+    let e : b - k + k ≡ b = omega arith in
+    let z : 0 * 2 ^ b + reversed b n ≡ reversed b n = omega arith in
+    ap (λ t. t / 2 ^ (b - k)) (reverse_bits_onto-is b n 0 i ∙ z) ∙ reversed_shifted k (b - k) b n e l

@@ -1,0 +1,31 @@
+use Rattle.std.proofs.Common.{◌≡◌, ◌≢◌, ℕ, map, get_or, ◌+◌, ◌-◌, ◌*◌, ◌≤◌, ap, sym, ◌∙◌, arith, subst, ⊎_elim}
+use Rattle.std.proofs.lemmas.Bool.{cases_eq}
+use Rattle.ark_math.specs.Module.{item}
+use Rattle.ark_fft.proofs.Parts.{step_row}
+use Rattle.ark_fft.proofs.domain.mixed_radix.kernel.apply_all_twiddles.Goals as goal
+
+pub loop-i-preserved : goal.loop-i-preserved
+loop-i-preserved g c =
+    let K = g.F.Field.field in
+    let V = g.T.DomainCoeff.group in
+    let m = g.T.DomainCoeff.meaning in
+    let i0 = c.loop-i.i in
+    let v = c.loop-i.invariant in
+    let here : i0 ≤ i0 = omega arith in
+    let factor = λ (r i : ℕ). V.scale (get_or c.args.table.now (r * i * c.args.stride) K.zero) in
+    let old = λ (k : ℕ). item V (map m c.args.parts.now) k in
+    record {
+      products = omega (arith, step_row c.loop-i.i (c.args.base - 1));
+      butterflies = omega arith;
+      steps = omega arith;
+      done = λ one r i rl il.
+          ⊎_elim
+          (λ (e : i ≡ i0).
+          subst (λ t. item V (map m c.apply_twiddles.new.parts) (r * c.args.m + t) ≡ factor r t (old (r * c.args.m + t))) (sym e)
+          (c.apply_twiddles.ensures.twisted one r rl ∙ ap (factor r i0) (v.rest r i0 here c.loop-i-test.true)))
+          (λ (ne : i ≢ i0). c.apply_twiddles.ensures.other_parts r i (omega arith) ne ∙ v.done one r i rl (omega arith))
+          (cases_eq i i0);
+      rest = λ r k kl km.
+          let ne : k ≢ i0 = omega arith in
+          c.apply_twiddles.ensures.other_parts r k km ne ∙ v.rest r k (omega arith) km;
+    }

@@ -1,0 +1,18 @@
+use Rattle.std.proofs.Common.{◌≡◌, map, ◌+◌, ◌-◌, ◌*◌, ◌≤◌}
+use Rattle.ark_math.specs.Field.{power}
+use Rattle.ark_math.specs.Module.{item, sum_below}
+use Rattle.ark_fft.proofs.domain.mixed_radix.kernel.horner_sum.Given as goal
+
+abbrev pub invariant-loop-r : goal.invariant-loop-r
+invariant-loop-r g l =
+    let V = g.T.DomainCoeff.group in
+    let m = g.T.DomainCoeff.meaning in
+    record {
+      from : 1 ≤ l._r;
+      place : l.place ≡ (l.base - l._r) * l.m + (l.last - (l.base - 1) * l.m);
+      within : l.place ≤ l.last;
+      products : l.work.products ≡ l.fn.work.products + (l._r - 1);
+      butterflies : l.work.butterflies ≡ l.fn.work.butterflies;
+      steps : l.work.steps ≡ l.fn.work.steps;
+      sum : m l.sum ≡ sum_below V l._r (λ k. V.scale (power g.F.Field.field l.factor k) (item V (map m l.parts) ((l.base - l._r + k) * l.m + (l.last - (l.base - 1) * l.m))));
+    }

@@ -1,0 +1,23 @@
+-- The transform by halves: the order that it leaves, and the tables that it reads.
+use Rattle.std.specs.Prelude.{◌≡◌, ℕ, suc, zero, ◌+◌, ◌-◌, ◌*◌, ◌^◌, ◌<◌, List, length, get_or, take, drop, nat_lt, if◌then◌else◌}
+use Rattle.ark_math.specs.Field.{FieldOn, power}
+
+-- the place that the index p goes to when its lowest k bits are read backwards
+abbrev pub reversed : ℕ → ℕ → ℕ
+reversed zero p = 0
+reversed (suc k) p = if nat_lt p (2 ^ k) then 2 * reversed k p else 2 * reversed k (p - 2 ^ k) + 1
+
+-- the first n powers of w
+pub record ArePowers {F : Type 0} (K : FieldOn F) (w : F) (n : ℕ) (table : List F) : Type 0 where
+  pub len : length table ≡ n
+  pub powers : (i : ℕ) → i < n → get_or table i K.zero ≡ power K w i
+
+-- the powers of w from 0 on, half as many as its order. At order one there are none
+pub record IsHalfTable {F : Type 0} (K : FieldOn F) (w : F) (table : List F) : Type 0 where
+  pub powers : (i : ℕ) → i < length table → get_or table i K.zero ≡ power K w i
+  pub half : 0 < length table → power K w (length table) ≡ K.negated K.one
+
+-- the powers of w, half as many as the 2 ^ n of its order, and after them those of its square, and so on
+abbrev pub AreLevels : {F : Type 0} → FieldOn F → F → ℕ → List F → Type 0
+AreLevels K w zero tables = Unit
+AreLevels K w (suc n) tables = IsHalfTable K w (take (2 ^ n) tables) × AreLevels K (power K w 2) n (drop (2 ^ n) tables)

@@ -1,0 +1,4 @@
+-- The words of the kernels' contracts: the order that halving leaves, tables of roots, parts joined, the elements that are left.
+pub mod Elements
+pub mod Halves
+pub mod Mixed

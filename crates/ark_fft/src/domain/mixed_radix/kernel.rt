@@ -1,0 +1,363 @@
+//! The mixed radix transform, and its inverse.
+
+ghost use Rattle.std.specs.Prelude.{◌≡◌, ◌≢◌, ℕ, true, false, IsSome, IsOkUnless, IfOk, OnOk, OnErr, List};
+ghost use Rattle.std.specs.Prelude.{map, length, get_or, ◌+◌, ◌-◌, ◌*◌, ◌/◌, ◌≤◌, ◌<◌, ◌^◌, vec_len};
+ghost use Rattle.ark_math.specs.Domain.{mixed_radix, domain_of};
+ghost use Rattle.ark_math.specs.Field.{FieldOn, power};
+ghost use Rattle.ark_math.specs.Transform.{dft_at, transform, IsInverse, IsOnlyInverse};
+ghost use Rattle.ark_fft.specs.Halves.{reversed, ArePowers};
+ghost use Rattle.ark_fft.specs.Mixed.{IsPowerTable, joined};
+ghost use Rattle.ark_math.specs.Module.{ModuleOn, item, sum_below};
+ghost use Rattle.ark_math.specs.Cost.{forward, inverse};
+ghost use Rattle.ark_base.specs.Cost.{GrowsByCost};
+
+use crate::domain::coset::Coset;
+use crate::domain::mixed_radix::size::odd_base;
+use crate::domain::radix2::fft::{bit_reverse, halves, powers, scale_by_powers};
+use ark_base::{DomainCoeff, FftField, PolyError, Work};
+use std::alloc::Global;
+
+/// The sum of the parts' values at one place, times the powers of the factor, by Horner's rule. The last part's is at
+/// index `last`.
+fn horner_sum<F: FftField, T: DomainCoeff<F>>(
+    work: &mut Work,
+    parts: &[T],
+    base: usize,
+    m: usize,
+    factor: F,
+    last: usize,
+) -> T
+    requires some { 0 < base }
+    requires rows { (base - 1) * m ≤ last }
+    requires inside { last < length parts.now }
+    ensures products { work.new.products ≡ work.old.products + (base - 1) }
+    ensures butterflies { work.new.butterflies ≡ work.old.butterflies }
+    ensures steps { work.new.steps ≡ work.old.steps }
+    ensures sum { (i : ℕ) → last ≡ (base - 1) * m + i → T.meaning result
+        ≡ sum_below T.group base (λ r. T.group.scale (power F.field factor r)
+        (item T.group (map T.meaning parts.now) (r * m + i))) }
+{
+    let mut sum = parts[last];
+    let mut place = last;
+    for _r in 1..base {
+        place -= m;
+        work.scale(&mut sum, factor);
+        sum += parts[place];
+    }
+    sum
+}
+
+/// One step's products before its sums: twists each part's item at place i.
+fn apply_twiddles<F: FftField, T: DomainCoeff<F>>(
+    work: &mut Work,
+    parts: &mut [T],
+    table: &[F],
+    base: usize,
+    m: usize,
+    stride: usize,
+    i: usize,
+)
+    requires parts_size { length parts.old ≡ base * m }
+    requires table_size { length table.now ≡ base * (m * stride) }
+    requires small { length table.now < 2 ^ 64 }
+    requires odd { 1 < base }
+    requires some { 0 < stride }
+    requires place { i < m }
+    ensures products { work.new.products ≡ work.old.products + (base - 1) }
+    ensures butterflies { work.new.butterflies ≡ work.old.butterflies }
+    ensures steps { work.new.steps ≡ work.old.steps + 1 }
+    ensures twisted { get_or table.now 0 F.field.zero ≡ F.field.one → (r : ℕ) → r < base
+        → item T.group (map T.meaning parts.new) (r * m + i)
+        ≡ T.group.scale (get_or table.now (r * i * stride) F.field.zero)
+        (item T.group (map T.meaning parts.old) (r * m + i)) }
+    ensures other_parts { (r k : ℕ) → k < m → k ≢ i → item T.group (map T.meaning parts.new) (r * m + k)
+        ≡ item T.group (map T.meaning parts.old) (r * m + k) }
+{
+    let turn = i * stride;
+    let mut place = i;
+    let mut at = 0;
+    for _r in 1..base {
+        place += m;
+        at += turn;
+        work.scale(&mut parts[place], table[at]);
+    }
+    work.step();
+}
+
+/// Twists the parts' items, and counts a step for each place.
+fn apply_all_twiddles<F: FftField, T: DomainCoeff<F>>(
+    work: &mut Work,
+    parts: &mut [T],
+    table: &[F],
+    base: usize,
+    m: usize,
+    stride: usize,
+)
+    requires parts_size { length parts.old ≡ base * m }
+    requires table_size { length table.now ≡ base * (m * stride) }
+    requires small { length table.now < 2 ^ 64 }
+    requires odd { 1 < base }
+    requires some { 0 < stride }
+    ensures products { work.new.products ≡ work.old.products + (base - 1) * m }
+    ensures butterflies { work.new.butterflies ≡ work.old.butterflies }
+    ensures steps { work.new.steps ≡ work.old.steps + m }
+    ensures twisted { get_or table.now 0 F.field.zero ≡ F.field.one → (r i : ℕ) → r < base → i < m
+        → item T.group (map T.meaning parts.new) (r * m + i)
+        ≡ T.group.scale (get_or table.now (r * i * stride) F.field.zero)
+        (item T.group (map T.meaning parts.old) (r * m + i)) }
+{
+    for i in 0..m {
+        apply_twiddles(work, parts, table, base, m, stride, i);
+    }
+}
+
+/// Row j of the whole: at each place the sum of the parts' items, times the powers of the row's factor.
+fn sum_row<F: FftField, T: DomainCoeff<F>>(
+    work: &mut Work,
+    parts: &[T],
+    whole: &mut [T],
+    base: usize,
+    m: usize,
+    factor: F,
+    j: usize,
+)
+    requires parts_size { length parts.now ≡ base * m }
+    requires whole_size { length whole.old ≡ base * m }
+    requires row { j < base }
+    ensures products { work.new.products ≡ work.old.products + (base - 1) * m }
+    ensures butterflies { work.new.butterflies ≡ work.old.butterflies }
+    ensures steps { work.new.steps ≡ work.old.steps }
+    ensures sums { (i : ℕ) → i < m → item T.group (map T.meaning whole.new) (j * m + i)
+        ≡ sum_below T.group base (λ r. T.group.scale (power F.field factor r)
+        (item T.group (map T.meaning parts.now) (r * m + i))) }
+    ensures other_rows { (k i : ℕ) → i < m → k ≢ j → item T.group (map T.meaning whole.new) (k * m + i)
+        ≡ item T.group (map T.meaning whole.old) (k * m + i) }
+{
+    let row = j * m;
+    let last = (base - 1) * m;
+    for i in 0..m {
+        whole[row + i] = horner_sum(work, parts, base, m, factor, last + i);
+    }
+}
+
+/// Joins the parts at each place.
+fn join<F: FftField, T: DomainCoeff<F>>(
+    work: &mut Work,
+    parts: &mut [T],
+    whole: &mut [T],
+    table: &[F],
+    base: usize,
+    m: usize,
+    stride: usize,
+)
+    requires parts_size { length parts.old ≡ base * m }
+    requires whole_size { length whole.old ≡ base * m }
+    requires table_size { length table.now ≡ base * (m * stride) }
+    requires small { length table.now < 2 ^ 64 }
+    requires odd { 1 < base }
+    requires some { 0 < stride }
+    ensures products { work.new.products ≡ work.old.products + (base * base - 1) * m }
+    ensures butterflies { work.new.butterflies ≡ work.old.butterflies }
+    ensures steps { work.new.steps ≡ work.old.steps + m }
+    ensures joined { get_or table.now 0 F.field.zero ≡ F.field.one → (j i : ℕ) → j < base → i < m
+        → item T.group (map T.meaning whole.new) (j * m + i)
+        ≡ joined F.field T.group table.now base m stride (item T.group (map T.meaning parts.old)) j i }
+{
+    apply_all_twiddles(work, parts, table, base, m, stride);
+    if m > 0 {
+        let leap = m * stride;
+        for j in 0..base {
+            sum_row(work, parts, whole, base, m, table[j * leap], j);
+        }
+    }
+}
+
+/// Deals the items out in turn: part r gets those at r, r + base, ..
+fn deinterleave<T: Copy>(whole: &[T], parts: &mut [T], base: usize, m: usize)
+    requires whole_size { length whole.now ≡ base * m }
+    requires parts_size { length parts.old ≡ base * m }
+    requires some { 0 < base }
+    ensures { (r i : ℕ) (d : T) → r < base → i < m → get_or parts.new (r * m + i) d
+        ≡ get_or whole.now (base * i + r) d }
+{
+    for r in 0..base {
+        for i in 0..m {
+            parts[r * m + i] = whole[base * i + r];
+        }
+    }
+}
+
+/// The transform of a list of 2 ^ levels items.
+fn even_transform<F: FftField, T: DomainCoeff<F>>(
+    work: &mut Work,
+    xs: &mut [T],
+    table: &[F],
+    stride: usize,
+    levels: u32,
+)
+    requires size { length xs.old ≡ 2 ^ levels }
+    requires whole { length xs.old * stride ≡ length table.now }
+    requires small { length table.now < 2 ^ 64 }
+    requires some { 0 < stride }
+    ensures butterflies { work.new.butterflies ≡ work.old.butterflies + levels * length xs.old / 2 }
+    ensures products { work.new.products ≡ work.old.products + levels * length xs.old / 2 }
+    ensures steps { work.new.steps ≡ work.old.steps }
+    ensures transformed { (w : F) → IsPowerTable F.field w table.now → (i : ℕ) → i < length xs.old
+        → item T.group (map T.meaning xs.new) i
+        ≡ dft_at F.field T.group (length xs.old) (power F.field w stride)
+        (item T.group (map T.meaning xs.old)) i }
+{
+    if levels > 0 {
+        let half = table.len() / 2;
+        halves(work, xs, &table[..half], stride, levels);
+        bit_reverse(xs, levels);
+    }
+}
+
+/// The transform of a list of 2 ^ levels * base ^ odds items, with as many to work in.
+fn mixed<F: FftField, T: DomainCoeff<F>>(
+    work: &mut Work,
+    xs: &mut [T],
+    scratch: &mut [T],
+    table: &[F],
+    stride: usize,
+    base: usize,
+    levels: u32,
+    odds: u32,
+)
+    requires size { length xs.old ≡ 2 ^ levels * base ^ odds }
+    requires scratch_size { length scratch.old ≡ length xs.old }
+    requires whole { length xs.old * stride ≡ length table.now }
+    requires small { length table.now < 2 ^ 64 }
+    requires some { 0 < stride }
+    requires odd { 1 < base }
+    requires few { base < 2 ^ 32 }
+    ensures butterflies { work.new.butterflies ≡ work.old.butterflies + levels * length xs.old / 2 }
+    ensures products { work.new.products ≡ work.old.products + levels * length xs.old / 2 + (base * base - 1)
+        * (odds * (length xs.old / base)) }
+    ensures steps { work.new.steps ≡ work.old.steps + odds * (length xs.old / base) }
+    ensures transformed { (w : F) → IsPowerTable F.field w table.now → (i : ℕ) → i < length xs.old
+        → item T.group (map T.meaning xs.new) i
+        ≡ dft_at F.field T.group (length xs.old) (power F.field w stride)
+        (item T.group (map T.meaning xs.old)) i }
+{
+    if odds > 0 {
+        let m = xs.len() / base;
+        deinterleave(xs, scratch, base, m);
+        for r in 0..base {
+            let from = r * m;
+            mixed(
+                work,
+                &mut scratch[from..from + m],
+                &mut xs[from..from + m],
+                table,
+                stride * base,
+                base,
+                levels,
+                odds - 1,
+            );
+        }
+        join(work, scratch, xs, table, base, m, stride);
+    } else {
+        even_transform(work, xs, table, stride, levels);
+    }
+}
+
+/// Takes all memory, for a root's powers, for n items to work in and for n items, and cuts the list or fills it with
+/// zeros.
+fn prepare<F: FftField, T: DomainCoeff<F>>(
+    alloc: Global,
+    root: F,
+    n: usize,
+    coeffs: &mut Vec<T>,
+) -> Result<(Vec<F>, Vec<T>), PolyError>
+    ensures table { IfOk result (λ p. ArePowers F.field root n p.0.items) }
+    ensures scratch { IfOk result (λ p. vec_len p.1 ≡ n) }
+    ensures fitted { OnOk result ((j : ℕ) → j < n → item T.group (map T.meaning coeffs.new.items) j
+        ≡ item T.group (map T.meaning coeffs.old.items) j) }
+    ensures len { OnOk result (vec_len coeffs.new ≡ n) }
+    ensures kept { OnErr result (coeffs.new.items ≡ coeffs.old.items) }
+    ensures memory { IsOkUnless result PolyError.Memory }
+{
+    let table = powers(alloc, root, n)?;
+    let mut scratch = Vec::with_capacity(alloc, n)?;
+    scratch.resize(n, T::zero())?;
+    coeffs.resize(n, T::zero())?;
+    Ok((table, scratch))
+}
+
+/// The transform in place, by a butterfly for each pair of places and factor of two, a step for each base places
+/// and factor of the base, and a scaling a place where there is an offset.
+pub fn fft_counted<F: FftField, T: DomainCoeff<F>>(
+    coset: &Coset<F>,
+    alloc: Global,
+    coeffs: &mut Vec<T>,
+    work: &mut Work,
+) -> Result<(), PolyError>
+    requires based { IsSome F.adicity.odd }
+    ensures transform { OnOk result (map T.meaning coeffs.new.items
+        ≡ transform F.field T.group (domain_of mixed_radix coset.now.size coset.now.group_gen
+        coset.now.offset) (map T.meaning coeffs.old.items)) }
+    ensures cost { OnOk result (GrowsByCost F.adicity
+        (domain_of mixed_radix coset.now.size coset.now.group_gen coset.now.offset) (length coeffs.old.items)
+        forward work.old work.new) }
+    ensures kept { OnErr result (coeffs.new.items ≡ coeffs.old.items) }
+    ensures uncounted { OnErr result (work.new ≡ work.old) }
+    ensures memory { IsOkUnless result PolyError.Memory }
+{
+    let (base, _) = odd_base::<F>().unwrap();
+    let (table, mut scratch) = prepare(alloc, coset.group_gen, coset.size as usize, coeffs)?;
+    let xs = coeffs.as_mut_slice();
+    if !coset.offset.is_one() {
+        scale_by_powers(work, xs, F::one(), coset.offset);
+    }
+    mixed(
+        work,
+        xs,
+        scratch.as_mut_slice(),
+        table.as_slice(),
+        1,
+        base as usize,
+        coset.log_size_of_group,
+        coset.odd_exponent,
+    );
+    Ok(())
+}
+
+/// Its inverse in place, by as many butterflies and steps at the inverse root and one scaling a place.
+pub fn ifft_counted<F: FftField, T: DomainCoeff<F>>(
+    coset: &Coset<F>,
+    alloc: Global,
+    evals: &mut Vec<T>,
+    work: &mut Work,
+) -> Result<(), PolyError>
+    requires based { IsSome F.adicity.odd }
+    ensures inverse { OnOk result (IsInverse F.field T.group
+        (domain_of mixed_radix coset.now.size coset.now.group_gen coset.now.offset)
+        (map T.meaning evals.old.items) (map T.meaning evals.new.items)) }
+    ensures only { OnOk result (IsOnlyInverse F.field T.group
+        (domain_of mixed_radix coset.now.size coset.now.group_gen coset.now.offset)
+        (map T.meaning evals.old.items) (map T.meaning evals.new.items)) }
+    ensures cost { OnOk result (GrowsByCost F.adicity
+        (domain_of mixed_radix coset.now.size coset.now.group_gen coset.now.offset) (length evals.old.items)
+        inverse work.old work.new) }
+    ensures kept { OnErr result (evals.new.items ≡ evals.old.items) }
+    ensures uncounted { OnErr result (work.new ≡ work.old) }
+    ensures memory { IsOkUnless result PolyError.Memory }
+{
+    let (base, _) = odd_base::<F>().unwrap();
+    let (table, mut scratch) = prepare(alloc, coset.group_gen_inv, coset.size as usize, evals)?;
+    let xs = evals.as_mut_slice();
+    mixed(
+        work,
+        xs,
+        scratch.as_mut_slice(),
+        table.as_slice(),
+        1,
+        base as usize,
+        coset.log_size_of_group,
+        coset.odd_exponent,
+    );
+    scale_by_powers(work, xs, coset.size_inv, coset.offset_inv);
+    Ok(())
+}

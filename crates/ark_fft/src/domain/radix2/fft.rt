@@ -1,0 +1,603 @@
+//! The radix 2 transform by halves, and its inverse.
+
+ghost use Rattle.std.specs.Prelude.{◌≡◌, ◌≢◌, ℕ, true, false, IsOkUnless, IfOk, OnOk, OnErr, List, map};
+ghost use Rattle.std.specs.Prelude.{length, get_or, take, ◌+◌, ◌-◌, ◌*◌, ◌/◌, ◌≤◌, ◌<◌, ◌^◌, vec_len};
+ghost use Rattle.ark_math.specs.Domain.{radix2, domain_of};
+ghost use Rattle.ark_math.specs.Field.{FieldOn, power};
+ghost use Rattle.ark_math.specs.Transform.{dft_at, transform, IsInverse, IsOnlyInverse};
+ghost use Rattle.ark_fft.specs.Halves.{reversed, ArePowers, IsHalfTable, AreLevels};
+ghost use Rattle.ark_math.specs.Module.{ModuleOn, item};
+ghost use Rattle.ark_math.specs.Cost.{forward, inverse};
+ghost use Rattle.ark_base.specs.Cost.{GrowsByCost};
+
+use crate::domain::coset::Coset;
+use ark_base::{DomainCoeff, FftField, PolyError, Work};
+use std::alloc::{AllocError, Global};
+use std::mem;
+
+/// One butterfly: the sum, and the difference times the twiddle.
+fn butterfly<F: FftField, T: DomainCoeff<F>>(work: &mut Work, lo: &mut T, hi: &mut T, twiddle: F)
+    ensures sum { T.meaning lo.new ≡ T.group.plus (T.meaning lo.old) (T.meaning hi.old) }
+    ensures difference { T.meaning hi.new ≡ T.group.scale twiddle
+        (T.group.plus (T.meaning lo.old) (T.group.negated (T.meaning hi.old))) }
+    ensures butterflies { work.new.butterflies ≡ work.old.butterflies + 1 }
+    ensures products { work.new.products ≡ work.old.products + 1 }
+    ensures steps { work.new.steps ≡ work.old.steps }
+{
+    let mut difference = *lo - *hi;
+    work.scale(&mut difference, twiddle);
+    *lo += *hi;
+    *hi = difference;
+    work.butterfly();
+}
+
+/// Butterflies across two halves.
+fn butterflies<F: FftField, T: DomainCoeff<F>>(
+    work: &mut Work,
+    lo: &mut [T],
+    hi: &mut [T],
+    table: &[F],
+    stride: usize,
+)
+    requires same { length lo.old ≡ length hi.old }
+    requires enough { length lo.old * stride ≤ length table.now }
+    requires some { 0 < stride }
+    ensures sums { (i : ℕ) → i < length lo.old → item T.group (map T.meaning lo.new) i
+        ≡ T.group.plus (item T.group (map T.meaning lo.old) i) (item T.group (map T.meaning hi.old) i) }
+    ensures differences { (i : ℕ) → i < length lo.old → item T.group (map T.meaning hi.new) i
+        ≡ T.group.scale (get_or table.now (i * stride) F.field.zero)
+        (T.group.plus (item T.group (map T.meaning lo.old) i)
+        (T.group.negated (item T.group (map T.meaning hi.old) i))) }
+    ensures butterflies { work.new.butterflies ≡ work.old.butterflies + length lo.old }
+    ensures products { work.new.products ≡ work.old.products + length lo.old }
+    ensures steps { work.new.steps ≡ work.old.steps }
+{
+    for i in 0..lo.len() {
+        butterfly(work, &mut lo[i], &mut hi[i], table[i * stride]);
+    }
+}
+
+/// The transform at the table's root to the stride, in place. Place i of it is left at the index that has the bits of i
+/// backwards.
+pub(crate) fn halves<F: FftField, T: DomainCoeff<F>>(
+    work: &mut Work,
+    xs: &mut [T],
+    table: &[F],
+    stride: usize,
+    levels: u32,
+)
+    requires size { length xs.old ≡ 2 ^ levels }
+    requires whole { 2 ^ levels * stride / 2 ≡ length table.now }
+    requires small { length table.now < 2 ^ 63 }
+    requires some { 0 < stride }
+    ensures sums { (w : F) → IsHalfTable F.field w table.now → (p : ℕ) → p < 2 ^ levels
+        → item T.group (map T.meaning xs.new) p ≡ dft_at F.field T.group (2 ^ levels) (power F.field w stride)
+        (item T.group (map T.meaning xs.old)) (reversed levels p) }
+    ensures butterflies { work.new.butterflies ≡ work.old.butterflies + 2 ^ levels / 2 * levels }
+    ensures products { work.new.products ≡ work.old.products + 2 ^ levels / 2 * levels }
+    ensures steps { work.new.steps ≡ work.old.steps }
+{
+    if xs.len() > 1 {
+        let half = xs.len() / 2;
+        let (lo, hi) = xs.split_at_mut(half);
+        butterflies(work, lo, hi, table, stride);
+        halves(work, lo, table, stride * 2, levels - 1);
+        halves(work, hi, table, stride * 2, levels - 1);
+    }
+}
+
+/// The index with the lowest bits of i + 1 backwards, from the one with those of i.
+fn next_reversed(_i: usize, before: usize, levels: u32) -> usize
+    requires few { levels < 64 }
+    requires within { _i + 1 < 2 ^ levels }
+    requires backwards { before ≡ reversed levels _i }
+    ensures { result ≡ reversed levels (_i + 1) }
+{
+    let mut left = before;
+    let mut bit = 1 << (levels - 1);
+    'carry: while bit <= left {
+        left -= bit;
+        bit /= 2;
+    }
+    left + bit
+}
+
+/// Exchanges the highest bit of each index with the lowest one: lo's odd items with hi's even ones.
+fn exchange_ends<T>(lo: &mut [T], hi: &mut [T])
+    requires same { length lo.old ≡ length hi.old }
+    ensures lo_even { (k : ℕ) (d : T) → k < length lo.old / 2 → get_or lo.new (2 * k) d
+        ≡ get_or lo.old (2 * k) d }
+    ensures lo_odd { (k : ℕ) (d : T) → k < length lo.old / 2 → get_or lo.new (2 * k + 1) d
+        ≡ get_or hi.old (2 * k) d }
+    ensures hi_even { (k : ℕ) (d : T) → k < length lo.old / 2 → get_or hi.new (2 * k) d
+        ≡ get_or lo.old (2 * k + 1) d }
+    ensures hi_odd { (k : ℕ) (d : T) → k < length lo.old / 2 → get_or hi.new (2 * k + 1) d
+        ≡ get_or hi.old (2 * k + 1) d }
+{
+    for k in 0..lo.len() / 2 {
+        mem::swap(&mut lo[2 * k + 1], &mut hi[2 * k]);
+    }
+}
+
+/// Exchanges two pairs of neighbours.
+fn swap_pairs<T>(xs: &mut [T], i: usize, j: usize)
+    requires apart { i < j }
+    requires within { 2 * j + 1 < length xs.old }
+    ensures first { (b : ℕ) (d : T) → b < 2 → get_or xs.new (2 * i + b) d ≡ get_or xs.old (2 * j + b) d }
+    ensures second { (b : ℕ) (d : T) → b < 2 → get_or xs.new (2 * j + b) d ≡ get_or xs.old (2 * i + b) d }
+    ensures others { (k b : ℕ) (d : T) → b < 2 → k ≢ i → k ≢ j → get_or xs.new (2 * k + b) d
+        ≡ get_or xs.old (2 * k + b) d }
+{
+    xs.swap(2 * i, 2 * j);
+    xs.swap(2 * i + 1, 2 * j + 1);
+}
+
+/// Puts each pair of neighbours, of two lists, at the index that has the bits of its own backwards.
+fn bit_reverse_pairs<T>(lo: &mut [T], hi: &mut [T], levels: u32)
+    requires few { levels < 63 }
+    requires lo_size { length lo.old ≡ 2 * 2 ^ levels }
+    requires hi_size { length hi.old ≡ 2 * 2 ^ levels }
+    ensures lo_pairs { (r b : ℕ) (d : T) → b < 2 → r < 2 ^ levels → get_or lo.new (2 * r + b) d
+        ≡ get_or lo.old (2 * reversed levels r + b) d }
+    ensures hi_pairs { (r b : ℕ) (d : T) → b < 2 → r < 2 ^ levels → get_or hi.new (2 * r + b) d
+        ≡ get_or hi.old (2 * reversed levels r + b) d }
+{
+    let mut j = 0;
+    for i in 1..lo.len() / 2 {
+        j = next_reversed(i - 1, j, levels);
+        if i < j {
+            swap_pairs(lo, i, j);
+            swap_pairs(hi, i, j);
+        }
+    }
+}
+
+/// Puts each item at the index that has the bits of its own backwards.
+pub(crate) fn bit_reverse<T>(xs: &mut [T], levels: u32)
+    requires few { levels < 64 }
+    requires size { length xs.old ≡ 2 ^ levels }
+    ensures { (p : ℕ) (d : T) → p < 2 ^ levels → get_or xs.new p d ≡ get_or xs.old (reversed levels p) d }
+{
+    if levels > 1 {
+        let half = xs.len() / 2;
+        let (lo, hi) = xs.split_at_mut(half);
+        exchange_ends(lo, hi);
+        bit_reverse_pairs(lo, hi, levels - 2);
+    }
+}
+
+/// The transform at the table's root, in place and in order.
+fn in_order<F: FftField, T: DomainCoeff<F>>(work: &mut Work, xs: &mut [T], table: &[F], levels: u32)
+    requires size { length xs.old ≡ 2 ^ levels }
+    requires fits { length xs.old < 2 ^ 64 }
+    requires half { length table.now ≡ length xs.old / 2 }
+    ensures sums { (w : F) → IsHalfTable F.field w table.now → (i : ℕ) → i < length xs.old
+        → item T.group (map T.meaning xs.new) i
+        ≡ dft_at F.field T.group (length xs.old) w (item T.group (map T.meaning xs.old)) i }
+    ensures butterflies { work.new.butterflies ≡ work.old.butterflies + length xs.old / 2 * levels }
+    ensures products { work.new.products ≡ work.old.products + length xs.old / 2 * levels }
+    ensures steps { work.new.steps ≡ work.old.steps }
+{
+    halves(work, xs, table, 1, levels);
+    bit_reverse(xs, levels);
+}
+
+/// One butterfly that joins two parts: hi times the twiddle, added to lo and taken from it.
+fn join<F: FftField, T: DomainCoeff<F>>(work: &mut Work, lo: &mut T, hi: &mut T, twiddle: F)
+    ensures sum { T.meaning lo.new ≡ T.group.plus (T.meaning lo.old)
+        (T.group.scale twiddle (T.meaning hi.old)) }
+    ensures difference { T.meaning hi.new ≡ T.group.plus (T.meaning lo.old)
+        (T.group.negated (T.group.scale twiddle (T.meaning hi.old))) }
+    ensures butterflies { work.new.butterflies ≡ work.old.butterflies + 1 }
+    ensures products { work.new.products ≡ work.old.products + 1 }
+    ensures steps { work.new.steps ≡ work.old.steps }
+{
+    let first = *lo;
+    let mut product = *hi;
+    work.scale(&mut product, twiddle);
+    *lo = first + product;
+    *hi = first - product;
+    work.butterfly();
+}
+
+/// Those butterflies across two halves, each with the twiddle at its index.
+fn join_butterflies<F: FftField, T: DomainCoeff<F>>(
+    work: &mut Work,
+    lo: &mut [T],
+    hi: &mut [T],
+    twiddles: &[F],
+)
+    requires same { length lo.old ≡ length hi.old }
+    requires enough { length lo.old ≡ length twiddles.now }
+    ensures sums { (i : ℕ) → i < length lo.old → item T.group (map T.meaning lo.new) i
+        ≡ T.group.plus (item T.group (map T.meaning lo.old) i)
+        (T.group.scale (get_or twiddles.now i F.field.zero) (item T.group (map T.meaning hi.old) i)) }
+    ensures differences { (i : ℕ) → i < length lo.old → item T.group (map T.meaning hi.new) i
+        ≡ T.group.plus (item T.group (map T.meaning lo.old) i)
+        (T.group.negated (T.group.scale (get_or twiddles.now i F.field.zero)
+        (item T.group (map T.meaning hi.old) i))) }
+    ensures butterflies { work.new.butterflies ≡ work.old.butterflies + length lo.old }
+    ensures products { work.new.products ≡ work.old.products + length lo.old }
+    ensures steps { work.new.steps ≡ work.old.steps }
+{
+    for i in 0..lo.len() {
+        join(work, &mut lo[i], &mut hi[i], twiddles[i]);
+    }
+}
+
+/// The transform of 2 ^ log_len items, in place and in order. The items stand at the indices that have the bits of their
+/// own backwards, each in all places of a block. The tables are those of all levels, the whole list's twiddles first.
+fn join_halves<F: FftField, T: DomainCoeff<F>>(
+    work: &mut Work,
+    xs: &mut [T],
+    tables: &[F],
+    levels: u32,
+    log_len: u32,
+)
+    requires size { length xs.old ≡ 2 ^ levels }
+    requires whole { length tables.now ≡ 2 ^ levels }
+    requires within { log_len ≤ levels }
+    ensures sums { (w : F) (c : ℕ → T.Meaning) → AreLevels F.field w levels tables.now
+        → ((p : ℕ) → p < 2 ^ levels → item T.group (map T.meaning xs.old) p
+        ≡ c (reversed log_len (p / 2 ^ (levels - log_len)))) → (p : ℕ) → p < 2 ^ levels
+        → item T.group (map T.meaning xs.new) p ≡ dft_at F.field T.group (2 ^ log_len) w c p }
+    ensures butterflies { work.new.butterflies ≡ work.old.butterflies + 2 ^ levels / 2 * log_len }
+    ensures products { work.new.products ≡ work.old.products + 2 ^ levels / 2 * log_len }
+    ensures steps { work.new.steps ≡ work.old.steps }
+{
+    if log_len > 0 {
+        let half = xs.len() / 2;
+        let (lo, hi) = xs.split_at_mut(half);
+        let (twiddles, rest) = tables.split_at(half);
+        join_halves(work, lo, rest, levels - 1, log_len - 1);
+        join_halves(work, hi, rest, levels - 1, log_len - 1);
+        join_butterflies(work, lo, hi, twiddles);
+    }
+}
+
+/// Fills the places from one to before another with the item.
+fn fill<T: Copy>(xs: &mut [T], from: usize, to: usize, item: T)
+    requires within { to ≤ length xs.old }
+    ensures filled { (i : ℕ) (d : T) → from ≤ i → i < to → get_or xs.new i d ≡ item }
+    ensures before { (i : ℕ) (d : T) → i < from → get_or xs.new i d ≡ get_or xs.old i d }
+    ensures after { (i : ℕ) (d : T) → to ≤ i → get_or xs.new i d ≡ get_or xs.old i d }
+{
+    for i in from..to {
+        xs[i] = item;
+    }
+}
+
+/// Fills a block of places with each of the first items, in their order.
+fn spread_out<T: Copy>(xs: &mut [T], items: usize, block: usize)
+    requires whole { length xs.old ≡ items * block }
+    requires some { 0 < block }
+    ensures { (p : ℕ) (d : T) → p < length xs.old → get_or xs.new p d ≡ get_or xs.old (p / block) d }
+{
+    for r in (0..items).rev() {
+        let item = xs[r];
+        let from = r * block;
+        fill(xs, from, from + block, item);
+    }
+}
+
+/// The same at a root, where the tables are those of all levels but the last. The last one's twiddles take their place once
+/// they have been used.
+fn join_levels<F: FftField, T: DomainCoeff<F>>(
+    work: &mut Work,
+    xs: &mut [T],
+    tables: &mut [F],
+    root: F,
+    levels: u32,
+    log_len: u32,
+)
+    requires size { length xs.old ≡ 2 ^ levels }
+    requires whole { length tables.old ≡ 2 ^ levels / 2 }
+    requires within { log_len ≤ levels }
+    ensures sums { (c : ℕ → T.Meaning) → AreLevels F.field (power F.field root 2) (levels - 1) tables.old
+        → (0 < levels → power F.field root (2 ^ levels / 2) ≡ F.field.negated F.field.one)
+        → ((p : ℕ) → p < 2 ^ levels → item T.group (map T.meaning xs.old) p
+        ≡ c (reversed log_len (p / 2 ^ (levels - log_len)))) → (p : ℕ) → p < 2 ^ levels
+        → item T.group (map T.meaning xs.new) p ≡ dft_at F.field T.group (2 ^ log_len) root c p }
+    ensures butterflies { work.new.butterflies ≡ work.old.butterflies + 2 ^ levels / 2 * log_len }
+    ensures products { work.new.products ≡ work.old.products + 2 ^ levels / 2 * log_len }
+    ensures steps { work.new.steps ≡ work.old.steps }
+{
+    if log_len > 0 {
+        let half = xs.len() / 2;
+        let (lo, hi) = xs.split_at_mut(half);
+        join_halves(work, lo, tables, levels - 1, log_len - 1);
+        join_halves(work, hi, tables, levels - 1, log_len - 1);
+        fill_with_powers(root, tables);
+        join_butterflies(work, lo, hi, tables);
+    }
+}
+
+/// The transform of the first 2 ^ log_len items at the root, in place and in order, by butterflies of as many levels.
+fn short_in_order<F: FftField, T: DomainCoeff<F>>(
+    work: &mut Work,
+    xs: &mut [T],
+    tables: &mut [F],
+    root: F,
+    levels: u32,
+    log_len: u32,
+)
+    requires size { length xs.old ≡ 2 ^ levels }
+    requires fits { length xs.old < 2 ^ 64 }
+    requires whole { length tables.old ≡ length xs.old / 2 }
+    requires within { log_len ≤ levels }
+    ensures sums { AreLevels F.field (power F.field root 2) (levels - 1) tables.old
+        → (0 < levels → power F.field root (length xs.old / 2) ≡ F.field.negated F.field.one) → (i : ℕ)
+        → i < length xs.old → item T.group (map T.meaning xs.new) i
+        ≡ dft_at F.field T.group (2 ^ log_len) root (item T.group (map T.meaning xs.old)) i }
+    ensures butterflies { work.new.butterflies ≡ work.old.butterflies + length xs.old / 2 * log_len }
+    ensures products { work.new.products ≡ work.old.products + length xs.old / 2 * log_len }
+    ensures steps { work.new.steps ≡ work.old.steps }
+{
+    let log_block = levels - log_len;
+    let items = xs.len() >> log_block;
+    bit_reverse(&mut xs[..items], log_len);
+    spread_out(xs, items, 1 << log_block);
+    join_levels(work, xs, tables, root, levels, log_len);
+}
+
+/// Scales each item.
+fn scale_each<F: FftField, T: DomainCoeff<F>>(work: &mut Work, xs: &mut [T], factor: F)
+    ensures items { (i : ℕ) → i < length xs.old → item T.group (map T.meaning xs.new) i
+        ≡ T.group.scale factor (item T.group (map T.meaning xs.old) i) }
+    ensures butterflies { work.new.butterflies ≡ work.old.butterflies }
+    ensures products { work.new.products ≡ work.old.products + length xs.old }
+    ensures steps { work.new.steps ≡ work.old.steps }
+{
+    for i in 0..xs.len() {
+        work.scale(&mut xs[i], factor);
+    }
+}
+
+/// Scales item i by start times the factor to the i. Two rows of powers take turns, so that no product waits for the last.
+pub(crate) fn scale_by_powers<F: FftField, T: DomainCoeff<F>>(
+    work: &mut Work,
+    xs: &mut [T],
+    start: F,
+    factor: F,
+)
+    ensures items { (i : ℕ) → i < length xs.old → item T.group (map T.meaning xs.new) i
+        ≡ T.group.scale (F.field.times start (power F.field factor i))
+        (item T.group (map T.meaning xs.old) i) }
+    ensures butterflies { work.new.butterflies ≡ work.old.butterflies }
+    ensures products { work.new.products ≡ work.old.products + length xs.old }
+    ensures steps { work.new.steps ≡ work.old.steps }
+{
+    if factor.is_one() {
+        scale_each(work, xs, start);
+    } else {
+        let square = factor * factor;
+        let mut next = start;
+        let mut after = start * factor;
+        for i in 0..xs.len() {
+            work.scale(&mut xs[i], next);
+            let later = next * square;
+            next = after;
+            after = later;
+        }
+    }
+}
+
+/// Scales item i by the offset to the i, and nothing where the offset is one.
+fn shift_to_coset<F: FftField, T: DomainCoeff<F>>(work: &mut Work, xs: &mut [T], offset: F)
+    ensures items { (i : ℕ) → i < length xs.old → item T.group (map T.meaning xs.new) i
+        ≡ T.group.scale (power F.field offset i) (item T.group (map T.meaning xs.old) i) }
+    ensures butterflies { work.new.butterflies ≡ work.old.butterflies }
+    ensures at_least { work.old.products ≤ work.new.products }
+    ensures at_most { work.new.products ≤ work.old.products + length xs.old }
+    ensures steps { work.new.steps ≡ work.old.steps }
+{
+    if !offset.is_one() {
+        scale_by_powers(work, xs, F::one(), offset);
+    }
+}
+
+/// Continues a list of powers by as many more: the known ones times the power after them.
+fn continue_powers<F: FftField>(known: &[F], rest: &mut [F], count: usize, next: F)
+    requires known_enough { count ≤ length known.now }
+    requires rest_enough { count ≤ length rest.old }
+    ensures products { (i : ℕ) → i < count → get_or rest.new i F.field.zero
+        ≡ F.field.times (get_or known.now i F.field.zero) next }
+{
+    for i in 0..count {
+        rest[i] = known[i] * next;
+    }
+}
+
+/// Fills a list with the powers of a root from 0 on. No product waits for the one before it.
+fn fill_with_powers<F: FftField>(root: F, xs: &mut [F])
+    ensures { ArePowers F.field root (length xs.old) xs.new }
+{
+    if let Some(first) = xs.first_mut() {
+        *first = F::one();
+    }
+    let mut known = 1;
+    let mut next = root;
+    'double: while known < xs.len() {
+        let (front, back) = xs.split_at_mut(known);
+        let count = known.min(back.len());
+        continue_powers(front, back, count, next);
+        next = next * next;
+        known += count;
+    }
+}
+
+/// The powers of a root from 0 on.
+pub(crate) fn powers<F: FftField>(
+    alloc: Global,
+    root: F,
+    count: usize,
+) -> Result<Vec<F>, AllocError>
+    ensures { IfOk result (λ t. ArePowers F.field root count t.items) }
+{
+    let mut powers = Vec::new(alloc);
+    powers.resize(count, F::one())?;
+    fill_with_powers(root, powers.as_mut_slice());
+    Ok(powers)
+}
+
+/// Continues a table of twiddles by those of the squared root, every second one, and so on down to one.
+fn continue_levels<F: FftField>(xs: &mut [F], half: usize)
+    requires size { half * 2 ≤ length xs.old }
+    ensures first { (i : ℕ) → i < half → get_or xs.new i F.field.zero ≡ get_or xs.old i F.field.zero }
+    ensures seconds { (i : ℕ) → i < half → get_or xs.new (half + i) F.field.zero
+        ≡ get_or xs.new (2 * i) F.field.zero }
+{
+    for i in 0..half {
+        xs[half + i] = xs[2 * i];
+    }
+}
+
+/// The tables of all levels, of a list of n items down to lists of one: each has half as many powers of its root as its
+/// lists have items.
+fn level_tables<F: FftField>(alloc: Global, root: F, n: usize) -> Result<Vec<F>, AllocError>
+    ensures len { IfOk result (λ t. length t.items ≡ n) }
+    ensures first { IfOk result (λ t. ArePowers F.field root (n / 2) (take (n / 2) t.items)) }
+    ensures seconds { IfOk result (λ t. (i : ℕ) → i < n / 2 → get_or t.items (n / 2 + i) F.field.zero
+        ≡ get_or t.items (2 * i) F.field.zero) }
+{
+    let mut tables = Vec::new(alloc);
+    tables.resize(n, F::one())?;
+    let xs = tables.as_mut_slice();
+    fill_with_powers(root, &mut xs[..n / 2]);
+    continue_levels(xs, n / 2);
+    Ok(tables)
+}
+
+/// Takes all memory, for the first half of a root's powers and for n items, and cuts the list or fills it with zeros.
+fn prepare<F: FftField, T: DomainCoeff<F>>(
+    alloc: Global,
+    root: F,
+    n: usize,
+    coeffs: &mut Vec<T>,
+) -> Result<Vec<F>, PolyError>
+    ensures table { IfOk result (λ t. ArePowers F.field root (n / 2) t.items) }
+    ensures fitted { OnOk result ((j : ℕ) → j < n → item T.group (map T.meaning coeffs.new.items) j
+        ≡ item T.group (map T.meaning coeffs.old.items) j) }
+    ensures len { OnOk result (vec_len coeffs.new ≡ n) }
+    ensures kept { OnErr result (coeffs.new.items ≡ coeffs.old.items) }
+    ensures memory { IsOkUnless result PolyError.Memory }
+{
+    let table = powers(alloc, root, n / 2)?;
+    coeffs.resize(n, T::zero())?;
+    Ok(table)
+}
+
+/// The transform in place of a list of at most a quarter of the n items, by n/2 butterflies for each level of that many
+/// items, and a scaling an item where there is an offset.
+fn degree_aware_fft_in_place<F: FftField, T: DomainCoeff<F>>(
+    coset: &Coset<F>,
+    alloc: Global,
+    coeffs: &mut Vec<T>,
+    work: &mut Work,
+) -> Result<(), PolyError>
+    requires even { coset.now.odd_exponent ≡ 0 }
+    requires short { length coeffs.old.items ≤ coset.now.size / 4 }
+    ensures transform { OnOk result (map T.meaning coeffs.new.items
+        ≡ transform F.field T.group (domain_of radix2 coset.now.size coset.now.group_gen coset.now.offset)
+        (map T.meaning coeffs.old.items)) }
+    ensures cost { OnOk result (GrowsByCost F.adicity (domain_of radix2 coset.now.size coset.now.group_gen
+        coset.now.offset) (length coeffs.old.items) forward work.old work.new) }
+    ensures kept { OnErr result (coeffs.new.items ≡ coeffs.old.items) }
+    ensures uncounted { OnErr result (work.new ≡ work.old) }
+    ensures memory { IsOkUnless result PolyError.Memory }
+{
+    let len = coeffs.len();
+    let log_len = len.next_power_of_two().ilog2();
+    let size = coset.size as usize;
+    let root = coset.group_gen;
+    let mut tables = level_tables(alloc, root * root, size / 2)?;
+    coeffs.resize(size, T::zero())?;
+    let xs = coeffs.as_mut_slice();
+    shift_to_coset(work, &mut xs[..len], coset.offset);
+    short_in_order(
+        work,
+        xs,
+        tables.as_mut_slice(),
+        root,
+        coset.log_size_of_group,
+        log_len,
+    );
+    Ok(())
+}
+
+/// The transform in place of a longer list, by n/2 * log2(n) butterflies, and a scaling a place where there is an
+/// offset.
+fn in_order_fft_in_place<F: FftField, T: DomainCoeff<F>>(
+    coset: &Coset<F>,
+    alloc: Global,
+    coeffs: &mut Vec<T>,
+    work: &mut Work,
+) -> Result<(), PolyError>
+    requires even { coset.now.odd_exponent ≡ 0 }
+    requires long { coset.now.size / 4 < length coeffs.old.items }
+    ensures transform { OnOk result (map T.meaning coeffs.new.items
+        ≡ transform F.field T.group (domain_of radix2 coset.now.size coset.now.group_gen coset.now.offset)
+        (map T.meaning coeffs.old.items)) }
+    ensures cost { OnOk result (GrowsByCost F.adicity (domain_of radix2 coset.now.size coset.now.group_gen
+        coset.now.offset) (length coeffs.old.items) forward work.old work.new) }
+    ensures kept { OnErr result (coeffs.new.items ≡ coeffs.old.items) }
+    ensures uncounted { OnErr result (work.new ≡ work.old) }
+    ensures memory { IsOkUnless result PolyError.Memory }
+{
+    let table = prepare(alloc, coset.group_gen, coset.size as usize, coeffs)?;
+    let xs = coeffs.as_mut_slice();
+    shift_to_coset(work, xs, coset.offset);
+    in_order(work, xs, table.as_slice(), coset.log_size_of_group);
+    Ok(())
+}
+
+/// The transform in place, by fewer levels of butterflies where the list has at most a quarter of the n items.
+pub fn fft_counted<F: FftField, T: DomainCoeff<F>>(
+    coset: &Coset<F>,
+    alloc: Global,
+    coeffs: &mut Vec<T>,
+    work: &mut Work,
+) -> Result<(), PolyError>
+    requires even { coset.now.odd_exponent ≡ 0 }
+    ensures transform { OnOk result (map T.meaning coeffs.new.items
+        ≡ transform F.field T.group (domain_of radix2 coset.now.size coset.now.group_gen coset.now.offset)
+        (map T.meaning coeffs.old.items)) }
+    ensures cost { OnOk result (GrowsByCost F.adicity (domain_of radix2 coset.now.size coset.now.group_gen
+        coset.now.offset) (length coeffs.old.items) forward work.old work.new) }
+    ensures kept { OnErr result (coeffs.new.items ≡ coeffs.old.items) }
+    ensures uncounted { OnErr result (work.new ≡ work.old) }
+    ensures memory { IsOkUnless result PolyError.Memory }
+{
+    if coeffs.len() <= coset.size as usize / 4 {
+        degree_aware_fft_in_place(coset, alloc, coeffs, work)
+    } else {
+        in_order_fft_in_place(coset, alloc, coeffs, work)
+    }
+}
+
+/// The inverse of the transform in place, by n/2 * log2(n) butterflies at the inverse root and one scaling a place.
+pub fn ifft_counted<F: FftField, T: DomainCoeff<F>>(
+    coset: &Coset<F>,
+    alloc: Global,
+    evals: &mut Vec<T>,
+    work: &mut Work,
+) -> Result<(), PolyError>
+    requires even { coset.now.odd_exponent ≡ 0 }
+    ensures inverse { OnOk result (IsInverse F.field T.group
+        (domain_of radix2 coset.now.size coset.now.group_gen coset.now.offset) (map T.meaning evals.old.items)
+        (map T.meaning evals.new.items)) }
+    ensures only { OnOk result (IsOnlyInverse F.field T.group
+        (domain_of radix2 coset.now.size coset.now.group_gen coset.now.offset) (map T.meaning evals.old.items)
+        (map T.meaning evals.new.items)) }
+    ensures cost { OnOk result (GrowsByCost F.adicity (domain_of radix2 coset.now.size coset.now.group_gen
+        coset.now.offset) (length evals.old.items) inverse work.old work.new) }
+    ensures kept { OnErr result (evals.new.items ≡ evals.old.items) }
+    ensures uncounted { OnErr result (work.new ≡ work.old) }
+    ensures memory { IsOkUnless result PolyError.Memory }
+{
+    let table = prepare(alloc, coset.group_gen_inv, coset.size as usize, evals)?;
+    let xs = evals.as_mut_slice();
+    in_order(work, xs, table.as_slice(), coset.log_size_of_group);
+    scale_by_powers(work, xs, coset.size_inv, coset.offset_inv);
+    Ok(())
+}

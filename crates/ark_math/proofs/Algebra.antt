@@ -1,0 +1,9 @@
+-- Rings and modules: equations by computation, sums, powers, inverses of many values.
+pub mod Groups
+pub mod Inversions
+pub mod Powers
+pub mod Regrouped
+pub mod Ring
+pub mod Signed
+pub mod Solve
+pub mod Sums

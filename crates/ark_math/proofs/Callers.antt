@@ -1,0 +1,3 @@
+-- What a caller of the domains can use: from the clauses of a call to the fact that is wanted.
+pub mod Sizes
+pub mod Transforms

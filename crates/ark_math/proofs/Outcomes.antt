@@ -1,0 +1,4 @@
+-- What code answers: tests that decide a fact, results.
+pub mod Pairs
+pub mod Results
+pub mod Tests

@@ -1,0 +1,136 @@
+-- Pairs of exponent and coefficient in rising order: that an order changes no sum, and the sums of like terms one by one.
+use Rattle.std.proofs.Common.{◌≡◌, ◌≢◌, ℕ, zero, suc, ◌+◌, ◌<◌, ◌≤◌, List, [], ◌∷◌, length, get_or, set, take, sym, ◌∙◌, ap, ap₂, refl, subst, arith, get_or-set_same, get_or-set_other, length-set, ⊎_elim}
+use Rattle.std.specs.List.{All, swap}
+use Rattle.std.specs.List.Sorted.{IsPermutation, IsNonDecreasingBy, apply_swaps, SwapsInRange}
+use Rattle.std.proofs.lemmas.Bool.{cases_eq}
+use Rattle.std.proofs.lemmas.List.{get_or_read, take_all}
+use Rattle.ark_math.specs.Field.{FieldOn, IsField}
+use Rattle.ark_math.specs.Univariate.{nothing, added, monomial, of_pairs, IsSparse}
+use Rattle.ark_math.proofs.Algebra.Groups.{cancel_left}
+use Rattle.ark_math.proofs.Algebra.Solve.{◌⊞◌}
+use Rattle.ark_math.proofs.Algebra.Ring.{module0_3}
+use Rattle.ark_math.proofs.Polynomials.Univariate.{coefficients_are_module}
+use Rattle.ark_math.proofs.Polynomials.UnivariatePairs.{of_pairs-push, take_next, monomial-added, monomial-zero, sparse-nil}
+
+module _ {F : Type 0} (K : FieldOn F) (N : IsField K) where
+  abbrev mono : ℕ × F → ℕ → F
+  mono x = monomial K x.0 x.1
+
+  -- a pair in place of another
+  of_pairs-set : (p : List (ℕ × F)) (k : ℕ) (x d : ℕ × F) → k < length p → added K (mono (get_or p k d)) (of_pairs K (set p k x)) ≡ added K (mono x) (of_pairs K p)
+  of_pairs-set [] k x d l = absurd (omega arith)
+  of_pairs-set (y ∷ p) zero x d l =
+      let M = coefficients_are_module {I = ℕ} K N in
+      module0_3 N M (λ y x p. (y ⊞ (x ⊞ p), x ⊞ (y ⊞ p))) refl (mono y) (mono x) (of_pairs K p)
+  of_pairs-set (y ∷ p) (suc k) x d l =
+      let M = coefficients_are_module {I = ℕ} K N in
+      module0_3 N M (λ y z q. (z ⊞ (y ⊞ q), y ⊞ (z ⊞ q))) refl (mono y) (mono (get_or p k d)) (of_pairs K (set p k x))
+      ∙ ap (added K (mono y)) (of_pairs-set p k x d (omega arith))
+      ∙ module0_3 N M (λ y x p. (y ⊞ (x ⊞ p), x ⊞ (y ⊞ p))) refl (mono y) (mono x) (of_pairs K p)
+
+  swap_both : (p : List (ℕ × F)) (i j : ℕ) (d : ℕ × F) → i < length p → j < length p → of_pairs K (set (set p i (get_or p j d)) j (get_or p i d)) ≡ of_pairs K p
+  swap_both p i j d a b =
+      let M = coefficients_are_module {I = ℕ} K N in
+      let x = get_or p i d in
+      let y = get_or p j d in
+      let q = set p i y in
+      let inside : j < length q = omega (arith, length-set p i y) in
+      let there : get_or q j d ≡ y = ⊎_elim
+      (λ (e : j ≡ i). subst (λ t. get_or q t d ≡ y) (sym e) (get_or-set_same p i y d a))
+      (λ (ne : j ≢ i). get_or-set_other p i j y d ne)
+      (cases_eq j i) in
+      cancel_left M (mono y) (of_pairs K (set q j x)) (of_pairs K p)
+      (ap (λ t. added K (mono t) (of_pairs K (set q j x))) (sym there) ∙ of_pairs-set q j x d inside ∙ of_pairs-set p i y d a)
+
+  of_pairs-swap : (p : List (ℕ × F)) (i j : ℕ) → i < length p → j < length p → of_pairs K (swap p i j) ≡ of_pairs K p
+  of_pairs-swap [] i j a b = refl
+  of_pairs-swap (x ∷ p) i j a b = swap_both (x ∷ p) i j x a b
+
+  length-swap : (p : List (ℕ × F)) (i j : ℕ) → length (swap p i j) ≡ length p
+  length-swap [] i j = refl
+  length-swap (x ∷ p) i j = length-set (set (x ∷ p) i (get_or (x ∷ p) j x)) j (get_or (x ∷ p) i x) ∙ length-set (x ∷ p) i (get_or (x ∷ p) j x)
+
+  length-swaps : (p : List (ℕ × F)) (m : List (ℕ × ℕ)) → length (apply_swaps p m) ≡ length p
+  length-swaps p [] = refl
+  length-swaps p (s ∷ m) = length-swap (apply_swaps p m) s.0 s.1 ∙ length-swaps p m
+
+  of_pairs-swaps : (p : List (ℕ × F)) (m : List (ℕ × ℕ)) → SwapsInRange (length p) m → of_pairs K (apply_swaps p m) ≡ of_pairs K p
+  of_pairs-swaps p [] h = refl
+  of_pairs-swaps p (s ∷ m) h =
+      let e = length-swaps p m in
+      let a : s.0 < length (apply_swaps p m) = omega (arith, h.0) in
+      let b : s.1 < length (apply_swaps p m) = omega (arith, h.1) in
+      of_pairs-swap (apply_swaps p m) s.0 s.1 a b ∙ of_pairs-swaps p m h.2
+
+  -- in any order pairs have one sum
+  pub of_pairs-permutation : (p q : List (ℕ × F)) → IsPermutation p q → of_pairs K q ≡ of_pairs K p
+  of_pairs-permutation p q h = ap (of_pairs K) h.is ∙ of_pairs-swaps p h.moves h.below
+
+  -- ---- like terms, of pairs whose exponents don't fall
+
+  -- the first i pairs are done: those in c, and what is summed up of the exponent n
+  pub record IsMerged (p c : List (ℕ × F)) (i n : ℕ) (s : F) : Type 0 where
+    pub sparse : IsSparse K c
+    pub above : All (λ x. x.0 < n) c
+    pub sum : added K (of_pairs K c) (monomial K n s) ≡ of_pairs K (take i p)
+    pub next : (k : ℕ) (d : ℕ × F) → i ≤ k → k < length p → n ≤ (get_or p k d).0
+
+  pub nothing_merged : (p : List (ℕ × F)) → IsMerged p [] 0 0 K.zero
+  nothing_merged p = record {
+    sparse = sparse-nil K N;
+    above = λ k d l. absurd (omega arith);
+    sum = ap (added K (nothing K)) (monomial-zero K N 0) ∙ (coefficients_are_module {I = ℕ} K N).plus_zero (nothing K);
+    next = λ k d l m. omega arith;
+  }
+
+  -- one more of the same exponent
+  pub merged_more : (p c : List (ℕ × F)) (i n : ℕ) (s t : F) (x : ℕ × F) → IsMerged p c i n s → i < length p → x ≡ get_or p i x → x.0 ≡ n → t ≡ K.plus s x.1 → IsMerged p c (i + 1) n t
+  merged_more p c i n s t x h l e f g = record {
+    sparse = h.sparse;
+    above = h.above;
+    sum =
+        let M = coefficients_are_module {I = ℕ} K N in
+        ap (λ u. added K (of_pairs K c) (monomial K n u)) g
+        ∙ ap (added K (of_pairs K c)) (sym (monomial-added K N n s x.1))
+        ∙ sym (M.plus_assoc (of_pairs K c) (monomial K n s) (monomial K n x.1))
+        ∙ ap₂ (added K) h.sum (ap (λ u. monomial K u x.1) (sym f))
+        ∙ sym (of_pairs-push K N (take i p) x)
+        ∙ ap (of_pairs K) (sym (take_next K N p i x l e));
+    next = λ k d a b. h.next k d (omega arith) b;
+  }
+
+  -- the exponent is done, and the next one begins
+  pub merged_next : (p c e : List (ℕ × F)) (i n : ℕ) (s : F) (x : ℕ × F) → IsMerged p c i n s → IsNonDecreasingBy (λ y. y.0) p → i < length p → x ≡ get_or p i x → x.0 ≢ n → IsSparse K e → of_pairs K e ≡ added K (of_pairs K c) (monomial K n s) → ((m : ℕ) → n < m → All (λ y. y.0 < m) e) → IsMerged p e i x.0 K.zero
+  merged_next p c e i n s x h rises l is ne sparse sum below =
+      let up : n ≤ (get_or p i x).0 = h.next i x (omega arith) l in
+      let same : x.0 ≡ (get_or p i x).0 = ap (λ t. t.0) is in
+      record {
+        sparse = sparse;
+        above = below x.0 (omega arith);
+        sum =
+            ap (added K (of_pairs K e)) (monomial-zero K N x.0)
+            ∙ (coefficients_are_module {I = ℕ} K N).plus_zero (of_pairs K e)
+            ∙ sum
+            ∙ h.sum;
+        next = λ k d a b.
+            let r : (get_or p i d).0 ≤ (get_or p k d).0 = rises i k d a b in
+            let t : x ≡ get_or p i d = get_or_read p i x l is d in
+            let u : x.0 ≡ (get_or p i d).0 = ap (λ v. v.0) t in
+            omega arith;
+      }
+
+  pub merged_all : (p c e : List (ℕ × F)) (i n : ℕ) (s : F) → IsMerged p c i n s → length p ≤ i → of_pairs K e ≡ added K (of_pairs K c) (monomial K n s) → of_pairs K e ≡ of_pairs K p
+  merged_all p c e i n s h l f = f ∙ h.sum ∙ ap (of_pairs K) (take_all i p l)
+
+  -- the two ways of a turn of the loop
+  pub merged_step_new : (p c e m : List (ℕ × F)) (i n k : ℕ) (s r t : F) (x : ℕ × F) → IsMerged p c i n s → IsNonDecreasingBy (λ y. y.0) p → i < length p → x ≡ get_or p i x → x.0 ≢ n → IsSparse K e → of_pairs K e ≡ added K (of_pairs K c) (monomial K n s) → ((b : ℕ) → n < b → All (λ y. y.0 < b) e) → m ≡ e → k ≡ x.0 → r ≡ K.zero → t ≡ K.plus r x.1 → IsMerged p m (i + 1) k t
+  merged_step_new p c e m i n k s r t x h rises l is ne sparse sum below f g j q =
+      subst (λ u. IsMerged p u (i + 1) k t) (sym f)
+      (merged_more p e i k r t x
+      (subst (λ u. IsMerged p e i u r) (sym g) (subst (λ u. IsMerged p e i x.0 u) (sym j) (merged_next p c e i n s x h rises l is ne sparse sum below)))
+      l is (sym g) q)
+
+  pub merged_step_same : (p c m : List (ℕ × F)) (i n k : ℕ) (s r t : F) (x : ℕ × F) → IsMerged p c i n s → i < length p → x ≡ get_or p i x → x.0 ≡ n → m ≡ c → k ≡ n → r ≡ s → t ≡ K.plus r x.1 → IsMerged p m (i + 1) k t
+  merged_step_same p c m i n k s r t x h l is same f g j q =
+      subst (λ u. IsMerged p u (i + 1) k t) (sym f)
+      (subst (λ u. IsMerged p c (i + 1) u t) (sym g) (merged_more p c i n s t x h l is same (q ∙ ap (λ u. K.plus u x.1) j)))

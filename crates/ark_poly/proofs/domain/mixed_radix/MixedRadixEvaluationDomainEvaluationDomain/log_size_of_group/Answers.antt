@@ -1,7 +1,0 @@
-use Rattle.ark_math.proofs.MixedSizes.{exponent_of_two}
-use Rattle.ark_poly.proofs.domain.mixed_radix.MixedRadixEvaluationDomainEvaluationDomain.log_size_of_group.Goals as goal
-
-pub returns : goal.returns
-returns g c =
-    let t = c.args.self.now.coset in
-    exponent_of_two g.F.FftField.adicity t.size t.log_size_of_group t.odd_exponent g.met.F.FftField.roots_law.base t.product

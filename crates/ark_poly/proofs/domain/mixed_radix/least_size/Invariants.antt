@@ -1,5 +1,0 @@
-use Rattle.ark_math.proofs.MixedSizes.{IsLeastBelow}
-use Rattle.ark_poly.proofs.domain.mixed_radix.least_size.Given as goal
-
-abbrev pub invariant-loop-odds : goal.invariant-loop-odds
-invariant-loop-odds g l = IsLeastBelow g.F.FftField.adicity l.num_coeffs l.odds l.least

@@ -1,0 +1,2 @@
+-- The counts of some transforms, from the definition of their cost.
+mod Growths

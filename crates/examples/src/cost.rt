@@ -1,0 +1,24 @@
+//! The exact cost of calls, as numbers in a contract.
+
+ghost use Rattle.std.specs.Prelude.{◌≡◌, ◌+◌, ◌≤◌, length, OnOk};
+
+use ark_base::{DomainCoeff, FftField, PolyError, Work};
+use ark_poly::{EvaluationDomain, Radix2EvaluationDomain};
+use std::alloc::Global;
+
+/// Over sixteen elements a transform of four items takes two levels of eight butterflies, and the way back takes four.
+/// There is a product for each butterfly, and in each transform at most one more for each element.
+pub fn over_sixteen_and_back<F: FftField, T: DomainCoeff<F>>(
+    alloc: Global,
+    domain: &Radix2EvaluationDomain<F>,
+    items: &mut Vec<T>,
+    work: &mut Work,
+) -> Result<(), PolyError>
+    requires sixteen { (⟦<Radix2EvaluationDomain<F> as EvaluationDomain<F>>⟧.domain domain.now).size ≡ 16 }
+    requires four { length items.old.items ≡ 4 }
+    ensures butterflies { OnOk result (work.new.butterflies ≡ work.old.butterflies + 16 + 32) }
+    ensures products { OnOk result (work.new.products ≤ work.old.products + (16 + 16) + (32 + 16)) }
+{
+    domain.fft_counted(alloc, items, work)?;
+    domain.ifft_counted(alloc, items, work)
+}

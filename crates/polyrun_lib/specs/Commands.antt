@@ -1,0 +1,69 @@
+-- Which words are a command.
+use Rattle.std.specs.Prelude.{◌≡◌, ℕ, List, [], ◌∷◌, codes}
+use Rattle.polyrun_lib.specs.declared.command.Direction.{Direction}
+use Rattle.polyrun_lib.specs.declared.command.Direction.TheVariants.{Forward, Inverse}
+use Rattle.polyrun_lib.specs.declared.command.Command.{Command as Parsed}
+use Rattle.polyrun_lib.specs.declared.command.Command.TheVariants.{Transform, Eval, Size}
+use Rattle.polyrun_lib.specs.Words.{IsNumber, IsList}
+
+-- the transform of a list over the domain for k with the offset h, a polynomial's value at a point, the size for k
+pub data Command : Type 0 where
+  transform_of : Direction → ℕ → ℕ → List ℕ → Command
+  value_of : List ℕ → ℕ → Command
+  size_for : ℕ → Command
+
+-- the name that stands first
+abbrev pub transform_name : Direction → List ℕ
+transform_name Forward = codes "fft"
+transform_name Inverse = codes "ifft"
+
+abbrev pub command_name : Command → List ℕ
+command_name (transform_of direction k h xs) = transform_name direction
+command_name (value_of xs x) = codes "eval"
+command_name (size_for k) = codes "size"
+
+-- a size, an offset and a list
+abbrev pub AreTransformed : List (List ℕ) → ℕ → ℕ → List ℕ → Type 0
+AreTransformed words k h xs = (a : List ℕ) × (b : List ℕ) × (c : List ℕ) × (words ≡ a ∷ b ∷ c ∷ []) × IsNumber a k × IsNumber b h × IsList c xs
+
+-- a list and a point
+abbrev pub AreEvaluated : List (List ℕ) → List ℕ → ℕ → Type 0
+AreEvaluated words xs x = (a : List ℕ) × (b : List ℕ) × (words ≡ a ∷ b ∷ []) × IsList a xs × IsNumber b x
+
+-- a number of coefficients
+abbrev pub AreSized : List (List ℕ) → ℕ → Type 0
+AreSized words k = (a : List ℕ) × (words ≡ a ∷ []) × IsNumber a k
+
+-- the words after the command's name
+abbrev pub Takes : List (List ℕ) → Command → Type 0
+Takes words (transform_of direction k h xs) = AreTransformed words k h xs
+Takes words (value_of xs x) = AreEvaluated words xs x
+Takes words (size_for k) = AreSized words k
+
+-- the words after the field
+abbrev pub Reads : List (List ℕ) → Command → Type 0
+Reads words c = (rest : List (List ℕ)) × (words ≡ command_name c ∷ rest) × Takes rest c
+
+-- a parsed command's lists are the words that spell them
+abbrev pub Spells : Parsed → Command → Type 0
+Spells (Transform direction k h list) c = (xs : List ℕ) × IsList list.now xs × (c ≡ transform_of direction k h xs)
+Spells (Eval list x) c = (xs : List ℕ) × IsList list.now xs × (c ≡ value_of xs x)
+Spells (Size k) c = c ≡ size_for k
+
+-- each list is a word that spells one
+abbrev pub IsSpelled : Parsed → Type 0
+IsSpelled parsed = (c : Command) × Spells parsed c
+
+-- the transform that the words after its name are, and that they are none
+abbrev pub IsTransform : List (List ℕ) → Direction → Parsed → Type 0
+IsTransform words direction parsed = (k : ℕ) × (h : ℕ) × (xs : List ℕ) × AreTransformed words k h xs × Spells parsed (transform_of direction k h xs)
+
+abbrev pub IsNoTransform : List (List ℕ) → Type 0
+IsNoTransform words = (k h : ℕ) (xs : List ℕ) → AreTransformed words k h xs → ⊥
+
+-- the command that the words after the field are, and that they are none
+abbrev pub IsRead : List (List ℕ) → Parsed → Type 0
+IsRead words parsed = (c : Command) × Reads words c × Spells parsed c
+
+abbrev pub IsNoCommand : List (List ℕ) → Type 0
+IsNoCommand words = (c : Command) → Reads words c → ⊥

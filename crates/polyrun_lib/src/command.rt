@@ -1,0 +1,91 @@
+//! The commands, and how the words of a command line are read as one.
+
+ghost use Rattle.std.specs.Prelude.{◌≡◌, ◌↔◌, ℕ, List, IfSome, IfNone, map, string_bytes};
+ghost use Rattle.polyrun_lib.specs.Words.{IsList, SpellsList};
+ghost use Rattle.polyrun_lib.specs.Commands.{IsTransform, IsNoTransform, IsRead, IsNoCommand};
+
+use crate::words::{is_list, number};
+
+/// Which way a transform goes: from coefficients to values, or back.
+#[derive(Clone, Copy)]
+pub enum Direction {
+    Forward,
+    Inverse,
+}
+
+/// A command. Its lists stay the words that spell them, so that usage is judged without memory.
+#[derive(Clone, Copy)]
+pub enum Command<'a> {
+    /// The transform of a list over the domain for a size with an offset, or its inverse.
+    Transform {
+        direction: Direction,
+        size: u64,
+        offset: u64,
+        list: &'a str,
+    },
+    /// The value at a point of the polynomial with these coefficients.
+    Eval {
+        list: &'a str,
+        point: u64,
+    },
+    /// The size of the domain for so many coefficients.
+    Size {
+        num_coeffs: u64,
+    },
+}
+
+/// The command that the words after the field are, or `None` where they are none.
+pub fn parse(words: &[String]) -> Option<Command>
+    ensures some { IfSome result (IsRead (map string_bytes words.now)) }
+    ensures none { IfNone result (IsNoCommand (map string_bytes words.now)) }
+{
+    let [name, arguments @ ..] = words else {
+        return None;
+    };
+    match name.as_str() {
+        "fft" => parse_transform(Direction::Forward, arguments),
+        "ifft" => parse_transform(Direction::Inverse, arguments),
+        "eval" => {
+            let [list, point] = arguments else {
+                return None;
+            };
+            Some(Command::Eval {
+                list: list_word(list.as_str())?,
+                point: number(point.as_str())?,
+            })
+        }
+        "size" => {
+            let [num_coeffs] = arguments else {
+                return None;
+            };
+            Some(Command::Size {
+                num_coeffs: number(num_coeffs.as_str())?,
+            })
+        }
+        _ => None,
+    }
+}
+
+/// The transform whose size, offset and list the words are.
+fn parse_transform(direction: Direction, words: &[String]) -> Option<Command>
+    ensures some { IfSome result (IsTransform (map string_bytes words.now) direction) }
+    ensures none { IfNone result (IsNoTransform (map string_bytes words.now)) }
+{
+    let [size, offset, list] = words else {
+        return None;
+    };
+    Some(Command::Transform {
+        direction,
+        size: number(size.as_str())?,
+        offset: number(offset.as_str())?,
+        list: list_word(list.as_str())?,
+    })
+}
+
+/// The word itself, where it spells a list.
+fn list_word(word: &str) -> Option<&str>
+    ensures some { IfSome result (λ list. (list.now ≡ word.now) × SpellsList word.now) }
+    ensures none { IfNone result ((xs : List ℕ) → ¬ IsList word.now xs) }
+{
+    if is_list(word) { Some(word) } else { None }
+}
