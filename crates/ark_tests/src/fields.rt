@@ -5,7 +5,11 @@ use std::test::Fail;
 // The first size whose root is another than the one beside it.
 fn wrong_root<F: FftField>(rows: &[(u64, Option<u64>)]) -> Option<u64> {
     for (n, root) in rows {
-        if F::get_root_of_unity(*n) != root.map(F::from) {
+        let known = match root {
+            Some(number) => Some(F::from(*number)),
+            None => None,
+        };
+        if F::get_root_of_unity(*n) != known {
             return Some(*n);
         }
     }

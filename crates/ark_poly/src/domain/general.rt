@@ -57,11 +57,11 @@ impl<F: FftField> EvaluationDomain<F> for GeneralEvaluationDomain<F> {
     ghost chooses = { IsGeneral F.adicity };
 
     fn new(num_coeffs: usize) -> Option<Self> {
-        if let Some(domain) = Radix2EvaluationDomain::new(num_coeffs) {
-            return Some(GeneralEvaluationDomain::Radix2(domain));
+        if let Some(even) = Radix2EvaluationDomain::new(num_coeffs) {
+            return Some(GeneralEvaluationDomain::Radix2(even));
         }
-        let domain = MixedRadixEvaluationDomain::new(num_coeffs)?;
-        Some(GeneralEvaluationDomain::MixedRadix(domain))
+        let mixed = MixedRadixEvaluationDomain::new(num_coeffs)?;
+        Some(GeneralEvaluationDomain::MixedRadix(mixed))
     }
 
     fn get_coset(&self, offset: F) -> Option<Self> {

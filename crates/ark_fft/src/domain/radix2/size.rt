@@ -12,10 +12,10 @@ pub fn least_size<F: FftField>(num_coeffs: usize) -> Option<(usize, u32)>
     ensures splits { IfSome result (λ p. Splits F.adicity p.0 p.1 0) }
     ensures none { IsNone result ↔ ((n : ℕ) → IsLeast (IsSize F.adicity radix2) num_coeffs n → ⊥) }
 {
-    let size = num_coeffs.checked_next_power_of_two()?;
-    let log_size = size.ilog2();
-    if log_size <= F::TWO_ADICITY {
-        Some((size, log_size))
+    let power = num_coeffs.checked_next_power_of_two()?;
+    let twos = power.ilog2();
+    if twos <= F::TWO_ADICITY {
+        Some((power, twos))
     } else {
         None
     }
