@@ -36,3 +36,5 @@ mod sparse;
 mod traces;
 #[cfg(test)]
 mod transforms;
+#[cfg(test)]
+mod trials;
