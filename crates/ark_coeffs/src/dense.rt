@@ -1,7 +1,7 @@
 //! Coefficients by their exponents: item i of a list is the coefficient at i.
 
-ghost use Rattle.std.specs.Prelude.{◌≡◌, ◌≢◌, ℕ, ◌+◌, ◌-◌, ◌<◌, ◌≤◌, length, IfOk, replicate};
-ghost use Rattle.ark_math.specs.Univariate.{IsBelow, of_list, added, opposite, product};
+ghost use Rattle.std.specs.Prelude.{◌≡◌, ◌≢◌, ℕ, ◌+◌, ◌-◌, ◌<◌, ◌≤◌, length, IfOk, replicate, take, drop};
+ghost use Rattle.ark_math.specs.Univariate.{IsBelow, of_list, added, difference, opposite, monomial, product};
 
 use ark_base::Field;
 use std::alloc::{AllocError, Global};
@@ -65,4 +65,18 @@ pub fn extended<F: Field>(alloc: Global, coeffs: &[F], len: usize) -> Result<Vec
     copy.extend_from_slice(coeffs)?;
     copy.resize(len, F::zero())?;
     Ok(copy)
+}
+
+/// Divides by `x^n - constant` in place: the first `n` items are then the remainder's, and those from `n` on the
+/// quotient's. Each item from `n` on is carried down by `n` places, times the constant.
+pub fn divide_by_binomial<F: Field>(coeffs: &mut [F], n: usize, constant: F)
+    requires { 0 < n }
+    ensures { of_list F.field coeffs.old ≡ added F.field (product F.field (of_list F.field (drop n coeffs.new))
+        (difference F.field (monomial F.field n F.field.one) (monomial F.field 0 constant)))
+        (of_list F.field (take n coeffs.new)) }
+{
+    for i in (n..coeffs.len()).rev() {
+        let carried = constant * coeffs[i];
+        coeffs[i - n] += carried;
+    }
 }

@@ -1,5 +1,4 @@
 -- Polynomials over a domain: their values, the vanishing polynomial, weights, filters.
-pub mod Eliminated
 pub mod Filters
 pub mod OneFilter
 pub mod PlaceValues

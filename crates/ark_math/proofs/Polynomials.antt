@@ -1,4 +1,5 @@
 -- Polynomials in one variable: coefficient functions, lists and pairs that denote them, products, quotients, values, zeros.
+pub mod Binomials
 pub mod Gathered
 pub mod Quotients
 pub mod SortedPairs

@@ -2,6 +2,7 @@
 use Rattle.std.proofs.Common.{◌≡◌, ◌≢◌, ℕ, ◌+◌, ◌<◌, List, [], ◌∷◌, length, sym, ◌∙◌, ap, ap₂, refl, subst, arith}
 use mathlib.Core.Path.{fun_ext}
 use Rattle.ark_math.specs.Field.{FieldOn, IsField, power, minus}
+use Rattle.ark_math.specs.Module.{tabulate}
 use Rattle.ark_math.specs.Root.{HasOrder}
 use Rattle.ark_math.specs.Domain.{Domain, element}
 use Rattle.ark_math.specs.Univariate.{added, product, monomial, IsBelow, IsDegree, IsQuotient, IsValue, value_below, of_list, of_pairs}
@@ -15,7 +16,7 @@ use Rattle.ark_math.proofs.Polynomials.UnivariateValues.{one_value, has_value, v
 use Rattle.ark_math.proofs.Polynomials.UnivariateProducts.{value-product}
 use Rattle.ark_math.proofs.Domains.Elements.{element-vanishes}
 use Rattle.ark_math.proofs.Polynomials.Quotients.{one_leading}
-use Rattle.ark_math.proofs.OverDomains.PlaceValues.{values_from, values-item, values-length, values-product, one_interpolation}
+use Rattle.ark_math.proofs.OverDomains.PlaceValues.{values_from, values-item, values-length, values-product, one_interpolation, one_list_of_values}
 
 module _ {F : Type 0} (K : FieldOn F) (N : IsField K) (d : Domain F) where
   pub vanishing-below : IsBelow K (d.size + 1) (vanishing K d)
@@ -61,6 +62,21 @@ module _ {F : Type 0} (K : FieldOn F) (N : IsField K) (d : Domain F) where
       subst (IsValue K r x)
       (sym (e ∙ ap (λ t. K.plus t y) (times_zero K N z) ∙ zero_plus (itself_is_module K N) y))
       (has_value K N h.degree.0 r x h.degree.3))
+
+  -- a whole that is q times it and a rest below n
+  pub vanishing-quotient : (a q r : ℕ → F) (m : ℕ) → 0 < d.size → IsBelow K m q → IsBelow K d.size r → a ≡ added K (product K q (vanishing K d)) r → IsQuotient K a (vanishing K d) q r
+  vanishing-quotient a q r m l f g h = record {
+    finite = (m, f);
+    whole = h;
+    degree = (d.size, (λ e. N.one_not_zero (sym (vanishing-leading l) ∙ e)), vanishing-below, g);
+  }
+
+  -- and the remainder's values are those of the whole
+  pub values_from_remainder : (m : ℕ) (a q r : ℕ → F) (v : List F) → HasOrder K d.root d.size → IsBelow K m a → IsQuotient K a (vanishing K d) q r → AreValues K d r v → AreValues K d a v
+  values_from_remainder m a q r v o f h R =
+      let u : List F = tabulate d.size (λ i. value_below K m a (element K d i)) in
+      let A : AreValues K d a u = (m, f, refl) in
+      subst (AreValues K d a) (one_list_of_values K N d r u v (remainder-values a q r u o h A) R) A
 
   -- the polynomial below n with the products of the values is the product's remainder
   pub interpolated_remainder : HasOrder K d.root d.size → 0 < d.size → d.offset ≢ K.zero → (a b c q r : ℕ → F) (v u w : List F) → AreValues K d a v → AreValues K d b u → AreValues K d c w → length w ≡ d.size → ((i : ℕ) → i < d.size → of_list K w i ≡ K.times (of_list K v i) (of_list K u i)) → IsBelow K d.size c → IsQuotient K (product K a b) (vanishing K d) q r → c ≡ r

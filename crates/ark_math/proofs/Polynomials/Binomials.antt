@@ -1,0 +1,92 @@
+-- Division by x ^ n - c: each coefficient from n on is carried down by n places, times c, the highest first.
+use Rattle.std.proofs.Common.{◌≡◌, ◌≢◌, ℕ, ◌+◌, ◌-◌, ◌<◌, ◌≤◌, List, length, set, take, drop, sym, ◌∙◌, ap, ap₂, refl, subst, arith, ⊎_elim, get_or-set_same, get_or-set_other}
+use mathlib.Core.Path.{fun_ext}
+use Rattle.std.proofs.lemmas.Bool.{cases_eq, cases_lt}
+use Rattle.std.proofs.lemmas.List.{get_or-drop, get_or-take, length-take}
+use Rattle.ark_math.specs.Field.{FieldOn, IsField, minus}
+use Rattle.ark_math.specs.Univariate.{added, difference, monomial, product, of_list}
+use Rattle.ark_math.proofs.Algebra.Groups.{itself_is_module, one_times, scale_zero}
+use Rattle.ark_math.proofs.Algebra.Solve.{◌⊕◌, ◌⊖◌, nought}
+use Rattle.ark_math.proofs.Algebra.Ring.{ring3_by}
+use Rattle.ark_math.proofs.Polynomials.UnivariateLists.{of_list-past}
+use Rattle.ark_math.proofs.Polynomials.UnivariateLoops.{cut, cut-inside, cut-outside}
+use Rattle.ark_math.proofs.Polynomials.UnivariateProducts.{product_comm, product-difference, constant-product, monomial-product_past, monomial-product_before}
+
+-- x ^ n - c
+abbrev pub binomial : {F : Type 0} → FieldOn F → ℕ → F → ℕ → F
+binomial K n c = difference K (monomial K n K.one) (monomial K 0 c)
+
+-- what stands from n on
+abbrev pub upper : {F : Type 0} → ℕ → (ℕ → F) → ℕ → F
+upper n b k = b (k + n)
+
+-- b is a once the places from i on have been carried down
+pub record IsCarried {F : Type 0} (K : FieldOn F) (n : ℕ) (c : F) (i : ℕ) (a b : ℕ → F) : Type 0 where
+  pub carried : (k : ℕ) → i ≤ k + n → b k ≡ K.plus (a k) (K.times c (b (k + n)))
+  pub kept : (k : ℕ) → k + n < i → b k ≡ a k
+
+module _ {F : Type 0} (K : FieldOn F) (N : IsField K) (n : ℕ) (c : F) where
+  pub carried-none : (xs : List F) → IsCarried K n c (length xs) (of_list K xs) (of_list K xs)
+  carried-none xs = record {
+    carried = λ k l.
+        sym (ap (λ t. K.plus (of_list K xs k) (K.times c t)) (of_list-past K xs (k + n) l)
+        ∙ ap (K.plus (of_list K xs k)) (scale_zero (itself_is_module K N) c)
+        ∙ N.plus_zero (of_list K xs k));
+    kept = λ k l. refl;
+  }
+
+  -- one place more
+  pub carried-set : (i : ℕ) (a : ℕ → F) (xs : List F) (x : F) → 0 < n → n ≤ i → i < length xs
+      → x ≡ K.plus (of_list K xs (i - n)) (K.times c (of_list K xs i)) → IsCarried K n c (i + 1) a (of_list K xs) → IsCarried K n c i a (of_list K (set xs (i - n) x))
+  carried-set i a xs x some l inside e h =
+      let other : (k : ℕ) → k ≢ i - n → of_list K (set xs (i - n) x) k ≡ of_list K xs k = λ k ne. get_or-set_other xs (i - n) k x K.zero ne in
+      record {
+        carried = λ k b. ⊎_elim
+            (λ (s : k ≡ i - n).
+            let up : k + n ≡ i = omega arith in
+            let there : of_list K (set xs (i - n) x) (k + n) ≡ of_list K xs i = other (k + n) (λ f. omega arith) ∙ ap (of_list K xs) up in
+            let old : of_list K xs (i - n) ≡ a k = ap (of_list K xs) (sym s) ∙ h.kept k (omega arith) in
+            ap (of_list K (set xs (i - n) x)) s
+            ∙ get_or-set_same xs (i - n) x K.zero (omega arith)
+            ∙ e
+            ∙ ap₂ (λ u v. K.plus u (K.times c v)) old (sym there))
+            (λ (ne : k ≢ i - n).
+            other k ne
+            ∙ h.carried k (omega arith)
+            ∙ ap (λ t. K.plus (a k) (K.times c t)) (sym (other (k + n) (λ f. omega arith))))
+            (cases_eq k (i - n));
+        kept = λ k b. other k (λ f. omega arith) ∙ h.kept k (omega arith);
+      }
+
+  -- all places: a = the upper part * (x ^ n - c) + the lower one
+  pub carried-all : (i : ℕ) (a b : ℕ → F) → i ≤ n → IsCarried K n c i a b → a ≡ added K (product K (upper n b) (binomial K n c)) (cut K n b)
+  carried-all i a b all h = fun_ext (λ k.
+      let q = upper n b in
+      let y = K.times c (b (k + n)) in
+      let is : K.plus (a k) y ≡ b k = sym (h.carried k (omega arith)) in
+      let parts : product K q (binomial K n c) k ≡ minus K (product K (monomial K n K.one) q k) y =
+      ap (λ t. t k) (product-difference K N q (monomial K n K.one) (monomial K 0 c))
+      ∙ ap₂ (λ s t. minus K (s k) (t k)) (product_comm K N q (monomial K n K.one)) (product_comm K N q (monomial K 0 c) ∙ constant-product K N c q) in
+      ⊎_elim
+      (λ (l : k < n).
+      ring3_by K N (λ x y z. (x, (nought ⊖ z) ⊕ y, x ⊕ z, y)) refl (a k) (b k) y is
+      ∙ ap₂ (λ s t. K.plus (minus K s y) t) (sym (monomial-product_before K N n K.one q k l)) (sym (cut-inside K n b k l)))
+      (λ (l : n ≤ k).
+      let e : k - n + n ≡ k = omega arith in
+      ring3_by K N (λ x y z. (x, (y ⊖ z) ⊕ nought, x ⊕ z, y)) refl (a k) (b k) y is
+      ∙ ap₂ (λ s t. K.plus (minus K s y) t)
+      (sym (monomial-product_past K N n K.one q k l ∙ one_times K N (q (k - n)) ∙ ap b e)) (sym (cut-outside K n b k l)))
+      (cases_lt k n)
+      ∙ sym (ap (λ t. K.plus t (cut K n b k)) parts))
+
+  -- of a list
+  pub carried_list : (i : ℕ) (a : ℕ → F) (xs : List F) → i ≤ n → IsCarried K n c i a (of_list K xs)
+      → a ≡ added K (product K (of_list K (drop n xs)) (binomial K n c)) (of_list K (take n xs))
+  carried_list i a xs all h =
+      let above : of_list K (drop n xs) ≡ upper n (of_list K xs) = fun_ext (λ k. let e : n + k ≡ k + n = omega arith in get_or-drop n xs k K.zero ∙ ap (of_list K xs) e) in
+      let below : of_list K (take n xs) ≡ cut K n (of_list K xs) =
+      fun_ext (λ k. ⊎_elim
+      (λ (l : k < n). get_or-take n xs k K.zero l ∙ sym (cut-inside K n (of_list K xs) k l))
+      (λ (l : n ≤ k). of_list-past K (take n xs) k (let e = length-take n xs in omega arith) ∙ sym (cut-outside K n (of_list K xs) k l))
+      (cases_lt k n)) in
+      carried-all i a (of_list K xs) all h ∙ sym (ap₂ (λ s t. added K (product K s (binomial K n c)) t) above below)
