@@ -1,7 +1,7 @@
 //! Coefficients by their exponents: item i of a list is the coefficient at i.
 
 ghost use Rattle.std.specs.Prelude.{◌≡◌, ◌≢◌, ℕ, ◌+◌, ◌-◌, ◌<◌, ◌≤◌, length, IfOk, replicate, take, drop};
-ghost use Rattle.ark_math.specs.Univariate.{IsBelow, of_list, added, difference, opposite, monomial, product};
+ghost use Rattle.ark_math.specs.Univariate.{IsBelow, of_list, added, difference, opposite, monomial, product, scaled};
 
 use ark_base::Field;
 use std::alloc::{AllocError, Global};
@@ -39,6 +39,37 @@ pub fn subtract_each<F: Field>(coeffs: &mut [F], other: &[F])
 {
     for i in 0..other.len() {
         coeffs[i] -= other[i];
+    }
+}
+
+/// Adds to each coefficient a multiple of the one of the same exponent.
+pub fn add_scaled<F: Field>(coeffs: &mut [F], factor: F, other: &[F])
+    requires { length other.now ≤ length coeffs.old }
+    ensures { of_list F.field coeffs.new ≡ added F.field (of_list F.field coeffs.old)
+        (scaled F.field factor (of_list F.field other.now)) }
+{
+    for i in 0..other.len() {
+        coeffs[i] += factor * other[i];
+    }
+}
+
+/// Multiplies each coefficient by the factor.
+pub fn scale_each<F: Field>(coeffs: &mut [F], factor: F)
+    ensures { of_list F.field coeffs.new ≡ scaled F.field factor (of_list F.field coeffs.old) }
+{
+    for i in 0..coeffs.len() {
+        coeffs[i] *= factor;
+    }
+}
+
+/// Multiplies each item by the one at its place.
+pub fn multiply_each<F: Field>(items: &mut [F], other: &[F])
+    requires { length other.now ≡ length items.old }
+    ensures { (i : ℕ) → of_list F.field items.new i
+        ≡ F.field.times (of_list F.field items.old i) (of_list F.field other.now i) }
+{
+    for i in 0..other.len() {
+        items[i] *= other[i];
     }
 }
 

@@ -17,9 +17,9 @@ use Rattle.ark_math.proofs.Polynomials.UnivariateProducts.{product-added, added-
 abbrev pub cut : {F : Type 0} → FieldOn F → ℕ → (ℕ → F) → ℕ → F
 cut K n a i = cond (nat_lt i n) (a i) K.zero
 
--- the coefficients of two by an operation, where the second's count below n alone
-abbrev pub merged : {F : Type 0} → FieldOn F → (F → F → F) → ℕ → (ℕ → F) → (ℕ → F) → ℕ → F
-merged K f n a b i = f (a i) (cut K n b i)
+-- the coefficients of two by an operation, below n alone
+abbrev pub zipped : {F : Type 0} → (F → F → F) → ℕ → (ℕ → F) → (ℕ → F) → ℕ → F
+zipped f n a b i = cond (nat_lt i n) (f (a i) (b i)) (a i)
 
 -- a product by rows: all that the first coefficient gives, then what the second adds, and so on; after i rows, and j
 -- items of row i
@@ -46,20 +46,35 @@ module _ {F : Type 0} (K : FieldOn F) where
       (λ (l : n ≤ i). cut-outside (n + 1) a i (omega arith) ∙ sym (cut-outside n a i l))
       (cases_lt i n)
 
-  -- ---- one item after the other, by an operation that zero doesn't change
+  -- ---- one item after the other, by an operation
 
-  pub merged-begin : (f : F → F → F) (a b : ℕ → F) → ((x : F) → f x K.zero ≡ x) → a ≡ merged K f 0 a b
-  merged-begin f a b z = fun_ext (λ i. sym (ap (f (a i)) (cut-outside 0 b i (omega arith)) ∙ z (a i)))
+  pub zipped-inside : (f : F → F → F) (n : ℕ) (a b : ℕ → F) (i : ℕ) → i < n → zipped f n a b i ≡ f (a i) (b i)
+  zipped-inside f n a b i l = cond-true (nat_lt i n) (f (a i) (b i)) (a i) (lt-ltb i n l)
 
-  pub merged-end : (f : F → F → F) (a b : ℕ → F) (n : ℕ) → IsBelow K n b → merged K f n a b ≡ (λ i. f (a i) (b i))
-  merged-end f a b n h = ap (λ t i. f (a i) (t i)) (cut-all n b h)
+  pub zipped-outside : (f : F → F → F) (n : ℕ) (a b : ℕ → F) (i : ℕ) → n ≤ i → zipped f n a b i ≡ a i
+  zipped-outside f n a b i l = cond-false (nat_lt i n) (f (a i) (b i)) (a i) (le-ltb i n l)
 
-  pub merged-set : (f : F → F → F) (a b : ℕ → F) (i : ℕ) (c : List F) (x : F) → ((x : F) → f x K.zero ≡ x) → i < length c → of_list K c ≡ merged K f i a b → x ≡ f (of_list K c i) (b i) → of_list K (set c i x) ≡ merged K f (i + 1) a b
-  merged-set f a b i c x z l e h =
-      let old : of_list K c i ≡ a i = ap (λ t. t i) e ∙ ap (f (a i)) (cut-outside i b i (omega arith)) ∙ z (a i) in
-      of_list-set K c i x (merged K f (i + 1) a b) l
-      (ap (f (a i)) (cut-inside (i + 1) b i (omega arith)) ∙ sym (h ∙ ap (λ t. f t (b i)) old))
-      (λ k ne. ap (f (a k)) (cut-other i b k ne) ∙ sym (ap (λ t. t k) e))
+  pub zipped-begin : (f : F → F → F) (a b : ℕ → F) → a ≡ zipped f 0 a b
+  zipped-begin f a b = fun_ext (λ i. sym (zipped-outside f 0 a b i (omega arith)))
+
+  -- all of them, where the operation changes none past the end
+  pub zipped-end : (f : F → F → F) (n : ℕ) (a b : ℕ → F) → ((i : ℕ) → n ≤ i → f (a i) (b i) ≡ a i) → zipped f n a b ≡ (λ i. f (a i) (b i))
+  zipped-end f n a b h = fun_ext (λ i. ⊎_elim
+      (λ (l : i < n). zipped-inside f n a b i l)
+      (λ (l : n ≤ i). zipped-outside f n a b i l ∙ sym (h i l))
+      (cases_lt i n))
+
+  pub zipped-set : (f : F → F → F) (a b : ℕ → F) (i : ℕ) (c : List F) (x : F) → i < length c → of_list K c ≡ zipped f i a b → x ≡ f (of_list K c i) (b i) → of_list K (set c i x) ≡ zipped f (i + 1) a b
+  zipped-set f a b i c x l e h =
+      let old : of_list K c i ≡ a i = ap (λ t. t i) e ∙ zipped-outside f i a b i (omega arith) in
+      of_list-set K c i x (zipped f (i + 1) a b) l
+      (zipped-inside f (i + 1) a b i (omega arith) ∙ sym (h ∙ ap (λ t. f t (b i)) old))
+      (λ k ne.
+      ⊎_elim
+      (λ (s : k < i). zipped-inside f (i + 1) a b k (omega arith) ∙ sym (zipped-inside f i a b k s))
+      (λ (s : i ≤ k). zipped-outside f (i + 1) a b k (omega arith) ∙ sym (zipped-outside f i a b k s))
+      (cases_lt k i)
+      ∙ sym (ap (λ t. t k) e))
 
 module _ {F : Type 0} (K : FieldOn F) (N : IsField K) where
   pub cut-more : (n : ℕ) (a : ℕ → F) → cut K (n + 1) a ≡ added K (cut K n a) (monomial K n (a n))

@@ -1,9 +1,9 @@
 use Rattle.std.proofs.Common.{◌≡◌}
 use Rattle.ark_math.specs.Univariate.{of_list}
-use Rattle.ark_math.proofs.Polynomials.UnivariateLoops.{merged}
+use Rattle.ark_math.proofs.Polynomials.UnivariateLoops.{zipped}
 use Rattle.ark_coeffs.proofs.dense.add_each.Given as goal
 
 abbrev pub invariant-loop-i : goal.invariant-loop-i
 invariant-loop-i g l =
     let K = g.F.Field.field in
-    of_list K l.coeffs ≡ merged K K.plus l.i (of_list K l.initial.coeffs) (of_list K l.other)
+    of_list K l.coeffs ≡ zipped K.plus l.i (of_list K l.initial.coeffs) (of_list K l.other)
