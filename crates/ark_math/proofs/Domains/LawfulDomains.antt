@@ -6,7 +6,7 @@ use Rattle.ark_math.specs.Field.{FieldOn, IsField, power, natural, minus}
 use Rattle.ark_math.specs.Root.{Adicity, HasOrder, AreRoots}
 use Rattle.ark_math.specs.Domain.{Domain, IsDomain, element}
 use Rattle.ark_math.specs.Univariate.{IsBelow, IsDegree, IsValue, of_list}
-use Rattle.ark_math.specs.Points.{IsPlaceQuotient, vanishing, AreWeights, IsElement, IsContained, IsFilter}
+use Rattle.ark_math.specs.Points.{AreValues, IsPlaceQuotient, vanishing, AreWeights, IsElement, IsContained, IsFilter}
 use Rattle.ark_math.proofs.Algebra.Groups.{itself_is_module, one_times, zero_scale}
 use Rattle.ark_math.proofs.Algebra.Solve.{◌⊖◌, ◌⊗◌, unit}
 use Rattle.ark_math.proofs.Algebra.Ring.{ring3, ring4, ring5, ring6}
@@ -15,6 +15,7 @@ use Rattle.ark_math.proofs.Polynomials.UnivariateValues.{one_value}
 use Rattle.ark_math.proofs.Domains.Domains.{root_order, size_not_zero}
 use Rattle.ark_math.proofs.Domains.Elements.{Inverses, positive, times_not_zero, factor_not_zero, minus_not_zero, power_not_zero, same_from_minus, minus_same, has_inverses, element-power, same_element, value-vanishing}
 use Rattle.ark_math.proofs.Algebra.Powers.{powers_inverse}
+use Rattle.ark_math.proofs.OverDomains.PlaceValues.{one_interpolation}
 use Rattle.ark_math.proofs.OverDomains.Weights.{weights_at_element, weights_elsewhere, one_list_of_weights}
 use Rattle.ark_math.proofs.Domains.Contained.{is_element, contained_size, contained_offset, contained_from}
 use Rattle.ark_math.proofs.OverDomains.Filters.{Inside, IsRow, row_is_filter}
@@ -79,6 +80,12 @@ module _ {F : Type 0} {K : FieldOn F} {s : Adicity} {root : ℕ → F} {d : Doma
     (λ o. is_element K N d order (size_not_zero K s root d R D) D.offset_not_zero decide x (same_from_minus K N _ _ (sym e ∙ o))),
     (λ h. e ∙ minus_same K N _ _ (ap (λ t. power K t d.size) h.2 ∙ element-power K N d order h.0)),
   )
+
+  -- ---- interpolation
+
+  -- the polynomials below the size that have some values are one
+  pub only_interpolation : (a b : ℕ → F) (v : List F) → IsBelow K d.size a → IsBelow K d.size b → AreValues K d a v → AreValues K d b v → a ≡ b
+  only_interpolation = one_interpolation K N d order D.offset_not_zero
 
   -- ---- weights
 

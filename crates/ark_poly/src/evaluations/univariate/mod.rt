@@ -1,14 +1,21 @@
 //! Values of polynomials in one variable over a domain.
 
-ghost use Rattle.std.specs.Prelude.{◌≡◌, ◌↔◌, ◌<◌, ◌&&◌, ◌++◌, IsTrue, length, slice_index_or};
+ghost use Rattle.std.specs.Prelude.{◌≡◌, ◌↔◌, ◌<◌, ◌&&◌, ◌++◌, ℕ, IsTrue, IfOk, IsOkUnless, length, replicate, set};
+ghost use Rattle.std.specs.Prelude.{slice_index_or};
+ghost use Rattle.ark_math.specs.Field.{minus};
+ghost use Rattle.ark_math.specs.Points.{AreValues};
+ghost use Rattle.ark_math.specs.Univariate.{IsBelow, of_list};
 ghost use Rattle.std.specs.Cmp.{and_equiv, and_per, on_equiv, on_per};
 ghost use Rattle.std.specs.Cmp.Lexicographic.{pointwise, lists_equiv, lists_per};
 ghost use Rattle.std.specs.Hash as fed;
 ghost use Rattle.std.specs.Hash.{and-Alike, items_Alike, on_Alike};
 
 use crate::domain::EvaluationDomain;
-use ark_base::FftField;
-use std::alloc::AllocError;
+use crate::polynomial::DenseUVPolynomial;
+use crate::polynomial::univariate::DensePolynomial;
+use ark_base::{FftField, PolyError};
+use ark_coeffs::dense::{add_each, multiply_each, subtract_each};
+use std::alloc::{AllocError, Global};
 use std::hash::{Hash, Hasher};
 use std::marker::Model;
 use std::ops::Index;
@@ -84,6 +91,26 @@ impl<F: FftField, D: EvaluationDomain<F>> Evaluations<F, D> {
         Evaluations { evals, domain }
     }
 
+    /// Zero at each element.
+    pub fn zero(alloc: Global, domain: D) -> Result<Self, PolyError>
+        ensures evals { IfOk result (λ v. v.evals ≡ replicate (D.domain domain).size F.field.zero) }
+        ensures domain { IfOk result (λ v. v.domain ≡ domain) }
+        ensures memory { IsOkUnless result PolyError.Memory }
+    {
+        let mut evals = Vec::new(alloc);
+        evals.resize(domain.size(), F::zero())?;
+        Ok(Evaluations { evals, domain })
+    }
+
+    /// Replaces the value at the element with this index.
+    pub fn set(&mut self, index: usize, value: F)
+        requires { index < (D.domain self.old.domain).size }
+        ensures evals { self.new.evals ≡ set self.old.evals index value }
+        ensures domain { self.new.domain ≡ self.old.domain }
+    {
+        self.evals[index] = value;
+    }
+
     /// The values in the order of the elements, as many as there are.
     pub fn evals(&self) -> &[F]
         ensures same { result.now ≡ self.now.evals }
@@ -97,6 +124,104 @@ impl<F: FftField, D: EvaluationDomain<F>> Evaluations<F, D> {
         ensures { result ≡ self.now.domain }
     {
         self.domain
+    }
+
+    /// The only polynomial of a degree below the domain's size that has these values.
+    pub fn interpolate_by_ref(&self, alloc: Global) -> Result<DensePolynomial<F>, PolyError>
+        ensures values { IfOk result (λ p. AreValues F.field (D.domain self.now.domain) (of_list F.field p)
+            self.now.evals) }
+        ensures below { IfOk result (λ p. IsBelow F.field (D.domain self.now.domain).size (of_list F.field p)) }
+        ensures only { IfOk result (λ p. (other : ℕ → F) → IsBelow F.field (D.domain self.now.domain).size other
+            → AreValues F.field (D.domain self.now.domain) other self.now.evals
+            → other ≡ of_list F.field p) }
+        ensures memory { IsOkUnless result PolyError.Memory }
+    {
+        let coeffs = self.domain.ifft(alloc, &self.evals)?;
+        Ok(DensePolynomial::from_coefficients_vec(coeffs))
+    }
+
+    /// The same, in place of the values.
+    pub fn interpolate(self, alloc: Global) -> Result<DensePolynomial<F>, PolyError>
+        ensures values { IfOk result (λ p. AreValues F.field (D.domain self.domain) (of_list F.field p)
+            self.evals) }
+        ensures below { IfOk result (λ p. IsBelow F.field (D.domain self.domain).size (of_list F.field p)) }
+        ensures only { IfOk result (λ p. (other : ℕ → F) → IsBelow F.field (D.domain self.domain).size other
+            → AreValues F.field (D.domain self.domain) other self.evals
+            → other ≡ of_list F.field p) }
+        ensures memory { IsOkUnless result PolyError.Memory }
+    {
+        let mut coeffs = self.evals;
+        self.domain.ifft_in_place(alloc, &mut coeffs)?;
+        Ok(DensePolynomial::from_coefficients_vec(coeffs))
+    }
+
+    /// Adds the values over the same domain, place by place.
+    pub fn add_assign(&mut self, other: &Self)
+        requires { D.domain self.old.domain ≡ D.domain other.now.domain }
+        ensures evals { (i : ℕ) → of_list F.field self.new.evals i
+            ≡ F.field.plus (of_list F.field self.old.evals i) (of_list F.field other.now.evals i) }
+        ensures domain { self.new.domain ≡ self.old.domain }
+    {
+        add_each(self.evals.as_mut_slice(), &other.evals);
+    }
+
+    /// Subtracts the values over the same domain, place by place.
+    pub fn sub_assign(&mut self, other: &Self)
+        requires { D.domain self.old.domain ≡ D.domain other.now.domain }
+        ensures evals { (i : ℕ) → of_list F.field self.new.evals i
+            ≡ minus F.field (of_list F.field self.old.evals i) (of_list F.field other.now.evals i) }
+        ensures domain { self.new.domain ≡ self.old.domain }
+    {
+        subtract_each(self.evals.as_mut_slice(), &other.evals);
+    }
+
+    /// Multiplies by the values over the same domain, place by place.
+    pub fn mul_assign(&mut self, other: &Self)
+        requires { D.domain self.old.domain ≡ D.domain other.now.domain }
+        ensures evals { (i : ℕ) → of_list F.field self.new.evals i
+            ≡ F.field.times (of_list F.field self.old.evals i) (of_list F.field other.now.evals i) }
+        ensures domain { self.new.domain ≡ self.old.domain }
+    {
+        multiply_each(self.evals.as_mut_slice(), &other.evals);
+    }
+
+    /// The sum with the values over the same domain, place by place.
+    pub fn add(&self, alloc: Global, other: &Self) -> Result<Self, PolyError>
+        requires { D.domain self.now.domain ≡ D.domain other.now.domain }
+        ensures evals { IfOk result (λ v. (i : ℕ) → of_list F.field v.evals i
+            ≡ F.field.plus (of_list F.field self.now.evals i) (of_list F.field other.now.evals i)) }
+        ensures domain { IfOk result (λ v. v.domain ≡ self.now.domain) }
+        ensures memory { IsOkUnless result PolyError.Memory }
+    {
+        let mut sum = self.clone()?;
+        sum.add_assign(other);
+        Ok(sum)
+    }
+
+    /// The difference from the values over the same domain, place by place.
+    pub fn sub(&self, alloc: Global, other: &Self) -> Result<Self, PolyError>
+        requires { D.domain self.now.domain ≡ D.domain other.now.domain }
+        ensures evals { IfOk result (λ v. (i : ℕ) → of_list F.field v.evals i
+            ≡ minus F.field (of_list F.field self.now.evals i) (of_list F.field other.now.evals i)) }
+        ensures domain { IfOk result (λ v. v.domain ≡ self.now.domain) }
+        ensures memory { IsOkUnless result PolyError.Memory }
+    {
+        let mut difference = self.clone()?;
+        difference.sub_assign(other);
+        Ok(difference)
+    }
+
+    /// The product with the values over the same domain, place by place.
+    pub fn mul(&self, alloc: Global, other: &Self) -> Result<Self, PolyError>
+        requires { D.domain self.now.domain ≡ D.domain other.now.domain }
+        ensures evals { IfOk result (λ v. (i : ℕ) → of_list F.field v.evals i
+            ≡ F.field.times (of_list F.field self.now.evals i) (of_list F.field other.now.evals i)) }
+        ensures domain { IfOk result (λ v. v.domain ≡ self.now.domain) }
+        ensures memory { IsOkUnless result PolyError.Memory }
+    {
+        let mut product = self.clone()?;
+        product.mul_assign(other);
+        Ok(product)
     }
 
     /// A law: two are equal by `==` exactly where their values and their domains are.
