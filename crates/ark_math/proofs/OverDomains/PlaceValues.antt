@@ -8,6 +8,7 @@ use Rattle.ark_math.specs.Domain.{Domain, element}
 use Rattle.ark_math.specs.Transform.{transform, fit, value_at, IsInverse}
 use Rattle.ark_math.specs.Univariate.{added, difference, scaled, product, IsBelow, IsValue, value_below, of_list}
 use Rattle.ark_math.specs.Points.{AreValues, IsPlaceQuotient}
+use Rattle.ark_math.proofs.Algebra.Powers.{times_zero}
 use Rattle.ark_math.proofs.Algebra.Sums.{sum_below-same}
 use Rattle.ark_math.proofs.Lists.Tabulated.{length-tabulate, get_or-tabulate, is_tabulated, item-tabulate, tabulate-same}
 use Rattle.ark_math.proofs.Polynomials.Univariate.{added-below, difference-below, scaled-below, IsBelow-more}
@@ -100,3 +101,10 @@ one_place_quotient K N x y z w cases g h =
     (λ (e : y ≡ K.zero). g.none e ∙ sym (h.none e))
     (λ (ne : y ≢ K.zero). cancel_factor K N y z w ne (g.some ne ∙ sym (h.some ne)))
     cases
+
+-- by the inverse, where zero stays zero
+pub place_quotient-times : {F : Type 0} (K : FieldOn F) (N : IsField K) (x y w z : F) → IsPlaceQuotient K K.one y w → z ≡ K.times x w → IsPlaceQuotient K x y z
+place_quotient-times K N x y w z h e = record {
+  none = λ o. e ∙ ap (K.times x) (h.none o) ∙ times_zero K N x;
+  some = λ ne. ap (λ t. K.times t y) e ∙ N.times_assoc x w y ∙ ap (K.times x) (h.some ne) ∙ N.times_one x;
+}

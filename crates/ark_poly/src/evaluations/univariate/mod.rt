@@ -1,9 +1,9 @@
 //! Values of polynomials in one variable over a domain.
 
-ghost use Rattle.std.specs.Prelude.{◌≡◌, ◌↔◌, ◌<◌, ◌&&◌, ◌++◌, ℕ, IsTrue, IfOk, IsOkUnless, length, replicate, set};
+ghost use Rattle.std.specs.Prelude.{◌≡◌, ◌↔◌, ◌<◌, ◌&&◌, ◌++◌, ℕ, IsTrue, IfOk, OnOk, OnErr, IsOkUnless, length, replicate, set};
 ghost use Rattle.std.specs.Prelude.{slice_index_or};
 ghost use Rattle.ark_math.specs.Field.{minus};
-ghost use Rattle.ark_math.specs.Points.{AreValues};
+ghost use Rattle.ark_math.specs.Points.{AreValues, IsPlaceQuotient};
 ghost use Rattle.ark_math.specs.Univariate.{IsBelow, of_list};
 ghost use Rattle.std.specs.Cmp.{and_equiv, and_per, on_equiv, on_per};
 ghost use Rattle.std.specs.Cmp.Lexicographic.{pointwise, lists_equiv, lists_per};
@@ -13,8 +13,8 @@ ghost use Rattle.std.specs.Hash.{and-Alike, items_Alike, on_Alike};
 use crate::domain::EvaluationDomain;
 use crate::polynomial::DenseUVPolynomial;
 use crate::polynomial::univariate::DensePolynomial;
-use ark_base::{FftField, PolyError};
-use ark_coeffs::dense::{add_each, multiply_each, subtract_each};
+use ark_base::{FftField, PolyError, batch_inversion};
+use ark_coeffs::dense::{add_each, multiply_each, scale_each, subtract_each};
 use std::alloc::{AllocError, Global};
 use std::hash::{Hash, Hasher};
 use std::marker::Model;
@@ -222,6 +222,52 @@ impl<F: FftField, D: EvaluationDomain<F>> Evaluations<F, D> {
         let mut product = self.clone()?;
         product.mul_assign(other);
         Ok(product)
+    }
+
+    /// Divides by the values over the same domain, place by place, by one batch inversion: zero where the divisor is.
+    /// This isn't the quotient of the polynomials. The only error is memory, and then nothing is changed.
+    pub fn div_assign(&mut self, alloc: Global, other: &Self) -> Result<(), PolyError>
+        requires { D.domain self.old.domain ≡ D.domain other.now.domain }
+        ensures evals { OnOk result ((i : ℕ) → i < (D.domain self.old.domain).size
+            → IsPlaceQuotient F.field (of_list F.field self.old.evals i) (of_list F.field other.now.evals i)
+            (of_list F.field self.new.evals i)) }
+        ensures kept { OnErr result (self.new.evals ≡ self.old.evals) }
+        ensures domain { self.new.domain ≡ self.old.domain }
+        ensures memory { IsOkUnless result PolyError.Memory }
+    {
+        let mut inverses = Vec::from_slice(alloc, &other.evals)?;
+        batch_inversion(alloc, inverses.as_mut_slice())?;
+        multiply_each(self.evals.as_mut_slice(), &inverses);
+        Ok(())
+    }
+
+    /// The quotients by the values over the same domain, place by place: zero where the divisor is.
+    pub fn div(&self, alloc: Global, other: &Self) -> Result<Self, PolyError>
+        requires { D.domain self.now.domain ≡ D.domain other.now.domain }
+        ensures evals { IfOk result (λ v. (i : ℕ) → i < (D.domain self.now.domain).size
+            → IsPlaceQuotient F.field (of_list F.field self.now.evals i) (of_list F.field other.now.evals i)
+            (of_list F.field v.evals i)) }
+        ensures domain { IfOk result (λ v. v.domain ≡ self.now.domain) }
+        ensures memory { IsOkUnless result PolyError.Memory }
+    {
+        let mut quotient = self.clone()?;
+        quotient.div_assign(alloc, other)?;
+        Ok(quotient)
+    }
+
+    /// The values times the factor.
+    pub fn mul_scalar(&self, alloc: Global, factor: F) -> Result<Self, PolyError>
+        ensures evals { IfOk result (λ v. (i : ℕ) → of_list F.field v.evals i
+            ≡ F.field.times factor (of_list F.field self.now.evals i)) }
+        ensures domain { IfOk result (λ v. v.domain ≡ self.now.domain) }
+        ensures memory { IsOkUnless result PolyError.Memory }
+    {
+        let mut evals = Vec::from_slice(alloc, &self.evals)?;
+        scale_each(evals.as_mut_slice(), factor);
+        Ok(Evaluations {
+            evals,
+            domain: self.domain,
+        })
     }
 
     /// A law: two are equal by `==` exactly where their values and their domains are.
