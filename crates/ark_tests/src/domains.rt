@@ -1,4 +1,4 @@
-use crate::calls::{coset, elements, listed};
+use crate::calls::{coset, listed};
 use crate::trials::{
     Trial, general_mod_433, mixed_mod_433, radix2_mod_5, radix2_mod_433, radix2_mod_65537,
 };
@@ -395,9 +395,10 @@ struct Samples {
 }
 
 impl Trial for Samples {
-    fn holds<F: FftField, D: EvaluationDomain<F>>(&self, _: Global) -> Result<bool, PolyError> {
+    fn holds<F: FftField, D: EvaluationDomain<F>>(&self, alloc: Global) -> Result<bool, PolyError> {
         let mut rng = Pcg64::new(7, 11);
         let domain: D = coset(self.size, self.offset)?;
+        let elements = listed(alloc, &domain)?;
         let mut last = domain.sample_element_outside_domain(&mut rng, 0);
         let mut right = last == None;
         for _ in 0..self.count {
@@ -405,7 +406,7 @@ impl Trial for Samples {
             let point = sample.ok_or(PolyError::NoDomain)?;
             right = right
                 && !domain.evaluate_vanishing_polynomial(point).is_zero()
-                && domain.elements().all(|element| element != point)
+                && !elements.contains(&point)
                 && sample != last;
             last = sample;
         }

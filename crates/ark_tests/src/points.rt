@@ -80,28 +80,32 @@ fn weights_at_points(rt: HostRuntime) -> Result<(), Fail> {
     Ok(())
 }
 
-// The coefficients of the filter of the coset of two with this offset in the subgroup of four, and its value at a
-// point, told with the coefficients and without.
+// The filter of the coset of two with this offset in the subgroup of four: its constant, the coefficient of the square,
+// and its value at a point, told with the coefficients and without.
 #[derive(Clone, Copy)]
-struct Filter<'a> {
+struct Filter {
     offset: u64,
-    coeffs: &'a [u64],
+    constant: u64,
+    square: u64,
     point: u64,
     value: u64,
 }
 
-impl Trial for Filter<'_> {
+impl Trial for Filter {
     fn holds<F: FftField, D: EvaluationDomain<F>>(&self, alloc: Global) -> Result<bool, PolyError> {
         let whole: D = coset(4, 1)?;
         let part = coset(2, self.offset)?;
+        let (point, value) = (F::from(self.point), F::from(self.value));
         let filter = whole.filter_polynomial(alloc, &part)?;
-        let coeffs = elements(alloc, self.coeffs)?;
-        let point = F::from(self.point);
-        let value = filter.evaluate(alloc, &point)?;
+        let [constant, middle, square] = filter.coeffs() else {
+            return Ok(false);
+        };
         Ok(
-            filter.coeffs() == coeffs.as_slice()
-                && value == F::from(self.value)
-                && whole.evaluate_filter_polynomial(&part, point) == Some(value),
+            *constant == F::from(self.constant)
+                && middle.is_zero()
+                && *square == F::from(self.square)
+                && whole.evaluate_filter_polynomial(&part, point) == Some(value)
+                && filter.evaluate(alloc, &point)? == value,
         )
     }
 }
@@ -111,21 +115,24 @@ fn filters(rt: HostRuntime) -> Result<(), Fail> {
     let alloc = rt.alloc();
     let subgroup = Filter {
         offset: 1,
-        coeffs: &[3, 0, 3],
+        constant: 3,
+        square: 3,
         point: 0,
         value: 3,
     };
     assert!(rt; radix2_mod_5(alloc, &subgroup)?);
     let coset = Filter {
         offset: 2,
-        coeffs: &[3, 0, 2],
+        constant: 3,
+        square: 2,
         point: 2,
         value: 1,
     };
     assert!(rt; radix2_mod_5(alloc, &coset)?);
     let coset = Filter {
         offset: 179,
-        coeffs: &[217, 0, 216],
+        constant: 217,
+        square: 216,
         point: 3,
         value: 429,
     };
@@ -262,14 +269,8 @@ fn has_filter<F: FftField, D: EvaluationDomain<F>>(
     let filter = domain.filter_polynomial(alloc, &part)?;
     let mut right = filter.coeffs().len() == domain.size().saturating_sub(size).saturating_add(1);
     for i in 0..domain.size() {
-        let inside = i % step.max(1) == first;
-        let value = filter.evaluate(alloc, &domain.element(i))?;
-        right = right
-            && if inside {
-                value.is_one()
-            } else {
-                value.is_zero()
-            };
+        let wanted = F::from(u64::from(i % step.max(1) == first));
+        right = right && filter.evaluate(alloc, &domain.element(i))? == wanted;
     }
     Ok(right)
 }
