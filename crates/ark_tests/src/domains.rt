@@ -1,12 +1,14 @@
-use crate::calls::{coset, elements, listed};
-use ark_base::{F5, F433, F65537, FftField, One, PolyError, Zero};
+use crate::calls::{coset, listed};
+use crate::trials::{
+    Trial, general_mod_433, mixed_mod_433, radix2_mod_5, radix2_mod_433, radix2_mod_65537,
+};
+use ark_base::{F5, F433, F65537, FftField, PolyError};
 use ark_poly::{
     EvaluationDomain, GeneralEvaluationDomain, MixedRadixEvaluationDomain, Radix2EvaluationDomain,
 };
 use rand_pcg::Pcg64;
 use std::alloc::{AllocError, Global};
 use std::fmt::Debug;
-use std::string::String;
 use std::test::Fail;
 
 // The first number of coefficients of which the domain's size is another than the one beside it.
@@ -25,6 +27,18 @@ fn wrong_size<F: FftField, D: EvaluationDomain<F>>(
     None
 }
 
+fn wrong_radix2_size<F: FftField>(rows: &[(usize, Option<usize>)]) -> Option<usize> {
+    wrong_size::<F, Radix2EvaluationDomain<F>>(rows)
+}
+
+fn wrong_mixed_size<F: FftField>(rows: &[(usize, Option<usize>)]) -> Option<usize> {
+    wrong_size::<F, MixedRadixEvaluationDomain<F>>(rows)
+}
+
+fn wrong_general_size<F: FftField>(rows: &[(usize, Option<usize>)]) -> Option<usize> {
+    wrong_size::<F, GeneralEvaluationDomain<F>>(rows)
+}
+
 #[test]
 fn radix2_sizes(rt: HostRuntime) {
     let rows = [
@@ -34,7 +48,7 @@ fn radix2_sizes(rt: HostRuntime) {
         (4, Some(4)),
         (5, None),
     ];
-    assert_eq!(rt; wrong_size::<F5, Radix2EvaluationDomain<F5>>(&rows), None);
+    assert_eq!(rt; wrong_radix2_size::<F5>(&rows), None);
     let rows = [
         (0, Some(1)),
         (9, Some(16)),
@@ -42,15 +56,9 @@ fn radix2_sizes(rt: HostRuntime) {
         (17, None),
         (usize::MAX, None),
     ];
-    assert_eq!(rt;
-        wrong_size::<F433, Radix2EvaluationDomain<F433>>(&rows),
-        None
-    );
+    assert_eq!(rt; wrong_radix2_size::<F433>(&rows), None);
     let rows = [(65536, Some(65536)), (65537, None)];
-    assert_eq!(rt;
-        wrong_size::<F65537, Radix2EvaluationDomain<F65537>>(&rows),
-        None
-    );
+    assert_eq!(rt; wrong_radix2_size::<F65537>(&rows), None);
 }
 
 #[test]
@@ -65,19 +73,10 @@ fn mixed_sizes(rt: HostRuntime) {
         (433, None),
         (usize::MAX, None),
     ];
-    assert_eq!(rt;
-        wrong_size::<F433, MixedRadixEvaluationDomain<F433>>(&rows),
-        None
-    );
+    assert_eq!(rt; wrong_mixed_size::<F433>(&rows), None);
     let rows = [(0, None), (1, None)];
-    assert_eq!(rt;
-        wrong_size::<F5, MixedRadixEvaluationDomain<F5>>(&rows),
-        None
-    );
-    assert_eq!(rt;
-        wrong_size::<F65537, MixedRadixEvaluationDomain<F65537>>(&rows),
-        None
-    );
+    assert_eq!(rt; wrong_mixed_size::<F5>(&rows), None);
+    assert_eq!(rt; wrong_mixed_size::<F65537>(&rows), None);
 }
 
 #[test]
@@ -90,54 +89,73 @@ fn general_sizes(rt: HostRuntime) {
         (433, None),
         (usize::MAX, None),
     ];
-    assert_eq!(rt;
-        wrong_size::<F433, GeneralEvaluationDomain<F433>>(&rows),
-        None
-    );
+    assert_eq!(rt; wrong_general_size::<F433>(&rows), None);
     let rows = [(3, Some(4)), (5, None)];
-    assert_eq!(rt; wrong_size::<F5, GeneralEvaluationDomain<F5>>(&rows), None);
+    assert_eq!(rt; wrong_general_size::<F5>(&rows), None);
+}
+
+// The exponent of two in a size, and its root.
+#[derive(Clone, Copy)]
+struct Subgroup {
+    size: usize,
+    twos: u64,
+    root: u64,
+}
+
+impl Trial for Subgroup {
+    fn holds<F: FftField, D: EvaluationDomain<F>>(&self, _: Global) -> Result<bool, PolyError> {
+        let domain: D = coset(self.size, 1)?;
+        Ok(
+            domain.size() == self.size
+                && domain.log_size_of_group() == self.twos
+                && domain.group_gen() == F::from(self.root),
+        )
+    }
 }
 
 #[test]
-fn exponents_of_two(rt: HostRuntime) -> Result<(), Fail> {
-    for (size, twos) in [(12, 2), (27, 0), (432, 4)] {
-        let domain: MixedRadixEvaluationDomain<F433> = coset(size, 1)?;
-        assert_eq!(rt; domain.log_size_of_group(), twos);
+fn subgroups(rt: HostRuntime) -> Result<(), Fail> {
+    let alloc = rt.alloc();
+    let even = Subgroup {
+        size: 16,
+        twos: 4,
+        root: 238,
+    };
+    assert!(rt; radix2_mod_433(alloc, &even)?);
+    assert!(rt; mixed_mod_433(alloc, &even)?);
+    for (size, twos, root) in [(12, 2, 64), (27, 0, 17), (432, 4, 5)] {
+        let mixed = Subgroup { size, twos, root };
+        assert!(rt; mixed_mod_433(alloc, &mixed)?, "size {size}");
     }
     Ok(())
 }
 
-// Of one size and offset, domains of two kinds differ.
+// Whether the general domain of a power of two is of the radix 2 kind, and differs from that of the mixed kind.
+fn kinds_differ<F: FftField>(size: usize) -> Result<bool, PolyError> {
+    let even: Radix2EvaluationDomain<F> = coset(size, 1)?;
+    let mixed: MixedRadixEvaluationDomain<F> = coset(size, 1)?;
+    let even = GeneralEvaluationDomain::Radix2(even);
+    Ok(
+        GeneralEvaluationDomain::new(size) == Some(even)
+            && even != GeneralEvaluationDomain::MixedRadix(mixed),
+    )
+}
+
 #[test]
 fn general_kinds(rt: HostRuntime) -> Result<(), Fail> {
-    let even: Radix2EvaluationDomain<F433> = coset(16, 1)?;
-    let mixed: MixedRadixEvaluationDomain<F433> = coset(16, 1)?;
-    assert_eq!(rt; mixed.size(), 16);
-    assert_eq!(rt; mixed.group_gen(), even.group_gen());
-    let even = GeneralEvaluationDomain::Radix2(even);
-    assert!(rt; GeneralEvaluationDomain::new(16) == Some(even));
-    assert!(rt; even != GeneralEvaluationDomain::MixedRadix(mixed));
+    assert!(rt; kinds_differ::<F433>(16)?);
     Ok(())
+}
+
+// Whether the general domain for so many coefficients is of the mixed kind.
+fn is_mixed<F: FftField>(num_coeffs: usize) -> bool {
+    let domain = GeneralEvaluationDomain::<F>::new(num_coeffs);
+    matches!(domain, Some(GeneralEvaluationDomain::MixedRadix(_)))
 }
 
 #[test]
-fn a_general_domain_of_the_mixed_kind(rt: HostRuntime) -> Result<(), Fail> {
-    let domain = GeneralEvaluationDomain::<F433>::new(17);
-    assert!(rt; matches!(domain, Some(GeneralEvaluationDomain::MixedRadix(_))));
-    Ok(())
-}
-
-// The size as an element, its inverse, the root, its inverse, the offset, its inverse, and its power.
-fn getters<F: FftField, D: EvaluationDomain<F>>(domain: &D) -> [F; 7] {
-    [
-        domain.size_as_field_element(),
-        domain.size_inv(),
-        domain.group_gen(),
-        domain.group_gen_inv(),
-        domain.coset_offset(),
-        domain.coset_offset_inv(),
-        domain.coset_offset_pow_size(),
-    ]
+fn a_general_domain_of_the_mixed_kind(rt: HostRuntime) {
+    assert!(rt; is_mixed::<F433>(17));
 }
 
 // Whether the offset zero is refused, and the offset one gives the subgroup, which is another than this coset.
@@ -161,34 +179,105 @@ fn has_elements<F: FftField, D: EvaluationDomain<F>>(
     Ok(same)
 }
 
+// What the methods of a coset give: the exponent of two in its size, the root, inverses, the offset's power, and the
+// elements zero, one and `usize::MAX`.
+#[derive(Clone, Copy)]
+struct Getters {
+    size: usize,
+    offset: u64,
+    twos: u64,
+    size_inv: u64,
+    root: u64,
+    root_inv: u64,
+    offset_inv: u64,
+    offset_power: u64,
+    elements: [u64; 3],
+}
+
+impl Getters {
+    fn has_elements<F: FftField, D: EvaluationDomain<F>>(&self, domain: &D) -> bool {
+        domain.element(0) == F::from(self.elements[0])
+            && domain.element(1) == F::from(self.elements[1])
+            && domain.element(usize::MAX) == F::from(self.elements[2])
+    }
+
+    fn has_root<F: FftField, D: EvaluationDomain<F>>(&self, domain: &D) -> bool {
+        domain.size_as_field_element() == F::from(self.size as u64)
+            && domain.size_inv() == F::from(self.size_inv)
+            && domain.group_gen() == F::from(self.root)
+            && domain.group_gen_inv() == F::from(self.root_inv)
+    }
+
+    fn has_offset<F: FftField, D: EvaluationDomain<F>>(&self, domain: &D) -> bool {
+        domain.coset_offset() == F::from(self.offset)
+            && domain.coset_offset_inv() == F::from(self.offset_inv)
+            && domain.coset_offset_pow_size() == F::from(self.offset_power)
+    }
+}
+
+impl Trial for Getters {
+    fn holds<F: FftField, D: EvaluationDomain<F>>(&self, alloc: Global) -> Result<bool, PolyError> {
+        let domain: D = coset(self.size, self.offset)?;
+        Ok(
+            domain.size() == self.size
+                && domain.log_size_of_group() == self.twos
+                && self.has_elements(&domain)
+                && self.has_root(&domain)
+                && self.has_offset(&domain)
+                && has_elements(alloc, &domain)?
+                && has_cosets(&domain),
+        )
+    }
+}
+
 #[test]
 fn radix2_getters(rt: HostRuntime) -> Result<(), Fail> {
-    let alloc = rt.alloc();
-    let domain: Radix2EvaluationDomain<F5> = coset(2, 2)?;
-    assert_eq!(rt; listed(alloc, &domain)?, elements(alloc, &[2, 3])?);
-    assert_eq!(rt; domain.element(usize::MAX), F5::from(3));
-    assert!(rt; has_elements(alloc, &domain)?);
-    assert_eq!(rt; domain.size(), 2);
-    assert_eq!(rt; domain.log_size_of_group(), 1);
-    assert_eq!(rt; getters(&domain), [2, 3, 4, 4, 2, 3, 4].map(F5::from));
-    assert!(rt; has_cosets(&domain));
+    let getters = Getters {
+        size: 2,
+        offset: 2,
+        twos: 1,
+        size_inv: 3,
+        root: 4,
+        root_inv: 4,
+        offset_inv: 3,
+        offset_power: 4,
+        elements: [2, 3, 3],
+    };
+    assert!(rt; radix2_mod_5(rt.alloc(), &getters)?);
     Ok(())
 }
 
 #[test]
 fn general_getters(rt: HostRuntime) -> Result<(), Fail> {
-    let domain: GeneralEvaluationDomain<F433> = coset(18, 2)?;
-    assert_eq!(rt; domain.element(0), F433::from(2));
-    assert_eq!(rt; domain.element(1), F433::from(274));
-    assert!(rt; has_elements(rt.alloc(), &domain)?);
-    assert_eq!(rt; domain.size(), 18);
-    assert_eq!(rt; domain.log_size_of_group(), 1);
-    assert_eq!(rt;
-        getters(&domain),
-        [18, 409, 137, 177, 2, 217, 179].map(F433::from)
-    );
-    assert!(rt; has_cosets(&domain));
+    let getters = Getters {
+        size: 18,
+        offset: 2,
+        twos: 1,
+        size_inv: 409,
+        root: 137,
+        root_inv: 177,
+        offset_inv: 217,
+        offset_power: 179,
+        elements: [2, 274, 37],
+    };
+    assert!(rt; general_mod_433(rt.alloc(), &getters)?);
     Ok(())
+}
+
+// Whether a coset of the first size and offset has each element of one of the second.
+#[derive(Clone, Copy)]
+struct Part {
+    whole: (usize, u64),
+    part: (usize, u64),
+    contained: bool,
+}
+
+impl Trial for Part {
+    fn holds<F: FftField, D: EvaluationDomain<F>>(&self, _: Global) -> Result<bool, PolyError> {
+        let whole: D = coset(self.whole.0, self.whole.1)?;
+        let part = coset(self.part.0, self.part.1)?;
+        Ok(whole.contains_subdomain(&part) == self.contained)
+    }
 }
 
 #[test]
@@ -201,107 +290,190 @@ fn containment(rt: HostRuntime) -> Result<(), Fail> {
         ((2, 1), (4, 1), false),
         ((2, 1), (2, 179), false),
     ] {
-        let outer: Radix2EvaluationDomain<F433> = coset(whole.0, whole.1)?;
-        let inner = coset(part.0, part.1)?;
-        assert_eq!(rt;
-            outer.contains_subdomain(&inner),
+        let row = Part {
+            whole,
+            part,
             contained,
-            "{part:?} in {whole:?}"
-        );
+        };
+        assert!(rt; radix2_mod_433(rt.alloc(), &row)?, "{part:?} in {whole:?}");
     }
     Ok(())
 }
 
-// Whether a clone is the domain and has its elements.
-fn is_cloned<F: FftField, D: EvaluationDomain<F>>(
-    alloc: Global,
-    domain: &D,
-) -> Result<bool, AllocError> {
-    let copy = domain.clone()?;
-    Ok(copy == *domain && listed(alloc, &copy)? == listed(alloc, domain)?)
+// A clone of a coset is the coset and has its elements.
+#[derive(Clone, Copy)]
+struct Copied {
+    size: usize,
+}
+
+impl Trial for Copied {
+    fn holds<F: FftField, D: EvaluationDomain<F>>(&self, alloc: Global) -> Result<bool, PolyError> {
+        let domain: D = coset(self.size, 2)?;
+        let copy = domain.clone()?;
+        Ok(copy == domain && listed(alloc, &copy)? == listed(alloc, &domain)?)
+    }
 }
 
 #[test]
 fn clones(rt: HostRuntime) -> Result<(), Fail> {
     let alloc = rt.alloc();
-    let even: Radix2EvaluationDomain<F433> = coset(16, 2)?;
-    let mixed: MixedRadixEvaluationDomain<F433> = coset(18, 2)?;
-    assert!(rt; is_cloned(alloc, &even)?);
-    assert!(rt; is_cloned(alloc, &mixed)?);
-    assert!(rt; is_cloned(alloc, &GeneralEvaluationDomain::Radix2(even))?);
-    assert!(rt; is_cloned(alloc, &GeneralEvaluationDomain::MixedRadix(mixed))?);
+    let (even, mixed) = (Copied { size: 16 }, Copied { size: 18 });
+    assert!(rt; radix2_mod_433(alloc, &even)?);
+    assert!(rt; mixed_mod_433(alloc, &mixed)?);
+    assert!(rt; general_mod_433(alloc, &even)?);
+    assert!(rt; general_mod_433(alloc, &mixed)?);
     Ok(())
 }
 
 // How `Debug` writes the coset with the offset five of the domain for so many coefficients.
-fn text<D: EvaluationDomain<F433>>(alloc: Global, num_coeffs: usize) -> Result<String, Fail> {
-    let domain: D = coset(num_coeffs, 5)?;
-    Ok(format!(in alloc; "{domain:?}")?)
+#[derive(Clone, Copy)]
+struct Text<'a> {
+    num_coeffs: usize,
+    text: &'a str,
+}
+
+impl Trial for Text<'_> {
+    fn holds<F: FftField, D: EvaluationDomain<F>>(&self, alloc: Global) -> Result<bool, PolyError> {
+        let domain: D = coset(self.num_coeffs, 5)?;
+        let text = format!(in alloc; "{domain:?}")?;
+        Ok(text.as_str() == self.text)
+    }
 }
 
 #[test]
 fn texts(rt: HostRuntime) -> Result<(), Fail> {
     let alloc = rt.alloc();
-    assert_eq!(rt;
-        text::<Radix2EvaluationDomain<F433>>(alloc, 9)?.as_str(),
-        "Radix-2 multiplicative subgroup of size 16"
+    let text = "Radix-2 multiplicative subgroup of size 16";
+    assert!(rt;
+        radix2_mod_433(
+            alloc,
+            &Text {
+                num_coeffs: 9,
+                text
+            }
+        )?
     );
-    assert_eq!(rt;
-        text::<MixedRadixEvaluationDomain<F433>>(alloc, 9)?.as_str(),
-        "Mixed-radix multiplicative subgroup of size 9"
+    let text = "Mixed-radix multiplicative subgroup of size 9";
+    assert!(rt;
+        mixed_mod_433(
+            alloc,
+            &Text {
+                num_coeffs: 9,
+                text
+            }
+        )?
+    );
+    let text = "Radix2(Radix-2 multiplicative subgroup of size 16)";
+    assert!(rt;
+        general_mod_433(
+            alloc,
+            &Text {
+                num_coeffs: 9,
+                text
+            }
+        )?
+    );
+    let text = "MixedRadix(Mixed-radix multiplicative subgroup of size 18)";
+    assert!(rt;
+        general_mod_433(
+            alloc,
+            &Text {
+                num_coeffs: 17,
+                text
+            }
+        )?
     );
     Ok(())
 }
 
-#[test]
-fn general_texts(rt: HostRuntime) -> Result<(), Fail> {
-    let alloc = rt.alloc();
-    assert_eq!(rt;
-        text::<GeneralEvaluationDomain<F433>>(alloc, 9)?.as_str(),
-        "Radix2(Radix-2 multiplicative subgroup of size 16)"
-    );
-    assert_eq!(rt;
-        text::<GeneralEvaluationDomain<F433>>(alloc, 17)?.as_str(),
-        "MixedRadix(Mixed-radix multiplicative subgroup of size 18)"
-    );
-    Ok(())
+// No draw gives none; with draws each sample is outside the coset, and another than the last one.
+#[derive(Clone, Copy)]
+struct Samples {
+    size: usize,
+    offset: u64,
+    count: usize,
 }
 
-#[test]
-fn samples(rt: HostRuntime) -> Result<(), Fail> {
-    let mut rng = Pcg64::new(7, 11);
-    let domain: Radix2EvaluationDomain<F65537> = coset(1024, 5)?;
-    assert_eq!(rt; domain.sample_element_outside_domain(&mut rng, 0), None);
-    let mut last = None;
-    for _ in 0..100 {
-        let sample = domain.sample_element_outside_domain(&mut rng, 64);
-        let point = sample.ok_or(PolyError::NoDomain)?;
-        assert!(rt; !domain.evaluate_vanishing_polynomial(point).is_zero());
-        assert!(rt; domain.elements().all(|element| element != point));
-        assert!(rt; sample != last);
-        last = sample;
+impl Trial for Samples {
+    fn holds<F: FftField, D: EvaluationDomain<F>>(&self, alloc: Global) -> Result<bool, PolyError> {
+        let mut rng = Pcg64::new(7, 11);
+        let domain: D = coset(self.size, self.offset)?;
+        let elements = listed(alloc, &domain)?;
+        let mut last = domain.sample_element_outside_domain(&mut rng, 0);
+        let mut right = last == None;
+        for _ in 0..self.count {
+            let sample = domain.sample_element_outside_domain(&mut rng, 64);
+            let point = sample.ok_or(PolyError::NoDomain)?;
+            right = right
+                && !domain.evaluate_vanishing_polynomial(point).is_zero()
+                && !elements.contains(&point)
+                && sample != last;
+            last = sample;
+        }
+        Ok(right)
     }
+}
+
+#[test]
+fn samples_outside(rt: HostRuntime) -> Result<(), Fail> {
+    let samples = Samples {
+        size: 1024,
+        offset: 5,
+        count: 100,
+    };
+    assert!(rt; radix2_mod_65537(rt.alloc(), &samples)?);
     Ok(())
+}
+
+// Whether the sample with this seed outside the subgroup of four is zero.
+#[derive(Clone, Copy)]
+struct ZeroSample {
+    seed: u64,
+}
+
+impl Trial for ZeroSample {
+    fn holds<F: FftField, D: EvaluationDomain<F>>(&self, _: Global) -> Result<bool, PolyError> {
+        let domain: D = coset(4, 1)?;
+        let sample = domain.sample_element_outside_domain(
+            &mut Pcg64::new(self.seed as u128, 5),
+            1000,
+        );
+        Ok(sample == Some(F::zero()))
+    }
 }
 
 // Four of the five elements are in the domain, so many first draws are.
 #[test]
 fn samples_after_draws_inside(rt: HostRuntime) -> Result<(), Fail> {
-    let domain: Radix2EvaluationDomain<F5> = coset(4, 1)?;
     for seed in 0..64 {
-        let mut rng = Pcg64::new(seed, 5);
-        let sample = domain.sample_element_outside_domain(&mut rng, 1000);
-        assert_eq!(rt; sample, Some(F5::zero()), "seed {seed}");
+        assert!(rt;
+            radix2_mod_5(rt.alloc(), &ZeroSample { seed })?,
+            "seed {seed}"
+        );
     }
     Ok(())
 }
 
 // A generator that is drawn from again with the same seed gives the same point.
+#[derive(Clone, Copy)]
+struct SameSeed {
+    seed: u64,
+}
+
+impl Trial for SameSeed {
+    fn holds<F: FftField, D: EvaluationDomain<F>>(&self, _: Global) -> Result<bool, PolyError> {
+        let domain: D = coset(1024, 5)?;
+        let first = domain.sample_element_outside_domain(&mut Pcg64::new(self.seed as u128, 5), 64);
+        let second = domain.sample_element_outside_domain(
+            &mut Pcg64::new(self.seed as u128, 5),
+            64,
+        );
+        Ok(first == second)
+    }
+}
+
 #[test]
 fn samples_of_one_seed(rt: HostRuntime) -> Result<(), Fail> {
-    let domain: Radix2EvaluationDomain<F65537> = coset(1024, 5)?;
-    let first = domain.sample_element_outside_domain(&mut Pcg64::new(3, 5), 64);
-    let second = domain.sample_element_outside_domain(&mut Pcg64::new(3, 5), 64);
-    assert_eq!(rt; first, second);
+    assert!(rt; radix2_mod_65537(rt.alloc(), &SameSeed { seed: 3 })?);
     Ok(())
 }

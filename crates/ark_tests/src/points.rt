@@ -1,104 +1,164 @@
-use crate::calls::{coset, elements, fft, ifft, listed};
-use ark_base::{F5, F433, F65537, FftField, Field, PolyError, Zero};
-use ark_poly::{
-    DenseUVPolynomial, EvaluationDomain, MixedRadixEvaluationDomain, Polynomial,
-    Radix2EvaluationDomain,
-};
+use crate::calls::{coset, elements, listed};
+use crate::trials::{Trial, mixed_mod_433, radix2_mod_5, radix2_mod_433, radix2_mod_65537};
+use ark_base::{FftField, Field, PolyError};
+use ark_poly::{DenseUVPolynomial, EvaluationDomain, Polynomial};
 use std::alloc::{AllocError, Global};
 use std::test::Fail;
 
-// The weights of a coset at the point with this number.
-fn weights<F: FftField>(
-    alloc: Global,
-    (size, offset): (usize, u64),
-    point: u64,
-) -> Result<Vec<F>, PolyError> {
-    let domain: Radix2EvaluationDomain<F> = coset(size, offset)?;
-    domain.evaluate_all_lagrange_coefficients(alloc, F::from(point))
+// The vanishing polynomial of a coset is the power of its size plus this constant.
+#[derive(Clone, Copy)]
+struct Vanishing {
+    size: usize,
+    offset: u64,
+    constant: u64,
 }
 
-// Whether the filter of one coset in another has these coefficients.
-fn has_coefficients<F: FftField>(
-    alloc: Global,
-    (size, offset): (usize, u64),
-    part: (usize, u64),
-    coeffs: &[u64],
-) -> Result<bool, PolyError> {
-    let whole: Radix2EvaluationDomain<F> = coset(size, offset)?;
-    let filter = whole.filter_polynomial(alloc, &coset(part.0, part.1)?)?;
-    Ok(filter.coeffs() == elements::<F>(alloc, coeffs)?.as_slice())
-}
-
-#[test]
-fn a_coset_of_two(rt: HostRuntime) -> Result<(), Fail> {
-    let alloc = rt.alloc();
-    let domain: Radix2EvaluationDomain<F5> = coset(2, 2)?;
-    assert_eq!(rt; listed(alloc, &domain)?, elements(alloc, &[2, 3])?);
-    assert_eq!(rt; fft(alloc, &domain, &[1, 1])?, elements(alloc, &[3, 4])?);
-    assert_eq!(rt; ifft(alloc, &domain, &[3, 4])?, elements(alloc, &[1, 1])?);
-    Ok(())
+impl Trial for Vanishing {
+    fn holds<F: FftField, D: EvaluationDomain<F>>(&self, alloc: Global) -> Result<bool, PolyError> {
+        let domain: D = coset(self.size, self.offset)?;
+        let vanishing = domain.vanishing_polynomial(alloc)?;
+        Ok(match vanishing.coeffs() {
+            [low, high] => { *low == (0, F::from(self.constant)) && *high == (self.size, F::one()) }
+            _ => false,
+        })
+    }
 }
 
 #[test]
 fn vanishing_polynomial_of_a_coset(rt: HostRuntime) -> Result<(), Fail> {
-    let alloc = rt.alloc();
-    let domain: Radix2EvaluationDomain<F5> = coset(2, 2)?;
-    assert_eq!(rt;
-        domain.vanishing_polynomial(alloc)?.coeffs(),
-        [(0, F5::from(1)), (2, F5::from(1))].as_slice()
-    );
+    let vanishing = Vanishing {
+        size: 2,
+        offset: 2,
+        constant: 1,
+    };
+    assert!(rt; radix2_mod_5(rt.alloc(), &vanishing)?);
     Ok(())
+}
+
+// The weights of a coset at a point.
+#[derive(Clone, Copy)]
+struct Weights<'a> {
+    size: usize,
+    offset: u64,
+    point: u64,
+    weights: &'a [u64],
+}
+
+impl Trial for Weights<'_> {
+    fn holds<F: FftField, D: EvaluationDomain<F>>(&self, alloc: Global) -> Result<bool, PolyError> {
+        let domain: D = coset(self.size, self.offset)?;
+        let weights = domain.evaluate_all_lagrange_coefficients(alloc, F::from(self.point))?;
+        Ok(weights == elements(alloc, self.weights)?)
+    }
 }
 
 #[test]
 fn weights_at_points(rt: HostRuntime) -> Result<(), Fail> {
-    let alloc = rt.alloc();
-    let rows: [((usize, u64), u64, &[u64]); 3] = [
-        ((4, 1), 0, &[4, 4, 4, 4]),
-        ((4, 1), 2, &[0, 1, 0, 0]),
-        ((2, 2), 0, &[3, 3]),
+    let rows = [
+        Weights {
+            size: 4,
+            offset: 1,
+            point: 0,
+            weights: &[4, 4, 4, 4],
+        },
+        Weights {
+            size: 4,
+            offset: 1,
+            point: 2,
+            weights: &[0, 1, 0, 0],
+        },
+        Weights {
+            size: 2,
+            offset: 2,
+            point: 0,
+            weights: &[3, 3],
+        },
     ];
-    for (domain, point, list) in rows {
-        assert_eq!(rt;
-            weights::<F5>(alloc, domain, point)?,
-            elements(alloc, list)?
-        );
+    for row in &rows {
+        assert!(rt; radix2_mod_5(rt.alloc(), row)?);
     }
     Ok(())
+}
+
+// The filter of the coset of two with this offset in the subgroup of four: its constant, the coefficient of the square,
+// and its value at a point, told with the coefficients and without.
+#[derive(Clone, Copy)]
+struct Filter {
+    offset: u64,
+    constant: u64,
+    square: u64,
+    point: u64,
+    value: u64,
+}
+
+impl Trial for Filter {
+    fn holds<F: FftField, D: EvaluationDomain<F>>(&self, alloc: Global) -> Result<bool, PolyError> {
+        let whole: D = coset(4, 1)?;
+        let part = coset(2, self.offset)?;
+        let (point, value) = (F::from(self.point), F::from(self.value));
+        let filter = whole.filter_polynomial(alloc, &part)?;
+        let [constant, middle, square] = filter.coeffs() else {
+            return Ok(false);
+        };
+        Ok(
+            *constant == F::from(self.constant)
+                && middle.is_zero()
+                && *square == F::from(self.square)
+                && whole.evaluate_filter_polynomial(&part, point) == Some(value)
+                && filter.evaluate(alloc, &point)? == value,
+        )
+    }
 }
 
 #[test]
 fn filters(rt: HostRuntime) -> Result<(), Fail> {
     let alloc = rt.alloc();
-    assert!(rt; has_coefficients::<F5>(alloc, (4, 1), (2, 1), &[3, 0, 3])?);
-    assert!(rt; has_coefficients::<F5>(alloc, (4, 1), (2, 2), &[3, 0, 2])?);
-    assert!(rt; has_coefficients::<F433>(alloc, (4, 1), (2, 179), &[217, 0, 216])?);
+    let subgroup = Filter {
+        offset: 1,
+        constant: 3,
+        square: 3,
+        point: 0,
+        value: 3,
+    };
+    assert!(rt; radix2_mod_5(alloc, &subgroup)?);
+    let coset = Filter {
+        offset: 2,
+        constant: 3,
+        square: 2,
+        point: 2,
+        value: 1,
+    };
+    assert!(rt; radix2_mod_5(alloc, &coset)?);
+    let coset = Filter {
+        offset: 179,
+        constant: 217,
+        square: 216,
+        point: 3,
+        value: 429,
+    };
+    assert!(rt; radix2_mod_433(alloc, &coset)?);
     Ok(())
 }
 
-#[test]
-fn value_of_a_filter(rt: HostRuntime) -> Result<(), Fail> {
-    let alloc = rt.alloc();
-    let whole: Radix2EvaluationDomain<F433> = coset(4, 1)?;
-    let part = coset(2, 179)?;
-    let (point, value) = (F433::from(3), F433::from(429));
-    let filter = whole.filter_polynomial(alloc, &part)?;
-    assert_eq!(rt; filter.evaluate(alloc, &point)?, value);
-    assert_eq!(rt; whole.evaluate_filter_polynomial(&part, point), Some(value));
-    Ok(())
+// The subgroup of two has no filter of that of four.
+#[derive(Clone, Copy)]
+struct ForeignFilter;
+
+impl Trial for ForeignFilter {
+    fn holds<F: FftField, D: EvaluationDomain<F>>(&self, alloc: Global) -> Result<bool, PolyError> {
+        let domain: D = coset(2, 1)?;
+        let foreign = coset(4, 1)?;
+        let filter = domain.filter_polynomial(alloc, &foreign);
+        Ok(
+            matches!(filter, Err(PolyError::ForeignSubdomain))
+                && domain.evaluate_filter_polynomial(&foreign, F::zero()) == None,
+        )
+    }
 }
 
 #[test]
 fn filters_of_foreign_domains(rt: HostRuntime) -> Result<(), Fail> {
-    let alloc = rt.alloc();
-    let whole: Radix2EvaluationDomain<F5> = coset(4, 1)?;
-    let part: Radix2EvaluationDomain<F5> = coset(2, 1)?;
-    let refused = matches!(
-        part.filter_polynomial(alloc, &whole),
-        Err(PolyError::ForeignSubdomain)
-    );
-    assert!(rt; refused);
-    assert_eq!(rt; part.evaluate_filter_polynomial(&whole, F5::zero()), None);
+    assert!(rt; radix2_mod_5(rt.alloc(), &ForeignFilter)?);
     Ok(())
 }
 
@@ -118,34 +178,51 @@ fn order<F: FftField, D: EvaluationDomain<F>>(
     Ok(order)
 }
 
+// That order for the subgroups of two sizes.
+#[derive(Clone, Copy)]
+struct Indices<'a> {
+    size: usize,
+    part: usize,
+    indices: &'a [usize],
+}
+
+impl Trial for Indices<'_> {
+    fn holds<F: FftField, D: EvaluationDomain<F>>(&self, alloc: Global) -> Result<bool, PolyError> {
+        let domain: D = coset(self.size, 1)?;
+        Ok(order(alloc, &domain, self.part)?.as_slice() == self.indices)
+    }
+}
+
 #[test]
 fn reindexing(rt: HostRuntime) -> Result<(), Fail> {
     let alloc = rt.alloc();
-    let domain: Radix2EvaluationDomain<F65537> = coset(8, 1)?;
-    let indices = [0, 4, 1, 2, 3, 5, 6, 7];
-    assert_eq!(rt; order(alloc, &domain, 2)?.as_slice(), indices.as_slice());
-    let domain: Radix2EvaluationDomain<F65537> = coset(4, 1)?;
-    assert_eq!(rt;
-        order(alloc, &domain, 4)?.as_slice(),
-        [0, 1, 2, 3].as_slice()
-    );
+    let halves = Indices {
+        size: 8,
+        part: 2,
+        indices: &[0, 4, 1, 2, 3, 5, 6, 7],
+    };
+    assert!(rt; radix2_mod_65537(alloc, &halves)?);
+    let whole = Indices {
+        size: 4,
+        part: 4,
+        indices: &[0, 1, 2, 3],
+    };
+    assert!(rt; radix2_mod_65537(alloc, &whole)?);
     Ok(())
 }
 
-// The value at the point of the Lagrange polynomial of one element, by its definition.
-fn plain_weight<F: Field>(elements: &[F], index: usize, point: F) -> F {
-    let mut over = F::one();
-    let mut under = F::one();
-    for (i, element) in elements.iter().enumerate() {
-        if i != index && index < elements.len() {
-            over = over * (point - *element);
-            under = under * (elements[index] - *element);
+// The product of the point's differences from the elements other than this one.
+fn differences<F: Field>(elements: &[F], other: F, point: F) -> F {
+    let mut product = F::one();
+    for element in elements {
+        if *element != other {
+            product = product * (point - *element);
         }
     }
-    over * under.inverse().unwrap_or(F::zero())
+    product
 }
 
-// Whether the weights at the point are those of the definition.
+// Whether the weights at the point are the values there of the Lagrange polynomials by their definition.
 fn has_weights<F: FftField, D: EvaluationDomain<F>>(
     alloc: Global,
     domain: &D,
@@ -154,8 +231,9 @@ fn has_weights<F: FftField, D: EvaluationDomain<F>>(
     let elements = listed(alloc, domain)?;
     let weights = domain.evaluate_all_lagrange_coefficients(alloc, point)?;
     let mut same = weights.len() == elements.len();
-    for (i, weight) in weights.iter().enumerate() {
-        same = same && *weight == plain_weight(&elements, i, point);
+    for (weight, element) in weights.iter().zip(&elements) {
+        let value = differences(&elements, *element, point);
+        same = same && *weight * differences(&elements, *element, *element) == value;
     }
     Ok(same)
 }
@@ -191,14 +269,8 @@ fn has_filter<F: FftField, D: EvaluationDomain<F>>(
     let filter = domain.filter_polynomial(alloc, &part)?;
     let mut right = filter.coeffs().len() == domain.size().saturating_sub(size).saturating_add(1);
     for i in 0..domain.size() {
-        let inside = i % step.max(1) == first;
-        let value = filter.evaluate(alloc, &domain.element(i))?;
-        right = right
-            && if inside {
-                value.is_one()
-            } else {
-                value.is_zero()
-            };
+        let wanted = F::from(u64::from(i % step.max(1) == first));
+        right = right && filter.evaluate(alloc, &domain.element(i))? == wanted;
     }
     Ok(right)
 }
@@ -238,40 +310,49 @@ fn has_order<F: FftField, D: EvaluationDomain<F>>(
     Ok(right)
 }
 
-// Whether all that is asked holds of the coset with this offset: the weights at an element, at zero and at a point
-// outside, the vanishing polynomial, and filters and orders for each part of these sizes.
-fn holds_at<D: EvaluationDomain<F433>>(
-    alloc: Global,
+// All that is asked of the coset with this offset: the weights at an element, at zero and at a point outside, the
+// vanishing polynomial, and filters and orders for each part of these sizes.
+#[derive(Clone, Copy)]
+struct Coset<'a> {
+    field_size: u64,
     size: usize,
     offset: u64,
-    sizes: &[usize],
-) -> Result<bool, PolyError> {
-    let domain: D = coset(size, offset)?;
-    let mut right = domain.size() == size && has_vanishing(alloc, &domain, 433)?;
-    for point in [domain.element(1), F433::zero(), F433::from(7)] {
-        right = right && has_weights(alloc, &domain, point)?;
-    }
-    for part in sizes {
-        if size % (*part).max(1) == 0 {
-            right = right
-                && has_order(alloc, &domain, *part)?
-                && has_filters(alloc, &domain, *part)?;
-        }
-    }
-    Ok(right)
+    parts: &'a [usize],
 }
 
-const SIZES: [usize; 20] = [
-    1, 2, 3, 4, 6, 8, 9, 12, 16, 18, 24, 27, 36, 48, 54, 72, 108, 144, 216, 432,
-];
+impl Trial for Coset<'_> {
+    fn holds<F: FftField, D: EvaluationDomain<F>>(&self, alloc: Global) -> Result<bool, PolyError> {
+        let domain: D = coset(self.size, self.offset)?;
+        let mut right = domain.size() == self.size
+            && has_vanishing(alloc, &domain, self.field_size)?
+            && has_weights(alloc, &domain, domain.element(1))?
+            && has_weights(alloc, &domain, F::zero())?
+            && has_weights(alloc, &domain, F::from(7))?;
+        for part in self.parts {
+            if self.size % (*part).max(1) == 0 {
+                right = right
+                    && has_order(alloc, &domain, *part)?
+                    && has_filters(alloc, &domain, *part)?;
+            }
+        }
+        Ok(right)
+    }
+}
 
 #[test]
 fn every_mixed_size(rt: HostRuntime) -> Result<(), Fail> {
-    type Domain = MixedRadixEvaluationDomain<F433>;
-    for size in SIZES {
+    let sizes = [
+        1, 2, 3, 4, 6, 8, 9, 12, 16, 18, 24, 27, 36, 48, 54, 72, 108, 144, 216, 432,
+    ];
+    for size in sizes {
         for offset in [1, 5] {
-            let holds = holds_at::<Domain>(rt.alloc(), size, offset, &SIZES)?;
-            assert!(rt; holds, "size {size}");
+            let coset = Coset {
+                field_size: 433,
+                size,
+                offset,
+                parts: &sizes,
+            };
+            assert!(rt; mixed_mod_433(rt.alloc(), &coset)?, "size {size}");
         }
     }
     Ok(())
@@ -279,12 +360,16 @@ fn every_mixed_size(rt: HostRuntime) -> Result<(), Fail> {
 
 #[test]
 fn every_radix_2_size(rt: HostRuntime) -> Result<(), Fail> {
-    type Domain = Radix2EvaluationDomain<F433>;
     let sizes = [1, 2, 4, 8, 16];
     for size in sizes {
         for offset in [1, 5] {
-            let holds = holds_at::<Domain>(rt.alloc(), size, offset, &sizes)?;
-            assert!(rt; holds, "size {size}");
+            let coset = Coset {
+                field_size: 433,
+                size,
+                offset,
+                parts: &sizes,
+            };
+            assert!(rt; radix2_mod_433(rt.alloc(), &coset)?, "size {size}");
         }
     }
     Ok(())
