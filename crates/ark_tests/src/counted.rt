@@ -1,18 +1,19 @@
 ghost use Rattle.std.specs.Prelude.{◌≡◌, IfOk, length};
 
-use crate::calls::{coset, fft};
+use crate::calls::coset;
 use crate::counts::{
     five_back_over_sixteen, five_over_sixteen, four_back_over_sixteen, four_over_sixteen,
     none_over_eight, sixteen_back_over_sixteen, sixteen_over_sixteen, two_over_eight,
     two_over_eighteen, two_over_one, two_over_six, two_over_twelve, two_over_twenty_seven,
 };
-use ark_base::{F5, F433, Lanes, PolyError, Work, k_adicity, log2};
+use crate::transforms::radix2_goes;
+use ark_base::{F5, F433, FftField, Field, Lanes, PolyError, Work, k_adicity, log2};
 use ark_poly::{EvaluationDomain, MixedRadixEvaluationDomain, Radix2EvaluationDomain};
 use std::alloc::{AllocError, Global};
 use std::test::Fail;
 
 // The subgroup of exactly this size.
-fn subgroup<D: EvaluationDomain<F433>>(size: usize) -> Result<D, PolyError>
+fn subgroup<F: FftField, D: EvaluationDomain<F>>(size: usize) -> Result<D, PolyError>
     ensures { IfOk result (λ d. (D.domain d).size ≡ size) }
 {
     let domain: D = coset(size, 1)?;
@@ -23,86 +24,149 @@ fn subgroup<D: EvaluationDomain<F433>>(size: usize) -> Result<D, PolyError>
     }
 }
 
-fn sevens(alloc: Global, count: usize) -> Result<Vec<F433>, AllocError>
+fn sevens<F: Field>(alloc: Global, count: usize) -> Result<Vec<F>, AllocError>
     ensures { IfOk result (λ list. length list.items ≡ count) }
 {
     let mut list = Vec::new(alloc);
-    list.resize(count, F433::from(7))?;
+    list.resize(count, F::from(7))?;
     Ok(list)
 }
 
-/// Tries that a counted call gives the list of the plain one, for so many items.
-macro_rules! assert_same {
-    ($rt:ident, $domain:ident, $len:literal, $counted:ident, $plain:ident) => {
-        let mut items = sevens($rt.alloc(), $len)?;
-        let plain = $domain.$plain($rt.alloc(), &items)?;
-        $counted($rt.alloc(), &$domain, &mut items, &mut Work::new())?;
-        assert!($rt; items == plain);
-    };
+// Whether each list is the transform of so many sevens.
+fn are_transforms<F: FftField, D: EvaluationDomain<F>>(
+    alloc: Global,
+    domain: &D,
+    lists: &[(usize, &Vec<F>)],
+) -> Result<bool, PolyError> {
+    let mut right = true;
+    for (count, list) in lists {
+        let items = sevens::<F>(alloc, *count)?;
+        right = right && domain.fft(alloc, &items)? == **list;
+    }
+    Ok(right)
+}
+
+// Whether each is the inverse.
+fn are_inverses<F: FftField, D: EvaluationDomain<F>>(
+    alloc: Global,
+    domain: &D,
+    lists: &[(usize, &Vec<F>)],
+) -> Result<bool, PolyError> {
+    let mut right = true;
+    for (count, list) in lists {
+        let items = sevens::<F>(alloc, *count)?;
+        right = right && domain.ifft(alloc, &items)? == **list;
+    }
+    Ok(right)
+}
+
+fn same_over_sixteen<F: FftField>(alloc: Global) -> Result<bool, PolyError> {
+    let domain: Radix2EvaluationDomain<F> = subgroup(16)?;
+    let mut four = sevens::<F>(alloc, 4)?;
+    four_over_sixteen(alloc, &domain, &mut four, &mut Work::new())?;
+    let mut five = sevens::<F>(alloc, 5)?;
+    five_over_sixteen(alloc, &domain, &mut five, &mut Work::new())?;
+    let mut sixteen = sevens::<F>(alloc, 16)?;
+    sixteen_over_sixteen(alloc, &domain, &mut sixteen, &mut Work::new())?;
+    are_transforms(alloc, &domain, &[(4, &four), (5, &five), (16, &sixteen)])
 }
 
 #[test]
 fn counted_over_sixteen(rt: HostRuntime) -> Result<(), Fail> {
-    let domain = subgroup::<Radix2EvaluationDomain<F433>>(16)?;
-    assert_same!(rt, domain, 4, four_over_sixteen, fft);
-    assert_same!(rt, domain, 5, five_over_sixteen, fft);
-    assert_same!(rt, domain, 16, sixteen_over_sixteen, fft);
+    assert!(rt; same_over_sixteen::<F433>(rt.alloc())?);
     Ok(())
+}
+
+fn same_back_over_sixteen<F: FftField>(alloc: Global) -> Result<bool, PolyError> {
+    let domain: Radix2EvaluationDomain<F> = subgroup(16)?;
+    let mut four = sevens::<F>(alloc, 4)?;
+    four_back_over_sixteen(alloc, &domain, &mut four, &mut Work::new())?;
+    let mut five = sevens::<F>(alloc, 5)?;
+    five_back_over_sixteen(alloc, &domain, &mut five, &mut Work::new())?;
+    let mut sixteen = sevens::<F>(alloc, 16)?;
+    sixteen_back_over_sixteen(alloc, &domain, &mut sixteen, &mut Work::new())?;
+    are_inverses(alloc, &domain, &[(4, &four), (5, &five), (16, &sixteen)])
 }
 
 #[test]
 fn counted_back_over_sixteen(rt: HostRuntime) -> Result<(), Fail> {
-    let domain = subgroup::<Radix2EvaluationDomain<F433>>(16)?;
-    assert_same!(rt, domain, 4, four_back_over_sixteen, ifft);
-    assert_same!(rt, domain, 5, five_back_over_sixteen, ifft);
-    assert_same!(rt, domain, 16, sixteen_back_over_sixteen, ifft);
+    assert!(rt; same_back_over_sixteen::<F433>(rt.alloc())?);
     Ok(())
+}
+
+fn same_over_eight<F: FftField>(alloc: Global) -> Result<bool, PolyError> {
+    let domain: Radix2EvaluationDomain<F> = subgroup(8)?;
+    let mut two = sevens::<F>(alloc, 2)?;
+    two_over_eight(alloc, &domain, &mut two, &mut Work::new())?;
+    let mut none = sevens::<F>(alloc, 0)?;
+    none_over_eight(alloc, &domain, &mut none, &mut Work::new())?;
+    are_transforms(alloc, &domain, &[(2, &two), (0, &none)])
 }
 
 #[test]
 fn counted_over_eight(rt: HostRuntime) -> Result<(), Fail> {
-    let domain = subgroup::<Radix2EvaluationDomain<F433>>(8)?;
-    assert_same!(rt, domain, 2, two_over_eight, fft);
-    assert_same!(rt, domain, 0, none_over_eight, fft);
+    assert!(rt; same_over_eight::<F433>(rt.alloc())?);
     Ok(())
+}
+
+fn same_over_one<F: FftField>(alloc: Global) -> Result<bool, PolyError> {
+    let domain: Radix2EvaluationDomain<F> = subgroup(1)?;
+    let mut two = sevens::<F>(alloc, 2)?;
+    two_over_one(alloc, &domain, &mut two, &mut Work::new())?;
+    are_transforms(alloc, &domain, &[(2, &two)])
 }
 
 #[test]
 fn counted_over_one(rt: HostRuntime) -> Result<(), Fail> {
-    let domain = subgroup::<Radix2EvaluationDomain<F433>>(1)?;
-    assert_same!(rt, domain, 2, two_over_one, fft);
+    assert!(rt; same_over_one::<F433>(rt.alloc())?);
     Ok(())
+}
+
+// The mixed subgroup of this size.
+fn mixed<F: FftField>(size: usize) -> Result<MixedRadixEvaluationDomain<F>, PolyError>
+    ensures { IfOk result (λ d. (⟦<MixedRadixEvaluationDomain<F> as EvaluationDomain<F>>⟧.domain d).size ≡ size) }
+{
+    subgroup(size)
+}
+
+// Whether the list is the transform of two sevens over the mixed subgroup of this size.
+fn is_mixed_transform<F: FftField>(
+    alloc: Global,
+    size: usize,
+    list: &Vec<F>,
+) -> Result<bool, PolyError> {
+    are_transforms(alloc, &mixed::<F>(size)?, &[(2, list)])
 }
 
 #[test]
 fn counted_over_twice_three(rt: HostRuntime) -> Result<(), Fail> {
-    let six = subgroup::<MixedRadixEvaluationDomain<F433>>(6)?;
-    assert_same!(rt, six, 2, two_over_six, fft);
-    let twelve = subgroup::<MixedRadixEvaluationDomain<F433>>(12)?;
-    assert_same!(rt, twelve, 2, two_over_twelve, fft);
+    let alloc = rt.alloc();
+    let mut six = sevens::<F433>(alloc, 2)?;
+    two_over_six(alloc, &mixed::<F433>(6)?, &mut six, &mut Work::new())?;
+    assert!(rt; is_mixed_transform(alloc, 6, &six)?);
+    let mut twelve = sevens::<F433>(alloc, 2)?;
+    two_over_twelve(alloc, &mixed::<F433>(12)?, &mut twelve, &mut Work::new())?;
+    assert!(rt; is_mixed_transform(alloc, 12, &twelve)?);
     Ok(())
 }
 
 #[test]
 fn counted_over_powers_of_three(rt: HostRuntime) -> Result<(), Fail> {
-    let eighteen = subgroup::<MixedRadixEvaluationDomain<F433>>(18)?;
-    assert_same!(rt, eighteen, 2, two_over_eighteen, fft);
-    let twenty_seven = subgroup::<MixedRadixEvaluationDomain<F433>>(27)?;
-    assert_same!(rt, twenty_seven, 2, two_over_twenty_seven, fft);
+    let alloc = rt.alloc();
+    let mut eighteen = sevens::<F433>(alloc, 2)?;
+    two_over_eighteen(alloc, &mixed::<F433>(18)?, &mut eighteen, &mut Work::new())?;
+    assert!(rt; is_mixed_transform(alloc, 18, &eighteen)?);
+    let mut all = sevens::<F433>(alloc, 2)?;
+    two_over_twenty_seven(alloc, &mixed::<F433>(27)?, &mut all, &mut Work::new())?;
+    assert!(rt; is_mixed_transform(alloc, 27, &all)?);
     Ok(())
 }
 
 #[test]
 fn calls_in_place(rt: HostRuntime) -> Result<(), Fail> {
-    let alloc = rt.alloc();
-    let domain: Radix2EvaluationDomain<F5> = coset(4, 1)?;
-    let values = fft(alloc, &domain, &[1, 2, 3, 4])?;
-    let mut list = values.clone()?;
-    domain.ifft_in_place(alloc, &mut list)?;
-    assert_eq!(rt; list.as_slice(), [1, 2, 3, 4].map(F5::from).as_slice());
-    domain.fft_in_place(alloc, &mut list)?;
-    assert_eq!(rt; list, values);
-    assert_eq!(rt; list.as_slice(), [0, 4, 3, 2].map(F5::from).as_slice());
+    let coeffs = [1, 2, 3, 4].map(F5::from);
+    let values = [0, 4, 3, 2].map(F5::from);
+    assert!(rt; radix2_goes::<F5, F5>(rt.alloc(), &coeffs, &values)?);
     Ok(())
 }
 
@@ -113,19 +177,16 @@ fn lanes(first: u64, second: u64) -> Lanes<F5> {
 // A module of pairs transforms lane by lane.
 #[test]
 fn transforms_of_lanes(rt: HostRuntime) -> Result<(), Fail> {
-    let alloc = rt.alloc();
-    let domain: Radix2EvaluationDomain<F5> = coset(2, 1)?;
     let (coeffs, values) = ([lanes(1, 2), lanes(3, 4)], [lanes(4, 1), lanes(3, 3)]);
-    assert!(rt; domain.fft(alloc, &coeffs)?.as_slice() == values.as_slice());
-    assert!(rt; domain.ifft(alloc, &values)?.as_slice() == coeffs.as_slice());
+    assert!(rt; radix2_goes::<F5, Lanes<F5>>(rt.alloc(), &coeffs, &values)?);
     Ok(())
 }
 
 #[test]
 fn parts_of_lanes(rt: HostRuntime) {
     let pair = lanes(1, 2);
-    assert_eq!(rt; pair.get(0), F5::from(1));
-    assert_eq!(rt; pair.get(1), F5::from(2));
+    assert!(rt; pair.get(0) == F5::from(1));
+    assert!(rt; pair.get(1) == F5::from(2));
     assert!(rt; pair != lanes(1, 3));
 }
 
@@ -142,7 +203,7 @@ fn logarithms(rt: HostRuntime) {
         (1025, 11),
         (usize::MAX, 64),
     ] {
-        assert_eq!(rt; log2(x), log, "{x}");
+        assert!(rt; log2(x) == log, "{x}");
     }
 }
 
@@ -158,6 +219,6 @@ fn adicities(rt: HostRuntime) {
         (2, u64::MAX, 0),
         (7, 6, 0),
     ] {
-        assert_eq!(rt; k_adicity(k, n), adicity, "{k} {n}");
+        assert!(rt; k_adicity(k, n) == adicity, "{k} {n}");
     }
 }

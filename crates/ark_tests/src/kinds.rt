@@ -2,9 +2,11 @@
 
 use crate::calls::{coset, elements, fft};
 use crate::plain::agrees;
+use crate::trials::{Trial, general_mod_433, mixed_mod_433};
 use ark_base::{F433, FftField, Field, One, PolyError, Zero};
 use ark_poly::{EvaluationDomain, GeneralEvaluationDomain, MixedRadixEvaluationDomain};
 use ark_test_types::four::Four;
+use rand_core::Rng;
 use rand_pcg::Pcg64;
 use std::alloc::Global;
 use std::test::Fail;
@@ -13,16 +15,31 @@ const SIZES: [usize; 20] = [
     1, 2, 3, 4, 6, 8, 9, 12, 16, 18, 24, 27, 36, 48, 54, 72, 108, 144, 216, 432,
 ];
 
+/// Six elements for five coefficients, as powers of this root.
+#[derive(Clone, Copy)]
+struct Six<'a> {
+    root: u64,
+    powers: &'a [u64],
+}
+
+impl Trial for Six<'_> {
+    fn holds<F: FftField, D: EvaluationDomain<F>>(&self, alloc: Global) -> Result<bool, PolyError> {
+        let domain: D = coset(5, 1)?;
+        Ok(
+            domain.size() == 6
+                && domain.group_gen() == F::from(self.root)
+                && fft(alloc, &domain, &[0, 1])? == elements(alloc, self.powers)?,
+        )
+    }
+}
+
 #[test]
 fn six_elements(rt: HostRuntime) -> Result<(), Fail> {
-    let alloc = rt.alloc();
-    let domain: MixedRadixEvaluationDomain<F433> = coset(5, 1)?;
-    assert_eq!(rt; domain.size(), 6);
-    assert_eq!(rt; domain.group_gen(), F433::from(199));
-    assert_eq!(rt;
-        fft(alloc, &domain, &[0, 1])?,
-        elements(alloc, &[1, 199, 198, 432, 234, 235])?
-    );
+    let six = Six {
+        root: 199,
+        powers: &[1, 199, 198, 432, 234, 235],
+    };
+    assert!(rt; mixed_mod_433(rt.alloc(), &six)?);
     Ok(())
 }
 
@@ -36,16 +53,37 @@ fn both_agree<F: FftField, D: EvaluationDomain<F>>(
     Ok(agrees(alloc, rng, &subgroup)? && agrees(alloc, rng, &coset)?)
 }
 
+/// Plain sums over the domain for so many coefficients, for lists drawn by this seed.
+#[derive(Clone, Copy)]
+struct PlainSums {
+    num_coeffs: usize,
+    seed: u64,
+}
+
+impl Trial for PlainSums {
+    fn holds<F: FftField, D: EvaluationDomain<F>>(&self, alloc: Global) -> Result<bool, PolyError> {
+        let domain: D = coset(self.num_coeffs, 1)?;
+        both_agree(alloc, &mut Pcg64::new(u128::from(self.seed), 3), domain)
+    }
+}
+
+// Whether the sums are plain over the mixed domain of exactly this size as a general one.
+fn mixed_agrees<F: FftField>(
+    alloc: Global,
+    rng: &mut Pcg64,
+    size: usize,
+) -> Result<bool, PolyError> {
+    let mixed: MixedRadixEvaluationDomain<F> = coset(size, 1)?;
+    Ok(mixed.size() == size && both_agree(alloc, rng, GeneralEvaluationDomain::MixedRadix(mixed))?)
+}
+
 #[test]
 fn plain_sums_at_every_size(rt: HostRuntime) -> Result<(), Fail> {
-    let alloc = rt.alloc();
     let mut rng = Pcg64::new(2, 3);
-    for size in SIZES {
-        let mixed: MixedRadixEvaluationDomain<F433> = coset(size, 1)?;
-        assert_eq!(rt; mixed.size(), size);
-        assert!(rt; both_agree(alloc, &mut rng, mixed)?, "size {size}");
-        let mixed = GeneralEvaluationDomain::MixedRadix(mixed);
-        assert!(rt; both_agree(alloc, &mut rng, mixed)?, "size {size}");
+    for num_coeffs in SIZES {
+        let seed = rng.next_u64();
+        assert!(rt; mixed_mod_433(rt.alloc(), &PlainSums { num_coeffs, seed })?);
+        assert!(rt; mixed_agrees::<F433>(rt.alloc(), &mut rng, num_coeffs)?);
     }
     Ok(())
 }
@@ -53,9 +91,9 @@ fn plain_sums_at_every_size(rt: HostRuntime) -> Result<(), Fail> {
 #[test]
 fn plain_sums_over_general_domains(rt: HostRuntime) -> Result<(), Fail> {
     let mut rng = Pcg64::new(5, 3);
-    for size in SIZES {
-        let domain: GeneralEvaluationDomain<F433> = coset(size, 1)?;
-        assert!(rt; both_agree(rt.alloc(), &mut rng, domain)?, "size {size}");
+    for num_coeffs in SIZES {
+        let seed = rng.next_u64();
+        assert!(rt; general_mod_433(rt.alloc(), &PlainSums { num_coeffs, seed })?);
     }
     Ok(())
 }
@@ -68,53 +106,74 @@ fn four(number: u8) -> Four {
     }
 }
 
+// Whether the general domain for so many coefficients goes by radix 2, and its size.
+fn kind<F: FftField>(num_coeffs: usize) -> Option<(bool, usize)> {
+    let domain = GeneralEvaluationDomain::<F>::new(num_coeffs)?;
+    let even = matches!(domain, GeneralEvaluationDomain::Radix2(_));
+    Some((even, domain.size()))
+}
+
 #[test]
-fn domains_of_four_elements(rt: HostRuntime) -> Result<(), Fail> {
-    let one = GeneralEvaluationDomain::<Four>::new(1);
-    assert!(rt; matches!(one, Some(GeneralEvaluationDomain::Radix2(even)) if even.size() == 1));
-    let three = GeneralEvaluationDomain::<Four>::new(2);
-    assert!(rt; matches!(three, Some(GeneralEvaluationDomain::MixedRadix(_))));
-    assert!(rt; GeneralEvaluationDomain::<Four>::new(4) == None);
-    Ok(())
+fn domains_of_four_elements(rt: HostRuntime) {
+    assert!(rt; kind::<Four>(1) == Some((true, 1)));
+    assert!(rt; kind::<Four>(2) == Some((false, 3)));
+    assert!(rt; kind::<Four>(4) == None);
+}
+
+// Whether the domain for two coefficients has plain sums, and takes these to the values and the values to the fitted.
+fn has_values<F: FftField, D: EvaluationDomain<F>>(
+    alloc: Global,
+    coeffs: &[F],
+    values: &[F],
+    fitted: &[F],
+) -> Result<bool, PolyError> {
+    let domain: D = coset(2, 1)?;
+    Ok(
+        domain.fft(alloc, coeffs)?.as_slice() == values
+            && domain.ifft(alloc, values)?.as_slice() == fitted
+            && both_agree(alloc, &mut Pcg64::new(5, 8), domain)?,
+    )
+}
+
+fn general_has_values<F: FftField>(
+    alloc: Global,
+    coeffs: &[F],
+    values: &[F],
+    fitted: &[F],
+) -> Result<bool, PolyError> {
+    has_values::<F, GeneralEvaluationDomain<F>>(alloc, coeffs, values, fitted)
 }
 
 #[test]
 fn transforms_of_three_elements(rt: HostRuntime) -> Result<(), Fail> {
-    let alloc = rt.alloc();
-    let three: GeneralEvaluationDomain<Four> = coset(2, 1)?;
-    assert_eq!(rt; three.size(), 3);
+    let coeffs = [four(1), four(1)];
     let values = [four(0), four(3), four(2)];
     let fitted = [four(1), four(1), four(0)];
-    assert_eq!(rt;
-        three.fft(alloc, &[four(1), four(1)])?.as_slice(),
-        values.as_slice()
-    );
-    assert_eq!(rt; three.ifft(alloc, &values)?.as_slice(), fitted.as_slice());
-    assert!(rt; both_agree(alloc, &mut Pcg64::new(5, 8), three)?);
+    assert!(rt; general_has_values::<Four>(rt.alloc(), &coeffs, &values, &fitted)?);
     Ok(())
 }
 
 #[test]
 fn field_of_four_elements(rt: HostRuntime) {
     for x in [0, 1, 2, 3].map(four) {
-        assert_eq!(rt; x + x, Four::zero());
-        assert_eq!(rt; -x, x);
-        assert_eq!(rt; x - Four::one(), x + Four::one());
-        assert_eq!(rt; x.pow(4), x);
+        assert!(rt; x + x == Four::zero());
+        assert!(rt; -x == x);
+        assert!(rt; x - Four::one() == x + Four::one());
+        assert!(rt; x.pow(4) == x);
     }
 }
 
 #[test]
 fn products_of_four_elements(rt: HostRuntime) {
     for (x, y, product) in [(2, 2, 3), (2, 3, 1), (3, 3, 2), (0, 3, 0), (1, 2, 2)] {
-        assert_eq!(rt; four(x) * four(y), four(product));
+        assert!(rt; four(x) * four(y) == four(product));
     }
     for (x, inverse) in [(0, None), (1, Some(1)), (2, Some(3)), (3, Some(2))] {
-        assert_eq!(rt; four(x).inverse(), inverse.map(four));
+        assert!(rt; four(x).inverse() == inverse.map(four));
     }
     for (n, root) in [(1, Some(1)), (2, None), (3, Some(2))] {
-        assert_eq!(rt; Four::get_root_of_unity(n), root.map(four));
+        assert!(rt; Four::get_root_of_unity(n) == root.map(four));
     }
-    assert_eq!(rt; Four::from(7), Four::one());
-    assert_eq!(rt; Four::default(), Four::zero());
+    assert!(rt; Four::from(7) == Four::one());
+    assert!(rt; Four::default() == Four::zero());
 }

@@ -1,6 +1,8 @@
 // How many distinct products are behind the answers of the kernels, seen from outside.
 
-use ark_base::{F433, F65537, FftField, PolyError, Work};
+use crate::calls::coset;
+use crate::transforms::radix2_goes;
+use ark_base::{DomainCoeff, F433, F65537, FftField, PolyError, Work};
 use ark_fft::domain::radix2::plain::fft_plain;
 use ark_poly::{EvaluationDomain, MixedRadixEvaluationDomain, Radix2EvaluationDomain};
 use ark_test_types::traced::{Numbered, Products, Traced};
@@ -65,35 +67,55 @@ fn inverse_takes<F: FftField + Numbered, D: EvaluationDomain<F>>(
     )
 }
 
+// Whether plain sums give the transform's values by more products than a set can hold.
+fn plain_sums_take_more<F: FftField + Numbered, D: EvaluationDomain<F>>(
+    alloc: Global,
+    size: usize,
+    count: u64,
+) -> Result<bool, PolyError> {
+    let domain: D = coset(size, 1)?;
+    let mut list = items::<F>(alloc, count)?;
+    let values = domain.fft(alloc, &list)?;
+    fft_plain(domain.coset(), alloc, &mut list, &mut Work::new())?;
+    Ok(values == list && behind(&list).is_none())
+}
+
+// Whether a domain of 64 elements takes so few products. So many as plain sums take do not go unseen.
+fn sixty_four_take<F: FftField + Numbered, D: EvaluationDomain<F>>(
+    alloc: Global,
+) -> Result<bool, PolyError> {
+    Ok(
+        forward_takes::<F, D>(alloc, 64, 64, 256)?
+            && inverse_takes::<F, D>(alloc, 64, 64, 256)?
+            && forward_takes::<F, D>(alloc, 64, 16, 192)?
+            && plain_sums_take_more::<F, D>(alloc, 64, 64)?,
+    )
+}
+
+fn radix2_takes<F: FftField + Numbered>(alloc: Global) -> Result<bool, PolyError> {
+    sixty_four_take::<F, Radix2EvaluationDomain<F>>(alloc)
+}
+
 #[test]
 fn products_behind_the_answers(rt: HostRuntime) -> Result<(), Fail> {
-    type Domain = Radix2EvaluationDomain<F65537>;
-    let alloc = rt.alloc();
-    assert!(rt; forward_takes::<F65537, Domain>(alloc, 64, 64, 256)?);
-    assert!(rt; inverse_takes::<F65537, Domain>(alloc, 64, 64, 256)?);
-    assert!(rt; forward_takes::<F65537, Domain>(alloc, 64, 16, 192)?);
+    assert!(rt; radix2_takes::<F65537>(rt.alloc())?);
     Ok(())
+}
+
+// Whether a domain of 27 elements does.
+fn twenty_seven_take<F: FftField + Numbered, D: EvaluationDomain<F>>(
+    alloc: Global,
+) -> Result<bool, PolyError> {
+    Ok(forward_takes::<F, D>(alloc, 27, 27, 243)? && inverse_takes::<F, D>(alloc, 27, 27, 243)?)
+}
+
+fn mixed_takes<F: FftField + Numbered>(alloc: Global) -> Result<bool, PolyError> {
+    twenty_seven_take::<F, MixedRadixEvaluationDomain<F>>(alloc)
 }
 
 #[test]
 fn products_behind_the_answers_of_steps(rt: HostRuntime) -> Result<(), Fail> {
-    type Domain = MixedRadixEvaluationDomain<F433>;
-    let alloc = rt.alloc();
-    assert!(rt; forward_takes::<F433, Domain>(alloc, 27, 27, 243)?);
-    assert!(rt; inverse_takes::<F433, Domain>(alloc, 27, 27, 243)?);
-    Ok(())
-}
-
-// So many products as plain sums take do not go unseen.
-#[test]
-fn plain_sums_are_seen(rt: HostRuntime) -> Result<(), Fail> {
-    let alloc = rt.alloc();
-    let domain = Radix2EvaluationDomain::<F65537>::new(64).ok_or(PolyError::NoDomain)?;
-    let mut list = items::<F65537>(alloc, 64)?;
-    let values = domain.fft(alloc, &list)?;
-    fft_plain(domain.coset(), alloc, &mut list, &mut Work::new())?;
-    assert!(rt; values == list);
-    assert_eq!(rt; behind(&list), None);
+    assert!(rt; mixed_takes::<F433>(rt.alloc())?);
     Ok(())
 }
 
@@ -104,39 +126,30 @@ fn traced(numbers: [u64; 4]) -> [Traced<F433>; 4] {
 // The calls that are generic over modules go by meanings: what is behind the values plays no part.
 #[test]
 fn transforms_of_values_with_a_trace(rt: HostRuntime) -> Result<(), Fail> {
-    let alloc = rt.alloc();
-    let domain = Radix2EvaluationDomain::<F433>::new(4).ok_or(PolyError::NoDomain)?;
     let (items, values) = (traced([1, 2, 3, 4]), traced([10, 73, 431, 356]));
-    let mut list = domain.fft(alloc, &items)?;
-    assert_eq!(rt; list.as_slice(), values.as_slice());
-    domain.ifft_in_place(alloc, &mut list)?;
-    assert_eq!(rt; list.as_slice(), items.as_slice());
-    domain.fft_in_place(alloc, &mut list)?;
-    assert_eq!(rt; list.as_slice(), values.as_slice());
+    assert!(rt; radix2_goes::<F433, Traced<F433>>(rt.alloc(), &items, &values)?);
     Ok(())
 }
 
-#[test]
-fn counted_transforms_of_values_with_a_trace(rt: HostRuntime) -> Result<(), Fail> {
-    let alloc = rt.alloc();
-    let domain = Radix2EvaluationDomain::<F433>::new(4).ok_or(PolyError::NoDomain)?;
-    let (items, values) = (traced([1, 2, 3, 4]), traced([10, 73, 431, 356]));
-    let mut list = domain.ifft(alloc, &values)?;
-    assert_eq!(rt; list.as_slice(), items.as_slice());
-    domain.fft_counted(alloc, &mut list, &mut Work::new())?;
-    assert_eq!(rt; list.as_slice(), values.as_slice());
-    domain.ifft_counted(alloc, &mut list, &mut Work::new())?;
-    assert_eq!(rt; list.as_slice(), items.as_slice());
-    Ok(())
+// Whether these are the items' products with the powers of two, and with three times these powers.
+fn has_powers<F: FftField, T: DomainCoeff<F>>(
+    mut items: [T; 4],
+    mut same: [T; 4],
+    turned: [T; 4],
+    thrice: [T; 4],
+) -> bool {
+    Radix2EvaluationDomain::<F>::distribute_powers(&mut items, F::from(2));
+    Radix2EvaluationDomain::<F>::distribute_powers_and_mul_by_const(
+        &mut same,
+        F::from(2),
+        F::from(3),
+    );
+    items == turned && same == thrice
 }
 
 #[test]
 fn powers_of_values_with_a_trace(rt: HostRuntime) {
-    type Domain = Radix2EvaluationDomain<F433>;
-    let mut list = traced([1, 2, 3, 4]);
-    Domain::distribute_powers(&mut list, F433::from(2));
-    assert_eq!(rt; list, traced([1, 4, 12, 32]));
-    let mut list = traced([1, 2, 3, 4]);
-    Domain::distribute_powers_and_mul_by_const(&mut list, F433::from(2), F433::from(3));
-    assert_eq!(rt; list, traced([3, 12, 36, 96]));
+    let items = traced([1, 2, 3, 4]);
+    let (turned, thrice) = (traced([1, 4, 12, 32]), traced([3, 12, 36, 96]));
+    assert!(rt; has_powers::<F433, Traced<F433>>(items, items, turned, thrice));
 }

@@ -1,6 +1,7 @@
 use crate::calls::{coset, elements, fft, ifft};
 use crate::plain::{agrees, drawn, forward, has_plain_sums, inverse};
-use ark_base::{F5, F433, F65537, FftField, Field, PolyError};
+use crate::trials::{Trial, radix2_mod_5, radix2_mod_433, radix2_mod_65537};
+use ark_base::{DomainCoeff, FftField, PolyError, Work};
 use ark_poly::{EvaluationDomain, Radix2EvaluationDomain};
 use ark_test_types::nothing::Nothing;
 use rand_core::Rng;
@@ -25,52 +26,121 @@ const BACK: [(usize, u64, &[u64], &[u64]); 3] = [
     (1, 1, &[3], &[3]),
 ];
 
+/// Coefficients that have these values over a coset.
+#[derive(Clone, Copy)]
+struct Forward<'a> {
+    size: usize,
+    offset: u64,
+    coeffs: &'a [u64],
+    values: &'a [u64],
+}
+
+impl Trial for Forward<'_> {
+    fn holds<F: FftField, D: EvaluationDomain<F>>(&self, alloc: Global) -> Result<bool, PolyError> {
+        let domain: D = coset(self.size, self.offset)?;
+        Ok(fft(alloc, &domain, self.coeffs)? == elements(alloc, self.values)?)
+    }
+}
+
+/// Values that have these coefficients.
+#[derive(Clone, Copy)]
+struct Back<'a> {
+    size: usize,
+    offset: u64,
+    values: &'a [u64],
+    coeffs: &'a [u64],
+}
+
+impl Trial for Back<'_> {
+    fn holds<F: FftField, D: EvaluationDomain<F>>(&self, alloc: Global) -> Result<bool, PolyError> {
+        let domain: D = coset(self.size, self.offset)?;
+        Ok(ifft(alloc, &domain, self.values)? == elements(alloc, self.coeffs)?)
+    }
+}
+
 #[test]
 fn forward_rows(rt: HostRuntime) -> Result<(), Fail> {
-    let alloc = rt.alloc();
     for (size, offset, coeffs, values) in FORWARD {
-        let domain: Radix2EvaluationDomain<F5> = coset(size, offset)?;
-        assert_eq!(rt; fft(alloc, &domain, coeffs)?, elements(alloc, values)?);
+        let row = Forward {
+            size,
+            offset,
+            coeffs,
+            values,
+        };
+        assert!(rt; radix2_mod_5(rt.alloc(), &row)?);
     }
     Ok(())
 }
 
 #[test]
 fn inverse_rows(rt: HostRuntime) -> Result<(), Fail> {
-    let alloc = rt.alloc();
     for (size, offset, values, coeffs) in BACK {
-        let domain: Radix2EvaluationDomain<F5> = coset(size, offset)?;
-        assert_eq!(rt; ifft(alloc, &domain, values)?, elements(alloc, coeffs)?);
+        let row = Back {
+            size,
+            offset,
+            values,
+            coeffs,
+        };
+        assert!(rt; radix2_mod_5(rt.alloc(), &row)?);
     }
     Ok(())
 }
 
 #[test]
 fn rows_of_the_mixed_field(rt: HostRuntime) -> Result<(), Fail> {
-    let alloc = rt.alloc();
-    let domain: Radix2EvaluationDomain<F433> = coset(4, 1)?;
-    let (coeffs, values) = ([1, 2, 3, 4], [10, 73, 431, 356]);
-    assert_eq!(rt; fft(alloc, &domain, &coeffs)?, elements(alloc, &values)?);
-    assert_eq!(rt; ifft(alloc, &domain, &values)?, elements(alloc, &coeffs)?);
+    let (coeffs, values): (&[u64], &[u64]) = (&[1, 2, 3, 4], &[10, 73, 431, 356]);
+    let (size, offset) = (4, 1);
+    assert!(rt;
+        radix2_mod_433(
+            rt.alloc(),
+            &Forward {
+                size,
+                offset,
+                coeffs,
+                values
+            }
+        )?
+    );
+    assert!(rt;
+        radix2_mod_433(
+            rt.alloc(),
+            &Back {
+                size,
+                offset,
+                values,
+                coeffs
+            }
+        )?
+    );
     Ok(())
 }
 
-// Every size of the field, two offsets and lists shorter and longer than the size.
-#[test]
-fn plain_sums_at_every_length(rt: HostRuntime) -> Result<(), Fail> {
-    let alloc = rt.alloc();
-    for (size, offset) in [1, 2, 4, 8, 16]
-        .map(|size| [(size, 1), (size, 5)])
-        .as_flattened()
-    {
-        let domain: Radix2EvaluationDomain<F433> = coset(*size, *offset)?;
+/// Plain sums of lists shorter and longer than a coset's size.
+#[derive(Clone, Copy)]
+struct EveryLength {
+    size: usize,
+    offset: u64,
+}
+
+impl Trial for EveryLength {
+    fn holds<F: FftField, D: EvaluationDomain<F>>(&self, alloc: Global) -> Result<bool, PolyError> {
+        let domain: D = coset(self.size, self.offset)?;
+        let mut right = true;
         let mut coeffs = Vec::new(alloc);
         for i in 0..20 {
-            assert!(rt;
-                has_plain_sums(alloc, &domain, &coeffs)?,
-                "{i} items over {size}"
-            );
-            coeffs.push(F433::from(i * i + 1))?;
+            right = right && has_plain_sums(alloc, &domain, &coeffs)?;
+            coeffs.push(F::from(i * i + 1))?;
+        }
+        Ok(right)
+    }
+}
+
+// Every size of the field, and two offsets.
+#[test]
+fn plain_sums_at_every_length(rt: HostRuntime) -> Result<(), Fail> {
+    for size in [1, 2, 4, 8, 16] {
+        for offset in [1, 5] {
+            assert!(rt; radix2_mod_433(rt.alloc(), &EveryLength { size, offset })?);
         }
     }
     Ok(())
@@ -91,29 +161,95 @@ fn has_passes<F: FftField, D: EvaluationDomain<F>>(
     Ok(same && passed == coeffs)
 }
 
+/// Both plain bodies over a coset, for lists drawn by this seed.
+#[derive(Clone, Copy)]
+struct PlainBodies {
+    size: usize,
+    offset: u64,
+    seed: u64,
+}
+
+impl Trial for PlainBodies {
+    fn holds<F: FftField, D: EvaluationDomain<F>>(&self, alloc: Global) -> Result<bool, PolyError> {
+        let domain: D = coset(self.size, self.offset)?;
+        let mut rng = Pcg64::new(u128::from(self.seed), 11);
+        Ok(has_passes(alloc, &mut rng, &domain)? && agrees(alloc, &mut rng, &domain)?)
+    }
+}
+
 #[test]
 fn plain_bodies_agree(rt: HostRuntime) -> Result<(), Fail> {
-    let alloc = rt.alloc();
     let mut rng = Pcg64::new(7, 11);
     for size in [1, 2, 4, 8, 16, 32, 64, 128, 256, 512, 1024] {
         for offset in [1, rng.next_u64() % 65536 + 1] {
-            let domain: Radix2EvaluationDomain<F65537> = coset(size, offset)?;
-            assert!(rt; has_passes(alloc, &mut rng, &domain)?, "size {size}");
-            assert!(rt; agrees(alloc, &mut rng, &domain)?, "size {size}");
+            let seed = rng.next_u64();
+            assert!(rt; radix2_mod_65537(rt.alloc(), &PlainBodies { size, offset, seed })?);
         }
     }
     Ok(())
 }
 
+/// A list of so many items of no size.
+#[derive(Clone, Copy)]
+struct Nothings {
+    len: usize,
+}
+
+impl Trial for Nothings {
+    fn holds<F: FftField, D: EvaluationDomain<F>>(&self, alloc: Global) -> Result<bool, PolyError> {
+        let domain: D = coset(4, 1)?;
+        let mut items = Vec::new(alloc);
+        items.resize(self.len, Nothing)?;
+        Ok(domain.fft(alloc, &items)?.len() == 4 && domain.ifft(alloc, &items)?.len() == 4)
+    }
+}
+
 #[test]
 fn lists_of_no_size(rt: HostRuntime) -> Result<(), Fail> {
-    let alloc = rt.alloc();
-    let domain: Radix2EvaluationDomain<F5> = coset(4, 1)?;
     for len in [0, 1, 4, 70000] {
-        let mut items = Vec::new(alloc);
-        items.resize(len, Nothing)?;
-        assert_eq!(rt; domain.fft(alloc, &items)?.len(), 4);
-        assert_eq!(rt; domain.ifft(alloc, &items)?.len(), 4);
+        assert!(rt; radix2_mod_5(rt.alloc(), &Nothings { len })?);
     }
     Ok(())
+}
+
+// Whether transforms in new lists and in place take the coefficients to the values, and back.
+fn goes_both_ways<F: FftField, D: EvaluationDomain<F>, T: DomainCoeff<F>>(
+    alloc: Global,
+    domain: &D,
+    coeffs: &[T],
+    values: &[T],
+) -> Result<bool, PolyError> {
+    let mut forward = domain.fft(alloc, coeffs)?;
+    let mut back = domain.ifft(alloc, values)?;
+    let new = forward.as_slice() == values && back.as_slice() == coeffs;
+    domain.ifft_in_place(alloc, &mut forward)?;
+    domain.fft_in_place(alloc, &mut back)?;
+    Ok(new && forward.as_slice() == coeffs && back.as_slice() == values)
+}
+
+// Whether counted calls do.
+fn goes_counted<F: FftField, D: EvaluationDomain<F>, T: DomainCoeff<F>>(
+    alloc: Global,
+    domain: &D,
+    coeffs: &[T],
+    values: &[T],
+) -> Result<bool, PolyError> {
+    let mut list = domain.fft(alloc, coeffs)?;
+    domain.ifft_counted(alloc, &mut list, &mut Work::new())?;
+    let back = list.as_slice() == coeffs;
+    domain.fft_counted(alloc, &mut list, &mut Work::new())?;
+    Ok(back && list.as_slice() == values)
+}
+
+/// Whether both are so of items of any module over as many elements.
+pub fn radix2_goes<F: FftField, T: DomainCoeff<F>>(
+    alloc: Global,
+    coeffs: &[T],
+    values: &[T],
+) -> Result<bool, PolyError> {
+    let domain: Radix2EvaluationDomain<F> = coset(coeffs.len(), 1)?;
+    Ok(
+        goes_both_ways(alloc, &domain, coeffs, values)?
+            && goes_counted(alloc, &domain, coeffs, values)?,
+    )
 }
