@@ -1,8 +1,9 @@
-//! Elements by their numbers, and domains by their offsets.
+//! Elements by their numbers, domains by their offsets, and hashes.
 
 use ark_base::{FftField, Field, PolyError};
 use ark_poly::EvaluationDomain;
 use std::alloc::{AllocError, Global};
+use std::hash::{DefaultHasher, Hash, Hasher};
 
 /// The numbers as elements.
 pub fn elements<F: Field>(alloc: Global, numbers: &[u64]) -> Result<Vec<F>, AllocError> {
@@ -51,4 +52,11 @@ pub fn listed<F: FftField, D: EvaluationDomain<F>>(
         elements.push(element)?;
     }
     Ok(elements)
+}
+
+/// The hash of the value.
+pub fn hash_of<T: Hash>(value: &T) -> u64 {
+    let mut hasher = DefaultHasher::new();
+    value.hash(&mut hasher);
+    hasher.finish()
 }

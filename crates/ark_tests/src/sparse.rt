@@ -1,107 +1,129 @@
-use ark_base::{F5, Field};
+use crate::calls::hash_of;
+use ark_base::{F5, Field, PolyError};
 use ark_poly::univariate::SparsePolynomial;
-use std::alloc::Global;
-use std::hash::{DefaultHasher, Hash, Hasher};
+use std::alloc::{AllocError, Global};
+use std::string::String;
 use std::test::Fail;
 
-fn sparse(alloc: Global, terms: &[(usize, u64)]) -> Result<SparsePolynomial<F5>, Fail> {
-    let mut coeffs = Vec::with_capacity(alloc, terms.len())?;
+/// Terms: degrees, and numbers as coefficients.
+type Terms<'a> = &'a [(usize, u64)];
+
+fn pairs<F: Field>(alloc: Global, terms: Terms<'_>) -> Result<Vec<(usize, F)>, AllocError> {
+    let mut pairs = Vec::with_capacity(alloc, terms.len())?;
     for (degree, coefficient) in terms {
-        coeffs.push((*degree, F5::from(*coefficient)))?;
+        pairs.push((*degree, F::from(*coefficient)))?;
     }
-    Ok(SparsePolynomial::from_coefficients_vec(alloc, coeffs)?)
+    Ok(pairs)
 }
 
-fn terms(alloc: Global, polynomial: &SparsePolynomial<F5>) -> Result<Vec<(usize, u64)>, Fail> {
-    let mut terms = Vec::with_capacity(alloc, polynomial.coeffs().len())?;
-    for (degree, coefficient) in polynomial.coeffs() {
-        terms.push((*degree, coefficient.value()))?;
-    }
-    Ok(terms)
+fn sparse<F: Field>(alloc: Global, terms: Terms<'_>) -> Result<SparsePolynomial<F>, PolyError> {
+    SparsePolynomial::from_coefficients_vec(alloc, pairs(alloc, terms)?)
 }
 
-fn hash_of<T: Hash>(value: &T) -> u64 {
-    let mut hasher = DefaultHasher::new();
-    value.hash(&mut hasher);
-    hasher.finish()
+// Whether the sum of the first terms has the others.
+fn sums_to<F: Field>(
+    alloc: Global,
+    summands: Terms<'_>,
+    terms: Terms<'_>,
+) -> Result<bool, PolyError> {
+    let p = sparse::<F>(alloc, summands)?;
+    let copied = SparsePolynomial::from_coefficients_slice(alloc, p.coeffs())?;
+    let terms = pairs(alloc, terms)?;
+    Ok(p.coeffs() == terms.as_slice() && p.is_zero() == terms.is_empty() && copied == p)
 }
 
 #[test]
 fn constructors_sum_like_terms(rt: HostRuntime) -> Result<(), Fail> {
-    let alloc = rt.alloc();
-    let p = sparse(alloc, &[(2, 0), (1, 1), (1, 4), (0, 3)])?;
-    assert_eq!(rt; terms(alloc, &p)?.as_slice(), [(0, 3)].as_slice());
-    let q = sparse(
-        alloc,
-        &[(usize::MAX, 1), (3, 2), (0, 1), (3, 1), (7, 5), (0, 1)],
-    )?;
-    assert_eq!(rt;
-        terms(alloc, &q)?.as_slice(),
-        [(0, 2), (3, 3), (usize::MAX, 1)].as_slice()
-    );
-    assert!(rt; sparse(alloc, &[(7, 3), (7, 2)])?.is_zero());
-    assert!(rt; sparse(alloc, &[])?.is_zero());
-    assert!(rt; !q.is_zero());
-    let copied = SparsePolynomial::from_coefficients_slice(alloc, q.coeffs())?;
-    assert_eq!(rt; copied, q);
+    let rows: [(Terms<'_>, Terms<'_>); 4] = [
+        (&[(2, 0), (1, 1), (1, 4), (0, 3)], &[(0, 3)]),
+        (
+            &[(usize::MAX, 1), (3, 2), (0, 1), (3, 1), (7, 5), (0, 1)],
+            &[(0, 2), (3, 3), (usize::MAX, 1)],
+        ),
+        (&[(7, 3), (7, 2)], &[]),
+        (&[], &[]),
+    ];
+    for (summands, terms) in rows {
+        assert!(rt; sums_to::<F5>(rt.alloc(), summands, terms)?);
+    }
     Ok(())
+}
+
+// Whether the polynomial has this degree, and these values at the points before them.
+fn has_values<F: Field>(
+    alloc: Global,
+    p: &SparsePolynomial<F>,
+    degree: usize,
+    values: &[(u64, u64)],
+) -> Result<bool, PolyError> {
+    let mut right = p.degree() == degree;
+    for (point, value) in values {
+        right = right && p.evaluate(alloc, &F::from(*point))? == F::from(*value);
+    }
+    Ok(right)
 }
 
 #[test]
 fn degrees_and_values(rt: HostRuntime) -> Result<(), Fail> {
     let alloc = rt.alloc();
-    let zero = SparsePolynomial::<F5>::zero(alloc)?;
-    assert_eq!(rt; zero.degree(), 0);
-    assert_eq!(rt; zero.coeffs().len(), 0);
-    assert_eq!(rt; zero.evaluate(alloc, &F5::from(3))?.value(), 0);
-    assert_eq!(rt; sparse(alloc, &[(0, 4)])?.degree(), 0);
-    let p = sparse(alloc, &[(3, 2), (0, 1)])?;
-    assert_eq!(rt; p.degree(), 3);
-    for (point, value) in [(0, 1), (1, 3), (2, 2), (3, 0), (4, 4)] {
-        assert_eq!(rt;
-            p.evaluate(alloc, &F5::from(point))?.value(),
-            value,
-            "at {point}"
-        );
+    let rows: [(Terms<'_>, usize, &[(u64, u64)]); 3] = [
+        (&[(0, 4)], 0, &[]),
+        (
+            &[(3, 2), (0, 1)],
+            3,
+            &[(0, 1), (1, 3), (2, 2), (3, 0), (4, 4)],
+        ),
+        (&[(usize::MAX, 1)], usize::MAX, &[(2, 3), (0, 0)]),
+    ];
+    for (terms, degree, values) in rows {
+        assert!(rt; has_values::<F5>(alloc, &sparse(alloc, terms)?, degree, values)?);
     }
-    let long = sparse(alloc, &[(usize::MAX, 1)])?;
-    assert_eq!(rt; long.degree(), usize::MAX);
-    assert_eq!(rt; long.evaluate(alloc, &F5::from(2))?.value(), 3);
-    assert_eq!(rt; long.evaluate(alloc, &F5::from(0))?.value(), 0);
+    let zero = SparsePolynomial::zero(alloc)?;
+    assert!(rt; has_values::<F5>(alloc, &zero, 0, &[(3, 0)])?);
+    assert!(rt; zero.coeffs().is_empty());
     Ok(())
+}
+
+// Whether both are equal polynomials or not, as told: equal ones hash equally, and a copy is equal.
+fn compare<F: Field>(
+    alloc: Global,
+    left: Terms<'_>,
+    right: Terms<'_>,
+    equal: bool,
+) -> Result<bool, PolyError> {
+    let p = sparse::<F>(alloc, left)?;
+    let q = sparse::<F>(alloc, right)?;
+    Ok((p == q) == equal && (!equal || hash_of(&p) == hash_of(&q)) && p.clone()? == p)
 }
 
 #[test]
 fn equal_where_the_terms_are(rt: HostRuntime) -> Result<(), Fail> {
-    let alloc = rt.alloc();
-    let p = sparse(alloc, &[(1, 2), (4, 1)])?;
-    let q = sparse(alloc, &[(4, 6), (1, 1), (2, 0), (1, 1)])?;
-    assert_eq!(rt; p, q);
-    assert_eq!(rt; hash_of(&p), hash_of(&q));
-    assert!(rt; p != sparse(alloc, &[(1, 2), (4, 2)])?);
-    assert!(rt; p != sparse(alloc, &[(1, 2), (5, 1)])?);
-    assert!(rt; p != sparse(alloc, &[(1, 2)])?);
-    let copy = p.clone()?;
-    assert_eq!(rt; copy, p);
+    let terms: Terms<'_> = &[(1, 2), (4, 1)];
+    let rows: [(Terms<'_>, bool); 4] = [
+        (&[(4, 6), (1, 1), (2, 0), (1, 1)], true),
+        (&[(1, 2), (4, 2)], false),
+        (&[(1, 2), (5, 1)], false),
+        (&[(1, 2)], false),
+    ];
+    for (others, equal) in rows {
+        assert!(rt; compare::<F5>(rt.alloc(), terms, others, equal)?);
+    }
     Ok(())
+}
+
+fn text_of<F: Field>(alloc: Global, terms: Terms<'_>) -> Result<String, Fail> {
+    let p = sparse::<F>(alloc, terms)?;
+    Ok(format!(in alloc; "{p:?}")?)
 }
 
 #[test]
 fn texts(rt: HostRuntime) -> Result<(), Fail> {
     let alloc = rt.alloc();
-    let one = F5::from(1);
-    let text = format!(in alloc; "{one:?}")?;
-    let p = sparse(alloc, &[(5, 1), (0, 1), (1, 1), (2, 5)])?;
-    assert_eq!(rt;
-        format!(in alloc; "{p:?}")?,
-        format!(in alloc; "\n{text} + \n{text} * x + \n{text} * x^5")?
-    );
-    let monomial = sparse(alloc, &[(1, 1)])?;
-    assert_eq!(rt;
-        format!(in alloc; "{monomial:?}")?,
-        format!(in alloc; " + \n{text} * x")?
-    );
-    let zero = sparse(alloc, &[])?;
-    assert_eq!(rt; format!(in alloc; "{zero:?}")?.as_str(), "");
+    let one = format!(in alloc; "{:?}", F5::from(1))?;
+    let text = format!(in alloc; "\n{one} + \n{one} * x + \n{one} * x^5")?;
+    assert!(rt; text_of::<F5>(alloc, &[(5, 1), (0, 1), (1, 1), (2, 5)])? == text);
+    let text = format!(in alloc; " + \n{one} * x")?;
+    assert!(rt; text_of::<F5>(alloc, &[(1, 1)])? == text);
+    assert!(rt; text_of::<F5>(alloc, &[])?.is_empty());
     Ok(())
 }

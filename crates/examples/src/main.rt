@@ -8,59 +8,71 @@ mod large_field;
 mod module;
 mod there_and_back;
 
-use ark_base::{F433, F65537, PrimeField, PrimeModulus, Work};
+use ark_base::{F433, F65537, FftField, PolyError, PrimeField, PrimeModulus, Work};
 use ark_poly::{EvaluationDomain, MixedRadixEvaluationDomain, Radix2EvaluationDomain};
 use coset::values_on_coset;
 use cost::over_sixteen_and_back;
 use field::{F97, quotient};
 use large_field::size_for_a_hundred_million;
 use module::{Point, points_of_curve};
-use std::alloc::{AllocError, Global};
+use std::alloc::Global;
 use std::io::Print;
 use there_and_back::there_and_back;
 
 fn main(rt: HostRuntime) -> anyhow::Result<()> {
     let alloc = rt.alloc();
-    print_there_and_back(&rt, alloc)?;
-    print_coset(&rt, alloc)?;
-    print_cost(&rt, alloc)?;
+    let back = there_and_back(alloc, &[1, 2, 3].map(F65537::from))?;
+    print_list(&rt, alloc, "there and back", &back)?;
+    let others = on_coset(alloc, F97::from(5), &[10, 20, 30, 40].map(F97::from))?;
+    print_list(&rt, alloc, "values on a coset", &others)?;
+    let items = over_sixteen(alloc, [1, 2, 3, 4].map(F65537::from))?;
+    print_list(&rt, alloc, "over sixteen elements and back", &items)?;
     print_fields(&rt)?;
-    print_module(&rt, alloc)
+    let coeffs = [(1, 2), (3, 4), (5, 6)].map(|(x, y)| Point {
+        x: F433::from(x),
+        y: F433::from(y),
+    });
+    print_points(&rt, &curve(alloc, &coeffs)?)
 }
 
-fn print_there_and_back(rt: &impl Print, alloc: Global) -> anyhow::Result<()> {
-    let coeffs = [F65537::from(1), F65537::from(2), F65537::from(3)];
-    let back = numbers(alloc, &there_and_back(alloc, &coeffs)?)?;
-    println!(rt; "there and back: {back:?}")?;
-    Ok(())
-}
-
-fn print_coset(rt: &impl Print, alloc: Global) -> anyhow::Result<()> {
-    let values = [F97::from(10), F97::from(20), F97::from(30), F97::from(40)];
-    if let Some(domain) = Radix2EvaluationDomain::new(4)
-        && domain.size() == values.len()
-    {
-        let others = values_on_coset(alloc, &domain, F97::from(5), &values)?;
-        let others = numbers(alloc, &others)?;
-        println!(rt; "values on a coset: {others:?}")?;
+/// The values over the coset with this offset, for values over the domain with as many elements.
+fn on_coset<F: FftField>(alloc: Global, offset: F, values: &[F]) -> Result<Vec<F>, PolyError> {
+    let domain = Radix2EvaluationDomain::new(values.len()).ok_or(PolyError::NoDomain)?;
+    if domain.size() != values.len() {
+        return Err(PolyError::NoDomain);
     }
-    Ok(())
+    values_on_coset(alloc, &domain, offset, values)
 }
 
-fn print_cost(rt: &impl Print, alloc: Global) -> anyhow::Result<()> {
-    if let Some(domain) = Radix2EvaluationDomain::<F65537>::new(16)
-        && domain.size() == 16
-    {
-        let mut items = vec![in alloc;
-            F65537::from(1),
-            F65537::from(2),
-            F65537::from(3),
-            F65537::from(4),
-        ]?;
-        over_sixteen_and_back(alloc, &domain, &mut items, &mut Work::new())?;
-        let items = numbers(alloc, &items)?;
-        println!(rt; "over sixteen elements and back: {items:?}")?;
+/// Four items over sixteen elements, and back.
+fn over_sixteen<F: FftField>(alloc: Global, items: [F; 4]) -> Result<Vec<F>, PolyError> {
+    let [first, second, third, fourth] = items;
+    let mut items = vec![in alloc; first, second, third, fourth]?;
+    let domain = Radix2EvaluationDomain::new(16).ok_or(PolyError::NoDomain)?;
+    if domain.size() != 16 {
+        return Err(PolyError::NoDomain);
     }
+    over_sixteen_and_back(alloc, &domain, &mut items, &mut Work::new())?;
+    Ok(items)
+}
+
+/// The points of the curve over a mixed domain.
+fn curve<F: FftField>(alloc: Global, coeffs: &[Point<F>]) -> Result<Vec<Point<F>>, PolyError> {
+    let domain = MixedRadixEvaluationDomain::new(coeffs.len()).ok_or(PolyError::NoDomain)?;
+    points_of_curve(alloc, &domain, coeffs)
+}
+
+fn print_list<M: PrimeModulus>(
+    rt: &impl Print,
+    alloc: Global,
+    name: &str,
+    elements: &[PrimeField<M>],
+) -> anyhow::Result<()> {
+    let numbers: Vec<u64> = elements
+        .iter()
+        .map(|element| element.value())
+        .collect(alloc)?;
+    println!(rt; "{name}: {numbers:?}")?;
     Ok(())
 }
 
@@ -74,30 +86,16 @@ fn print_fields(rt: &impl Print) -> anyhow::Result<()> {
     Ok(())
 }
 
-fn print_module(rt: &impl Print, alloc: Global) -> anyhow::Result<()> {
-    if let Some(domain) = MixedRadixEvaluationDomain::<F433>::new(3) {
-        let coeffs = [(1, 2), (3, 4), (5, 6)].map(|(x, y)| Point {
-            x: F433::from(x),
-            y: F433::from(y),
-        });
-        for point in points_of_curve(alloc, &domain, &coeffs)? {
-            println!(rt;
-                "point of the curve: ({}, {})",
-                point.x.value(),
-                point.y.value()
-            )?;
-        }
+fn print_points<M: PrimeModulus>(
+    rt: &impl Print,
+    points: &[Point<PrimeField<M>>],
+) -> anyhow::Result<()> {
+    for point in points {
+        println!(rt;
+            "point of the curve: ({}, {})",
+            point.x.value(),
+            point.y.value()
+        )?;
     }
     Ok(())
-}
-
-/// The numbers that elements of a prime field are.
-fn numbers<M: PrimeModulus>(
-    alloc: Global,
-    elements: &[PrimeField<M>],
-) -> Result<Vec<u64>, AllocError> {
-    elements
-        .iter()
-        .map(|element| element.value())
-        .collect(alloc)
 }
