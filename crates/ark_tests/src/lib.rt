@@ -19,6 +19,8 @@ mod fields;
 mod kinds;
 pub mod outside;
 #[cfg(test)]
+mod places;
+#[cfg(test)]
 mod plain;
 #[cfg(test)]
 mod points;
