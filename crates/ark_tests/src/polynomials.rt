@@ -1,140 +1,219 @@
-use crate::calls::{coset, elements, fft};
+use crate::calls::{coset, elements, fft, hash_of};
 use crate::plain::{drawn, product};
-use ark_base::{F5, F433, F65537, Field};
+use ark_base::{F5, F433, F65537, FftField, Field, PolyError};
 use ark_poly::univariate::DensePolynomial;
 use ark_poly::{DenseUVPolynomial, EvaluationDomain, Polynomial, Radix2EvaluationDomain};
 use rand_pcg::Pcg64;
 use std::alloc::{AllocError, Global};
-use std::hash::{DefaultHasher, Hash, Hasher};
+use std::string::String;
 use std::test::Fail;
 
-fn dense<F: Field>(alloc: Global, coeffs: &[u64]) -> Result<DensePolynomial<F>, AllocError> {
+fn poly<F: Field>(alloc: Global, coeffs: &[u64]) -> Result<DensePolynomial<F>, AllocError> {
+    Ok(DensePolynomial::from_coefficients_vec(elements(alloc, coeffs)?))
+}
+
+// Whether these are the coefficients, none of them a leading zero.
+fn has_coeffs<F: Field>(
+    alloc: Global,
+    p: &DensePolynomial<F>,
+    coeffs: &[u64],
+) -> Result<bool, PolyError> {
     let coeffs = elements::<F>(alloc, coeffs)?;
-    Ok(DensePolynomial::from_coefficients_vec(coeffs))
+    Ok(
+        p.coeffs() == coeffs.as_slice()
+            && p.degree() == coeffs.len().saturating_sub(1)
+            && p.is_zero() == coeffs.is_empty()
+            && *p == DensePolynomial::from_coefficients_vec(coeffs),
+    )
 }
 
-fn hash_of<T: Hash>(value: &T) -> u64 {
-    let mut hasher = DefaultHasher::new();
-    value.hash(&mut hasher);
-    hasher.finish()
-}
-
-#[test]
-fn cancelling_sums(rt: HostRuntime) -> Result<(), Fail> {
-    let alloc = rt.alloc();
-    let p = dense::<F5>(alloc, &[1, 2])?;
-    let sum = p.add(alloc, &dense(alloc, &[4, 3])?)?;
-    assert!(rt; sum.is_zero());
-    assert_eq!(rt; sum.coeffs().len(), 0);
-    assert_eq!(rt; sum, DensePolynomial::zero(alloc)?);
-    assert!(rt; p.sub(alloc, &p)?.is_zero());
-    Ok(())
+// Whether two lists have this sum and this difference, and the second has this negative.
+fn has_sums<F: Field>(
+    alloc: Global,
+    [left, right]: [&[u64]; 2],
+    [sum, difference, negative]: [&[u64]; 3],
+) -> Result<bool, PolyError> {
+    let p = poly::<F>(alloc, left)?;
+    let q = poly::<F>(alloc, right)?;
+    let added = has_coeffs(alloc, &p.add(alloc, &q)?, sum)?;
+    let subtracted = has_coeffs(alloc, &p.sub(alloc, &q)?, difference)?;
+    let negated = has_coeffs(alloc, &q.neg(alloc)?, negative)?;
+    Ok(added && subtracted && negated)
 }
 
 #[test]
 fn sums(rt: HostRuntime) -> Result<(), Fail> {
-    let alloc = rt.alloc();
-    let p = dense::<F5>(alloc, &[1, 2])?;
-    let longer = dense::<F5>(alloc, &[1, 0, 2])?;
-    assert_eq!(rt; p.add(alloc, &longer)?, dense(alloc, &[2, 2, 2])?);
-    assert_eq!(rt; p.sub(alloc, &longer)?, dense(alloc, &[0, 2, 3])?);
-    assert_eq!(rt; longer.sub(alloc, &p)?, dense(alloc, &[0, 3, 2])?);
-    assert_eq!(rt; longer.neg(alloc)?, dense(alloc, &[4, 0, 3])?);
-    Ok(())
-}
-
-#[test]
-fn constructors_drop_leading_zeros(rt: HostRuntime) -> Result<(), Fail> {
-    let alloc = rt.alloc();
-    let p = dense::<F5>(alloc, &[1, 2, 0, 5])?;
-    assert_eq!(rt; p.coeffs(), [1, 2].map(F5::from).as_slice());
-    assert_eq!(rt; p.degree(), 1);
-    let zeros = DensePolynomial::from_coefficients_slice(alloc, &[0, 10].map(F5::from))?;
-    assert_eq!(rt; zeros, DensePolynomial::zero(alloc)?);
-    assert_eq!(rt; zeros.degree(), 0);
-    assert_eq!(rt; dense::<F5>(alloc, &[0, 0, 0, 1])?.degree(), 3);
-    Ok(())
-}
-
-#[test]
-fn values(rt: HostRuntime) -> Result<(), Fail> {
-    let alloc = rt.alloc();
-    let ten = F433::from(10);
-    let p = dense::<F433>(alloc, &[1, 2, 3])?;
-    let zero = DensePolynomial::zero(alloc)?;
-    assert_eq!(rt; p.evaluate(alloc, &ten)?, F433::from(321));
-    assert_eq!(rt; zero.evaluate(alloc, &ten)?, F433::from(0));
-    assert!(rt; p.point_fits(&ten));
-    assert!(rt; p.addable(&zero));
-    Ok(())
-}
-
-// The transform cuts a list to the domain's size; values over a domain are those of the whole polynomial.
-#[test]
-fn values_over_a_domain(rt: HostRuntime) -> Result<(), Fail> {
-    let alloc = rt.alloc();
-    let domain: Radix2EvaluationDomain<F5> = coset(4, 1)?;
-    let p = dense::<F5>(alloc, &[1, 0, 0, 0, 1])?;
-    let evals = p.evaluate_over_domain_by_ref(alloc, domain)?;
-    assert_eq!(rt; evals.evals(), [2; 4].map(F5::from).as_slice());
-    assert_eq!(rt; evals.domain(), domain);
-    assert_eq!(rt; evals[3], F5::from(2));
-    assert_eq!(rt; p.evaluate_over_domain(alloc, domain)?, evals);
-    assert_eq!(rt;
-        fft(alloc, &domain, &[1, 0, 0, 0, 1])?,
-        elements(alloc, &[1; 4])?
-    );
-    Ok(())
-}
-
-#[test]
-fn products(rt: HostRuntime) -> Result<(), Fail> {
-    let alloc = rt.alloc();
-    let p = dense::<F5>(alloc, &[1, 0, 1])?;
-    assert_eq!(rt; p.naive_mul(alloc, &p)?, dense(alloc, &[1, 0, 2, 0, 1])?);
-    let zero = DensePolynomial::zero(alloc)?;
-    assert_eq!(rt; zero.naive_mul(alloc, &p)?, zero);
-    assert_eq!(rt; p.naive_mul(alloc, &zero)?, zero);
-    Ok(())
-}
-
-#[test]
-fn products_of_drawn_polynomials(rt: HostRuntime) -> Result<(), Fail> {
-    let alloc = rt.alloc();
-    let mut rng = Pcg64::new(3, 5);
-    for (left, right) in [(1, 1), (1, 7), (5, 3), (20, 31)] {
-        let left = drawn::<F65537>(alloc, &mut rng, left)?;
-        let right = drawn(alloc, &mut rng, right)?;
-        let plain = DensePolynomial::from_coefficients_vec(product(alloc, &left, &right)?);
-        let p = DensePolynomial::from_coefficients_vec(left);
-        let q = DensePolynomial::from_coefficients_vec(right);
-        assert!(rt; p.naive_mul(alloc, &q)? == plain);
+    let rows: [([&[u64]; 2], [&[u64]; 3]); 4] = [
+        ([&[1, 2], &[1, 0, 2]], [&[2, 2, 2], &[0, 2, 3], &[4, 0, 3]]),
+        ([&[1, 0, 2], &[1, 2]], [&[2, 2, 2], &[0, 3, 2], &[4, 3]]),
+        ([&[1, 2], &[4, 3]], [&[], &[2, 4], &[1, 2]]),
+        ([&[1, 2], &[1, 2]], [&[2, 4], &[], &[4, 3]]),
+    ];
+    for (lists, answers) in rows {
+        assert!(rt; has_sums::<F5>(rt.alloc(), lists, answers)?);
     }
     Ok(())
 }
 
+// Whether both constructors cut the list to these coefficients.
+fn is_cut<F: Field>(alloc: Global, list: &[u64], coeffs: &[u64]) -> Result<bool, PolyError> {
+    let listed = elements::<F>(alloc, list)?;
+    let copied = DensePolynomial::from_coefficients_slice(alloc, &listed)?;
+    let moved = DensePolynomial::from_coefficients_vec(listed);
+    Ok(has_coeffs(alloc, &copied, coeffs)? && has_coeffs(alloc, &moved, coeffs)?)
+}
+
+#[test]
+fn constructors_drop_leading_zeros(rt: HostRuntime) -> Result<(), Fail> {
+    let rows: [(&[u64], &[u64]); 3] = [
+        (&[1, 2, 0, 5], &[1, 2]),
+        (&[0, 10], &[]),
+        (&[0, 0, 0, 1], &[0, 0, 0, 1]),
+    ];
+    for (list, coeffs) in rows {
+        assert!(rt; is_cut::<F5>(rt.alloc(), list, coeffs)?);
+    }
+    Ok(())
+}
+
+// Whether zero has no coefficients, and the polynomial has this value at the point.
+fn has_value<F: Field>(
+    alloc: Global,
+    coeffs: &[u64],
+    point: u64,
+    value: u64,
+) -> Result<bool, PolyError> {
+    let p = poly::<F>(alloc, coeffs)?;
+    let zero = DensePolynomial::zero(alloc)?;
+    let point = F::from(point);
+    let valued = p.evaluate(alloc, &point)? == F::from(value);
+    let nothing = zero.evaluate(alloc, &point)? == F::zero() && has_coeffs(alloc, &zero, &[])?;
+    Ok(valued && nothing && p.point_fits(&point) && p.addable(&zero))
+}
+
+#[test]
+fn values(rt: HostRuntime) -> Result<(), Fail> {
+    assert!(rt; has_value::<F433>(rt.alloc(), &[1, 2, 3], 10, 321)?);
+    Ok(())
+}
+
+// Whether the list, cut to four coefficients, has this transform, and the polynomial this value four times.
+fn has_values<F: FftField>(
+    alloc: Global,
+    coeffs: &[u64],
+    transform: &[u64],
+    value: u64,
+) -> Result<bool, PolyError> {
+    let domain: Radix2EvaluationDomain<F> = coset(4, 1)?;
+    let cut = fft(alloc, &domain, coeffs)? == elements(alloc, transform)?;
+    let values = elements::<F>(alloc, &[value; 4])?;
+    let p = poly::<F>(alloc, coeffs)?;
+    let evals = p.evaluate_over_domain_by_ref(alloc, domain)?;
+    let again = p.evaluate_over_domain(alloc, domain)?;
+    let last = domain.size() == 4 && evals[3] == F::from(value);
+    Ok(
+        cut && evals.evals() == values.as_slice()
+            && evals.domain() == domain
+            && again == evals
+            && last,
+    )
+}
+
+#[test]
+fn values_over_a_domain(rt: HostRuntime) -> Result<(), Fail> {
+    assert!(rt; has_values::<F5>(rt.alloc(), &[1, 0, 0, 0, 1], &[1; 4], 2)?);
+    Ok(())
+}
+
+fn has_product<F: Field>(
+    alloc: Global,
+    left: Vec<F>,
+    right: Vec<F>,
+    product: Vec<F>,
+) -> Result<bool, PolyError> {
+    let p = DensePolynomial::from_coefficients_vec(left);
+    let q = DensePolynomial::from_coefficients_vec(right);
+    Ok(p.naive_mul(alloc, &q)? == DensePolynomial::from_coefficients_vec(product))
+}
+
+fn has_listed_product<F: Field>(
+    alloc: Global,
+    [left, right, product]: [&[u64]; 3],
+) -> Result<bool, PolyError> {
+    let left = elements::<F>(alloc, left)?;
+    let right = elements(alloc, right)?;
+    has_product(alloc, left, right, elements(alloc, product)?)
+}
+
+#[test]
+fn products(rt: HostRuntime) -> Result<(), Fail> {
+    let rows: [[&[u64]; 3]; 3] = [
+        [&[1, 0, 1], &[1, 0, 1], &[1, 0, 2, 0, 1]],
+        [&[], &[1, 0, 1], &[]],
+        [&[1, 0, 1], &[], &[]],
+    ];
+    for row in rows {
+        assert!(rt; has_listed_product::<F5>(rt.alloc(), row)?);
+    }
+    Ok(())
+}
+
+// Whether two drawn lists have the plain product.
+fn has_plain_product<F: Field>(
+    alloc: Global,
+    rng: &mut Pcg64,
+    left: usize,
+    right: usize,
+) -> Result<bool, PolyError> {
+    let left = drawn::<F>(alloc, rng, left)?;
+    let right = drawn(alloc, rng, right)?;
+    let plain = product(alloc, &left, &right)?;
+    has_product(alloc, left, right, plain)
+}
+
+#[test]
+fn products_of_drawn_polynomials(rt: HostRuntime) -> Result<(), Fail> {
+    let mut rng = Pcg64::new(3, 5);
+    for (left, right) in [(1, 1), (1, 7), (5, 3), (20, 31)] {
+        assert!(rt; has_plain_product::<F65537>(rt.alloc(), &mut rng, left, right)?);
+    }
+    Ok(())
+}
+
+// Whether both lists are equal polynomials or not, as told: equal ones hash equally, and a copy is equal.
+fn compare<F: Field>(
+    alloc: Global,
+    left: &[u64],
+    right: &[u64],
+    equal: bool,
+) -> Result<bool, PolyError> {
+    let p = poly::<F>(alloc, left)?;
+    let q = poly::<F>(alloc, right)?;
+    Ok((p == q) == equal && (!equal || hash_of(&p) == hash_of(&q)) && p.clone()? == p)
+}
+
 #[test]
 fn equal_values_hash_equally(rt: HostRuntime) -> Result<(), Fail> {
-    let alloc = rt.alloc();
-    let p = dense::<F65537>(alloc, &[1, 2])?;
-    let same = dense(alloc, &[65538, 2, 0])?;
-    assert_eq!(rt; p, same);
-    assert_eq!(rt; hash_of(&p), hash_of(&same));
-    assert_eq!(rt; p.clone()?, p);
-    assert_ne!(rt; p, dense(alloc, &[2, 1])?);
+    let rows: [(&[u64], bool); 2] = [(&[65538, 2, 0], true), (&[2, 1], false)];
+    for (list, equal) in rows {
+        assert!(rt; compare::<F65537>(rt.alloc(), &[1, 2], list, equal)?);
+    }
     Ok(())
+}
+
+fn text_of<F: Field>(alloc: Global, coeffs: &[u64]) -> Result<String, Fail> {
+    let p = poly::<F>(alloc, coeffs)?;
+    Ok(format!(in alloc; "{p:?}")?)
 }
 
 #[test]
 fn debug_texts(rt: HostRuntime) -> Result<(), Fail> {
     let alloc = rt.alloc();
-    let text = format!(in alloc; "{:?}", F65537::from(1))?;
-    let p = dense::<F65537>(alloc, &[1, 1, 0, 1])?;
-    assert_eq!(rt;
-        format!(in alloc; "{p:?}")?,
-        format!(in alloc; "\n{text} + \n{text} * x + \n{text} * x^3")?
-    );
-    let zero = DensePolynomial::<F65537>::zero(alloc)?;
-    assert_eq!(rt; format!(in alloc; "{zero:?}")?.as_str(), "");
+    let one = format!(in alloc; "{:?}", F65537::from(1))?;
+    let terms = format!(in alloc; "\n{one} + \n{one} * x + \n{one} * x^3")?;
+    let rows: [(&[u64], &str); 2] = [(&[1, 1, 0, 1], &terms), (&[], "")];
+    for (coeffs, text) in rows {
+        assert!(rt; text_of::<F65537>(alloc, coeffs)?.as_str() == text);
+    }
     Ok(())
 }
