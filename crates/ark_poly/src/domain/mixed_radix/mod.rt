@@ -30,11 +30,8 @@ impl<F: FftField> Clone for MixedRadixEvaluationDomain<F> {
 
 impl<F: FftField> Debug for MixedRadixEvaluationDomain<F> {
     fn fmt<W: Write>(&self, f: &mut Formatter<W>) -> fmt::Result {
-        write!(
-            f,
-            "Mixed-radix multiplicative subgroup of size {}",
-            self.coset.size
-        )
+        let size = self.coset.size;
+        write!(f, "Mixed-radix multiplicative subgroup of size {size}")
     }
 }
 

@@ -30,11 +30,8 @@ impl<F: FftField> Clone for Radix2EvaluationDomain<F> {
 
 impl<F: FftField> Debug for Radix2EvaluationDomain<F> {
     fn fmt<W: Write>(&self, f: &mut Formatter<W>) -> fmt::Result {
-        write!(
-            f,
-            "Radix-2 multiplicative subgroup of size {}",
-            self.coset.size
-        )
+        let size = self.coset.size;
+        write!(f, "Radix-2 multiplicative subgroup of size {size}")
     }
 }
 
