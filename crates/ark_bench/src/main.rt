@@ -9,11 +9,14 @@ mod polynomials;
 mod transforms;
 
 use ark_base::{F433, F65537, FftField, Field, Modulus433, Modulus65537};
-use ark_poly::{EvaluationDomain, MixedRadixEvaluationDomain, Radix2EvaluationDomain};
+use ark_poly::univariate::DensePolynomial;
+use ark_poly::{
+    DenseUVPolynomial, EvaluationDomain, MixedRadixEvaluationDomain, Radix2EvaluationDomain,
+};
 use batches::report;
 use draws::Draws;
 use large_field::{F2013265921, Modulus2013265921};
-use polynomials::{Product, Value, Weights};
+use polynomials::{Interpolation, Product, Quotients, Value, Way, Weights};
 use std::alloc::{AllocGlobal, Global};
 use std::env;
 use std::io::Print;
@@ -30,6 +33,7 @@ fn main(rt: HostRuntime) -> anyhow::Result<()> {
     report_mixed_radix(&rt, rt.alloc(), timed, &mut draws)?;
     report_largest(&rt, rt.alloc(), timed, &mut draws)?;
     report_dense(&rt, rt.alloc(), timed, &mut draws)?;
+    report_evaluations(&rt, rt.alloc(), timed, &mut draws)?;
     if timed {
         report_growth(&rt, rt.alloc(), &mut draws)?;
     }
@@ -127,11 +131,35 @@ fn report_dense(
     timed: bool,
     draws: &mut Draws,
 ) -> anyhow::Result<()> {
-    let left = draws.list(alloc, 1 << 10)?;
-    let right = draws.list(alloc, 1 << 10)?;
-    let mut product = Product::new(alloc, left, right)?;
-    report(rt, alloc, timed, &mut product)?;
+    for (way, len) in [
+        (Way::Naive, 1 << 10),
+        (Way::Transforms, 1 << 13),
+        (Way::Transforms, (1 << 15) - 1),
+    ] {
+        let left = draws.list(alloc, len)?;
+        let right = draws.list(alloc, len)?;
+        let mut product = Product::new(alloc, way, left, right)?;
+        report(rt, alloc, timed, &mut product)?;
+    }
     let coeffs = draws.list(alloc, 1 << 16)?;
     let mut value = Value::new(coeffs, draws.element());
     report(rt, alloc, timed, &mut value)
+}
+
+fn report_evaluations(
+    rt: &(impl Print + Clock),
+    alloc: Global,
+    timed: bool,
+    draws: &mut Draws,
+) -> anyhow::Result<()> {
+    let Some(domain) = Radix2EvaluationDomain::<F65537>::new(1 << 16) else {
+        return Ok(());
+    };
+    let coeffs = draws.list(alloc, 1 << 16)?;
+    let polynomial = DensePolynomial::from_coefficients_vec(coeffs);
+    let values = polynomial.evaluate_over_domain(alloc, domain)?;
+    let mut interpolation = Interpolation::new(alloc, values.clone()?)?;
+    report(rt, alloc, timed, &mut interpolation)?;
+    let mut quotients = Quotients::new(values);
+    report(rt, alloc, timed, &mut quotients)
 }

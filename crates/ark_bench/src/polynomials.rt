@@ -3,7 +3,9 @@
 use crate::batches::{Benchmark, mixed};
 use ark_base::{F65537, PolyError};
 use ark_poly::univariate::DensePolynomial;
-use ark_poly::{DenseUVPolynomial, EvaluationDomain, Polynomial, Radix2EvaluationDomain};
+use ark_poly::{
+    DenseUVPolynomial, EvaluationDomain, Evaluations, Polynomial, Radix2EvaluationDomain,
+};
 use std::alloc::Global;
 
 /// The value at a point, which is the next point.
@@ -41,17 +43,33 @@ impl Benchmark for Value {
     }
 }
 
-/// The product of two polynomials of one length, by all products of two coefficients.
+/// How polynomials are multiplied.
+#[derive(Clone, Copy)]
+pub enum Way {
+    /// By all products of two coefficients.
+    Naive,
+    /// Through a domain.
+    Transforms,
+}
+
+/// The product of two polynomials of one length.
 #[derive(Drop)]
 pub struct Product {
+    way: Way,
     left: DensePolynomial<F65537>,
     right: DensePolynomial<F65537>,
     product: DensePolynomial<F65537>,
 }
 
 impl Product {
-    pub fn new(alloc: Global, left: Vec<F65537>, right: Vec<F65537>) -> Result<Product, PolyError> {
+    pub fn new(
+        alloc: Global,
+        way: Way,
+        left: Vec<F65537>,
+        right: Vec<F65537>,
+    ) -> Result<Product, PolyError> {
         Ok(Product {
+            way,
             left: DensePolynomial::from_coefficients_vec(left),
             right: DensePolynomial::from_coefficients_vec(right),
             product: DensePolynomial::zero(alloc)?,
@@ -61,7 +79,10 @@ impl Product {
 
 impl Benchmark for Product {
     fn name(&self) -> &'static str {
-        "naive_mul"
+        match self.way {
+            Way::Naive => "naive_mul",
+            Way::Transforms => "dense_mul",
+        }
     }
 
     fn size(&self) -> usize {
@@ -69,12 +90,84 @@ impl Benchmark for Product {
     }
 
     fn call(&mut self, alloc: Global) -> Result<(), PolyError> {
-        self.product = self.left.naive_mul(alloc, &self.right)?;
+        self.product = match self.way {
+            Way::Naive => self.left.naive_mul(alloc, &self.right)?,
+            Way::Transforms => self.left.mul(alloc, &self.right)?,
+        };
         Ok(())
     }
 
     fn checksum(&self) -> u64 {
         mixed(self.product.coeffs())
+    }
+}
+
+/// The polynomial with given values over a domain.
+#[derive(Drop)]
+pub struct Interpolation {
+    values: Evaluations<F65537, Radix2EvaluationDomain<F65537>>,
+    polynomial: DensePolynomial<F65537>,
+}
+
+impl Interpolation {
+    pub fn new(
+        alloc: Global,
+        values: Evaluations<F65537, Radix2EvaluationDomain<F65537>>,
+    ) -> Result<Interpolation, PolyError> {
+        Ok(Interpolation {
+            values,
+            polynomial: DensePolynomial::zero(alloc)?,
+        })
+    }
+}
+
+impl Benchmark for Interpolation {
+    fn name(&self) -> &'static str {
+        "interpolate"
+    }
+
+    fn size(&self) -> usize {
+        self.values.evals().len()
+    }
+
+    fn call(&mut self, alloc: Global) -> Result<(), PolyError> {
+        self.polynomial = self.values.interpolate_by_ref(alloc)?;
+        Ok(())
+    }
+
+    fn checksum(&self) -> u64 {
+        mixed(self.polynomial.coeffs())
+    }
+}
+
+/// The quotients of the values by themselves, place by place.
+#[derive(Drop)]
+pub struct Quotients {
+    values: Evaluations<F65537, Radix2EvaluationDomain<F65537>>,
+}
+
+impl Quotients {
+    pub fn new(values: Evaluations<F65537, Radix2EvaluationDomain<F65537>>) -> Quotients {
+        Quotients { values }
+    }
+}
+
+impl Benchmark for Quotients {
+    fn name(&self) -> &'static str {
+        "evaluations_div"
+    }
+
+    fn size(&self) -> usize {
+        self.values.evals().len()
+    }
+
+    fn call(&mut self, alloc: Global) -> Result<(), PolyError> {
+        self.values = self.values.div(alloc, &self.values)?;
+        Ok(())
+    }
+
+    fn checksum(&self) -> u64 {
+        mixed(self.values.evals())
     }
 }
 

@@ -1,13 +1,18 @@
 -- An element's value carries a prime field's operations to those of the numbers below its prime, and so every answer.
-use Rattle.std.proofs.Common.{◌≡◌, ◌⊎◌, ◌-◌, ◌/◌, ◌%◌, ℕ, List, [], ◌∷◌, Result, Ok, Err, map, IfOk, IsOkUnless, string_bytes, inl, inr, refl, sym, ap, ap₂, subst, ◌∙◌, mod-eq_of_lt}
+use Rattle.std.proofs.Common.{◌≡◌, ◌≢◌, ◌⊎◌, ◌+◌, ◌-◌, ◌/◌, ◌%◌, ◌<◌, ◌==◌, ℕ, List, [], ◌∷◌, length, Result, Ok, Err, map, IfOk, IsOkUnless, string_bytes, inl, inr, refl, sym, ap, ap₂, subst, ◌∙◌, mod-eq_of_lt}
 use Rattle.ark_math.specs.Field.{FieldOn}
 use Rattle.ark_math.specs.Module.{itself}
 use Rattle.ark_math.specs.Domain.{Domain, HasNoSize, IsDomain}
 use Rattle.ark_math.specs.Transform.{transform, value_at, IsInverse}
-use Rattle.ark_math.proofs.Transforms.Carried.{Carries, carried, power-carried, value_at-carried, transform-carried, IsInverse-carried}
+use Rattle.ark_math.specs.Univariate.{of_list, product, IsTrimmed}
+use Rattle.ark_math.proofs.Polynomials.Trimmed.{trim-same, trim-trimmed}
+use Rattle.ark_math.proofs.Polynomials.UnivariateLists.{same_trimmed}
+use Rattle.ark_math.proofs.Transforms.Carried.{Carries, carried, power-carried, value_at-carried, transform-carried, IsInverse-carried, of_list-carried, product-carried}
 use Rattle.ark_math.proofs.Transforms.Inversion.{inverse_exists}
 use Rattle.ark_math.proofs.Domains.Domains.{root_order, size_not_zero}
-use Rattle.std.proofs.lemmas.List.{map-id}
+use mathlib.Core.Path.{fun_ext}
+use Rattle.std.proofs.lemmas.Bool.Decides.{Decides-eqb}
+use Rattle.std.proofs.lemmas.List.{map-id, length-map}
 use Rattle.ark_base.specs.declared.prime_field.PrimeField.{PrimeField}
 use Rattle.ark_base.specs.declared.prime_field.PrimeModulus.{Ghosts}
 use Rattle.std.specs.Result.{IsErrAnd}
@@ -20,8 +25,8 @@ use Rattle.ark_base.specs.ElementLaws.{prime_field_laws, prime_module_laws, prim
 use Rattle.polyrun_lib.specs.Lines.{line_of}
 use Rattle.polyrun_lib.specs.declared.command.Direction.{Direction}
 use Rattle.polyrun_lib.specs.declared.command.Direction.TheVariants.{Forward, Inverse}
-use Rattle.polyrun_lib.specs.Commands.{Command, transform_of, value_of}
-use Rattle.polyrun_lib.specs.Answer.{Known, operations, reduced, domain_of, IsChosen, IsDomainFor, HasNoDomain, Gives, TakesMemory}
+use Rattle.polyrun_lib.specs.Commands.{Command, transform_of, product_of, value_of}
+use Rattle.polyrun_lib.specs.Answer.{Known, operations, reduced, coefficients, domain_of, IsChosen, IsDomainFor, HasNoDomain, HasNoProduct, Gives, TakesMemory}
 use Rattle.polyrun_lib.specs.Outcome.{MayRefuse, IsOutcome}
 
 -- the field that a modulus shows
@@ -32,7 +37,7 @@ shown_field g = record { modulus = g.MODULUS; adicity = adicity g; generator = g
 pub outcome_line : (f : Known) (asked c : Command) (outcome : Result (String Global) PolyError) (line : List ℕ) → asked ≡ c → Gives f c line
     → IfOk outcome (λ text. string_bytes text ≡ line) → IsOkUnless outcome Memory → IsOutcome f asked outcome
 outcome_line f asked c (Ok text) line e gives same memory = subst (λ a. Gives f a (string_bytes text)) (sym e) (subst (Gives f c) (sym same) gives)
-outcome_line f asked c (Err error) line e gives same memory = inr ((line, subst (λ a. Gives f a line) (sym e) gives), memory)
+outcome_line f asked c (Err error) line e gives same memory = inr (inl (line, subst (λ a. Gives f a line) (sym e) gives), memory)
 
 pub outcome_error : (f : Known) (asked c : Command) (outcome : Result (String Global) PolyError) (error : PolyError) → asked ≡ c → IsErrAnd outcome (λ e. e ≡ error) → MayRefuse f c error → IsOutcome f asked outcome
 outcome_error f asked c (Ok text) error e same refused = absurd same
@@ -108,12 +113,12 @@ module _ (M : Type 0) (g : Ghosts M) (S : Shown g) where
 
   -- there is an answer where the memory for it is refused
   pub some_transform : (direction : Direction) (d : Domain (PrimeField M g)) (k h : ℕ) (xs : List ℕ) → IsChosen (adicity g) k d.kind d.size → IsOurs d → d.offset ≡ residue_of S.prime h → TakesMemory (shown_field g) (transform_of direction k h xs)
-  some_transform Forward d k h xs chosen lawful offset = (_, (carried number d, _, is_domain_for d k h chosen lawful offset, refl, refl))
+  some_transform Forward d k h xs chosen lawful offset = inl (_, (carried number d, _, is_domain_for d k h chosen lawful offset, refl, refl))
   some_transform Inverse d k h xs chosen lawful offset =
       let roots = prime_roots M g S in
       let inverse = inverse_exists (prime_field_laws S.prime) (prime_module_laws S.prime) d (root_order K (adicity g) (prime_root S) d roots lawful) (size_not_zero K (adicity g) (prime_root S) d roots lawful) lawful.offset_not_zero (elements_of xs) in
       let same : map (λ (x : PrimeField M g). x) inverse.0 ≡ inverse.0 = map-id inverse.0 in
-      let also : map (λ (x : PrimeField M g). x) (elements_of xs) ≡ elements_of xs = map-id (elements_of xs) in (
+      let also : map (λ (x : PrimeField M g). x) (elements_of xs) ≡ elements_of xs = map-id (elements_of xs) in inl (
         _,
         gives_transform Inverse d k h xs (elements_of xs) inverse.0 chosen lawful offset (values_of_elements xs)
             (subst (λ v. IsInverse K (itself K) d v (map (λ x. x) inverse.0)) (sym also) (subst (λ u. IsInverse K (itself K) d (elements_of xs) u) (sym same) inverse.1)),
@@ -125,3 +130,49 @@ module _ (M : Type 0) (g : Ghosts M) (S : Shown g) where
       let L = operations (shown_field g) in
       ap (λ t. line_of (t ∷ []))
       (ap number f ∙ value_at-carried number_carries items at_x ∙ ap₂ (value_at L (itself L)) same (ap number e))
+
+  same_numbers : (c d : List (PrimeField M g)) → of_list K c ≡ of_list K d → of_list (operations (shown_field g)) (map (number {M = M} {g = g}) c) ≡ of_list (operations (shown_field g)) (map (number {M = M} {g = g}) d)
+  same_numbers c d e = fun_ext (λ i. sym (of_list-carried number_carries c i) ∙ ap (λ a. number (a i)) e ∙ of_list-carried number_carries d i)
+
+  trimmed_numbers : (c : List (PrimeField M g)) → IsTrimmed K c → IsTrimmed (operations (shown_field g)) (map (number {M = M} {g = g}) c)
+  trimmed_numbers c trimmed some zero =
+      let e : length (map (number {M = M} {g = g}) c) ≡ length c = length-map c number in
+      trimmed (subst (λ n. 0 < n) e some)
+      (same_from_value _ _ (of_list-carried number_carries c (length c - 1) ∙ ap (λ n. of_list (operations (shown_field g)) (map (number {M = M} {g = g}) c) (n - 1)) (sym e) ∙ zero))
+
+  -- a polynomial of a list's elements has the list's coefficients
+  pub coefficients_of : (xs : List ℕ) (items c : List (PrimeField M g)) → map (number {M = M} {g = g}) items ≡ reduced (shown_field g) xs → of_list K c ≡ of_list K items → IsTrimmed K c
+      → map (number {M = M} {g = g}) c ≡ coefficients (shown_field g) xs
+  coefficients_of xs items c same e trimmed =
+      let L = operations (shown_field g) in
+      same_trimmed L (map number c) (coefficients (shown_field g) xs) (trimmed_numbers c trimmed) (trim-trimmed L (λ x. x == 0) (λ x. Decides-eqb x 0) (reduced (shown_field g) xs))
+      (same_numbers c items e ∙ ap (of_list L) same ∙ sym (trim-same L (λ x. x == 0) (λ x. Decides-eqb x 0) (reduced (shown_field g) xs)))
+
+  -- no domain is as long as the product of two lists of these lengths, neither of them empty
+  abbrev pub HasNoPlaces : ℕ → ℕ → Type 0
+  HasNoPlaces m n = (0 < m) × (0 < n) × HasNoSize (IsChosen (adicity g)) (m + n - 1)
+
+  numbers_length : (xs : List ℕ) (a : List (PrimeField M g)) → map (number {M = M} {g = g}) a ≡ coefficients (shown_field g) xs → length a ≡ length (coefficients (shown_field g) xs)
+  numbers_length xs a e = sym (length-map a number) ∙ ap length e
+
+  pub no_product : (xs ys : List ℕ) (a b : List (PrimeField M g)) → map (number {M = M} {g = g}) a ≡ coefficients (shown_field g) xs → map (number {M = M} {g = g}) b ≡ coefficients (shown_field g) ys
+      → HasNoPlaces (length a) (length b) → HasNoProduct (shown_field g) (coefficients (shown_field g) xs) (coefficients (shown_field g) ys)
+  no_product xs ys a b e f none =
+      subst (λ m. HasNoPlaces m (length (coefficients (shown_field g) ys))) (numbers_length xs a e) (subst (HasNoPlaces (length a)) (numbers_length ys b f) none)
+
+  pub gives_product : (xs ys : List ℕ) (a b c : List (PrimeField M g)) → map (number {M = M} {g = g}) a ≡ coefficients (shown_field g) xs → map (number {M = M} {g = g}) b ≡ coefficients (shown_field g) ys
+      → of_list K c ≡ product K (of_list K a) (of_list K b) → IsTrimmed K c → (HasNoPlaces (length a) (length b) → ⊥)
+      → Gives (shown_field g) (product_of xs ys) (line_of (map (number {M = M} {g = g}) c))
+  gives_product xs ys a b c e f whole trimmed some =
+      let L = operations (shown_field g) in
+      let left : (λ i. number (of_list K a i)) ≡ of_list L (coefficients (shown_field g) xs) = fun_ext (of_list-carried number_carries a) ∙ ap (of_list L) e in
+      let right : (λ i. number (of_list K b i)) ≡ of_list L (coefficients (shown_field g) ys) = fun_ext (of_list-carried number_carries b) ∙ ap (of_list L) f in (
+        map number c,
+        (
+          fun_ext (λ k. sym (of_list-carried number_carries c k) ∙ ap (λ h. number (h k)) whole ∙ product-carried number_carries (of_list K a) (of_list K b) k) ∙ ap₂ (product L) left right,
+          trimmed_numbers c trimmed,
+          reduced_values c,
+        ),
+        (λ none. some (subst (λ m. HasNoPlaces m (length b)) (sym (numbers_length xs a e)) (subst (HasNoPlaces (length (coefficients (shown_field g) xs))) (sym (numbers_length ys b f)) none))),
+        refl,
+      )

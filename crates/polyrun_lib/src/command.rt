@@ -23,6 +23,11 @@ pub enum Command<'a> {
         offset: u64,
         list: &'a str,
     },
+    /// The product of the polynomials with these coefficients.
+    Mul {
+        left: &'a str,
+        right: &'a str,
+    },
     /// The value at a point of the polynomial with these coefficients.
     Eval {
         list: &'a str,
@@ -45,6 +50,15 @@ pub fn parse(words: &[String]) -> Option<Command>
     match name.as_str() {
         "fft" => parse_transform(Direction::Forward, arguments),
         "ifft" => parse_transform(Direction::Inverse, arguments),
+        "mul" => {
+            let [left, right] = arguments else {
+                return None;
+            };
+            Some(Command::Mul {
+                left: list_word(left.as_str())?,
+                right: list_word(right.as_str())?,
+            })
+        }
         "eval" => {
             let [list, point] = arguments else {
                 return None;

@@ -7,7 +7,7 @@ ghost use Rattle.ark_base.specs.Element.{number};
 ghost use Rattle.polyrun_lib.specs.Words.{IsList, SpellsList};
 ghost use Rattle.polyrun_lib.specs.Commands.{Command as Asked, Spells, IsSpelled};
 ghost use Rattle.polyrun_lib.specs.Lines.{line_of};
-ghost use Rattle.polyrun_lib.specs.Answer.{Known, known_by, IsCommand, MayWrite, IsWritten};
+ghost use Rattle.polyrun_lib.specs.Answer.{Known, known_by, coefficients, IsCommand, MayWrite, IsWritten};
 ghost use Rattle.polyrun_lib.specs.Outcome.{IsOutcome, IsOutcomeOf};
 
 use crate::command::{Command, Direction, parse};
@@ -31,6 +31,8 @@ type Domain<M> = GeneralEvaluationDomain<PrimeField<M>>;
 ///
 /// - `fft K H LIST` and `ifft K H LIST`, the transform or its inverse over the domain of size `K` or the next larger,
 ///   with the offset `H`: of a power of two where there is one, and otherwise of a mixed size,
+/// - `mul LIST LIST`, the product of the polynomials with these coefficients, by transforms over that domain for the
+///   product's length,
 /// - `eval LIST X`, the value at `X` of the polynomial with these coefficients,
 /// - `size K`, the size of that domain.
 pub fn run<W: Sink>(alloc: Global, words: &[String], out: &mut W) -> u8
@@ -94,6 +96,12 @@ fn answer_over<M: PrimeModulus>(alloc: Global, command: Command) -> Result<Strin
             }
             element_line(alloc, &items)
         }
+        Command::Mul { left, right } => {
+            let left = polynomial::<M>(alloc, left)?;
+            let right = polynomial::<M>(alloc, right)?;
+            let product = left.naive_mul(alloc, &right)?;
+            element_line(alloc, product.coeffs())
+        }
         Command::Eval { list, point } => {
             let polynomial = DensePolynomial::from_coefficients_vec(elements::<M>(alloc, list)?);
             let value = polynomial.evaluate(alloc, &PrimeField::from(point))?;
@@ -116,6 +124,18 @@ fn coset<F: FftField, D: EvaluationDomain<F>>(size: u64, offset: F) -> Result<D,
     ensures error { IsOkUnless result PolyError.NoDomain }
 {
     D::new_coset(size as usize, offset).ok_or(PolyError::NoDomain)
+}
+
+/// The polynomial with the elements of a list as its coefficients.
+fn polynomial<M: PrimeModulus>(
+    alloc: Global,
+    word: &str,
+) -> Result<DensePolynomial<PrimeField<M>>, AllocError>
+    requires { SpellsList word.now }
+    ensures { IfOk result (λ p. (xs : List ℕ) → IsList word.now xs →
+        map number p ≡ coefficients (known_by M.modulus) xs) }
+{
+    Ok(DensePolynomial::from_coefficients_vec(elements::<M>(alloc, word)?))
 }
 
 /// The elements of a list.

@@ -1,11 +1,12 @@
--- Maps that carry the operations of one field to those of another, or of one module to those of another, carry sums, values
--- and transforms.
-use Rattle.std.proofs.Common.{◌≡◌, ℕ, zero, suc, List, [], ◌∷◌, length, map, sym, ◌∙◌, ap, ap₂, refl}
+-- Maps that carry the operations of one field to those of another, or of one module to those of another, carry sums,
+-- products, values and transforms.
+use Rattle.std.proofs.Common.{◌≡◌, ℕ, zero, suc, ◌-◌, List, [], ◌∷◌, length, map, sym, ◌∙◌, ap, ap₂, refl}
 use Rattle.std.proofs.lemmas.List.{length-map}
 use Rattle.ark_math.specs.Field.{FieldOn, power}
 use Rattle.ark_math.specs.Module.{ModuleOn, IsItself, itself, item, tabulate, tabulate_from, sum_below}
 use Rattle.ark_math.specs.Domain.{Domain, element}
 use Rattle.ark_math.specs.Transform.{transform, fit, value_at, IsInverse}
+use Rattle.ark_math.specs.Univariate.{of_list, product}
 use Rattle.ark_math.proofs.Lists.Tabulated.{tabulate-same}
 use Rattle.ark_math.proofs.Algebra.Sums.{sum_below-same}
 
@@ -91,3 +92,11 @@ module _ {F G : Type 0} {K : FieldOn F} {L : FieldOn G} {g : F → G} (C : Carri
 
   pub IsInverse-carried : (d : Domain F) (v u : List F) → IsInverse K (itself K) d v u → IsInverse L (itself L) (carried g d) (map g v) (map g u)
   IsInverse-carried d v u inverse = IsInverse-linear (itself_linear C) d v u inverse
+
+  pub of_list-carried : (c : List F) (i : ℕ) → g (of_list K c i) ≡ of_list L (map g c) i
+  of_list-carried c i = item-linear (itself_linear C) c i
+
+  pub product-carried : (a b : ℕ → F) (k : ℕ) → g (product K a b k) ≡ product L (λ i. g (a i)) (λ i. g (b i)) k
+  product-carried a b k =
+      sum_below-linear (itself_linear C) (suc k) (λ i. K.times (a i) (b (k - i)))
+      ∙ sum_below-same (itself L) (suc k) _ _ (λ i l. C.times_kept (a i) (b (k - i)))

@@ -21,9 +21,10 @@ pub trait DenseUVPolynomial<F: Field>: Polynomial<F, Point = F> {
         ensures coefficients { IfOk result (λ p. of_list F.field (listed p) ≡ of_list F.field coeffs.now) }
         ensures memory { IsOkUnless result PolyError.Memory };
 
-    /// The polynomial with these coefficients. Takes no memory.
+    /// The polynomial with these coefficients, without zeros at their end. Takes no memory.
     fn from_coefficients_vec(coeffs: Vec<F>) -> Self
-        ensures { of_list F.field (listed result) ≡ of_list F.field coeffs.items };
+        ensures coefficients { of_list F.field (listed result) ≡ of_list F.field coeffs.items }
+        ensures trimmed { IsTrimmed F.field (listed result) };
 
     /// The coefficients, the lowest first. The last one isn't zero, so their number less one is the degree; zero has
     /// none.

@@ -209,7 +209,8 @@ impl<F: Field> DenseUVPolynomial<F> for DensePolynomial<F> {
     }
 
     fn from_coefficients_vec(coeffs: Vec<F>) -> Self
-        ensures { of_list F.field result ≡ of_list F.field coeffs.items }
+        ensures coefficients { of_list F.field result ≡ of_list F.field coeffs.items }
+        ensures trimmed { IsTrimmed F.field result }
     {
         let mut coeffs = coeffs;
         coeffs.truncate(trimmed_len(&coeffs));

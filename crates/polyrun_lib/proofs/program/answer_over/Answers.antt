@@ -68,7 +68,7 @@ returns-in_err-elements-in-Eval g c asked spelled =
     let of = rw c.in-Eval.is at spelled in
     let f = shown_field g.M.PrimeModulus in
     let command = value_of of.0 c.in-Eval.point in
-    outcome_error f asked command _ _ of.2 c.from_residual-in_err-elements-in-Eval.ensures.1 (inr ((_, refl), refl))
+    outcome_error f asked command _ _ of.2 c.from_residual-in_err-elements-in-Eval.ensures.1 (inr (inl (_, refl), refl))
 
 pub returns-in_ok-value-in-Eval : goal.returns-in_ok-value-in-Eval
 returns-in_ok-value-in-Eval g c asked spelled =
@@ -81,7 +81,7 @@ returns-in_ok-value-in-Eval g c asked spelled =
     let value = c.in_ok-value-in-Eval.value in
     outcome_line f asked command _ _ of.2
     (gives_value g.row.M.Denot g.M.PrimeModulus S of.0 c.in-Eval.point items at_point value (c.in_ok-elements-in-Eval.ensures of.0 of.1) c.from-in-Eval.ensures
-    (value_of_list (prime_field S.prime) (prime_field_laws S.prime) _ items at_point value c.from_coefficients_vec-polynomial.ensures c.in_ok-value-in-Eval.ensures.value))
+    (value_of_list (prime_field S.prime) (prime_field_laws S.prime) _ items at_point value c.from_coefficients_vec-polynomial.ensures.coefficients c.in_ok-value-in-Eval.ensures.value))
     c.element_line-in-Eval.ensures.text c.element_line-in-Eval.ensures.memory
 
 pub returns-in_err-line-in-Size : goal.returns-in_err-line-in-Size
@@ -91,4 +91,4 @@ returns-in_err-line-in-Size g c asked spelled =
     let command = size_for c.in-Size.num_coeffs in
     let chosen = rw c.in_ok-size-in-Size.ensures.ok_part at c.compute_size_of_domain-size.ensures.size in
     outcome_error f asked command _ _ of c.from_residual-in_err-line-in-Size.ensures.1
-    (inr ((line_of (c.in_ok-size-in-Size.size ∷ []), (chosen.0, c.in_ok-size-in-Size.size, chosen.1, refl)), refl))
+    (inr (inl (line_of (c.in_ok-size-in-Size.size ∷ []), (chosen.0, c.in_ok-size-in-Size.size, chosen.1, refl)), refl))

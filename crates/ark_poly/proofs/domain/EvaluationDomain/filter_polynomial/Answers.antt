@@ -28,7 +28,7 @@ returns-clause-filter g c =
     let part = c.size-3.ensures in
     let start : c.mul-start.result ≡ K.times (natural K e.size) v = g.met.F.Field.mul_law _ _ _ c.mul-start.ensures ∙ ap (λ t. K.times t v) c.size_as_field_element.ensures in
     let ratio : c.pow-ratio.result ≡ power K q e.size = c.pow-ratio.ensures ∙ ap (power K q) c.size.ensures in
-    subst (IsFilter K e d) (sym c.from_coefficients_vec.ensures)
+    subst (IsFilter K e d) (sym c.from_coefficients_vec.ensures.coefficients)
     (filter_of_row D E h v q c.size_inv.ensures c.coset_offset_inv.ensures items
     (row.len ∙ ap₂ (λ a b. a - b + 1) whole part)
     (λ k l.

@@ -13,7 +13,7 @@ returns-clause-values g c =
     let size : length c.args.self.now.evals ≡ d.size = sym (ap length (ap (λ v. v.evals) c.self.view_is)) ∙ c.self.invariant ∙ ap (λ v. (g.D.EvaluationDomain.domain v.domain).size) c.self.view_is in
     let inverse = subst (λ v. IsInverse K g.F.DomainCoeff.group (g.D.EvaluationDomain.domain v.domain) (map g.F.DomainCoeff.meaning v.evals) (map g.F.DomainCoeff.meaning c.in_ok-coeffs.coeffs.items)) c.self.view_is (rw c.deref.ensures.value at c.in_ok-coeffs.ensures.inverse) in
     let p = values_of_ifft K _ g.met.F.FftField.itself_law g.met.F.Field.field_laws d c.args.self.now.evals c.in_ok-coeffs.coeffs.items size inverse in
-    subst (λ a. AreValues K d a c.args.self.now.evals) (sym c.from_coefficients_vec.ensures) p.1
+    subst (λ a. AreValues K d a c.args.self.now.evals) (sym c.from_coefficients_vec.ensures.coefficients) p.1
 
 pub returns-clause-below : goal.returns-clause-below
 returns-clause-below g c =
@@ -22,7 +22,7 @@ returns-clause-below g c =
     let size : length c.args.self.now.evals ≡ d.size = sym (ap length (ap (λ v. v.evals) c.self.view_is)) ∙ c.self.invariant ∙ ap (λ v. (g.D.EvaluationDomain.domain v.domain).size) c.self.view_is in
     let inverse = subst (λ v. IsInverse K g.F.DomainCoeff.group (g.D.EvaluationDomain.domain v.domain) (map g.F.DomainCoeff.meaning v.evals) (map g.F.DomainCoeff.meaning c.in_ok-coeffs.coeffs.items)) c.self.view_is (rw c.deref.ensures.value at c.in_ok-coeffs.ensures.inverse) in
     let p = values_of_ifft K _ g.met.F.FftField.itself_law g.met.F.Field.field_laws d c.args.self.now.evals c.in_ok-coeffs.coeffs.items size inverse in
-    subst (IsBelow K d.size) (sym c.from_coefficients_vec.ensures) p.0
+    subst (IsBelow K d.size) (sym c.from_coefficients_vec.ensures.coefficients) p.0
 
 pub returns-clause-only : goal.returns-clause-only
 returns-clause-only g c other below values =
