@@ -1,5 +1,5 @@
 -- The size that the general type takes: that of radix 2, or the mixed one where radix 2 has none.
-use Rattle.std.proofs.Common.{◌≡◌, ℕ, suc, zero, ◌<◌, ◌≤◌, inl, inr, arith, refl}
+use Rattle.std.proofs.Common.{◌≡◌, ℕ, suc, zero, ◌^◌, ◌<◌, ◌≤◌, inl, inr, arith, refl}
 use Rattle.std.proofs.lemmas.Bool.{cases_lt}
 use Rattle.ark_math.specs.Root.{Adicity}
 use Rattle.ark_math.specs.Domain.{Kind, radix2, mixed_radix, IsSize, IsLeast, HasNone, HasNoSize, IsRadix2, IsMixedRadix, IsGeneral}
@@ -27,6 +27,11 @@ none_from_no_least P k none m p = elim (cases_lt m k) [
 pub general_sizes : (s : Adicity) (k : ℕ) (kind : Kind) (n : ℕ) → IsGeneral s k kind n → IsSize s kind n × (k ≤ n)
 general_sizes s k radix2 n h = (h.holds, h.above)
 general_sizes s k mixed_radix n h = (h.0.holds, h.0.above)
+
+-- so it takes one for words alone
+pub general_fits : (s : Adicity) (k : ℕ) (kind : Kind) (n : ℕ) → IsGeneral s k kind n → k < 2 ^ 64
+general_fits s k radix2 n h = let f = h.holds.1.fits in let a = h.above in omega arith
+general_fits s k mixed_radix n h = let f = h.0.holds.1.2.fits in let a = h.0.above in omega arith
 
 pub general_from_radix2 : (s : Adicity) (k : ℕ) (kind : Kind) (n : ℕ) → IsRadix2 s k kind n → IsGeneral s k kind n
 general_from_radix2 s k radix2 n h = h

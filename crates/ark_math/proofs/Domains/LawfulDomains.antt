@@ -5,7 +5,7 @@ use Rattle.std.proofs.Math.Nat.{mod-add-div}
 use Rattle.ark_math.specs.Field.{FieldOn, IsField, power, natural, minus}
 use Rattle.ark_math.specs.Root.{Adicity, HasOrder, AreRoots}
 use Rattle.ark_math.specs.Domain.{Domain, IsDomain, element}
-use Rattle.ark_math.specs.Univariate.{IsBelow, IsDegree, IsValue, of_list}
+use Rattle.ark_math.specs.Univariate.{IsBelow, IsDegree, IsQuotient, IsValue, of_list, product}
 use Rattle.ark_math.specs.Points.{AreValues, IsPlaceQuotient, vanishing, AreWeights, IsElement, IsContained, IsFilter}
 use Rattle.ark_math.proofs.Algebra.Groups.{itself_is_module, one_times, zero_scale}
 use Rattle.ark_math.proofs.Algebra.Solve.{◌⊖◌, ◌⊗◌, unit}
@@ -15,7 +15,8 @@ use Rattle.ark_math.proofs.Polynomials.UnivariateValues.{one_value}
 use Rattle.ark_math.proofs.Domains.Domains.{root_order, size_not_zero}
 use Rattle.ark_math.proofs.Domains.Elements.{Inverses, positive, times_not_zero, factor_not_zero, minus_not_zero, power_not_zero, same_from_minus, minus_same, has_inverses, element-power, same_element, value-vanishing}
 use Rattle.ark_math.proofs.Algebra.Powers.{powers_inverse}
-use Rattle.ark_math.proofs.OverDomains.PlaceValues.{one_interpolation}
+use Rattle.ark_math.proofs.OverDomains.PlaceValues.{values-length, one_interpolation}
+use Rattle.ark_math.proofs.OverDomains.Vanishing.{interpolated_quotient, interpolated_remainder, interpolated_product}
 use Rattle.ark_math.proofs.OverDomains.Weights.{weights_at_element, weights_elsewhere, one_list_of_weights}
 use Rattle.ark_math.proofs.Domains.Contained.{is_element, contained_size, contained_offset, contained_from}
 use Rattle.ark_math.proofs.OverDomains.Filters.{Inside, IsRow, row_is_filter}
@@ -86,6 +87,18 @@ module _ {F : Type 0} {K : FieldOn F} {s : Adicity} {root : ℕ → F} {d : Doma
   -- the polynomials below the size that have some values are one
   pub only_interpolation : (a b : ℕ → F) (v : List F) → IsBelow K d.size a → IsBelow K d.size b → AreValues K d a v → AreValues K d b v → a ≡ b
   only_interpolation = one_interpolation K N d order D.offset_not_zero
+
+  -- ---- products by places
+
+  module _ (a b c : ℕ → F) (v u w : List F) (A : AreValues K d a v) (B : AreValues K d b u) (C : AreValues K d c w) (short : IsBelow K d.size c) (places : (i : ℕ) → of_list K w i ≡ K.times (of_list K v i) (of_list K u i)) where
+    pub places_quotient : (q : ℕ → F) × IsQuotient K (product K a b) (vanishing K d) q c
+    places_quotient = interpolated_quotient K N d order some_size D.offset_not_zero a b c v u w A B C (values-length K N d c w C) (λ i l. places i) short
+
+    pub places_remainder : (q r : ℕ → F) → IsQuotient K (product K a b) (vanishing K d) q r → r ≡ c
+    places_remainder q r h = sym (interpolated_remainder K N d order some_size D.offset_not_zero a b c q r v u w A B C (values-length K N d c w C) (λ i l. places i) short h)
+
+    pub places_product : IsBelow K d.size (product K a b) → c ≡ product K a b
+    places_product h = interpolated_product K N d order D.offset_not_zero a b c v u w A B C (values-length K N d c w C) (λ i l. places i) short h
 
   -- ---- weights
 

@@ -13,9 +13,9 @@ use Rattle.ark_math.proofs.Algebra.Solve.{◌⊕◌, ◌⊖◌, nought, negative
 use Rattle.ark_math.proofs.Algebra.Ring.{ring1, ring2}
 use Rattle.ark_math.proofs.Polynomials.Univariate.{difference-below, monomial-below, monomial-same, monomial-other, monomial-opposite}
 use Rattle.ark_math.proofs.Polynomials.UnivariateValues.{one_value, has_value, value-added}
-use Rattle.ark_math.proofs.Polynomials.UnivariateProducts.{value-product}
+use Rattle.ark_math.proofs.Polynomials.UnivariateProducts.{product-below, value-product}
 use Rattle.ark_math.proofs.Domains.Elements.{element-vanishes}
-use Rattle.ark_math.proofs.Polynomials.Quotients.{one_leading}
+use Rattle.ark_math.proofs.Polynomials.Quotients.{one_leading, has_quotient}
 use Rattle.ark_math.proofs.OverDomains.PlaceValues.{values_from, values-item, values-length, values-product, one_interpolation, one_list_of_values}
 
 module _ {F : Type 0} (K : FieldOn F) (N : IsField K) (d : Domain F) where
@@ -83,6 +83,14 @@ module _ {F : Type 0} (K : FieldOn F) (N : IsField K) (d : Domain F) where
   interpolated_remainder o l off a b c q r v u w A B C e same f h =
       one_interpolation K N d o off c r w f (remainder_below (product K a b) q r l h) C
       (remainder-values (product K a b) q r w o h (values-product K N d a b v u w A B e same))
+
+  -- which there is
+  pub interpolated_quotient : HasOrder K d.root d.size → 0 < d.size → d.offset ≢ K.zero → (a b c : ℕ → F) (v u w : List F) → AreValues K d a v → AreValues K d b u → AreValues K d c w → length w ≡ d.size → ((i : ℕ) → i < d.size → of_list K w i ≡ K.times (of_list K v i) (of_list K u i)) → IsBelow K d.size c → (q : ℕ → F) × IsQuotient K (product K a b) (vanishing K d) q c
+  interpolated_quotient o l off a b c v u w A B C e same f =
+      let h =
+      has_quotient K N d.size _ (product K a b) (vanishing K d) (λ e. N.one_not_zero (sym (vanishing-leading l) ∙ e)) vanishing-below (product-below K N A.0 B.0 a b A.1 B.1) in
+      let is : c ≡ h.1 = interpolated_remainder o l off a b c h.0 h.1 v u w A B C e same f h.2 in
+      (h.0, subst (IsQuotient K (product K a b) (vanishing K d) h.0) (sym is) h.2)
 
   -- and the product itself, where that is below n
   pub interpolated_product : HasOrder K d.root d.size → d.offset ≢ K.zero → (a b c : ℕ → F) (v u w : List F) → AreValues K d a v → AreValues K d b u → AreValues K d c w → length w ≡ d.size → ((i : ℕ) → i < d.size → of_list K w i ≡ K.times (of_list K v i) (of_list K u i)) → IsBelow K d.size c → IsBelow K d.size (product K a b) → c ≡ product K a b

@@ -23,6 +23,7 @@ use crate::polynomial::DenseUVPolynomial;
 use crate::polynomial::univariate::{DensePolynomial, SparsePolynomial};
 pub use ark_base::DomainCoeff;
 use ark_base::{FftField, Field, PolyError, Work, batch_inversion};
+use ark_coeffs::dense::multiply_each;
 use ark_coeffs::rows::{geometric_row_less, indicator, spaced_row};
 use ark_fft::domain::{Coset, first_items};
 pub use general::GeneralEvaluationDomain;
@@ -445,6 +446,27 @@ pub trait EvaluationDomain<F: FftField>: Copy + Eq + Hash + Debug {
             let rest = i - other.size();
             rest + rest / (step - 1) + 1
         }
+    }
+
+    /// The products of two polynomials' values, place by place, where there are as many of both. Over the elements they
+    /// are the values of the polynomials' product.
+    ///
+    /// It takes a product for each place, and memory for the products alone.
+    final fn mul_polynomials_in_evaluation_domain(
+        &self,
+        alloc: Global,
+        self_evals: &[F],
+        other_evals: &[F],
+    ) -> Result<Vec<F>, PolyError>
+        requires { length self_evals.now ≡ length other_evals.now }
+        ensures products { IfOk result (λ v. (i : ℕ) → of_list F.field v.items i
+            ≡ F.field.times (of_list F.field self_evals.now i) (of_list F.field other_evals.now i)) }
+        ensures len { IfOk result (λ v. length v.items ≡ length self_evals.now) }
+        ensures memory { IsOkUnless result PolyError.Memory }
+    {
+        let mut products = Vec::from_slice(alloc, self_evals)?;
+        multiply_each(products.as_mut_slice(), other_evals);
+        Ok(products)
     }
 
     /// The first of at most `tries` draws that is no element of the domain, and `None` where all of them are.

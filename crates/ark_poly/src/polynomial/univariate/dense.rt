@@ -1,16 +1,18 @@
 //! Polynomials in one variable by the list of their coefficients.
 
-ghost use Rattle.std.specs.Prelude.{◌≡◌, ◌↔◌, ℕ, ◌+◌, ◌-◌, ◌<◌, length, ◌⊎◌, IfOk, IfErr, IsOk, IsOkUnless};
+ghost use Rattle.std.specs.Prelude.{◌≡◌, ◌↔◌, ℕ, ◌+◌, ◌-◌, ◌<◌, ◌≤◌, length, ◌⊎◌, IfSome, IsNone, IfOk, IfErr, IsOk};
+ghost use Rattle.std.specs.Prelude.{IsOkUnless};
 ghost use Rattle.std.specs.Cmp.{on_equiv, on_per};
 ghost use Rattle.std.specs.Cmp.Lexicographic.{pointwise, lists_equiv, lists_per};
 ghost use Rattle.std.specs.Hash as fed;
 ghost use Rattle.std.specs.Hash.{on_Alike, items_Alike};
 ghost use Rattle.ark_math.specs.NormalForms.{trim};
-ghost use Rattle.ark_math.specs.Points.{AreValues};
+ghost use Rattle.ark_math.specs.Domain.{HasNoSize, IsGeneral};
+ghost use Rattle.ark_math.specs.Points.{AreValues, vanishing};
 ghost use Rattle.ark_math.specs.Univariate.{IsTrimmed, IsDegree, IsValue, of_list, nothing, added, opposite};
-ghost use Rattle.ark_math.specs.Univariate.{product};
+ghost use Rattle.ark_math.specs.Univariate.{IsBelow, IsQuotient, product};
 
-use crate::domain::EvaluationDomain;
+use crate::domain::{EvaluationDomain, GeneralEvaluationDomain};
 use crate::evaluations::univariate::Evaluations;
 use crate::polynomial::{DenseUVPolynomial, Polynomial};
 use ark_base::{FftField, Field, PolyError};
@@ -272,6 +274,55 @@ impl<F: Field> DensePolynomial<F> {
 }
 
 impl<F: FftField> DensePolynomial<F> {
+    /// The product, by transforms over the general domain of the least size that holds it. The product with zero is zero
+    /// without a domain; `NoDomain` exactly where neither factor is zero and the field has no domain of that size, judged
+    /// before memory is asked for.
+    ///
+    /// Over `n` elements it takes three transforms and `n` products more, and memory for the values of both factors
+    /// beside what a transform takes.
+    pub fn mul(&self, alloc: Global, other: &Self) -> Result<Self, PolyError>
+        ensures product { IfOk result (λ p. of_list F.field p
+            ≡ product F.field (of_list F.field self.now) (of_list F.field other.now)) }
+        ensures none { (result ≡ Err PolyError.NoDomain) ↔ (0 < length self.now) × (0 < length other.now)
+            × HasNoSize (IsGeneral F.adicity) (length self.now + length other.now - 1) }
+        ensures errors { IfErr result (λ e. (e ≡ PolyError.Memory) ⊎ (e ≡ PolyError.NoDomain)) }
+    {
+        if self.coeffs.is_empty() || other.coeffs.is_empty() {
+            return Self::zero(alloc);
+        }
+        let domain = domain_of_product::<F>(self.coeffs.len(), other.coeffs.len()).ok_or(
+            PolyError::NoDomain,
+        )?;
+        self.mul_over_domain(alloc, other, domain)
+    }
+
+    /// The only polynomial below the domain's size with the products of the values at the elements: the remainder of the
+    /// product by the vanishing polynomial, and the product itself where that is below the size.
+    ///
+    /// It takes a transform for each factor and one back, a product for each element, and memory for the values of both.
+    pub fn mul_over_domain<D: EvaluationDomain<F>>(
+        &self,
+        alloc: Global,
+        other: &Self,
+        domain: D,
+    ) -> Result<Self, PolyError>
+        ensures remainder { IfOk result (λ p. (q : ℕ → F) × IsQuotient F.field
+            (product F.field (of_list F.field self.now) (of_list F.field other.now))
+            (vanishing F.field (D.domain domain)) q (of_list F.field p)) }
+        ensures below { IfOk result (λ p. IsBelow F.field (D.domain domain).size (of_list F.field p)) }
+        ensures only { IfOk result (λ p. (q r : ℕ → F) → IsQuotient F.field
+            (product F.field (of_list F.field self.now) (of_list F.field other.now))
+            (vanishing F.field (D.domain domain)) q r → r ≡ of_list F.field p) }
+        ensures product { IfOk result (λ p. IsBelow F.field (D.domain domain).size
+            (product F.field (of_list F.field self.now) (of_list F.field other.now))
+            → of_list F.field p ≡ product F.field (of_list F.field self.now) (of_list F.field other.now)) }
+        ensures memory { IsOkUnless result PolyError.Memory }
+    {
+        let mut values = self.evaluate_over_domain_by_ref(alloc, domain)?;
+        values.mul_assign(&other.evaluate_over_domain_by_ref(alloc, domain)?);
+        values.interpolate(alloc)
+    }
+
     /// Its values at the elements of the domain, no coefficient cut off.
     pub fn evaluate_over_domain<D: EvaluationDomain<F>>(
         self,
@@ -304,4 +355,14 @@ impl<F: FftField> DensePolynomial<F> {
         }
         Ok(Evaluations::from_vec_and_domain(evals, domain))
     }
+}
+
+// The general domain for a product of two lists of these lengths. A length past `usize::MAX` has none.
+fn domain_of_product<F: FftField>(left: usize, right: usize) -> Option<GeneralEvaluationDomain<F>>
+    requires { 0 < right }
+    ensures room { IfSome result (λ d. left + right - 1
+        ≤ (⟦<GeneralEvaluationDomain<F> as EvaluationDomain<F>>⟧.domain d).size) }
+    ensures none { IsNone result ↔ HasNoSize (IsGeneral F.adicity) (left + right - 1) }
+{
+    GeneralEvaluationDomain::new(left.checked_add(right - 1)?)
 }

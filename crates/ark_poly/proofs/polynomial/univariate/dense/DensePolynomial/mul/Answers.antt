@@ -1,0 +1,38 @@
+use Rattle.std.proofs.Common.{◌≡◌, ◌+◌, ◌-◌, length, sym, ap, ◌∙◌, ◌==◌}
+use Rattle.ark_math.specs.Univariate.{of_list, nothing, product}
+use Rattle.ark_math.proofs.Polynomials.Univariate.{IsBelow-more}
+use Rattle.ark_math.proofs.Polynomials.UnivariateLists.{of_list-below, trimmed_none_Decides}
+use Rattle.ark_math.proofs.Polynomials.UnivariateProducts.{nothing-product, product-nothing, product-below}
+use Rattle.ark_math.proofs.Outcomes.Results.{IfOk_more}
+use Rattle.ark_poly.proofs.polynomial.univariate.dense.DensePolynomial.mul.Goals.{then-is_empty-via-then-is_empty, then-is_empty-via-else-is_empty+then-is_empty-2}
+use Rattle.ark_poly.proofs.polynomial.univariate.dense.DensePolynomial.mul.Goals as goal
+
+pub returns-then-is_empty-clause-product : goal.returns-then-is_empty-clause-product
+returns-then-is_empty-clause-product g c =
+    let K = g.F.Field.field in
+    let N = g.met.F.Field.field_laws in
+    let p = c.self.inside.coeffs in
+    let q = c.other.inside.coeffs in
+    let left = of_list K p.items in
+    let right = of_list K q.items in
+    let none : product K left right ≡ nothing K =
+    elim c.then-is_empty.branch [
+      | then-is_empty-via-then-is_empty w ↦
+          let zero : left ≡ nothing K = (trimmed_none_Decides K p.items c.is_empty.result c.self.invariant (c.is_empty.ensures ∙ ap (λ n. n == 0) p.ok.0)).0 w.if-is_empty.true in
+          ap (λ t. product K t right) zero ∙ nothing-product K N right
+      | then-is_empty-via-else-is_empty+then-is_empty-2 w ↦
+          let zero : right ≡ nothing K = (trimmed_none_Decides K q.items w.is_empty-else-is_empty.result c.other.invariant (w.is_empty-else-is_empty.ensures ∙ ap (λ n. n == 0) q.ok.0)).0 w.if-is_empty-2.true in
+          ap (product K left) zero ∙ product-nothing K N left
+    ] in
+    rw (← c.self.view_is, ← c.other.view_is) (IfOk_more c.zero.result (λ p e. e ∙ sym none) c.zero.ensures.zero)
+
+pub returns-clause-product : goal.returns-clause-product
+returns-clause-product g c =
+    let K = g.F.Field.field in
+    let left = c.args.self.now in
+    let right = c.args.other.now in
+    let below = product-below K g.met.F.Field.field_laws (length left) (length right) (of_list K left) (of_list K right) (of_list-below K left) (of_list-below K right) in
+    let mine : c.len.result ≡ length left = c.len.ensures ∙ c.self.inside.coeffs.ok.0 ∙ ap length c.self.view_is in
+    let others : c.len-2.result ≡ length right = c.len-2.ensures ∙ c.other.inside.coeffs.ok.0 ∙ ap length c.other.view_is in
+    let room = rw (c.in_ok-domain.ensures.ok_part, mine, others) at c.domain_of_product.ensures.room in
+    IfOk_more c.mul_over_domain.result (λ p h. h (IsBelow-more K (length left + length right - 1) _ _ room below)) c.mul_over_domain.ensures.product
