@@ -16,6 +16,8 @@ use Rattle.std.proofs.lemmas.List.{map-id, length-map}
 use Rattle.ark_base.specs.declared.prime_field.PrimeField.{PrimeField}
 use Rattle.ark_base.specs.declared.prime_field.PrimeModulus.{Ghosts}
 use Rattle.std.specs.Result.{IsErrAnd}
+use Rattle.std.specs.Prelude.{IsErr}
+use Rattle.std.proofs.lemmas.Result.{IfOk-from_err}
 use Rattle.std.specs.declared.string.String.{String}
 use Rattle.std.specs.declared.alloc.Global.{Global}
 use Rattle.ark_base.specs.declared.error.PolyError.{PolyError}
@@ -42,6 +44,10 @@ outcome_line f asked c (Err error) line e gives same memory = inr (inl (line, su
 pub outcome_error : (f : Known) (asked c : Command) (outcome : Result (String Global) PolyError) (error : PolyError) → asked ≡ c → IsErrAnd outcome (λ e. e ≡ error) → MayRefuse f c error → IsOutcome f asked outcome
 outcome_error f asked c (Ok text) error e same refused = absurd same
 outcome_error f asked c (Err told) error e same refused = subst (λ a. MayRefuse f a told) (sym e) (subst (MayRefuse f c) (sym same) refused)
+
+-- what is found is no error
+pub found_is_no_error : {A E : Type 0} {x : A} {error : E} → Ok x ≡ Err error → ⊥
+found_is_no_error {E = E} {x = x} e = IfOk-from_err {E = E} (Ok x) (λ y. ⊥) (subst (λ r. IsErr r) (sym e) refl)
 
 module _ (M : Type 0) (g : Ghosts M) (S : Shown g) where
   abbrev K : FieldOn (PrimeField M g)

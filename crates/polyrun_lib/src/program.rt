@@ -99,7 +99,7 @@ fn answer_over<M: PrimeModulus>(alloc: Global, command: Command) -> Result<Strin
         Command::Mul { left, right } => {
             let left = polynomial::<M>(alloc, left)?;
             let right = polynomial::<M>(alloc, right)?;
-            let product = left.naive_mul(alloc, &right)?;
+            let product = left.mul(alloc, &right)?;
             element_line(alloc, product.coeffs())
         }
         Command::Eval { list, point } => {

@@ -1,10 +1,11 @@
-use Rattle.std.proofs.Common.{[], ◌∷◌, ◌∙◌, refl, inl, inr}
+use Rattle.std.proofs.Common.{[], ◌∷◌, ◌∙◌, ap, refl, inl, inr}
+use Rattle.ark_math.specs.Univariate.{of_list}
 use Rattle.ark_base.specs.Element.{prime_field}
 use Rattle.ark_base.specs.ElementLaws.{prime_field_laws}
 use Rattle.ark_math.proofs.Polynomials.UnivariateValues.{value_of_list}
 use Rattle.polyrun_lib.specs.Lines.{line_of}
-use Rattle.polyrun_lib.specs.Commands.{transform_of, value_of, size_for}
-use Rattle.polyrun_lib.proofs.Values.{shown_field, outcome_line, outcome_error, has_no_domain, IsDone, gives_transform, some_transform, gives_value}
+use Rattle.polyrun_lib.specs.Commands.{transform_of, product_of, value_of, size_for}
+use Rattle.polyrun_lib.proofs.Values.{shown_field, found_is_no_error, outcome_line, outcome_error, has_no_domain, IsDone, gives_transform, some_transform, gives_product, gives_value}
 use Rattle.polyrun_lib.proofs.program.answer_over.Goals as goal
 use Rattle.polyrun_lib.proofs.program.answer_over.Goals.{in-Forward+in_ok-fft_counted-in-Forward, in-Inverse+in_ok-ifft_counted-in-Inverse}
 
@@ -62,6 +63,20 @@ returns-after-direction g c asked spelled =
     (gives_transform g.row.M.Denot g.M.PrimeModulus S c.in-Transform.direction _ c.in-Transform.size c.in-Transform.offset of.0 c.in_ok-items-in-Transform.items.items c.deref.result.now
     d.chosen d.lawful (d.offset ∙ c.from.ensures) (c.in_ok-items-in-Transform.ensures of.0 of.1) (rw c.deref.ensures.value done))
     c.element_line.ensures.text c.element_line.ensures.memory
+
+pub returns-in_ok-product-in-Mul : goal.returns-in_ok-product-in-Mul
+returns-in_ok-product-in-Mul g c asked spelled =
+    let S = g.M.PrimeModulus.modulus in
+    let of = rw c.in-Mul.is at spelled in
+    let f = shown_field g.M.PrimeModulus in
+    let command = product_of of.0 of.1 in
+    let left = c.in_ok-left-in-Mul.left in
+    let right = c.in_ok-right-in-Mul.right in
+    outcome_line f asked command _ _ of.4
+    (gives_product g.row.M.Denot g.M.PrimeModulus S of.0 of.1 left right c.coeffs.result.now (c.in_ok-left-in-Mul.ensures of.0 of.2) (c.in_ok-right-in-Mul.ensures of.1 of.3)
+    (ap (of_list (prime_field S.prime)) c.coeffs.ensures.same ∙ c.in_ok-product-in-Mul.ensures.product) c.coeffs.ensures.trimmed
+    (λ none. found_is_no_error (c.in_ok-product-in-Mul.ensures.none.1 none)))
+    c.element_line-in-Mul.ensures.text c.element_line-in-Mul.ensures.memory
 
 pub returns-in_err-elements-in-Eval : goal.returns-in_err-elements-in-Eval
 returns-in_err-elements-in-Eval g c asked spelled =
