@@ -98,6 +98,25 @@ pub fn extended<F: Field>(alloc: Global, coeffs: &[F], len: usize) -> Result<Vec
     Ok(copy)
 }
 
+/// The product with `x^n - constant`: the coefficients moved up by `n` places, less the constant times themselves. It
+/// takes one product for each coefficient, and memory for the answer alone.
+pub fn multiplied_by_binomial<F: Field>(
+    alloc: Global,
+    coeffs: &[F],
+    n: usize,
+    constant: F,
+) -> Result<Vec<F>, AllocError>
+    requires { n + length coeffs.now ≤ usize.MAX }
+    ensures { IfOk result (λ c. of_list F.field c.items ≡ product F.field (of_list F.field coeffs.now)
+        (difference F.field (monomial F.field n F.field.one) (monomial F.field 0 constant))) }
+{
+    let mut product = Vec::with_capacity(alloc, n + coeffs.len())?;
+    product.resize(n, F::zero())?;
+    product.extend_from_slice(coeffs)?;
+    add_scaled(product.as_mut_slice(), -constant, coeffs);
+    Ok(product)
+}
+
 /// Divides by `x^n - constant` in place: the first `n` items are then the remainder's, and those from `n` on the
 /// quotient's. Each item from `n` on is carried down by `n` places, times the constant.
 pub fn divide_by_binomial<F: Field>(coeffs: &mut [F], n: usize, constant: F)
@@ -110,4 +129,26 @@ pub fn divide_by_binomial<F: Field>(coeffs: &mut [F], n: usize, constant: F)
         let carried = constant * coeffs[i];
         coeffs[i - n] += carried;
     }
+}
+
+/// Quotient and remainder by `x^n - constant`, each in a list of its own, of which the remainder's has at most `n`
+/// items. It takes one product for each coefficient from `n` on.
+pub fn divided_by_binomial<F: Field>(
+    alloc: Global,
+    coeffs: &[F],
+    n: usize,
+    constant: F,
+) -> Result<(Vec<F>, Vec<F>), AllocError>
+    requires { 0 < n }
+    ensures division { IfOk result (λ p. of_list F.field coeffs.now ≡ added F.field
+        (product F.field (of_list F.field p.0.items)
+        (difference F.field (monomial F.field n F.field.one) (monomial F.field 0 constant)))
+        (of_list F.field p.1.items)) }
+    ensures below { IfOk result (λ p. IsBelow F.field n (of_list F.field p.1.items)) }
+{
+    let mut remainder = Vec::from_slice(alloc, coeffs)?;
+    divide_by_binomial(remainder.as_mut_slice(), n, constant);
+    let kept = n.min(remainder.len());
+    let quotient = remainder.split_off(kept)?;
+    Ok((quotient, remainder))
 }

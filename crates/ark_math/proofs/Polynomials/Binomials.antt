@@ -1,13 +1,14 @@
--- Division by x ^ n - c: each coefficient from n on is carried down by n places, times c, the highest first.
-use Rattle.std.proofs.Common.{◌≡◌, ◌≢◌, ℕ, ◌+◌, ◌-◌, ◌<◌, ◌≤◌, List, length, set, take, drop, sym, ◌∙◌, ap, ap₂, refl, subst, arith, ⊎_elim, get_or-set_same, get_or-set_other}
+-- Products with x ^ n - c, and division by it: each coefficient from n on is carried down by n places, times c, the
+-- highest first.
+use Rattle.std.proofs.Common.{◌≡◌, ◌≢◌, ℕ, ◌+◌, ◌-◌, ◌<◌, ◌≤◌, List, ◌++◌, length, get_or, set, take, drop, replicate, sym, ◌∙◌, ap, ap₂, refl, arith, ⊎_elim, get_or-set_same, get_or-set_other}
 use mathlib.Core.Path.{fun_ext}
 use Rattle.std.proofs.lemmas.Bool.{cases_eq, cases_lt}
-use Rattle.std.proofs.lemmas.List.{get_or-drop, get_or-take, length-take}
+use Rattle.std.proofs.lemmas.List.{get_or-drop, get_or-take, get_or-replicate, get_or_append_left, get_or-append_right, length-take, length-replicate}
 use Rattle.ark_math.specs.Field.{FieldOn, IsField, minus}
-use Rattle.ark_math.specs.Univariate.{added, difference, monomial, product, of_list}
+use Rattle.ark_math.specs.Univariate.{added, scaled, difference, monomial, product, of_list}
 use Rattle.ark_math.proofs.Algebra.Groups.{itself_is_module, one_times, scale_zero}
-use Rattle.ark_math.proofs.Algebra.Solve.{◌⊕◌, ◌⊖◌, nought}
-use Rattle.ark_math.proofs.Algebra.Ring.{ring3_by}
+use Rattle.ark_math.proofs.Algebra.Solve.{◌⊕◌, ◌⊖◌, ◌⊗◌, nought, negative}
+use Rattle.ark_math.proofs.Algebra.Ring.{ring3, ring3_by}
 use Rattle.ark_math.proofs.Polynomials.UnivariateLists.{of_list-past}
 use Rattle.ark_math.proofs.Polynomials.UnivariateLoops.{cut, cut-inside, cut-outside}
 use Rattle.ark_math.proofs.Polynomials.UnivariateProducts.{product_comm, product-difference, constant-product, monomial-product_past, monomial-product_before}
@@ -90,3 +91,29 @@ module _ {F : Type 0} (K : FieldOn F) (N : IsField K) (n : ℕ) (c : F) where
       (λ (l : n ≤ k). of_list-past K (take n xs) k (let e = length-take n xs in omega arith) ∙ sym (cut-outside K n (of_list K xs) k l))
       (cases_lt k n)) in
       carried-all i a (of_list K xs) all h ∙ sym (ap₂ (λ s t. added K (product K s (binomial K n c)) t) above below)
+
+  -- ---- products
+
+  -- moved up by n places: the product with x ^ n
+  moved_list : (xs : List F) (z : F) → z ≡ K.zero → of_list K (replicate n z ++ xs) ≡ product K (monomial K n K.one) (of_list K xs)
+  moved_list xs z e = fun_ext (λ k.
+      ap (λ t. get_or (replicate n t ++ xs) k K.zero) e
+      ∙ ⊎_elim
+      (λ (l : k < n).
+      get_or_append_left (replicate n K.zero) xs K.zero k (let e = length-replicate n K.zero in omega arith)
+      ∙ get_or-replicate n k K.zero K.zero l
+      ∙ sym (monomial-product_before K N n K.one (of_list K xs) k l))
+      (λ (l : n ≤ k).
+      get_or-append_right (replicate n K.zero) xs n k K.zero (length-replicate n K.zero) l
+      ∙ sym (monomial-product_past K N n K.one (of_list K xs) k l ∙ one_times K N (of_list K xs (k - n))))
+      (cases_lt k n))
+
+  -- and less c times itself: the product with x ^ n - c
+  pub multiplied_list : (xs ys : List F) (z f : F) → z ≡ K.zero → f ≡ K.negated c → ys ≡ replicate n z ++ xs
+      → added K (of_list K ys) (scaled K f (of_list K xs)) ≡ product K (of_list K xs) (binomial K n c)
+  multiplied_list xs ys z f e h g =
+      let a = of_list K xs in
+      ap₂ (λ s t. added K s (scaled K t a)) (ap (of_list K) g ∙ moved_list xs z e) h
+      ∙ fun_ext (λ k. ring3 K N (λ u c x. (u ⊕ (negative c ⊗ x), u ⊖ (c ⊗ x))) refl (product K (monomial K n K.one) a k) c (a k))
+      ∙ ap₂ (difference K) (product_comm K N (monomial K n K.one) a) (sym (constant-product K N c a) ∙ product_comm K N (monomial K 0 c) a)
+      ∙ sym (product-difference K N a (monomial K n K.one) (monomial K 0 c))

@@ -16,7 +16,10 @@ use crate::domain::{EvaluationDomain, GeneralEvaluationDomain};
 use crate::evaluations::univariate::Evaluations;
 use crate::polynomial::{DenseUVPolynomial, Polynomial};
 use ark_base::{FftField, Field, PolyError};
-use ark_coeffs::dense::{add_each, add_product, extended, subtract_each, trimmed_len};
+use ark_coeffs::dense::{
+    add_each, add_product, divide_by_binomial, divided_by_binomial, extended,
+    multiplied_by_binomial, subtract_each, trimmed_len,
+};
 use std::alloc::{AllocError, Global};
 use std::fmt::{self, Debug, Formatter, Write};
 use std::hash::{Hash, Hasher};
@@ -323,7 +326,9 @@ impl<F: FftField> DensePolynomial<F> {
         values.interpolate(alloc)
     }
 
-    /// Its values at the elements of the domain, no coefficient cut off.
+    /// Its values at the elements of the domain, no coefficient cut off: all coefficients are reduced by the vanishing
+    /// polynomial, in one pass with a product for each coefficient from the domain's size on, and then transformed in
+    /// place.
     pub fn evaluate_over_domain<D: EvaluationDomain<F>>(
         self,
         alloc: Global,
@@ -334,10 +339,15 @@ impl<F: FftField> DensePolynomial<F> {
         ensures domain { IfOk result (λ v. v.domain ≡ domain) }
         ensures memory { IsOkUnless result PolyError.Memory }
     {
-        self.evaluate_over_domain_by_ref(alloc, domain)
+        let n = domain.size();
+        let mut evals = self.coeffs;
+        divide_by_binomial(evals.as_mut_slice(), n, domain.coset_offset_pow_size());
+        evals.truncate(n);
+        domain.fft_in_place(alloc, &mut evals)?;
+        Ok(Evaluations::from_vec_and_domain(evals, domain))
     }
 
-    /// The same, and the polynomial stays.
+    /// The same of a copy, and the polynomial stays.
     pub fn evaluate_over_domain_by_ref<D: EvaluationDomain<F>>(
         &self,
         alloc: Global,
@@ -348,12 +358,64 @@ impl<F: FftField> DensePolynomial<F> {
         ensures domain { IfOk result (λ v. v.domain ≡ domain) }
         ensures memory { IsOkUnless result PolyError.Memory }
     {
-        let mut evals = Vec::with_capacity(alloc, domain.size())?;
-        for i in 0..domain.size() {
-            let value = self.evaluate(alloc, &domain.element(i))?;
-            evals.push(value)?;
+        let mut coeffs = Vec::with_capacity(alloc, self.coeffs.len().max(domain.size()))?;
+        coeffs.extend_from_slice(&self.coeffs)?;
+        DensePolynomial { coeffs }.evaluate_over_domain(alloc, domain)
+    }
+
+    /// The product with the domain's own vanishing polynomial, `x^n - h^n` for the size `n` and the offset `h`; zero
+    /// gives zero. `Overflow` exactly where the polynomial isn't zero and the product's length is past `usize::MAX`,
+    /// judged before memory is asked for.
+    ///
+    /// It takes one product for each coefficient, and memory for the answer alone.
+    pub fn mul_by_vanishing_poly<D: EvaluationDomain<F>>(
+        &self,
+        alloc: Global,
+        domain: D,
+    ) -> Result<Self, PolyError>
+        ensures product { IfOk result (λ p. of_list F.field p
+            ≡ product F.field (of_list F.field self.now) (vanishing F.field (D.domain domain))) }
+        ensures overflow { (result ≡ Err PolyError.Overflow) ↔ (0 < length self.now)
+            × (usize.MAX < length self.now + (D.domain domain).size) }
+        ensures errors { IfErr result (λ e. (e ≡ PolyError.Memory) ⊎ (e ≡ PolyError.Overflow)) }
+    {
+        if self.coeffs.is_empty() {
+            return Self::zero(alloc);
         }
-        Ok(Evaluations::from_vec_and_domain(evals, domain))
+        let n = domain.size();
+        if n > usize::MAX - self.coeffs.len() {
+            return Err(PolyError::Overflow);
+        }
+        let constant = domain.coset_offset_pow_size();
+        let coeffs = multiplied_by_binomial(alloc, &self.coeffs, n, constant)?;
+        Ok(Self::from_coefficients_vec(coeffs))
+    }
+
+    /// The quotient and the remainder by the domain's own vanishing polynomial, `x^n - h^n` for the size `n` and the
+    /// offset `h`. There is no other such pair.
+    ///
+    /// It takes one product for each coefficient from `n` on, and memory for a copy of the coefficients and for the
+    /// quotient.
+    pub fn divide_by_vanishing_poly<D: EvaluationDomain<F>>(
+        &self,
+        alloc: Global,
+        domain: D,
+    ) -> Result<(Self, Self), PolyError>
+        ensures division { IfOk result (λ p. of_list F.field self.now ≡ added F.field
+            (product F.field (of_list F.field p.0) (vanishing F.field (D.domain domain)))
+            (of_list F.field p.1)) }
+        ensures below { IfOk result (λ p. IsBelow F.field (D.domain domain).size (of_list F.field p.1)) }
+        ensures only { IfOk result (λ p. (q r : ℕ → F) → IsQuotient F.field (of_list F.field self.now)
+            (vanishing F.field (D.domain domain)) q r → (q ≡ of_list F.field p.0) × (r ≡ of_list F.field p.1)) }
+        ensures memory { IsOkUnless result PolyError.Memory }
+    {
+        let n = domain.size();
+        let constant = domain.coset_offset_pow_size();
+        let (quotient, remainder) = divided_by_binomial(alloc, &self.coeffs, n, constant)?;
+        Ok((
+            Self::from_coefficients_vec(quotient),
+            Self::from_coefficients_vec(remainder),
+        ))
     }
 }
 
