@@ -1,7 +1,8 @@
 //! Polynomials by their coefficients.
 
 ghost use Rattle.std.specs.Prelude.{◌≡◌, ◌↔◌, ℕ, List, IfOk, IsOkUnless};
-ghost use Rattle.ark_math.specs.Univariate.{of_list, nothing, added, opposite, IsTrimmed, IsDegree, IsValue};
+ghost use Rattle.ark_math.specs.Univariate.{of_list, nothing, added, opposite, scaled};
+ghost use Rattle.ark_math.specs.Univariate.{IsTrimmed, IsDegree, IsValue};
 
 pub mod univariate;
 
@@ -45,6 +46,9 @@ pub trait DenseUVPolynomial<F: Field>: Polynomial<F, Point = F> {
 
     ghost negated_coefficients: { (a : Self.Polynomial.Meaning) → coefficients (Self.negated a)
         ≡ opposite F.field (coefficients a) };
+
+    ghost scaled_coefficients: { (c : F) (a : Self.Polynomial.Meaning) → coefficients (Self.scaled c a)
+        ≡ scaled F.field c (coefficients a) };
 
     ghost degree_coefficients: { (a : Self.Polynomial.Meaning) (d : ℕ) → Self.has_degree a d
         ↔ IsDegree F.field (coefficients a) d };

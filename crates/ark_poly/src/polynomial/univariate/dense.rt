@@ -8,13 +8,13 @@ ghost use Rattle.std.specs.Hash.{on_Alike, items_Alike};
 ghost use Rattle.ark_math.specs.NormalForms.{trim};
 ghost use Rattle.ark_math.specs.Points.{AreValues};
 ghost use Rattle.ark_math.specs.Univariate.{IsTrimmed, IsDegree, IsValue, of_list, nothing, added, opposite};
-ghost use Rattle.ark_math.specs.Univariate.{product};
+ghost use Rattle.ark_math.specs.Univariate.{product, scaled as multiple};
 
 use crate::domain::EvaluationDomain;
 use crate::evaluations::univariate::Evaluations;
 use crate::polynomial::{DenseUVPolynomial, Polynomial};
 use ark_base::{FftField, Field, PolyError};
-use ark_coeffs::dense::{add_each, add_product, extended, subtract_each, trimmed_len};
+use ark_coeffs::dense::{add_each, add_product, add_scaled, extended, grow, subtract_each, trim};
 use std::alloc::{AllocError, Global};
 use std::fmt::{self, Debug, Formatter, Write};
 use std::hash::{Hash, Hasher};
@@ -94,10 +94,12 @@ impl<F: Field> Debug for DensePolynomial<F> {
 
 impl<F: Field> Polynomial<F> for DensePolynomial<F> {
     ghost use Rattle.std.proofs.Common.{[], ap};
+    ghost use Rattle.ark_math.proofs.Algebra.Groups.{scale_zero};
     ghost use Rattle.ark_math.proofs.Polynomials.Univariate.{coefficients_are_module, one_degree};
     ghost use Rattle.ark_math.proofs.Polynomials.Trimmed.{trim_equality};
     ghost use Rattle.ark_math.proofs.Polynomials.UnivariateLists.{trimmed-nil, trimmed_degree};
     ghost use Rattle.ark_math.proofs.Polynomials.UnivariateValues.{one_value, value-added, value-opposite};
+    ghost use Rattle.ark_math.proofs.Polynomials.UnivariateValues.{value-scaled};
 
     type Point = F;
 
@@ -118,6 +120,8 @@ impl<F: Field> Polynomial<F> for DensePolynomial<F> {
     ghost sum = { added F.field };
 
     ghost negated = { opposite F.field };
+
+    ghost scaled = { multiple F.field };
 
     fn degree(&self) -> usize {
         self.coeffs.len().saturating_sub(1)
@@ -170,6 +174,33 @@ impl<F: Field> Polynomial<F> for DensePolynomial<F> {
         DensePolynomial::zero(alloc)?.sub(alloc, self)
     }
 
+    // The three in place take memory only where the other one is longer, and no copy.
+    fn add_assign(&mut self, _alloc: Global, other: &Self) -> Result<(), PolyError> {
+        grow(&mut self.coeffs, other.coeffs.len())?;
+        add_each(self.coeffs.as_mut_slice(), &other.coeffs);
+        trim(&mut self.coeffs);
+        Ok(())
+    }
+
+    fn sub_assign(&mut self, _alloc: Global, other: &Self) -> Result<(), PolyError> {
+        grow(&mut self.coeffs, other.coeffs.len())?;
+        subtract_each(self.coeffs.as_mut_slice(), &other.coeffs);
+        trim(&mut self.coeffs);
+        Ok(())
+    }
+
+    fn add_assign_scaled(
+        &mut self,
+        _alloc: Global,
+        factor: F,
+        other: &Self,
+    ) -> Result<(), PolyError> {
+        grow(&mut self.coeffs, other.coeffs.len())?;
+        add_scaled(self.coeffs.as_mut_slice(), factor, &other.coeffs);
+        trim(&mut self.coeffs);
+        Ok(())
+    }
+
     ghost equality_law = { trim_equality F.field F.eq F.zero F.equality_law F.zero_law };
 
     ghost clone_law = { λ a b e. ap (of_list F.field) e };
@@ -188,15 +219,29 @@ impl<F: Field> Polynomial<F> for DensePolynomial<F> {
 
     ghost addable_negated = { λ a b addable. tt };
 
+    ghost addable_scaled = { λ c a b addable. tt };
+
     ghost sum_zero = { (coefficients_are_module F.field F.field_laws).plus_zero };
 
     ghost sum_comm = { λ a b addable. (coefficients_are_module F.field F.field_laws).plus_comm a b };
 
     ghost sum_assoc = { λ a b c left right. (coefficients_are_module F.field F.field_laws).plus_assoc a b c };
 
+    ghost scaled_one = { (coefficients_are_module F.field F.field_laws).one_scale };
+
+    ghost scaled_times = { (coefficients_are_module F.field F.field_laws).times_scale };
+
+    ghost scaled_plus = { (coefficients_are_module F.field F.field_laws).plus_scale };
+
+    ghost scaled_sum = { λ c a b addable. (coefficients_are_module F.field F.field_laws).scale_plus c a b };
+
+    ghost scaled_zero = { scale_zero (coefficients_are_module F.field F.field_laws) };
+
     ghost value_sum = { λ a b x y z addable. value-added F.field F.field_laws a b x y z };
 
     ghost value_negated = { value-opposite F.field F.field_laws };
+
+    ghost value_scaled = { value-scaled F.field F.field_laws };
 }
 
 impl<F: Field> DenseUVPolynomial<F> for DensePolynomial<F> {
@@ -212,7 +257,7 @@ impl<F: Field> DenseUVPolynomial<F> for DensePolynomial<F> {
         ensures { of_list F.field result ≡ of_list F.field coeffs.items }
     {
         let mut coeffs = coeffs;
-        coeffs.truncate(trimmed_len(&coeffs));
+        trim(&mut coeffs);
         DensePolynomial { coeffs }
     }
 
@@ -234,6 +279,8 @@ impl<F: Field> DenseUVPolynomial<F> for DensePolynomial<F> {
     ghost sum_coefficients = { λ a b. refl };
 
     ghost negated_coefficients = { λ a. refl };
+
+    ghost scaled_coefficients = { λ c a. refl };
 
     ghost degree_coefficients = { λ a d. ((λ h. h), (λ h. h)) };
 
