@@ -14,7 +14,10 @@ use crate::domain::EvaluationDomain;
 use crate::evaluations::univariate::Evaluations;
 use crate::polynomial::{DenseUVPolynomial, Polynomial};
 use ark_base::{FftField, Field, PolyError};
-use ark_coeffs::dense::{add_each, add_product, add_scaled, extended, grow, subtract_each, trim};
+use ark_coeffs::dense::{
+    add_each, add_product, add_scaled, extended, grow, scale_each, subtract_each, trim,
+};
+use rand::Rng;
 use std::alloc::{AllocError, Global};
 use std::fmt::{self, Debug, Formatter, Write};
 use std::hash::{Hash, Hasher};
@@ -268,6 +271,27 @@ impl<F: Field> DenseUVPolynomial<F> for DensePolynomial<F> {
         &self.coeffs
     }
 
+    fn rand<R: Rng>(
+        alloc: Global,
+        d: usize,
+        rng: &mut R,
+        tries: usize,
+    ) -> Result<Option<Self>, PolyError> {
+        let len = d.checked_add(1).ok_or(PolyError::Overflow)?;
+        let mut coeffs = Vec::with_capacity(alloc, len)?;
+        for _ in 0..d {
+            coeffs.push(F::rand(rng))?;
+        }
+        for _ in 0..tries {
+            let leading = F::rand(rng);
+            if !leading.is_zero() {
+                coeffs.push(leading)?;
+                return Ok(Some(DensePolynomial { coeffs }));
+            }
+        }
+        Ok(None)
+    }
+
     ghost coefficients = { λ a. a };
 
     ghost coefficients_law = { λ p. refl };
@@ -292,6 +316,18 @@ impl<F: Field> DenseUVPolynomial<F> for DensePolynomial<F> {
 }
 
 impl<F: Field> DensePolynomial<F> {
+    /// The multiple by a factor: zero for the factor zero. Takes memory for a copy of the coefficients, and a product
+    /// for each.
+    pub fn mul_scalar(&self, alloc: Global, factor: F) -> Result<Self, PolyError>
+        ensures multiple { IfOk result (λ p. of_list F.field p
+            ≡ multiple F.field factor (of_list F.field self.now)) }
+        ensures memory { IsOkUnless result PolyError.Memory }
+    {
+        let mut coeffs = Vec::from_slice(alloc, &self.coeffs)?;
+        scale_each(coeffs.as_mut_slice(), factor);
+        Ok(Self::from_coefficients_vec(coeffs))
+    }
+
     /// The product, by all products of two coefficients. `Overflow` exactly where neither factor is zero and the
     /// product's length is past `usize::MAX`: never in practice, since two lists whose items take a byte or more can't
     /// be so long.
