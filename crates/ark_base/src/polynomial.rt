@@ -1,6 +1,6 @@
 //! What all forms of polynomials share.
 
-ghost use Rattle.std.specs.Prelude.{◌≡◌, ◌↔◌, ℕ, Decides, IsTrue, IfOk, IsOkUnless};
+ghost use Rattle.std.specs.Prelude.{◌≡◌, ◌↔◌, ℕ, Decides, IsTrue, IfOk, OnOk, OnErr, IsOkUnless};
 
 use crate::error::PolyError;
 use crate::field::Field;
@@ -35,6 +35,9 @@ pub trait Polynomial<F: Field>: Clone + Debug + Hash + Eq + Drop {
     ghost sum: { Meaning → Meaning → Meaning };
 
     ghost negated: { Meaning → Meaning };
+
+    // A multiple; that by zero may keep the variables.
+    ghost scaled: { F → Meaning → Meaning };
 
     /// The total degree; 0 for zero.
     fn degree(&self) -> usize
@@ -84,6 +87,35 @@ pub trait Polynomial<F: Field>: Clone + Debug + Hash + Eq + Drop {
         ensures fits { IfOk result (λ p. (x : Self.Point) → fits self.now x → fits p x) }
         ensures memory { IsOkUnless result PolyError.Memory };
 
+    /// Adds one that it can be added to, in place. After an error it has the value that it had; a point that fits both
+    /// fits it either way.
+    fn add_assign(&mut self, alloc: Global, other: &Self) -> Result<(), PolyError>
+        requires { addable (meaning self.old) (meaning other.now) }
+        ensures sum { OnOk result (meaning self.new ≡ sum (meaning self.old) (meaning other.now)) }
+        ensures kept { OnErr result (self.new ≡ self.old) }
+        ensures fits { (x : Self.Point) → fits self.old x → fits other.now x → fits self.new x }
+        ensures memory { IsOkUnless result PolyError.Memory };
+
+    /// Subtracts one that it can be added to, in place. After an error it has the value that it had; a point that fits
+    /// both fits it either way.
+    fn sub_assign(&mut self, alloc: Global, other: &Self) -> Result<(), PolyError>
+        requires { addable (meaning self.old) (meaning other.now) }
+        ensures difference { OnOk result (meaning self.new
+            ≡ sum (meaning self.old) (negated (meaning other.now))) }
+        ensures kept { OnErr result (self.new ≡ self.old) }
+        ensures fits { (x : Self.Point) → fits self.old x → fits other.now x → fits self.new x }
+        ensures memory { IsOkUnless result PolyError.Memory };
+
+    /// Adds a multiple of one that it can be added to, in place. After an error it has the value that it had; a point
+    /// that fits both fits it either way.
+    fn add_assign_scaled(&mut self, alloc: Global, factor: F, other: &Self) -> Result<(), PolyError>
+        requires { addable (meaning self.old) (meaning other.now) }
+        ensures sum { OnOk result (meaning self.new
+            ≡ sum (meaning self.old) (scaled factor (meaning other.now))) }
+        ensures kept { OnErr result (self.new ≡ self.old) }
+        ensures fits { (x : Self.Point) → fits self.old x → fits other.now x → fits self.new x }
+        ensures memory { IsOkUnless result PolyError.Memory };
+
     ghost equality_law: { (a b : Self) → Decides (Self.eq a b) (meaning a ≡ meaning b) };
 
     ghost clone_law: { (a b : Self) → Self.is_clone a b → meaning b ≡ meaning a };
@@ -102,15 +134,32 @@ pub trait Polynomial<F: Field>: Clone + Debug + Hash + Eq + Drop {
 
     ghost addable_negated: { (a b : Meaning) → addable a b → addable a (negated b) };
 
+    ghost addable_scaled: { (c : F) (a b : Meaning) → addable a b → addable a (scaled c b) };
+
     ghost sum_zero: { (a : Meaning) → sum a zero ≡ a };
 
     ghost sum_comm: { (a b : Meaning) → addable a b → sum a b ≡ sum b a };
 
     ghost sum_assoc: { (a b c : Meaning) → addable a b → addable b c → sum (sum a b) c ≡ sum a (sum b c) };
 
+    ghost scaled_one: { (a : Meaning) → scaled F.field.one a ≡ a };
+
+    ghost scaled_times: { (c d : F) (a : Meaning) → scaled (F.field.times c d) a ≡ scaled c (scaled d a) };
+
+    ghost scaled_plus: { (c d : F) (a : Meaning) → scaled (F.field.plus c d) a
+        ≡ sum (scaled c a) (scaled d a) };
+
+    ghost scaled_sum: { (c : F) (a b : Meaning) → addable a b
+        → scaled c (sum a b) ≡ sum (scaled c a) (scaled c b) };
+
+    ghost scaled_zero: { (c : F) → scaled c zero ≡ zero };
+
     ghost value_sum: { (a b : Meaning) (x : Self.Point) (y z : F) → addable a b
         → has_value a x y → has_value b x z → has_value (sum a b) x (F.field.plus y z) };
 
     ghost value_negated: { (a : Meaning) (x : Self.Point) (y : F) → has_value a x y
         → has_value (negated a) x (F.field.negated y) };
+
+    ghost value_scaled: { (c : F) (a : Meaning) (x : Self.Point) (y : F) → has_value a x y
+        → has_value (scaled c a) x (F.field.times c y) };
 }

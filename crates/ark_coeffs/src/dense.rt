@@ -1,7 +1,9 @@
 //! Coefficients by their exponents: item i of a list is the coefficient at i.
 
-ghost use Rattle.std.specs.Prelude.{◌≡◌, ◌≢◌, ℕ, ◌+◌, ◌-◌, ◌<◌, ◌≤◌, length, IfOk, replicate, take, drop};
+ghost use Rattle.std.specs.Prelude.{◌≡◌, ◌≢◌, ℕ, ◌+◌, ◌-◌, ◌<◌, ◌≤◌, length, IfOk, OnOk, OnErr};
+ghost use Rattle.std.specs.Prelude.{replicate, take, drop};
 ghost use Rattle.ark_math.specs.Univariate.{IsBelow, of_list, added, difference, opposite, monomial, product, scaled};
+ghost use Rattle.ark_math.specs.Univariate.{IsTrimmed};
 
 use ark_base::Field;
 use std::alloc::{AllocError, Global};
@@ -115,6 +117,26 @@ pub fn multiplied_by_binomial<F: Field>(
     product.extend_from_slice(coeffs)?;
     add_scaled(product.as_mut_slice(), -constant, coeffs);
     Ok(product)
+}
+
+/// Adds zeros up to this length, unless there are as many items. After an error the items are the same.
+pub fn grow<F: Field>(coeffs: &mut Vec<F>, len: usize) -> Result<(), AllocError>
+    ensures same { of_list F.field coeffs.new.items ≡ of_list F.field coeffs.old.items }
+    ensures len { OnOk result (len ≤ length coeffs.new.items) }
+    ensures kept { OnErr result (coeffs.new.items ≡ coeffs.old.items) }
+{
+    if coeffs.len() < len {
+        coeffs.resize(len, F::zero())?;
+    }
+    Ok(())
+}
+
+/// Cuts off the zeros at the end.
+pub fn trim<F: Field>(coeffs: &mut Vec<F>)
+    ensures same { of_list F.field coeffs.new.items ≡ of_list F.field coeffs.old.items }
+    ensures trimmed { IsTrimmed F.field coeffs.new.items }
+{
+    coeffs.truncate(trimmed_len(coeffs));
 }
 
 /// Divides by `x^n - constant` in place: the first `n` items are then the remainder's, and those from `n` on the

@@ -122,6 +122,12 @@ module _ {F : Type 0} (K : FieldOn F) where
   pub trimmed_degree : (c : List F) → IsTrimmed K c → IsDegree K (of_list K c) (length c - 1)
   trimmed_degree c t = record { rest = λ i l. of_list-past c i (omega arith); leading = λ l. t (omega arith) }
 
+  -- a last item that isn't zero is the leading coefficient
+  pub degree-push : (c : List F) (x : F) (d : ℕ) → length c ≡ d → x ≢ K.zero → IsDegree K (of_list K (c ++ x ∷ [])) d
+  degree-push c x d e ne =
+      let last : length (c ++ x ∷ []) - 1 ≡ d = omega (arith, length_push c x) in
+      subst (IsDegree K (of_list K (c ++ x ∷ []))) last (trimmed_degree (c ++ x ∷ []) (trimmed-push c x ne))
+
   pub trimmed_degree_is : (c : List F) (d : ℕ) → IsTrimmed K c → IsDegree K (of_list K c) d → d ≡ length c - 1
   trimmed_degree_is c d t h = one_degree K (of_list K c) d (length c - 1) h (trimmed_degree c t)
 

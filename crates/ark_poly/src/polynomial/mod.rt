@@ -1,12 +1,15 @@
 //! Polynomials by their coefficients.
 
-ghost use Rattle.std.specs.Prelude.{◌≡◌, ◌↔◌, ℕ, List, IfOk, IsOkUnless};
-ghost use Rattle.ark_math.specs.Univariate.{of_list, nothing, added, opposite, IsTrimmed, IsDegree, IsValue};
+ghost use Rattle.std.specs.Prelude.{◌≡◌, ◌↔◌, ℕ, ◌+◌, ◌⊎◌, List, length};
+ghost use Rattle.std.specs.Prelude.{IfOk, IfErr, IfSome, IsNone, IsOkUnless};
+ghost use Rattle.ark_math.specs.Univariate.{of_list, nothing, added, opposite, scaled};
+ghost use Rattle.ark_math.specs.Univariate.{IsTrimmed, IsDegree, IsValue};
 
 pub mod univariate;
 
 pub use ark_base::Polynomial;
 use ark_base::{Field, PolyError};
+use rand::Rng;
 use std::alloc::Global;
 
 /// A polynomial in one variable that keeps all its coefficients, the lowest first.
@@ -32,6 +35,22 @@ pub trait DenseUVPolynomial<F: Field>: Polynomial<F, Point = F> {
         ensures same { result.now ≡ listed self.now }
         ensures trimmed { IsTrimmed F.field result.now };
 
+    /// A polynomial of degree `d` with drawn coefficients: first the `d` lowest, then at most `tries` draws for a leading
+    /// one that isn't zero, and `None` where these are spent. `Overflow` exactly where `d` is `usize::MAX`, judged
+    /// first. Takes memory for the coefficients once, before any draw.
+    fn rand<R: Rng>(
+        alloc: Global,
+        d: usize,
+        rng: &mut R,
+        tries: usize,
+    ) -> Result<Option<Self>, PolyError>
+        ensures degree { IfOk result (λ drawn. IfSome drawn (λ p.
+            IsDegree F.field (of_list F.field (listed p)) d)) }
+        ensures len { IfOk result (λ drawn. IfSome drawn (λ p. length (listed p) ≡ d + 1)) }
+        ensures spent { tries ≡ 0 → IfOk result (λ drawn. IsNone drawn) }
+        ensures overflow { (result ≡ Err PolyError.Overflow) ↔ (d ≡ usize.MAX) }
+        ensures errors { IfErr result (λ e. (e ≡ PolyError.Memory) ⊎ (e ≡ PolyError.Overflow)) };
+
     // A polynomial's coefficients by their exponents.
     ghost coefficients: { Self.Polynomial.Meaning → ℕ → F };
 
@@ -46,6 +65,9 @@ pub trait DenseUVPolynomial<F: Field>: Polynomial<F, Point = F> {
 
     ghost negated_coefficients: { (a : Self.Polynomial.Meaning) → coefficients (Self.negated a)
         ≡ opposite F.field (coefficients a) };
+
+    ghost scaled_coefficients: { (c : F) (a : Self.Polynomial.Meaning) → coefficients (Self.scaled c a)
+        ≡ scaled F.field c (coefficients a) };
 
     ghost degree_coefficients: { (a : Self.Polynomial.Meaning) (d : ℕ) → Self.has_degree a d
         ↔ IsDegree F.field (coefficients a) d };

@@ -10,16 +10,17 @@ ghost use Rattle.ark_math.specs.NormalForms.{trim};
 ghost use Rattle.ark_math.specs.Domain.{HasNoSize, IsGeneral};
 ghost use Rattle.ark_math.specs.Points.{AreValues, vanishing};
 ghost use Rattle.ark_math.specs.Univariate.{IsTrimmed, IsDegree, IsValue, of_list, nothing, added, opposite};
-ghost use Rattle.ark_math.specs.Univariate.{IsBelow, IsQuotient, product};
+ghost use Rattle.ark_math.specs.Univariate.{IsBelow, IsQuotient, product, scaled as multiple};
 
 use crate::domain::{EvaluationDomain, GeneralEvaluationDomain};
 use crate::evaluations::univariate::Evaluations;
 use crate::polynomial::{DenseUVPolynomial, Polynomial};
 use ark_base::{FftField, Field, PolyError};
 use ark_coeffs::dense::{
-    add_each, add_product, divide_by_binomial, divided_by_binomial, extended,
-    multiplied_by_binomial, subtract_each, trimmed_len,
+    add_each, add_product, add_scaled, divide_by_binomial, divided_by_binomial, extended, grow,
+    multiplied_by_binomial, scale_each, subtract_each, trim,
 };
+use rand::Rng;
 use std::alloc::{AllocError, Global};
 use std::fmt::{self, Debug, Formatter, Write};
 use std::hash::{Hash, Hasher};
@@ -99,10 +100,12 @@ impl<F: Field> Debug for DensePolynomial<F> {
 
 impl<F: Field> Polynomial<F> for DensePolynomial<F> {
     ghost use Rattle.std.proofs.Common.{[], ap};
+    ghost use Rattle.ark_math.proofs.Algebra.Groups.{scale_zero};
     ghost use Rattle.ark_math.proofs.Polynomials.Univariate.{coefficients_are_module, one_degree};
     ghost use Rattle.ark_math.proofs.Polynomials.Trimmed.{trim_equality};
     ghost use Rattle.ark_math.proofs.Polynomials.UnivariateLists.{trimmed-nil, trimmed_degree};
     ghost use Rattle.ark_math.proofs.Polynomials.UnivariateValues.{one_value, value-added, value-opposite};
+    ghost use Rattle.ark_math.proofs.Polynomials.UnivariateValues.{value-scaled};
 
     type Point = F;
 
@@ -123,6 +126,8 @@ impl<F: Field> Polynomial<F> for DensePolynomial<F> {
     ghost sum = { added F.field };
 
     ghost negated = { opposite F.field };
+
+    ghost scaled = { multiple F.field };
 
     fn degree(&self) -> usize {
         self.coeffs.len().saturating_sub(1)
@@ -175,6 +180,33 @@ impl<F: Field> Polynomial<F> for DensePolynomial<F> {
         DensePolynomial::zero(alloc)?.sub(alloc, self)
     }
 
+    // The three in place take memory only where the other one is longer, and no copy.
+    fn add_assign(&mut self, _alloc: Global, other: &Self) -> Result<(), PolyError> {
+        grow(&mut self.coeffs, other.coeffs.len())?;
+        add_each(self.coeffs.as_mut_slice(), &other.coeffs);
+        trim(&mut self.coeffs);
+        Ok(())
+    }
+
+    fn sub_assign(&mut self, _alloc: Global, other: &Self) -> Result<(), PolyError> {
+        grow(&mut self.coeffs, other.coeffs.len())?;
+        subtract_each(self.coeffs.as_mut_slice(), &other.coeffs);
+        trim(&mut self.coeffs);
+        Ok(())
+    }
+
+    fn add_assign_scaled(
+        &mut self,
+        _alloc: Global,
+        factor: F,
+        other: &Self,
+    ) -> Result<(), PolyError> {
+        grow(&mut self.coeffs, other.coeffs.len())?;
+        add_scaled(self.coeffs.as_mut_slice(), factor, &other.coeffs);
+        trim(&mut self.coeffs);
+        Ok(())
+    }
+
     ghost equality_law = { trim_equality F.field F.eq F.zero F.equality_law F.zero_law };
 
     ghost clone_law = { λ a b e. ap (of_list F.field) e };
@@ -193,15 +225,29 @@ impl<F: Field> Polynomial<F> for DensePolynomial<F> {
 
     ghost addable_negated = { λ a b addable. tt };
 
+    ghost addable_scaled = { λ c a b addable. tt };
+
     ghost sum_zero = { (coefficients_are_module F.field F.field_laws).plus_zero };
 
     ghost sum_comm = { λ a b addable. (coefficients_are_module F.field F.field_laws).plus_comm a b };
 
     ghost sum_assoc = { λ a b c left right. (coefficients_are_module F.field F.field_laws).plus_assoc a b c };
 
+    ghost scaled_one = { (coefficients_are_module F.field F.field_laws).one_scale };
+
+    ghost scaled_times = { (coefficients_are_module F.field F.field_laws).times_scale };
+
+    ghost scaled_plus = { (coefficients_are_module F.field F.field_laws).plus_scale };
+
+    ghost scaled_sum = { λ c a b addable. (coefficients_are_module F.field F.field_laws).scale_plus c a b };
+
+    ghost scaled_zero = { scale_zero (coefficients_are_module F.field F.field_laws) };
+
     ghost value_sum = { λ a b x y z addable. value-added F.field F.field_laws a b x y z };
 
     ghost value_negated = { value-opposite F.field F.field_laws };
+
+    ghost value_scaled = { value-scaled F.field F.field_laws };
 }
 
 impl<F: Field> DenseUVPolynomial<F> for DensePolynomial<F> {
@@ -218,7 +264,7 @@ impl<F: Field> DenseUVPolynomial<F> for DensePolynomial<F> {
         ensures trimmed { IsTrimmed F.field result }
     {
         let mut coeffs = coeffs;
-        coeffs.truncate(trimmed_len(&coeffs));
+        trim(&mut coeffs);
         DensePolynomial { coeffs }
     }
 
@@ -227,6 +273,27 @@ impl<F: Field> DenseUVPolynomial<F> for DensePolynomial<F> {
         ensures trimmed { IsTrimmed F.field result.now }
     {
         &self.coeffs
+    }
+
+    fn rand<R: Rng>(
+        alloc: Global,
+        d: usize,
+        rng: &mut R,
+        tries: usize,
+    ) -> Result<Option<Self>, PolyError> {
+        let len = d.checked_add(1).ok_or(PolyError::Overflow)?;
+        let mut coeffs = Vec::with_capacity(alloc, len)?;
+        for _ in 0..d {
+            coeffs.push(F::rand(rng))?;
+        }
+        for _ in 0..tries {
+            let leading = F::rand(rng);
+            if !leading.is_zero() {
+                coeffs.push(leading)?;
+                return Ok(Some(DensePolynomial { coeffs }));
+            }
+        }
+        Ok(None)
     }
 
     ghost coefficients = { λ a. a };
@@ -241,6 +308,8 @@ impl<F: Field> DenseUVPolynomial<F> for DensePolynomial<F> {
 
     ghost negated_coefficients = { λ a. refl };
 
+    ghost scaled_coefficients = { λ c a. refl };
+
     ghost degree_coefficients = { λ a d. ((λ h. h), (λ h. h)) };
 
     ghost value_coefficients = { λ a x y. ((λ h. h), (λ h. h)) };
@@ -251,6 +320,18 @@ impl<F: Field> DenseUVPolynomial<F> for DensePolynomial<F> {
 }
 
 impl<F: Field> DensePolynomial<F> {
+    /// The multiple by a factor: zero for the factor zero. Takes memory for a copy of the coefficients, and a product
+    /// for each.
+    pub fn mul_scalar(&self, alloc: Global, factor: F) -> Result<Self, PolyError>
+        ensures multiple { IfOk result (λ p. of_list F.field p
+            ≡ multiple F.field factor (of_list F.field self.now)) }
+        ensures memory { IsOkUnless result PolyError.Memory }
+    {
+        let mut coeffs = Vec::from_slice(alloc, &self.coeffs)?;
+        scale_each(coeffs.as_mut_slice(), factor);
+        Ok(Self::from_coefficients_vec(coeffs))
+    }
+
     /// The product, by all products of two coefficients. `Overflow` exactly where neither factor is zero and the
     /// product's length is past `usize::MAX`: never in practice, since two lists whose items take a byte or more can't
     /// be so long.
