@@ -3,6 +3,7 @@
 
 pub mod domain;
 pub mod evaluations;
+pub mod laws;
 pub mod polynomial;
 
 pub use domain::{

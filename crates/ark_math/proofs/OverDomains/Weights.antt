@@ -7,8 +7,8 @@ use Rattle.ark_math.specs.Module.{itself, sum_below}
 use Rattle.ark_math.specs.Root.{HasOrder}
 use Rattle.ark_math.specs.Domain.{Domain, element}
 use Rattle.ark_math.specs.Transform.{dft_at}
-use Rattle.ark_math.specs.Univariate.{value_below, of_list, monomial}
-use Rattle.ark_math.specs.Points.{AreWeights}
+use Rattle.ark_math.specs.Univariate.{IsBelow, IsValue, value_below, of_list, monomial}
+use Rattle.ark_math.specs.Points.{AreValues, AreWeights}
 use Rattle.ark_math.proofs.Algebra.Groups.{itself_is_module, one_times, zero_scale}
 use Rattle.ark_math.proofs.Algebra.Powers.{times_zero, zero_factor, power-times, power_comm, powers_inverse}
 use Rattle.ark_math.proofs.Algebra.Sums.{sum_below-same, sum_below-scale}
@@ -16,8 +16,9 @@ use Rattle.ark_math.proofs.Algebra.Regrouped.{sum_below-swap, sum_below-single, 
 use Rattle.ark_math.proofs.Roots.Orthogonal.{returned, quotients_zero, quotients_one, geometric}
 use Rattle.ark_math.proofs.Algebra.Solve.{◌⊕◌, ◌⊖◌, ◌⊗◌, unit}
 use Rattle.ark_math.proofs.Algebra.Ring.{ring3, ring3_by, ring4, ring5, ring6}
-use Rattle.ark_math.proofs.Polynomials.UnivariateValues.{value_below-monomial}
+use Rattle.ark_math.proofs.Polynomials.UnivariateValues.{value_below-monomial, value_is}
 use Rattle.ark_math.proofs.Polynomials.UnivariateLoops.{cut, cut-inside, cut-outside}
+use Rattle.ark_math.proofs.OverDomains.PlaceValues.{values-item}
 use Rattle.ark_math.proofs.Domains.Elements.{Inverses, positive, minus_not_zero, times_not_zero, factor_not_zero, power_not_zero, cancel_factor, element-power}
 
 -- the inverse of element k
@@ -179,3 +180,13 @@ module _ {F : Type 0} (K : FieldOn F) (N : IsField K) (d : Domain F) (o : HasOrd
   weights_elsewhere tau l ne count h =
       weights_are tau l count
       (λ i b. cancel_factor K N (divisor tau i) (of_list K l i) (weight K d v tau i) (divisor_not_zero tau i (ne i b)) (h i b ∙ sym (weight-formula tau i)))
+
+-- with the values of a polynomial below the size they give its value
+pub weighted_values : {F : Type 0} (K : FieldOn F) (N : IsField K) (d : Domain F) (tau : F) (l : List F) → AreWeights K d tau l → (a : ℕ → F) (v : List F) → IsBelow K d.size a → AreValues K d a v → IsValue K a tau (sum_below (itself K) d.size (λ i. K.times (of_list K l i) (of_list K v i)))
+weighted_values K N d tau l W a v b A = (
+  d.size,
+  b,
+  sum_below-same (itself K) d.size (λ i. K.times (of_list K l i) (of_list K v i)) (λ i. K.times (of_list K l i) (value_below K d.size a (element K d i)))
+      (λ i h. ap (K.times (of_list K l i)) (value_is K N d.size a (element K d i) (of_list K v i) b (values-item K N d a v A i h)))
+  ∙ W.give a b,
+)

@@ -54,6 +54,14 @@ module _ {F : Type 0} (K : FieldOn F) where
   pub same_below : (n : ℕ) (a b : ℕ → F) → IsBelow K n a → IsBelow K n b → ((i : ℕ) → i < n → a i ≡ b i) → a ≡ b
   same_below n a b f g h = fun_ext (λ i. ⊎_elim (h i) (λ (l : n ≤ i). f i l ∙ sym (g i l)) (cases_lt i n))
 
+  -- what isn't zero isn't zero at its degree
+  pub leading_not_zero : (a : ℕ → F) (d : ℕ) → IsDegree K a d → a ≢ nothing K → a d ≢ K.zero
+  leading_not_zero a d h some e =
+      ⊎_elim
+      (λ (l : 0 < d). h.leading l e)
+      (λ (l : d ≤ 0). some (nothing_from_below a (λ i b. IsBelow-less d a e (λ j m. h.rest j (omega arith)) i (omega arith))))
+      (cases_lt 0 d)
+
   pub one_degree : (a : ℕ → F) (d e : ℕ) → IsDegree K a d → IsDegree K a e → d ≡ e
   one_degree a d e f g =
       ⊎_elim

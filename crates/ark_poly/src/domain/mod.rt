@@ -448,8 +448,7 @@ pub trait EvaluationDomain<F: FftField>: Copy + Eq + Hash + Debug {
         }
     }
 
-    /// The products of two polynomials' values, place by place, where there are as many of both. Over the elements they
-    /// are the values of the polynomials' product.
+    /// The products of two polynomials' values, place by place: the values of the polynomials' product.
     ///
     /// It takes a product for each place, and memory for the products alone.
     final fn mul_polynomials_in_evaluation_domain(

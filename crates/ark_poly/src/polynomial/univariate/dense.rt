@@ -1,7 +1,7 @@
 //! Polynomials in one variable by the list of their coefficients.
 
-ghost use Rattle.std.specs.Prelude.{◌≡◌, ◌↔◌, ℕ, ◌+◌, ◌-◌, ◌<◌, ◌≤◌, length, ◌⊎◌, IfSome, IsNone, IfOk, IfErr, IsOk};
-ghost use Rattle.std.specs.Prelude.{IsOkUnless};
+ghost use Rattle.std.specs.Prelude.{◌≡◌, ◌↔◌, ℕ, ◌+◌, ◌-◌, ◌<◌, length, ◌⊎◌, IfOk, IfErr, IsOk, IsOkUnless};
+ghost use Rattle.std.specs.Prelude.{◌≤◌, IfSome, IsNone};
 ghost use Rattle.std.specs.Cmp.{on_equiv, on_per};
 ghost use Rattle.std.specs.Cmp.Lexicographic.{pointwise, lists_equiv, lists_per};
 ghost use Rattle.std.specs.Hash as fed;
@@ -358,12 +358,12 @@ impl<F: Field> DensePolynomial<F> {
 }
 
 impl<F: FftField> DensePolynomial<F> {
-    /// The product, by transforms over the general domain of the least size that holds it. The product with zero is zero
-    /// without a domain; `NoDomain` exactly where neither factor is zero and the field has no domain of that size, judged
-    /// before memory is asked for.
+    /// The product, by transforms over the general domain for its length. With zero it is zero without a
+    /// domain. `NoDomain` exactly where neither factor is zero and the field has no domain for that length,
+    /// judged before memory is asked for.
     ///
-    /// Over `n` elements it takes three transforms and `n` products more, and memory for the values of both factors
-    /// beside what a transform takes.
+    /// Over `n` elements it takes three transforms and `n` products more, and memory for `n` values of each
+    /// factor beside what a transform takes.
     pub fn mul(&self, alloc: Global, other: &Self) -> Result<Self, PolyError>
         ensures product { IfOk result (λ p. of_list F.field p
             ≡ product F.field (of_list F.field self.now) (of_list F.field other.now)) }
@@ -374,16 +374,17 @@ impl<F: FftField> DensePolynomial<F> {
         if self.coeffs.is_empty() || other.coeffs.is_empty() {
             return Self::zero(alloc);
         }
-        let domain = domain_of_product::<F>(self.coeffs.len(), other.coeffs.len()).ok_or(
-            PolyError::NoDomain,
-        )?;
+        let chosen = domain_of_product(self.coeffs.len(), other.coeffs.len());
+        let domain = chosen.ok_or(PolyError::NoDomain)?;
         self.mul_over_domain(alloc, other, domain)
     }
 
-    /// The only polynomial below the domain's size with the products of the values at the elements: the remainder of the
-    /// product by the vanishing polynomial, and the product itself where that is below the size.
+    /// The only polynomial below the domain's size with the products of both values at the elements: the
+    /// remainder of the product by the vanishing polynomial, and the product itself where that is below the
+    /// size.
     ///
-    /// It takes a transform for each factor and one back, a product for each element, and memory for the values of both.
+    /// It takes a transform for each factor and one back, a product for each element, and memory for the
+    /// values of both factors beside what a transform takes.
     pub fn mul_over_domain<D: EvaluationDomain<F>>(
         &self,
         alloc: Global,
