@@ -476,8 +476,8 @@ impl<F: FftField> DensePolynomial<F> {
     /// The quotient and the remainder by the domain's own vanishing polynomial, `x^n - h^n` for the size `n` and the
     /// offset `h`. There is no other such pair.
     ///
-    /// It takes one product for each coefficient from `n` on, and memory for a copy of the coefficients and for the
-    /// quotient.
+    /// It takes one product for each coefficient from `n` on, and memory for the quotient and for a copy of the
+    /// coefficients, which becomes the remainder.
     pub fn divide_by_vanishing_poly<D: EvaluationDomain<F>>(
         &self,
         alloc: Global,
@@ -488,7 +488,8 @@ impl<F: FftField> DensePolynomial<F> {
             (of_list F.field p.1)) }
         ensures below { IfOk result (λ p. IsBelow F.field (D.domain domain).size (of_list F.field p.1)) }
         ensures only { IfOk result (λ p. (q r : ℕ → F) → IsQuotient F.field (of_list F.field self.now)
-            (vanishing F.field (D.domain domain)) q r → (q ≡ of_list F.field p.0) × (r ≡ of_list F.field p.1)) }
+            (vanishing F.field (D.domain domain)) q r
+            → (q ≡ of_list F.field p.0) × (r ≡ of_list F.field p.1)) }
         ensures memory { IsOkUnless result PolyError.Memory }
     {
         let n = domain.size();
