@@ -3,7 +3,7 @@
 ghost use Rattle.std.specs.Prelude.{◌≡◌, ◌≢◌, ℕ, ◌+◌, ◌-◌, ◌<◌, ◌≤◌, length, IfOk, OnOk, OnErr};
 ghost use Rattle.std.specs.Prelude.{replicate, take, drop};
 ghost use Rattle.ark_math.specs.Univariate.{IsBelow, of_list, added, difference, opposite, monomial, product, scaled};
-ghost use Rattle.ark_math.specs.Univariate.{IsTrimmed};
+ghost use Rattle.ark_math.specs.Univariate.{IsTrimmed, IsValue};
 
 use ark_base::Field;
 use std::alloc::{AllocError, Global};
@@ -86,6 +86,28 @@ pub fn add_product<F: Field>(coeffs: &mut [F], left: &[F], right: &[F])
             coeffs[i + j] += left[i] * right[j];
         }
     }
+}
+
+/// The value at a point, by steps of four coefficients: of a step's products one alone waits for the step before it. As
+/// many products as coefficients, and three for powers of the point.
+pub fn value_at<F: Field>(coeffs: &[F], point: F) -> F
+    ensures { IsValue F.field (of_list F.field coeffs.now) point result }
+{
+    let square = point * point;
+    let cube = square * point;
+    let fourth = square * square;
+    let rest = coeffs.len() % 4;
+    let mut value = F::zero();
+    for k in (0..coeffs.len() / 4).rev() {
+        let i = rest + 4 * k;
+        let low = coeffs[i] + coeffs[i + 1] * point;
+        let high = coeffs[i + 2] * square + coeffs[i + 3] * cube;
+        value = value * fourth + (low + high);
+    }
+    for i in (0..rest).rev() {
+        value = value * point + coeffs[i];
+    }
+    value
 }
 
 /// A copy of the coefficients, with zeros up to this length.

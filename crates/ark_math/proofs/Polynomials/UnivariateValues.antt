@@ -1,5 +1,5 @@
 -- The value of a polynomial at a point, and Horner's step.
-use Rattle.std.proofs.Common.{◌≡◌, ℕ, suc, ◌+◌, ◌<◌, ◌≤◌, List, ◌∷◌, length, drop, sym, ◌∙◌, ap, ap₂, subst, refl, arith, ⊎_elim}
+use Rattle.std.proofs.Common.{◌≡◌, ℕ, suc, ◌+◌, ◌<◌, ◌≤◌, List, ◌∷◌, length, get_or, drop, sym, ◌∙◌, ap, ap₂, subst, refl, arith, ⊎_elim}
 use Rattle.std.proofs.lemmas.Bool.{cases_lt}
 use Rattle.std.proofs.lemmas.List.{drop_more}
 use Rattle.ark_math.specs.Field.{FieldOn, IsField, power, minus}
@@ -9,8 +9,8 @@ use Rattle.ark_math.specs.Univariate.{nothing, added, difference, opposite, scal
 use Rattle.ark_math.proofs.Algebra.Groups.{itself_is_module, scale_zero}
 use Rattle.ark_math.proofs.Algebra.Sums.{sum_below-same, sum_below-plus, sum_below-scale}
 use Rattle.ark_math.proofs.Algebra.Regrouped.{sum_below-past, sum_below-first, sum_below-single, sum_below-negated}
-use Rattle.ark_math.proofs.Algebra.Solve.{◌⊗◌, negative}
-use Rattle.ark_math.proofs.Algebra.Ring.{ring2, ring3}
+use Rattle.ark_math.proofs.Algebra.Solve.{◌⊕◌, ◌⊗◌, negative}
+use Rattle.ark_math.proofs.Algebra.Ring.{ring2, ring3, ring6}
 use Rattle.ark_math.proofs.Polynomials.Univariate.{added-below, opposite-below, scaled-below, nothing-below, IsBelow-more, monomial-below, monomial-same, monomial-other}
 use Rattle.ark_math.proofs.Polynomials.UnivariateLists.{of_list-below}
 
@@ -119,3 +119,35 @@ module _ {F : Type 0} (K : FieldOn F) (N : IsField K) where
 
   pub value_below-first : (n : ℕ) (a : ℕ → F) (x : F) → value_below K (suc n) a x ≡ K.plus (a 0) (K.times x (value_below K n (λ i. a (suc i)) x))
   value_below-first n a x = horner (itself_is_module K N) n a x
+
+-- ---- Horner's steps, as a loop takes them from the end of a list
+
+-- the value of the items from i on
+abbrev pub value_from : {F : Type 0} → FieldOn F → List F → F → ℕ → F
+value_from K c x i = value_at K (itself K) (drop i c) x
+
+module _ {F : Type 0} (K : FieldOn F) (N : IsField K) (c : List F) (x : F) where
+  pub value_from-one : (i : ℕ) (v : F) → i < length c → v ≡ value_from K c x (i + 1) → K.plus (K.times v x) (get_or c i K.zero) ≡ value_from K c x i
+  value_from-one i v l e =
+      ap (λ t. K.plus (K.times t x) (get_or c i K.zero)) e
+      ∙ ring3 K N (λ v x a. (v ⊗ x ⊕ a, a ⊕ x ⊗ v)) refl (value_from K c x (i + 1)) x (get_or c i K.zero)
+      ∙ sym (value_at-drop (itself_is_module K N) c i x l)
+
+  -- by powers of the point, so that one product alone needs what was found before
+  pub value_from-four : (i : ℕ) (square cube fourth v : F) → i + 3 < length c → square ≡ K.times x x → cube ≡ K.times square x → fourth ≡ K.times square square → v ≡ value_from K c x (i + 4)
+      → K.plus (K.times v fourth) (K.plus (K.plus (get_or c i K.zero) (K.times (get_or c (i + 1) K.zero) x)) (K.plus (K.times (get_or c (i + 2) K.zero) square) (K.times (get_or c (i + 3) K.zero) cube))) ≡ value_from K c x i
+  value_from-four i square cube fourth v l e f g h =
+      let item = λ (k : ℕ). get_or c k K.zero in
+      let step = λ (k : ℕ) (m : k < length c). value_at-drop (itself_is_module K N) c k x m in
+      let low = K.plus (item i) (K.times (item (i + 1)) x) in
+      let two : i + 1 + 1 ≡ i + 2 = omega arith in
+      let three : i + 2 + 1 ≡ i + 3 = omega arith in
+      let four : i + 3 + 1 ≡ i + 4 = omega arith in
+      let on = λ (a v : F). K.plus a (K.times x v) in
+      ap₂ K.plus (ap₂ K.times h (g ∙ ap₂ K.times e e)) (ap (K.plus low) (ap₂ K.plus (ap (K.times (item (i + 2))) e) (ap (K.times (item (i + 3))) (f ∙ ap (λ t. K.times t x) e))))
+      ∙ ring6 K N (λ x v a b c d. (v ⊗ ((x ⊗ x) ⊗ (x ⊗ x)) ⊕ ((a ⊕ b ⊗ x) ⊕ (c ⊗ (x ⊗ x) ⊕ d ⊗ ((x ⊗ x) ⊗ x))), a ⊕ x ⊗ (b ⊕ x ⊗ (c ⊕ x ⊗ (d ⊕ x ⊗ v))))) refl x (value_from K c x (i + 4)) (item i) (item (i + 1)) (item (i + 2)) (item (i + 3))
+      ∙ sym (step i (omega arith)
+      ∙ ap (on (item i)) (step (i + 1) (omega arith)
+      ∙ ap (on (item (i + 1))) (ap (value_from K c x) two ∙ step (i + 2) (omega arith)
+      ∙ ap (on (item (i + 2))) (ap (value_from K c x) three ∙ step (i + 3) (omega arith)
+      ∙ ap (on (item (i + 3))) (ap (value_from K c x) four)))))

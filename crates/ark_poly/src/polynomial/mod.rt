@@ -35,9 +35,9 @@ pub trait DenseUVPolynomial<F: Field>: Polynomial<F, Point = F> {
         ensures same { result.now ≡ listed self.now }
         ensures trimmed { IsTrimmed F.field result.now };
 
-    /// A polynomial of degree `d` with drawn coefficients: first the `d` lowest, then at most `tries` draws for a leading
-    /// one that isn't zero, and `None` where these are spent. `Overflow` exactly where `d` is `usize::MAX`, judged
-    /// first. Takes memory for the coefficients once, before any draw.
+    /// A polynomial of degree `d` with drawn coefficients: the `d` lowest, then at most `tries` draws for a leading one
+    /// that isn't zero, and `None` where these are spent. `Overflow` exactly where `d` is `usize::MAX`, judged first.
+    /// Takes memory for the coefficients once, before any draw.
     fn rand<R: Rng>(
         alloc: Global,
         d: usize,

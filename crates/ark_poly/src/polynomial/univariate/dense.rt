@@ -18,7 +18,7 @@ use crate::polynomial::{DenseUVPolynomial, Polynomial};
 use ark_base::{FftField, Field, PolyError};
 use ark_coeffs::dense::{
     add_each, add_product, add_scaled, divide_by_binomial, divided_by_binomial, extended, grow,
-    multiplied_by_binomial, scale_each, subtract_each, trim,
+    multiplied_by_binomial, scale_each, subtract_each, trim, value_at,
 };
 use rand::Rng;
 use std::alloc::{AllocError, Global};
@@ -141,11 +141,7 @@ impl<F: Field> Polynomial<F> for DensePolynomial<F> {
         ensures value { IfOk result (IsValue F.field (of_list F.field self.now) point.now) }
         ensures succeeds { IsOk result }
     {
-        let mut value = F::zero();
-        for i in (0..self.coeffs.len()).rev() {
-            value = value * *point + self.coeffs[i];
-        }
-        Ok(value)
+        Ok(value_at(&self.coeffs, *point))
     }
 
     fn zero(alloc: Global) -> Result<Self, PolyError> {
