@@ -1,11 +1,12 @@
 //! Coefficients by their exponents: item i of a list is the coefficient at i.
 
-ghost use Rattle.std.specs.Prelude.{◌≡◌, ◌≢◌, ℕ, ◌+◌, ◌-◌, ◌<◌, ◌≤◌, length, IfOk, OnOk, OnErr};
-ghost use Rattle.std.specs.Prelude.{replicate, take, drop};
+ghost use Rattle.std.specs.Prelude.{◌≡◌, ◌≢◌, ◌↔◌, ◌⊎◌, ℕ, ◌+◌, ◌-◌, ◌<◌, ◌≤◌, length, IfOk, IfErr, OnOk, OnErr};
+ghost use Rattle.std.specs.Prelude.{IsOkUnless, replicate, take, drop};
+ghost use Rattle.ark_math.specs.Points.{IsPlaceQuotient};
 ghost use Rattle.ark_math.specs.Univariate.{IsBelow, of_list, added, difference, opposite, monomial, product, scaled};
 ghost use Rattle.ark_math.specs.Univariate.{IsTrimmed, IsValue};
 
-use ark_base::Field;
+use ark_base::{Field, PolyError, batch_inversion};
 use std::alloc::{AllocError, Global};
 
 /// How many coefficients there are up to the last that isn't zero.
@@ -75,6 +76,22 @@ pub fn multiply_each<F: Field>(items: &mut [F], other: &[F])
     }
 }
 
+/// Divides each item by the one at its place, by one batch inversion: zero where the divisor is. After an error the items
+/// are as they were.
+pub fn divide_each<F: Field>(alloc: Global, items: &mut [F], other: &[F]) -> Result<(), PolyError>
+    requires { length other.now ≡ length items.old }
+    ensures quotients { OnOk result ((i : ℕ) → i < length items.old
+        → IsPlaceQuotient F.field (of_list F.field items.old i) (of_list F.field other.now i)
+        (of_list F.field items.new i)) }
+    ensures kept { OnErr result (items.new ≡ items.old) }
+    ensures memory { IsOkUnless result PolyError.Memory }
+{
+    let mut inverses = Vec::from_slice(alloc, other)?;
+    batch_inversion(alloc, inverses.as_mut_slice())?;
+    multiply_each(items, &inverses);
+    Ok(())
+}
+
 /// Adds the product of two lists of coefficients.
 pub fn add_product<F: Field>(coeffs: &mut [F], left: &[F], right: &[F])
     requires zeros { coeffs.old ≡ replicate (length left.now + length right.now - 1) F.field.zero }
@@ -108,6 +125,35 @@ pub fn value_at<F: Field>(coeffs: &[F], point: F) -> F
         value = value * point + coeffs[i];
     }
     value
+}
+
+/// The product, by all products of two coefficients; empty where a factor is. `Overflow` exactly where neither factor is
+/// empty and the product's length is past `usize::MAX`.
+pub fn naive_product<F: Field>(alloc: Global, left: &[F], right: &[F]) -> Result<Vec<F>, PolyError>
+    ensures product { IfOk result (λ c. of_list F.field c.items
+        ≡ product F.field (of_list F.field left.now) (of_list F.field right.now)) }
+    ensures overflow { (result ≡ Err PolyError.Overflow) ↔ (0 < length left.now) × (0 < length right.now)
+        × (usize.MAX < length left.now + length right.now - 1) }
+    ensures errors { IfErr result (λ e. (e ≡ PolyError.Memory) ⊎ (e ≡ PolyError.Overflow)) }
+{
+    if left.is_empty() || right.is_empty() {
+        return Ok(Vec::new(alloc));
+    }
+    let Some(len) = left.len().checked_add(right.len() - 1) else {
+        return Err(PolyError::Overflow);
+    };
+    let mut coeffs = zeros(alloc, len)?;
+    add_product(coeffs.as_mut_slice(), left, right);
+    Ok(coeffs)
+}
+
+/// This many zeros.
+pub fn zeros<F: Field>(alloc: Global, len: usize) -> Result<Vec<F>, AllocError>
+    ensures { IfOk result (λ c. c.items ≡ replicate len F.field.zero) }
+{
+    let mut coeffs = Vec::with_capacity(alloc, len)?;
+    coeffs.resize(len, F::zero())?;
+    Ok(coeffs)
 }
 
 /// A copy of the coefficients, with zeros up to this length.

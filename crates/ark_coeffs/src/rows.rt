@@ -1,10 +1,13 @@
 //! Rows of powers: geometric ones, indicators, rows spaced by zeros.
 
 ghost use Rattle.std.specs.Prelude.{◌≡◌, ◌≢◌, ℕ, ◌+◌, ◌-◌, ◌*◌, ◌/◌, ◌%◌, ◌<◌, length, IfOk};
+ghost use Rattle.std.specs.Prelude.{IsOkUnless};
 ghost use Rattle.ark_math.specs.Field.{power, minus};
+ghost use Rattle.ark_math.specs.Points.{IsPlaceQuotient};
 ghost use Rattle.ark_math.specs.Univariate.{of_list};
 
-use ark_base::Field;
+use crate::dense::zeros;
+use ark_base::{Field, PolyError, batch_inversion};
 use std::alloc::{AllocError, Global};
 
 /// One where the element `offset * root^i` is `tau`, and zero elsewhere, for the `i` below `size`. Two rows of elements
@@ -61,6 +64,24 @@ pub fn geometric_row_less<F: Field>(
     Ok(items)
 }
 
+/// The inverses of `first * ratio^i - constant` for the `i` below `size`, by one batch inversion: zero where that is.
+pub fn inverted_row_less<F: Field>(
+    alloc: Global,
+    size: usize,
+    first: F,
+    ratio: F,
+    constant: F,
+) -> Result<Vec<F>, PolyError>
+    ensures len { IfOk result (λ l. length l.items ≡ size) }
+    ensures inverses { IfOk result (λ l. (i : ℕ) → i < size → IsPlaceQuotient F.field F.field.one
+        (minus F.field (F.field.times first (power F.field ratio i)) constant) (of_list F.field l.items i)) }
+    ensures memory { IsOkUnless result PolyError.Memory }
+{
+    let mut items = geometric_row_less(alloc, size, first, ratio, constant)?;
+    batch_inversion(alloc, items.as_mut_slice())?;
+    Ok(items)
+}
+
 /// The items `start * ratio^k` at the multiples `k * step` below `size`, and zeros between them.
 pub fn spaced_row<F: Field>(
     alloc: Global,
@@ -79,8 +100,7 @@ pub fn spaced_row<F: Field>(
         ≡ F.field.zero) }
 {
     let len = size - step + 1;
-    let mut items = Vec::with_capacity(alloc, len)?;
-    items.resize(len, F::zero())?;
+    let mut items = zeros(alloc, len)?;
     let mut next = start;
     for k in 0..size / step {
         items[k * step] = next;

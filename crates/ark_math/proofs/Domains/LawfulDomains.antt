@@ -110,8 +110,8 @@ module _ {F : Type 0} {K : FieldOn F} {s : Adicity} {root : ℕ → F} {d : Doma
       weights_at_element K N d order inverses h.0 tau l h.1 h.2 count (here h.0 h.1 (sym h.2))
       (λ i b ne. there i b (λ e. ne (same_element K N d order D.offset_not_zero i h.0 b h.1 (e ∙ h.2))))
 
-  pub weights_of_inverses : (tau z v b p u first : F) (ys ws : List F) → IsValue K (vanishing K d) tau z → K.times z v ≡ K.one → b ≡ K.times (K.times (natural K d.size) (power K d.offset d.size)) v → K.times d.offset p ≡ K.one → K.times d.root u ≡ K.one → first ≡ K.times (K.times tau b) p → length ws ≡ d.size → ((i : ℕ) → i < d.size → of_list K ys i ≡ minus K (K.times first (power K u i)) b) → ((i : ℕ) → i < d.size → IsPlaceQuotient K K.one (of_list K ys i) (of_list K ws i)) → AreWeights K d tau ws
-  weights_of_inverses tau z v b p u first ys ws value some constant offset back begin count rows inverted =
+  pub weights_of_inverses : (tau z v b p u first : F) (ws : List F) → IsValue K (vanishing K d) tau z → K.times z v ≡ K.one → b ≡ K.times (K.times (natural K d.size) (power K d.offset d.size)) v → K.times d.offset p ≡ K.one → K.times d.root u ≡ K.one → first ≡ K.times (K.times tau b) p → length ws ≡ d.size → ((i : ℕ) → i < d.size → IsPlaceQuotient K K.one (minus K (K.times first (power K u i)) b) (of_list K ws i)) → AreWeights K d tau ws
+  weights_of_inverses tau z v b p u first ws value some constant offset back begin count inverted =
       let m = K.times (natural K d.size) (power K d.offset d.size) in
       let is : z ≡ minus K (power K tau d.size) (power K d.offset d.size) = vanishing_value K N d tau z value in
       let whole : K.times b z ≡ m =
@@ -121,8 +121,8 @@ module _ {F : Type 0} {K : FieldOn F} {s : Adicity} {root : ℕ → F} {d : Doma
       factor_not_zero K N z v some (is ∙ minus_same K N _ _ (ap (λ t. power K t d.size) e ∙ element-power K N d order i)) in
       weights_elsewhere K N d order inverses tau ws outside count
       (λ i l.
-      inverse_is_weight K N tau b z m (element K d i) (of_list K ys i) (of_list K ws i) whole m_some (outside i l)
-      (ap (λ t. K.times t (element K d i)) (rows i l ∙ ap (λ t. minus K (K.times t (power K u i)) b) begin)
+      inverse_is_weight K N tau b z m (element K d i) (minus K (K.times first (power K u i)) b) (of_list K ws i) whole m_some (outside i l)
+      (ap (λ t. K.times (minus K (K.times t (power K u i)) b) (element K d i)) begin
       ∙ row_times_element K N tau b p (power K u i) d.offset (power K d.root i) offset (powers_inverse K N d.root u i back))
       (inverted i l)
       ∙ ap (λ t. K.times t (element K d i)) is)
@@ -201,6 +201,16 @@ module _ {F : Type 0} {K : FieldOn F} {s : Adicity} {root : ℕ → F} {d : Doma
 
       pub filter_of_row : IsFilter K e d (of_list K c)
       filter_of_row = row_is_filter K N e d (inside_by h v q f g) (of_list K c) listed_row
+
+    -- the same of a row over sizes, a start and a ratio that are these
+    pub filter_of_spaced : IsContained K e d → (v q start ratio : F) (n m : ℕ) (c : List F) → K.times (natural K d.size) v ≡ K.one → K.times e.offset q ≡ K.one → n ≡ d.size → m ≡ e.size → start ≡ K.times (natural K e.size) v → ratio ≡ power K q e.size → length c ≡ n - m + 1 → ((k : ℕ) → k < n / m → of_list K c (m * k) ≡ K.times start (power K ratio k)) → ((k r : ℕ) → 0 < r → r < m → of_list K c (m * k + r) ≡ K.zero) → IsFilter K e d (of_list K c)
+    filter_of_spaced h v q start ratio n m c f g whole part begin by count at apart =
+        filter_of_row h v q f g c (count ∙ ap₂ (λ a b. a - b + 1) whole part)
+        (λ k l.
+        ap (λ t. of_list K c (t * k)) (sym part)
+        ∙ at k (subst (λ t. k < t) (sym (ap₂ (λ a b. a / b) whole part)) l)
+        ∙ ap₂ (λ a b. K.times a (power K b k)) begin by)
+        (λ k r p l. ap (λ t. of_list K c (t * k + r)) (sym part) ∙ apart k r p (subst (λ t. r < t) (sym part) l))
 
     pub filter_degree : IsContained K e d → (a : ℕ → F) → IsFilter K e d a → IsDegree K a (d.size - e.size)
     filter_degree h a A = filter-degree K N e d (inside h) h a A

@@ -22,9 +22,9 @@ mod utils;
 use crate::polynomial::DenseUVPolynomial;
 use crate::polynomial::univariate::{DensePolynomial, SparsePolynomial};
 pub use ark_base::DomainCoeff;
-use ark_base::{FftField, Field, PolyError, Work, batch_inversion};
+use ark_base::{FftField, Field, PolyError, Work};
 use ark_coeffs::dense::multiply_each;
-use ark_coeffs::rows::{geometric_row_less, indicator, spaced_row};
+use ark_coeffs::rows::{indicator, inverted_row_less, spaced_row};
 use ark_fft::domain::{Coset, first_items};
 pub use general::GeneralEvaluationDomain;
 pub use mixed_radix::MixedRadixEvaluationDomain;
@@ -331,15 +331,7 @@ pub trait EvaluationDomain<F: FftField>: Copy + Eq + Hash + Debug {
                     * self.coset_offset_pow_size()
                     * inverse;
                 let first = tau * constant * self.coset_offset_inv();
-                let mut weights = geometric_row_less(
-                    alloc,
-                    self.size(),
-                    first,
-                    self.group_gen_inv(),
-                    constant,
-                )?;
-                batch_inversion(alloc, weights.as_mut_slice())?;
-                Ok(weights)
+                inverted_row_less(alloc, self.size(), first, self.group_gen_inv(), constant)
             }
         }
     }

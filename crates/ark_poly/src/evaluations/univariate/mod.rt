@@ -13,8 +13,8 @@ ghost use Rattle.std.specs.Hash.{and-Alike, items_Alike, on_Alike};
 use crate::domain::EvaluationDomain;
 use crate::polynomial::DenseUVPolynomial;
 use crate::polynomial::univariate::DensePolynomial;
-use ark_base::{FftField, PolyError, batch_inversion};
-use ark_coeffs::dense::{add_each, multiply_each, scale_each, subtract_each};
+use ark_base::{FftField, PolyError};
+use ark_coeffs::dense::{add_each, divide_each, multiply_each, scale_each, subtract_each, zeros};
 use std::alloc::{AllocError, Global};
 use std::hash::{Hash, Hasher};
 use std::marker::Model;
@@ -97,8 +97,7 @@ impl<F: FftField, D: EvaluationDomain<F>> Evaluations<F, D> {
         ensures domain { IfOk result (λ v. v.domain ≡ domain) }
         ensures memory { IsOkUnless result PolyError.Memory }
     {
-        let mut evals = Vec::new(alloc);
-        evals.resize(domain.size(), F::zero())?;
+        let evals = zeros(alloc, domain.size())?;
         Ok(Evaluations { evals, domain })
     }
 
@@ -235,10 +234,7 @@ impl<F: FftField, D: EvaluationDomain<F>> Evaluations<F, D> {
         ensures domain { self.new.domain ≡ self.old.domain }
         ensures memory { IsOkUnless result PolyError.Memory }
     {
-        let mut inverses = Vec::from_slice(alloc, &other.evals)?;
-        batch_inversion(alloc, inverses.as_mut_slice())?;
-        multiply_each(self.evals.as_mut_slice(), &inverses);
-        Ok(())
+        divide_each(alloc, self.evals.as_mut_slice(), &other.evals)
     }
 
     /// The quotients by the values over the same domain, place by place: zero where the divisor is.

@@ -14,11 +14,12 @@ ghost use Rattle.ark_math.specs.Univariate.{IsBelow, IsQuotient, product, scaled
 
 use crate::domain::{EvaluationDomain, GeneralEvaluationDomain};
 use crate::evaluations::univariate::Evaluations;
+use crate::polynomial::univariate::write_term;
 use crate::polynomial::{DenseUVPolynomial, Polynomial};
 use ark_base::{FftField, Field, PolyError};
 use ark_coeffs::dense::{
-    add_each, add_product, add_scaled, divide_by_binomial, divided_by_binomial, extended, grow,
-    multiplied_by_binomial, scale_each, subtract_each, trim, value_at,
+    add_each, add_scaled, divide_by_binomial, divided_by_binomial, extended, grow,
+    multiplied_by_binomial, naive_product, scale_each, subtract_each, trim, value_at,
 };
 use rand::Rng;
 use std::alloc::{AllocError, Global};
@@ -87,11 +88,7 @@ impl<F: Field> Debug for DensePolynomial<F> {
         for i in 0..self.coeffs.len() {
             let coefficient = &self.coeffs[i];
             if !coefficient.is_zero() {
-                match i {
-                    0 => write!(f, "\n{coefficient:?}")?,
-                    1 => write!(f, " + \n{coefficient:?} * x")?,
-                    _ => write!(f, " + \n{coefficient:?} * x^{i}")?,
-                }
+                write_term(f, i, coefficient)?;
             }
         }
         Ok(())
@@ -338,17 +335,7 @@ impl<F: Field> DensePolynomial<F> {
             × (usize.MAX < length self.now + length other.now - 1) }
         ensures errors { IfErr result (λ e. (e ≡ PolyError.Memory) ⊎ (e ≡ PolyError.Overflow)) }
     {
-        if self.coeffs.is_empty() || other.coeffs.is_empty() {
-            return Self::zero(alloc);
-        }
-        let len = self
-            .coeffs
-            .len()
-            .checked_add(other.coeffs.len() - 1)
-            .ok_or(PolyError::Overflow)?;
-        let mut coeffs = Vec::with_capacity(alloc, len)?;
-        coeffs.resize(len, F::zero())?;
-        add_product(coeffs.as_mut_slice(), &self.coeffs, &other.coeffs);
+        let coeffs = naive_product(alloc, &self.coeffs, &other.coeffs)?;
         Ok(Self::from_coefficients_vec(coeffs))
     }
 }

@@ -9,6 +9,7 @@ ghost use Rattle.std.specs.Hash.{and-Alike, items_Alike, on_Alike, same_Alike};
 ghost use Rattle.ark_math.specs.NormalForms.{gather};
 ghost use Rattle.ark_math.specs.Univariate.{IsSparse, IsDegree, IsValue, of_pairs, nothing};
 
+use crate::polynomial::univariate::write_term;
 use ark_base::{Field, PolyError};
 use ark_coeffs::sparse::merged_terms;
 use std::alloc::{AllocError, Global};
@@ -83,11 +84,7 @@ impl<F: Field> Debug for SparsePolynomial<F> {
     fn fmt<W: Write>(&self, f: &mut Formatter<W>) -> fmt::Result {
         for i in 0..self.coeffs.len() {
             let (degree, coefficient) = self.coeffs[i];
-            match degree {
-                0 => write!(f, "\n{coefficient:?}")?,
-                1 => write!(f, " + \n{coefficient:?} * x")?,
-                _ => write!(f, " + \n{coefficient:?} * x^{degree}")?,
-            }
+            write_term(f, degree, &coefficient)?;
         }
         Ok(())
     }

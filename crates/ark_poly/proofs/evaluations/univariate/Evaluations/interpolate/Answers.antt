@@ -1,7 +1,7 @@
 use Rattle.std.proofs.Common.{◌≡◌, length, map, subst, sym, ap, ◌∙◌}
 use Rattle.ark_math.specs.Points.{AreValues}
 use Rattle.ark_math.specs.Transform.{IsInverse}
-use Rattle.ark_math.specs.Univariate.{IsBelow, of_list}
+use Rattle.ark_math.specs.Univariate.{IsBelow}
 use Rattle.ark_math.proofs.Callers.Transforms.{values_of_ifft}
 use Rattle.ark_math.proofs.Domains.LawfulDomains.{lawful_domain, only_interpolation}
 use Rattle.ark_poly.proofs.evaluations.univariate.Evaluations.interpolate.Goals as goal
