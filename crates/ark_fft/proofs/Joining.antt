@@ -166,6 +166,15 @@ module _ {F M X : Type 0} {K : FieldOn F} {V : ModuleOn F M} (N : IsField K) (L 
 
 -- ---- the tables of all levels
 
+-- the first table and those below it
+pub next_levels : {F : Type 0} (K : FieldOn F) (n h : ℕ) (w : F) (all front back : List F) → 0 < n → h ≡ 2 ^ (n - 1) → front ≡ take h all → back ≡ drop h all → AreLevels K w n all → IsHalfTable K w front × AreLevels K (power K w 2) (n - 1) back
+next_levels K n h w all front back pos half is_front is_back tables =
+    let one_more : n ≡ suc (n - 1) = omega arith in
+    let parts : AreLevels K w (suc (n - 1)) all = subst (λ k. AreLevels K w k all) one_more tables in (
+      subst (IsHalfTable K w) (sym (is_front ∙ ap (λ k. take k all) half)) parts.0,
+      subst (AreLevels K (power K w 2) (n - 1)) (sym (is_back ∙ ap (λ k. drop k all) half)) parts.1,
+    )
+
 -- powers of a root up to where it is minus one
 pub half_table : {F : Type 0} (K : FieldOn F) (w : F) (h : ℕ) (table : List F) → ArePowers K w h table → power K w h ≡ K.negated K.one → IsHalfTable K w table
 half_table K w h table t half = record {
