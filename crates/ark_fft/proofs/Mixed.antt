@@ -165,3 +165,20 @@ module _ {F M X : Type 0} {K : FieldOn F} {V : ModuleOn F M} (N : IsField K) (L 
         ∙ ap (V.scale (K.times f (power K p j)))
         (sums_at d.size v table fitted mid (order_of_inverse K N d.root v d.size order root) t of_fitted sums j l
         ∙ sum_below-same V d.size _ _ (λ k b. ap (V.scale (power K (power K v j) k)) (fit k b))))
+
+-- all parts, and the joins after them
+module _ (w0 w1 w2 r q l o size : ℕ) (pos : 0 < q) (some : 0 < o) (is : size ≡ 2 ^ l * q ^ o) (end : r ≡ q) where
+  pub all_products : (a : ℕ) → w1 ≡ w0 + (r * (l * (size / q) / 2) + r * (a * ((o - 1) * (size / q / q)))) → w2 ≡ w1 + a * (size / q) → w2 ≡ w0 + l * size / 2 + a * (o * (size / q))
+  all_products a parts joins =
+      let f = rw end at parts in
+      omega (arith, level_products a l q o size pos some is, level_joins l q o size pos some is, f, joins)
+
+  pub all_butterflies : w1 ≡ w0 + r * (l * (size / q) / 2) → w2 ≡ w1 → w2 ≡ w0 + l * size / 2
+  all_butterflies parts joins =
+      let f = rw end at parts in
+      omega (arith, level_joins l q o size pos some is, f, joins)
+
+  pub all_steps : w1 ≡ w0 + r * ((o - 1) * (size / q / q)) → w2 ≡ w1 + size / q → w2 ≡ w0 + o * (size / q)
+  all_steps parts joins =
+      let f = rw end at parts in
+      omega (arith, level_steps l q o size pos some is, f, joins)
