@@ -58,3 +58,11 @@ scaled_cost s root offset direction n levels len fitted mid before scaled after 
     (omega (arith, b0, b1, count))
     (t1 ∙ t0)
     (omega (arith, least, p1, count))
+
+-- the same with a scaling of each item after it
+pub cost_then_scaled : {F : Type 0} (s : Adicity) (root offset : F) (direction : Direction) (n levels len fitted mid : ℕ) (before joined after : Counts) → IsLog2Up (counted_items n len direction) levels → fitted ≡ n → mid ≡ n →
+    joined.butterflies ≡ before.butterflies + fitted / 2 * levels → joined.products ≡ before.products + fitted / 2 * levels → joined.steps ≡ before.steps → after.butterflies ≡ joined.butterflies → after.products ≡ joined.products + mid → after.steps ≡ joined.steps →
+    GrowsByCost s (record { kind = radix2; size = n; root = root; offset = offset }) len direction before after
+cost_then_scaled s root offset direction n levels len fitted mid before joined after log of_fitted of_mid b0 p0 t0 b1 p1 t1 =
+    let count : fitted / 2 * levels ≡ n / 2 * levels = ap (λ k. k / 2 * levels) of_fitted in
+    radix2_cost s root offset len direction before n levels n log (omega arith) (b1 ∙ b0 ∙ ap (λ k. before.butterflies + k) count) (t1 ∙ t0) (omega (arith, p0, p1, of_mid, count))
