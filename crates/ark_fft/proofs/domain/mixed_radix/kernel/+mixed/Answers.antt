@@ -5,29 +5,9 @@ use Rattle.ark_math.specs.Field.{power}
 use Rattle.ark_math.specs.Module.{item}
 use Rattle.ark_math.proofs.Numbers.Factors.{part_size, parts_whole, part_positive}
 use Rattle.ark_fft.proofs.Mixed.{counted_more, joined_more, stepped_more, all_products, all_butterflies, all_steps}
+use Rattle.ark_fft.proofs.Counts.{positive, none_yet, ended, past, middle, no_part, no_parts}
 use Rattle.ark_fft.proofs.Blocks.{block_within, part_length, sub_whole, table_size, stride_small, block_done, block_after, mixed_joined, dealt_items}
 use Rattle.ark_fft.proofs.domain.mixed_radix.kernel.+mixed.Goals as goal
-
-positive : (q : ℕ) → 1 < q → 0 < q
-positive q some = omega arith
-
-no_part : (w x : ℕ) → w ≡ w + 0 * x
-no_part w x = omega arith
-
-no_parts : (w x y : ℕ) → w ≡ w + (0 * x + 0 * y)
-no_parts w x y = omega arith
-
-none_below : {A : Type 0} (r : ℕ) → r < 0 → A
-none_below r l = absurd (omega arith)
-
-middle : (a n : ℕ) → a + n - a ≡ n
-middle a n = omega arith
-
-past : (a b : ℕ) → a + 1 ≤ b → (a < b) × (a ≤ b)
-past a b l = (omega arith, omega arith)
-
-ended : (r q : ℕ) → r ≤ q → q ≤ r → r ≡ q
-ended r q a b = omega arith
 
 -- each part is within the list, and is not empty
 part_within : (levels q odds n r : ℕ) → 1 < q → 0 < odds → n ≡ 2 ^ levels * q ^ odds → r < q → (r * (n / q) + n / q ≤ n) × (0 < n / q)
@@ -65,7 +45,7 @@ loop-r-init g t c =
       products = no_parts c.args.work.now.products _ _;
       butterflies = no_part c.args.work.now.butterflies _;
       steps = no_part c.args.work.now.steps _;
-      done = λ w table r i rl il. none_below r rl;
+      done = λ w table r i rl il. none_yet r rl;
       rest = λ r i l rl il. dealt_items m V.zero c.args.base n c.args.xs.now c.deinterleave.new.parts whole size c.deinterleave.ensures r i rl il;
     }
 
