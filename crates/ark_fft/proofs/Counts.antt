@@ -33,7 +33,16 @@ no_parts w x y = omega arith
 pub no_part_after : (w1 w0 a x : ℕ) → w1 ≡ w0 + a → w1 ≡ w0 + a + 0 * x
 no_part_after w1 w0 a x e = omega arith
 
+pub start : (w : ℕ) → w ≡ w + 0
+start w = omega arith
+
 -- one iteration more
+pub itself : (i : ℕ) → i ≤ i
+itself i = omega arith
+
+pub one_more : (w0 w1 w2 i : ℕ) → w1 ≡ w0 + i → w2 ≡ w1 + 1 → w2 ≡ w0 + (i + 1)
+one_more w0 w1 w2 i before one = omega arith
+
 pub part_more : (w0 w1 w2 i x : ℕ) → w1 ≡ w0 + i * x → w2 ≡ w1 + x → w2 ≡ w0 + (i + 1) * x
 part_more w0 w1 w2 i x before one = omega arith
 

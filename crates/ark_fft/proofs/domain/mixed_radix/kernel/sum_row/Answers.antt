@@ -3,6 +3,7 @@ use Rattle.std.proofs.lemmas.Bool.{cases_eq}
 use Rattle.ark_math.specs.Field.{power}
 use Rattle.ark_math.specs.Module.{item, sum_below}
 use Rattle.ark_math.proofs.Lists.Lists.{written_same, written_other}
+use Rattle.ark_fft.proofs.Blocks.{block_within}
 use Rattle.ark_fft.proofs.Counts.{none_yet, ended, not_last, no_part, part_more, all_turned}
 use Rattle.ark_fft.proofs.Parts.{place_below, columns_differ, rows_differ}
 use Rattle.ark_fft.proofs.domain.mixed_radix.kernel.sum_row.Goals as goal
@@ -21,6 +22,32 @@ last_row j q row = omega arith
 
 least : (a i : ℕ) → a ≤ a + i
 least a i = omega arith
+
+row_within : (q m size r : ℕ) → size ≡ q * m → r < q → r * m ≤ size
+row_within q m size r is in_rows = omega (arith, block_within q m r in_rows, is)
+
+pub overflow_mul-row : goal.overflow_mul-row
+overflow_mul-row g c =
+    let b = row_within c.args.base c.args.m (length c.args.parts.now) c.args.j c.requires.parts_size c.requires.row in
+    omega (arith, b)
+
+pub overflow_sub-last : goal.overflow_sub-last
+overflow_sub-last g c = some_rows c.args.j c.args.base c.requires.row
+
+pub overflow_mul-last : goal.overflow_mul-last
+overflow_mul-last g c =
+    let b = row_within c.args.base c.args.m (length c.args.parts.now) (c.args.base - 1) c.requires.parts_size (last_row c.args.j c.args.base c.requires.row) in
+    omega (arith, b)
+
+pub overflow_add-last : goal.overflow_add-last
+overflow_add-last g c =
+    let b = place_within c.args.base c.args.m (length c.args.parts.now) (c.args.base - 1) c.loop-i.i c.requires.parts_size (last_row c.args.j c.args.base c.requires.row) c.loop-i-test.true in
+    omega (arith, b)
+
+pub overflow_add-row : goal.overflow_add-row
+overflow_add-row g c =
+    let b = place_within c.args.base c.args.m (length c.args.parts.now) c.args.j c.loop-i.i c.requires.parts_size c.requires.row c.loop-i-test.true in
+    omega (arith, b)
 
 pub loop-i-preserved : goal.loop-i-preserved
 loop-i-preserved g c =

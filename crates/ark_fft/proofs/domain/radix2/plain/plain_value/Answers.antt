@@ -3,10 +3,8 @@ use Rattle.std.proofs.Common.{◌≡◌, ◌+◌, ◌<◌, ℕ, length, map, sym
 use Rattle.ark_math.specs.Field.{power}
 use Rattle.ark_math.specs.Module.{item, sum_below}
 use Rattle.ark_math.proofs.Lists.Lists.{read_as}
+use Rattle.ark_fft.proofs.Counts.{one_more}
 use Rattle.ark_fft.proofs.domain.radix2.plain.plain_value.Goals as goal
-
-one_more : (before now start i : ℕ) → now ≡ before + 1 → before ≡ start + i → now ≡ start + (i + 1)
-one_more before now start i e f = omega arith
 
 pub loop-i-preserved : goal.loop-i-preserved
 loop-i-preserved g c =
@@ -20,7 +18,7 @@ loop-i-preserved g c =
     let inside : i < length items = omega arith in
     record {
       butterflies = c.scale.ensures.butterflies ∙ v.butterflies;
-      products = one_more _ _ _ i c.scale.ensures.products v.products;
+      products = one_more _ _ _ i v.products c.scale.ensures.products;
       steps = c.scale.ensures.steps ∙ v.steps;
       next_factor =
           g.met.F.Field.mul_law _ _ _ c.mul-factor.ensures
