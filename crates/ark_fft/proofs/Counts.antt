@@ -10,6 +10,12 @@ none_below i n below none = absurd (omega arith)
 pub none_yet : {A : Type 0} (i : ℕ) → i < 0 → A
 none_yet i below = absurd (omega arith)
 
+pub least : (n : ℕ) → 0 ≤ n
+least n = omega arith
+
+pub at_most : (m n : ℕ) → m ≡ n → m ≤ n
+at_most m n e = omega arith
+
 -- a loop's index at its end, and in its last iteration
 pub ended : (i n : ℕ) → i ≤ n → n ≤ i → i ≡ n
 ended i n most least = omega arith
