@@ -1,8 +1,8 @@
-use Rattle.std.proofs.Common.{◌≡◌, ℕ, map, length, ◌-◌, ◌*◌, ◌/◌, Some, ◌<◌, arith, sym, ap, subst, ◌∙◌}
+use Rattle.std.proofs.Common.{◌≡◌, ℕ, map, length, Some, ◌<◌, sym, ap, subst, ◌∙◌}
 use Rattle.ark_math.specs.Domain.{Domain, mixed_radix}
 use Rattle.ark_math.specs.Field.{natural}
 use Rattle.ark_fft.specs.Halves.{ArePowers}
-use Rattle.ark_math.specs.Root.{HasOrder, Splits, odd_base}
+use Rattle.ark_math.specs.Root.{HasOrder, odd_base}
 use Rattle.ark_math.proofs.Domains.MixedSizes.{base_above}
 use Rattle.ark_math.specs.Cost.{inverse}
 use Rattle.ark_math.specs.Module.{item}

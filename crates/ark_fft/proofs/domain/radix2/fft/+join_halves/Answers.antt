@@ -1,6 +1,5 @@
-use Rattle.std.proofs.Common.{rules, arith, ◌≡◌, ◌≤◌, ℕ, ◌-◌, ◌*◌, ◌+◌, ◌/◌, ◌^◌, ◌<◌, ◌∙◌, suc, length, take, drop, ap, sym, subst}
-use Rattle.ark_math.specs.Field.{FieldOn, power}
-use Rattle.ark_fft.specs.Halves.{AreLevels, IsHalfTable}
+use Rattle.std.proofs.Common.{rules, arith, ◌≡◌, ◌≤◌, ℕ, ◌-◌, ◌*◌, ◌+◌, ◌/◌, ◌^◌, ◌∙◌, length, sym}
+use Rattle.ark_math.specs.Field.{power}
 use Rattle.ark_fft.proofs.Joining.{some_levels, front_half, back_half, joined_count, no_count, blocks_of_front, blocks_of_back, joined_level, one_block, next_levels}
 use Rattle.ark_fft.proofs.domain.radix2.fft.+join_halves.Goals as goal
 

@@ -1,5 +1,4 @@
-use Rattle.std.proofs.Common.{◌≡◌, ℕ, map, length, take, drop, ◌++◌, ◌-◌, ◌/◌, ◌^◌, ◌<◌, ◌≤◌, sym, ap, subst, ◌∙◌, arith}
-use Rattle.ark_math.specs.Cost.{IsLog2Up}
+use Rattle.std.proofs.Common.{◌≡◌, map, length, ◌/◌, ◌^◌, ◌<◌, ◌≤◌, sym, ap, subst, ◌∙◌}
 use Rattle.ark_math.specs.Root.{HasOrder}
 use Rattle.ark_math.proofs.Lists.Lists.{written_back}
 use Rattle.ark_math.proofs.Domains.Sizes.{power_of_two, next_log, log_within}

@@ -1,4 +1,4 @@
-use Rattle.std.proofs.Common.{◌≡◌, ℕ, map, length, ◌-◌, ◌*◌, ◌/◌, ◌^◌, ◌<◌, arith, sym, ap, subst, ◌∙◌}
+use Rattle.std.proofs.Common.{◌≡◌, ℕ, map, length, ◌/◌, ◌^◌, ◌<◌, sym, ap, subst, ◌∙◌}
 use Rattle.ark_math.specs.Domain.{Domain, radix2}
 use Rattle.ark_math.specs.Field.{power}
 use Rattle.ark_fft.specs.Halves.{ArePowers}

@@ -1,4 +1,4 @@
-use Rattle.std.proofs.Common.{◌≡◌, ◌≤◌, ℕ, arith, ◌-◌, ◌*◌, ◌+◌, ◌/◌, ◌^◌, ◌<◌, ◌∙◌, length, ap, sym, refl}
+use Rattle.std.proofs.Common.{◌≡◌, ◌≤◌, ℕ, arith, ◌-◌, ◌*◌, ◌+◌, ◌/◌, ◌^◌, ◌∙◌, length, ap, sym, refl}
 use Rattle.ark_math.specs.Field.{power}
 use Rattle.ark_fft.specs.Halves.{IsHalfTable}
 use Rattle.ark_fft.proofs.Joining.{some_levels, front_half, back_half, joined_count, no_count, half_table, blocks_of_front, blocks_of_back, joined_level, one_block}

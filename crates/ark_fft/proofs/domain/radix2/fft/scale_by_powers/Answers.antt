@@ -1,4 +1,4 @@
-use Rattle.std.proofs.Common.{◌≡◌, ◌<◌, ◌≤◌, ℕ, map, length, get_or, ◌+◌, suc, sym, subst, ap, ap₂, ◌∙◌, arith, rules, refl, add-one}
+use Rattle.std.proofs.Common.{◌≡◌, ◌<◌, ℕ, map, length, get_or, ◌+◌, suc, sym, subst, ap, ap₂, ◌∙◌, refl, add-one}
 use Rattle.ark_math.specs.Field.{power}
 use Rattle.ark_math.specs.Module.{item}
 use Rattle.ark_math.proofs.Lists.Lists.{read_at, written_more, written_rest}
