@@ -9,7 +9,7 @@ use Rattle.ark_math.proofs.Algebra.Groups.{one_times}
 use Rattle.ark_math.proofs.Lists.Lists.{written_back}
 use Rattle.ark_fft.proofs.Mixed as mixed_kernel
 use Rattle.ark_fft.proofs.Mixed.{scaled_cost}
-use Rattle.ark_fft.proofs.Counts.{positive, start, at_most, least}
+use Rattle.ark_fft.proofs.Counts.{positive, start, same_is_within, least}
 use Rattle.ark_math.specs.Cost.{forward}
 use Rattle.ark_math.proofs.Transforms.Transforms.{AreShifted, unshifted}
 use Rattle.ark_fft.proofs.domain.mixed_radix.kernel.fft_counted.Goals as goal
@@ -63,7 +63,7 @@ returns-clause-cost g c =
       | then-not-is_one w ↦
           let p = w.scale_by_powers.ensures in
           scaled_cost s t.group_gen t.offset forward (length c.args.coeffs.now.items) t.size q t.log_size_of_group t.odd_exponent t.splits base some
-          (length c.if-not-is_one.xs) (length c.as_mut_slice-xs.result.now) c.args.work.now c.if-not-is_one.work c.mixed.new.work (c.if-not-is_one.auto.xs ∙ of_fitted) (at_most _ _ of_fitted)
+          (length c.if-not-is_one.xs) (length c.as_mut_slice-xs.result.now) c.args.work.now c.if-not-is_one.work c.mixed.new.work (c.if-not-is_one.auto.xs ∙ of_fitted) (same_is_within _ _ of_fitted)
           (ap (λ v. v.butterflies) w.work-is ∙ p.butterflies) (ap (λ v. v.products) w.work-is ∙ p.products) (ap (λ v. v.steps) w.work-is ∙ p.steps) j.butterflies j.products j.steps
       | else-not-is_one w ↦
           scaled_cost s t.group_gen t.offset forward (length c.args.coeffs.now.items) t.size q t.log_size_of_group t.odd_exponent t.splits base some

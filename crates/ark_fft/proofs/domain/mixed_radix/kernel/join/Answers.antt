@@ -4,7 +4,7 @@ use Rattle.std.proofs.lemmas.List.{get_or_read}
 use Rattle.ark_math.specs.Field.{power}
 use Rattle.ark_fft.specs.Mixed.{joined}
 use Rattle.ark_math.specs.Module.{item, sum_below}
-use Rattle.ark_fft.proofs.Counts.{positive, none_below, none_yet, ended, not_last, no_part_after, no_places}
+use Rattle.ark_fft.proofs.Counts.{below_is_within, part_more_after, positive, none_below, none_yet, ended, not_last, no_part_after, no_places}
 use Rattle.ark_fft.proofs.Parts.{leap_below, joined_twisted, rows_less}
 use Rattle.ark_fft.proofs.domain.mixed_radix.kernel.join.Goals as goal
 
@@ -16,12 +16,6 @@ step_small q m s t size small base some pos =
 
 index_below : (q m s t j : ℕ) → t ≡ q * (m * s) → j < q → 0 < m → 0 < s → j * (m * s) < t
 index_below q m s t j size in_base some pos = subst (λ k. j * (m * s) < k) (sym size) (leap_below q m s j 0 in_base some pos)
-
-less : (a b : ℕ) → a < b → a ≤ b
-less a b below = omega arith
-
-rows_more : (w0 w1 w2 a j x : ℕ) → w1 ≡ w0 + a + j * x → w2 ≡ w1 + x → w2 ≡ w0 + a + (j + 1) * x
-rows_more w0 w1 w2 a j x before one = omega arith
 
 all_rows : (w0 w1 j q m : ℕ) → 1 < q → j ≡ q → w1 ≡ w0 + (q - 1) * m + j * ((q - 1) * m) → w1 ≡ w0 + (q * q - 1) * m
 all_rows w0 w1 j q m base end rows =
@@ -48,7 +42,7 @@ overflow_mul-j g c =
 
 pub offset_bounds-table-j : goal.offset_bounds-table-j
 offset_bounds-table-j g c =
-    less (c.loop-j.j * (c.args.m * c.args.stride)) (length c.args.table.now)
+    below_is_within (c.loop-j.j * (c.args.m * c.args.stride)) (length c.args.table.now)
     (index_below c.args.base c.args.m c.args.stride (length c.args.table.now) c.loop-j.j c.requires.table_size c.loop-j-test.true c.if-m-gt0.true c.requires.some)
 
 pub sum_row-requires-clause-parts_size : goal.sum_row-requires-clause-parts_size
@@ -70,7 +64,7 @@ loop-j-preserved g c =
     let a = index_below c.args.base c.args.m c.args.stride (length c.args.table.now) j0 c.requires.table_size c.loop-j-test.true c.if-m-gt0.true c.requires.some in
     let root : c.index-table-j.result ≡ get_or c.args.table.now leap K.zero = get_or_read c.args.table.now _ _ a c.index-table-j.is K.zero in
     record {
-      products = rows_more c.args.work.now.products c.loop-j.work.products c.sum_row.new.work.products ((c.args.base - 1) * c.args.m) j0 ((c.args.base - 1) * c.args.m) v.products c.sum_row.ensures.products;
+      products = part_more_after c.args.work.now.products c.loop-j.work.products c.sum_row.new.work.products ((c.args.base - 1) * c.args.m) j0 ((c.args.base - 1) * c.args.m) v.products c.sum_row.ensures.products;
       butterflies = c.sum_row.ensures.butterflies ∙ v.butterflies;
       steps = c.sum_row.ensures.steps ∙ v.steps;
       done = λ one j i jl il.

@@ -4,7 +4,7 @@ use Rattle.ark_math.specs.Field.{power}
 use Rattle.ark_math.specs.Module.{item, sum_below}
 use Rattle.ark_math.proofs.Lists.Lists.{written_same, written_other}
 use Rattle.ark_fft.proofs.Blocks.{block_within}
-use Rattle.ark_fft.proofs.Counts.{none_yet, ended, not_last, no_part, part_more, all_turned}
+use Rattle.ark_fft.proofs.Counts.{none_yet, ended, not_last, no_part, part_more, all_parts}
 use Rattle.ark_fft.proofs.Parts.{place_below, columns_differ, rows_differ}
 use Rattle.ark_fft.proofs.domain.mixed_radix.kernel.sum_row.Goals as goal
 
@@ -20,8 +20,8 @@ some_rows j q row = omega arith
 last_row : (j q : ℕ) → j < q → q - 1 < q
 last_row j q row = omega arith
 
-least : (a i : ℕ) → a ≤ a + i
-least a i = omega arith
+row_start : (a i : ℕ) → a ≤ a + i
+row_start a i = omega arith
 
 row_within : (q m size r : ℕ) → size ≡ q * m → r < q → r * m ≤ size
 row_within q m size r is in_rows = omega (arith, block_within q m r in_rows, is)
@@ -97,7 +97,7 @@ pub horner_sum-requires-clause-some : goal.horner_sum-requires-clause-some
 horner_sum-requires-clause-some g c = some_rows c.args.j c.args.base c.requires.row
 
 pub horner_sum-requires-clause-rows : goal.horner_sum-requires-clause-rows
-horner_sum-requires-clause-rows g c = least ((c.args.base - 1) * c.args.m) c.loop-i.i
+horner_sum-requires-clause-rows g c = row_start ((c.args.base - 1) * c.args.m) c.loop-i.i
 
 pub horner_sum-requires-clause-inside : goal.horner_sum-requires-clause-inside
 horner_sum-requires-clause-inside g c =
@@ -105,7 +105,7 @@ horner_sum-requires-clause-inside g c =
 
 pub returns-clause-products : goal.returns-clause-products
 returns-clause-products g c =
-    all_turned c.loop-i.work.products c.args.work.now.products c.loop-i.i c.args.m (c.args.base - 1) (ended c.loop-i.i c.args.m c.loop-i.auto.i-end c.loop-i-test.false) c.loop-i.invariant.products
+    all_parts c.loop-i.work.products c.args.work.now.products c.loop-i.i c.args.m (c.args.base - 1) (ended c.loop-i.i c.args.m c.loop-i.auto.i-end c.loop-i-test.false) c.loop-i.invariant.products
 
 pub returns-clause-butterflies : goal.returns-clause-butterflies
 returns-clause-butterflies g c = c.loop-i.invariant.butterflies

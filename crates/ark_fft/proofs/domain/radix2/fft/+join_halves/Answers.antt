@@ -1,10 +1,8 @@
 use Rattle.std.proofs.Common.{rules, arith, ◌≡◌, ◌≤◌, ℕ, ◌-◌, ◌*◌, ◌+◌, ◌/◌, ◌^◌, ◌∙◌, length, sym}
 use Rattle.ark_math.specs.Field.{power}
+use Rattle.ark_fft.proofs.Counts.{one_less}
 use Rattle.ark_fft.proofs.Joining.{some_levels, front_half, back_half, joined_count, no_count, blocks_of_front, blocks_of_back, joined_level, one_block, next_levels}
 use Rattle.ark_fft.proofs.domain.radix2.fft.+join_halves.Goals as goal
-
-one_less : (e n : ℕ) → e ≤ n → e - 1 ≤ n - 1
-one_less e n within = omega arith
 
 pub join_halves-requires : goal.join_halves-requires
 join_halves-requires g t c κs within =
@@ -13,11 +11,19 @@ join_halves-requires g t c κs within =
     let some = c.if-log_len-gt0.true in
     let len = length c.args.xs.now in
     let s = c.split_at_mut-lo in
-    let r = c.split_at in
-    (omega arith, (search rules, (search rules, (
-      front_half n e some c.requires.within len (length s.result.0.now) c.requires.size s.ensures.front_len,
-      (back_half n e some c.requires.within (length c.args.tables.now) len (length r.result.1.now) c.requires.whole c.requires.size r.ensures.back_len, one_less e n c.requires.within),
-    ))))
+    let r = c.split_at in (
+      omega arith,
+      (
+        search rules,
+        (
+          search rules,
+          (
+            front_half n e some c.requires.within len (length s.result.0.now) c.requires.size s.ensures.front_len,
+            (back_half n e some c.requires.within (length c.args.tables.now) len (length r.result.1.now) c.requires.whole c.requires.size r.ensures.back_len, one_less e n c.requires.within),
+          ),
+        ),
+      ),
+    )
 
 pub join_halves-requires-then-log_len-gt0 : goal.join_halves-requires-then-log_len-gt0
 join_halves-requires-then-log_len-gt0 g t c κs within =
@@ -26,11 +32,19 @@ join_halves-requires-then-log_len-gt0 g t c κs within =
     let some = c.if-log_len-gt0.true in
     let len = length c.args.xs.now in
     let s = c.split_at_mut-lo in
-    let r = c.split_at in
-    (omega arith, (search rules, (search rules, (
-      back_half n e some c.requires.within len len (length s.result.1.now) c.requires.size c.requires.size s.ensures.back_len,
-      (back_half n e some c.requires.within (length c.args.tables.now) len (length r.result.1.now) c.requires.whole c.requires.size r.ensures.back_len, one_less e n c.requires.within),
-    ))))
+    let r = c.split_at in (
+      omega arith,
+      (
+        search rules,
+        (
+          search rules,
+          (
+            back_half n e some c.requires.within len len (length s.result.1.now) c.requires.size c.requires.size s.ensures.back_len,
+            (back_half n e some c.requires.within (length c.args.tables.now) len (length r.result.1.now) c.requires.whole c.requires.size r.ensures.back_len, one_less e n c.requires.within),
+          ),
+        ),
+      ),
+    )
 
 pub join_butterflies-requires-clause-same : goal.join_butterflies-requires-clause-same
 join_butterflies-requires-clause-same g t c =

@@ -3,14 +3,11 @@ use Rattle.std.proofs.lemmas.Nat.{mul-add-lt}
 use Rattle.std.proofs.lemmas.List.{get_or_read}
 use Rattle.ark_math.specs.Module.{item}
 use Rattle.ark_math.proofs.Lists.Lists.{read_at, written_more, written_rest}
-use Rattle.ark_fft.proofs.Counts.{ended, one_more, itself}
+use Rattle.ark_fft.proofs.Counts.{below_is_within, ended, one_more, itself}
 use Rattle.ark_fft.proofs.domain.radix2.fft.butterflies.Goals as goal
 
 index_within : (i n s size : ℕ) → i < n → 0 < s → n * s ≤ size → i * s < size
 index_within i n s size below some enough = omega (arith, mul-add-lt i s 0 n below some, enough)
-
-at_most : (a b : ℕ) → a < b → a ≤ b
-at_most a b below = omega arith
 
 pub overflow_mul-i : goal.overflow_mul-i
 overflow_mul-i g c =
@@ -19,7 +16,7 @@ overflow_mul-i g c =
 
 pub offset_bounds-table-i : goal.offset_bounds-table-i
 offset_bounds-table-i g c =
-    at_most (c.loop-i.i * c.args.stride) (length c.args.table.now)
+    below_is_within (c.loop-i.i * c.args.stride) (length c.args.table.now)
     (index_within c.loop-i.i (length c.args.lo.now) c.args.stride (length c.args.table.now) c.loop-i-test.true c.requires.some c.requires.enough)
 
 pub bounds-table-i : goal.bounds-table-i

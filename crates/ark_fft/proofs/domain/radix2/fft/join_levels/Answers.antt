@@ -1,11 +1,9 @@
 use Rattle.std.proofs.Common.{◌≡◌, ◌≤◌, ℕ, arith, ◌-◌, ◌*◌, ◌+◌, ◌/◌, ◌^◌, ◌∙◌, length, ap, sym, refl}
 use Rattle.ark_math.specs.Field.{power}
 use Rattle.ark_fft.specs.Halves.{IsHalfTable}
+use Rattle.ark_fft.proofs.Counts.{one_less}
 use Rattle.ark_fft.proofs.Joining.{some_levels, front_half, back_half, joined_count, no_count, half_table, blocks_of_front, blocks_of_back, joined_level, one_block}
 use Rattle.ark_fft.proofs.domain.radix2.fft.join_levels.Goals as goal
-
-one_less : (e n : ℕ) → e ≤ n → e - 1 ≤ n - 1
-one_less e n within = omega arith
 
 pub join_halves-requires-clause-size : goal.join_halves-requires-clause-size
 join_halves-requires-clause-size g c =
