@@ -1,4 +1,4 @@
-use Rattle.std.proofs.Common.{rules, arith, ◌≡◌, ◌≤◌, ℕ, ◌-◌, ◌*◌, ◌+◌, ◌/◌, ◌^◌, ◌∙◌, length, sym}
+use Rattle.std.proofs.Common.{rules, arith, ◌≡◌, ◌-◌, ◌*◌, ◌+◌, ◌/◌, ◌^◌, ◌∙◌, length, sym}
 use Rattle.ark_math.specs.Field.{power}
 use Rattle.ark_fft.proofs.Counts.{one_less}
 use Rattle.ark_fft.proofs.Joining.{some_levels, front_half, back_half, joined_count, no_count, blocks_of_front, blocks_of_back, joined_level, one_block, next_levels}

@@ -1,4 +1,4 @@
-use Rattle.std.proofs.Common.{◌≡◌, ◌≤◌, ℕ, arith, ◌-◌, ◌*◌, ◌+◌, ◌/◌, ◌^◌, ◌∙◌, length, ap, sym, refl}
+use Rattle.std.proofs.Common.{◌≡◌, arith, ◌-◌, ◌*◌, ◌+◌, ◌/◌, ◌^◌, ◌∙◌, length, ap, sym, refl}
 use Rattle.ark_math.specs.Field.{power}
 use Rattle.ark_fft.specs.Halves.{IsHalfTable}
 use Rattle.ark_fft.proofs.Counts.{one_less}
