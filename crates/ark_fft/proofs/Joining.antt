@@ -12,6 +12,7 @@ use Rattle.ark_math.proofs.Algebra.Groups.{zero_plus, scale_zero, one_times}
 use Rattle.ark_math.proofs.Lists.Lists.{read_front, read_back, read_order}
 use Rattle.ark_math.proofs.Algebra.Powers.{power-add, power-mul, power_comm, negated_one_even}
 use Rattle.ark_math.proofs.Algebra.Regrouped.{sum_below-past}
+use Rattle.ark_fft.proofs.Halving.{count_levels}
 use Rattle.ark_fft.proofs.Reversal.{Half, low, high, half_of, pow_pred, reversed_low, reversed_high, reversed_below}
 use Rattle.ark_math.proofs.Algebra.Ring.{module1_2}
 use Rattle.ark_math.proofs.Algebra.Solve.{◌⊗◌, ◌•◌, ◌⊞◌, ◌⊟◌, unit, negative, origin}
@@ -55,6 +56,25 @@ module _ (n e : ℕ) (some : 0 < e) (within : e ≤ n) where
       ap (λ t. reversed t ((2 ^ (n - 1) + p) / 2 ^ (n - e))) widths.1
       ∙ (reversed_high (e - 1) (p / 2 ^ (n - e)) _ q
       ∙ ap (λ t. 2 * reversed (e - 1) (p / 2 ^ t) + 1) widths.0)
+
+-- the halves of a list of 2 ^ n places, and what joining them costs
+module _ (n e : ℕ) (some : 0 < e) (within : e ≤ n) where
+  pub some_levels : 0 < n
+  some_levels = omega (arith, some, within)
+
+  pub front_half : (all front : ℕ) → all ≡ 2 ^ n → front ≡ all / 2 → front ≡ 2 ^ (n - 1)
+  front_half all front is half = omega (arith, is, half, pow_pred n some_levels)
+
+  pub back_half : (all other back : ℕ) → all ≡ 2 ^ n → other ≡ 2 ^ n → back + other / 2 ≡ all → back ≡ 2 ^ (n - 1)
+  back_half all other back is size half = omega (arith, is, size, half, pow_pred n some_levels)
+
+  pub joined_count : (before first second after joins : ℕ) → first ≡ before + 2 ^ (n - 1) / 2 * (e - 1) → second ≡ first + 2 ^ (n - 1) / 2 * (e - 1) → after ≡ second + joins → joins ≡ 2 ^ (n - 1) → after ≡ before + 2 ^ n / 2 * e
+  joined_count before first second after joins a b c is = omega (arith, a, b, c, is, count_levels n e some within)
+
+-- no level, no cost
+pub no_count : (before half e : ℕ) → e ≤ 0 → before ≡ before + half * e
+no_count before half zero none = omega arith
+no_count before half (suc e) none = absurd (omega arith)
 
 module _ {F M : Type 0} {K : FieldOn F} {V : ModuleOn F M} (N : IsField K) (L : IsModule K V) where
   -- f has zeros from h on
@@ -145,6 +165,22 @@ module _ {F M X : Type 0} {K : FieldOn F} {V : ModuleOn F M} (N : IsField K) (L 
       p (omega arith)
 
 -- ---- the tables of all levels
+
+-- the first table and those below it
+pub next_levels : {F : Type 0} (K : FieldOn F) (n h : ℕ) (w : F) (all front back : List F) → 0 < n → h ≡ 2 ^ (n - 1) → front ≡ take h all → back ≡ drop h all → AreLevels K w n all → IsHalfTable K w front × AreLevels K (power K w 2) (n - 1) back
+next_levels K n h w all front back pos half is_front is_back tables =
+    let one_more : n ≡ suc (n - 1) = omega arith in
+    let parts : AreLevels K w (suc (n - 1)) all = subst (λ k. AreLevels K w k all) one_more tables in (
+      subst (IsHalfTable K w) (sym (is_front ∙ ap (λ k. take k all) half)) parts.0,
+      subst (AreLevels K (power K w 2) (n - 1)) (sym (is_back ∙ ap (λ k. drop k all) half)) parts.1,
+    )
+
+-- powers of a root up to where it is minus one
+pub half_table : {F : Type 0} (K : FieldOn F) (w : F) (h : ℕ) (table : List F) → ArePowers K w h table → power K w h ≡ K.negated K.one → IsHalfTable K w table
+half_table K w h table t half = record {
+  powers = λ i b. t.powers i (subst (λ k. i < k) t.len b);
+  half = λ b. ap (power K w) t.len ∙ half;
+}
 
 module _ {F : Type 0} (K : FieldOn F) (N : IsField K) where
   -- each table's powers are every second of those before it

@@ -1,6 +1,7 @@
--- Lemmas of the kernels, over plain lists and tables: the transform by halves (Halving, Reversal, Carries, Places, Joining, Radix2), by parts (Split, Parts, Blocks, Mixed), and the iterator over a domain (Yielded).
+-- Lemmas of the kernels, over plain lists and tables: the transform by halves (Halving, Reversal, Carries, Places, Joining, Radix2, Short), by parts (Split, Parts, Blocks, Mixed), what their loops count (Counts), and the iterator over a domain (Yielded).
 pub mod Blocks
 pub mod Carries
+pub mod Counts
 pub mod Halving
 pub mod Joining
 pub mod Mixed
@@ -8,5 +9,6 @@ pub mod Parts
 pub mod Places
 pub mod Radix2
 pub mod Reversal
+pub mod Short
 pub mod Split
 pub mod Yielded

@@ -5,8 +5,9 @@ use Rattle.std.proofs.lemmas.Nat.{div-mul-add}
 use Rattle.std.proofs.Math.Nat.{pow-suc}
 use Rattle.ark_math.specs.Field.{FieldOn, IsField, power, natural}
 use Rattle.ark_math.specs.Module.{ModuleOn, IsModule, item}
-use Rattle.ark_math.specs.Root.{HasOrder}
-use Rattle.ark_math.specs.Domain.{Domain}
+use Rattle.ark_math.specs.Root.{Adicity, HasOrder, Splits, odd_base}
+use Rattle.ark_math.specs.Domain.{Domain, mixed_radix}
+use Rattle.ark_math.specs.Cost.{Counts, Direction}
 use Rattle.ark_math.specs.Transform.{transform, IsInverse, dft_at}
 use Rattle.ark_fft.specs.Halves.{reversed, ArePowers, IsHalfTable}
 use Rattle.ark_fft.specs.Mixed.{IsPowerTable}
@@ -18,6 +19,8 @@ use Rattle.ark_math.proofs.Transforms.Transforms.{AreShifted, is_transform}
 use Rattle.ark_math.proofs.Algebra.Groups.{zero_plus}
 use Rattle.ark_fft.proofs.Reversal.{pow_pred, reversed_below, reversed_twice}
 use Rattle.ark_math.proofs.Lists.Lists.{read_order}
+use Rattle.ark_base.specs.Cost.{GrowsByCost}
+use Rattle.ark_base.proofs.Cost.{mixed_cost}
 use Rattle.ark_math.proofs.Numbers.Factors.{part_size, parts_whole}
 
 -- half of a whole number of blocks of a power of two above one
@@ -165,3 +168,41 @@ module _ {F M X : Type 0} {K : FieldOn F} {V : ModuleOn F M} (N : IsField K) (L 
         ∙ ap (V.scale (K.times f (power K p j)))
         (sums_at d.size v table fitted mid (order_of_inverse K N d.root v d.size order root) t of_fitted sums j l
         ∙ sum_below-same V d.size _ _ (λ k b. ap (V.scale (power K (power K v j) k)) (fit k b))))
+
+-- all parts, and the joins after them
+module _ (w0 w1 w2 r q l o size : ℕ) (pos : 0 < q) (some : 0 < o) (is : size ≡ 2 ^ l * q ^ o) (end : r ≡ q) where
+  pub all_products : (a : ℕ) → w1 ≡ w0 + (r * (l * (size / q) / 2) + r * (a * ((o - 1) * (size / q / q)))) → w2 ≡ w1 + a * (size / q) → w2 ≡ w0 + l * size / 2 + a * (o * (size / q))
+  all_products a parts joins =
+      let f = rw end at parts in
+      omega (arith, level_products a l q o size pos some is, level_joins l q o size pos some is, f, joins)
+
+  pub all_butterflies : w1 ≡ w0 + r * (l * (size / q) / 2) → w2 ≡ w1 → w2 ≡ w0 + l * size / 2
+  all_butterflies parts joins =
+      let f = rw end at parts in
+      omega (arith, level_joins l q o size pos some is, f, joins)
+
+  pub all_steps : w1 ≡ w0 + r * ((o - 1) * (size / q / q)) → w2 ≡ w1 + size / q → w2 ≡ w0 + o * (size / q)
+  all_steps parts joins =
+      let f = rw end at parts in
+      omega (arith, level_steps l q o size pos some is, f, joins)
+
+-- the cost of the mixed kernel over a list of n places, with scalings before it or after it
+module _ {F : Type 0} (s : Adicity) (root offset : F) (direction : Direction) (len n q twos odds : ℕ) (splits : Splits s n twos odds) (base : q ≡ odd_base s.odd) (some : 0 < q) where
+  pub scaled_cost : (fitted scalings : ℕ) (before scaled after : Counts) → fitted ≡ n → scalings ≤ n → scaled.butterflies ≡ before.butterflies → scaled.products ≡ before.products + scalings → scaled.steps ≡ before.steps →
+      after.butterflies ≡ scaled.butterflies + twos * fitted / 2 → after.products ≡ scaled.products + twos * fitted / 2 + (q * q - 1) * (odds * (fitted / q)) → after.steps ≡ scaled.steps + odds * (fitted / q) →
+      GrowsByCost s (record { kind = mixed_radix; size = n; root = root; offset = offset }) len direction before after
+  scaled_cost fitted scalings before scaled after of_fitted few b0 p0 t0 b1 p1 t1 =
+      let joins : twos * fitted / 2 ≡ twos * n / 2 = ap (λ k. twos * k / 2) of_fitted in
+      let steps : odds * (fitted / q) ≡ odds * (n / q) = ap (λ k. odds * (k / q)) of_fitted in
+      let products : (q * q - 1) * (odds * (fitted / q)) ≡ (q * q - 1) * (odds * (n / q)) = ap (λ k. (q * q - 1) * k) steps in
+      mixed_cost s root offset len direction before n q twos odds scalings splits base some few (omega (arith, b0, b1, joins)) (omega (arith, t0, t1, steps)) (omega (arith, p0, p1, joins, products))
+
+  pub cost_then_scaled : (fitted mid : ℕ) (before joined after : Counts) → fitted ≡ n → mid ≡ n →
+      joined.butterflies ≡ before.butterflies + twos * fitted / 2 → joined.products ≡ before.products + twos * fitted / 2 + (q * q - 1) * (odds * (fitted / q)) → joined.steps ≡ before.steps + odds * (fitted / q) →
+      after.butterflies ≡ joined.butterflies → after.products ≡ joined.products + mid → after.steps ≡ joined.steps →
+      GrowsByCost s (record { kind = mixed_radix; size = n; root = root; offset = offset }) len direction before after
+  cost_then_scaled fitted mid before joined after of_fitted of_mid b0 p0 t0 b1 p1 t1 =
+      let joins : twos * fitted / 2 ≡ twos * n / 2 = ap (λ k. twos * k / 2) of_fitted in
+      let steps : odds * (fitted / q) ≡ odds * (n / q) = ap (λ k. odds * (k / q)) of_fitted in
+      let products : (q * q - 1) * (odds * (fitted / q)) ≡ (q * q - 1) * (odds * (n / q)) = ap (λ k. (q * q - 1) * k) steps in
+      mixed_cost s root offset len direction before n q twos odds n splits base some (omega arith) (omega (arith, b0, b1, joins)) (omega (arith, t0, t1, steps)) (omega (arith, p0, p1, of_mid, joins, products))

@@ -116,7 +116,3 @@ module _ {F M : Type 0} {K : FieldOn F} {V : ModuleOn F M} (N : IsField K) (L : 
       ∙ (ap (λ u. V.scale (power K (power K v (j * m)) r) (V.scale u (f (r * m + i)))) b
       ∙ ap (λ u. V.scale (power K (power K v (j * m)) r) (V.scale (power K v (r * i)) u)) (parts r l ∙ ap (λ u. dft_at K V m u (λ k. c (q * k + r)) i) (power-mul K N w s q))))
       ∙ (sym (join_at N L q m v c j i one) ∙ ap (λ u. dft_at K V u v c (j * m + i)) (sym is))
-
--- counts
-pub step_row : (j x : ℕ) → (j + 1) * x ≡ j * x + x
-step_row j x = omega arith

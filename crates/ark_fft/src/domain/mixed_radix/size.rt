@@ -1,6 +1,6 @@
 //! The sizes of mixed radix.
 
-ghost use Rattle.std.specs.Prelude.{◌≡◌, ℕ, ◌≤◌, IfSome, ◌<◌, IfNone, IsSome, Decides, MatchOption};
+ghost use Rattle.std.specs.Prelude.{◌≡◌, ◌↔◌, ℕ, ◌≤◌, IfSome, ◌<◌, IfNone, IsSome, IsTrue};
 ghost use Rattle.ark_math.specs.Domain.{mixed_radix, IsLeast, HasNone, IsSize, IsSizeWith};
 ghost use Rattle.ark_math.specs.Root.{Splits, odd_base, odd_most};
 
@@ -34,7 +34,7 @@ fn least_with<F: FftField>(num_coeffs: usize, base: u32, odds: u32) -> Option<(u
 
 /// Whether the size is less than the least one so far.
 fn improves(size: u64, least: Option<(u64, u32, u32)>) -> bool
-    ensures { Decides result (MatchOption least Unit (λ p. size < p.0)) }
+    ensures { IsTrue result ↔ IfSome least (λ p. size < p.0) }
 {
     match least {
         Some((other, _, _)) => size < other,

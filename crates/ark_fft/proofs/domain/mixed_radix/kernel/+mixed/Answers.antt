@@ -1,10 +1,11 @@
-use Rattle.std.proofs.Common.{rules, ℕ, ◌≡◌, ◌≤◌, ap, map, take, drop, length, ◌+◌, ◌-◌, ◌*◌, ◌/◌, ◌^◌, ◌<◌, sym, ◌∙◌, arith}
+use Rattle.std.proofs.Common.{rules, refl, subst, ℕ, ◌≡◌, ◌≤◌, ap, map, take, drop, length, ◌+◌, ◌-◌, ◌*◌, ◌/◌, ◌^◌, ◌<◌, sym, ◌∙◌, arith}
 use Rattle.std.proofs.Math.Nat.{pow-zero}
 use Rattle.std.proofs.lemmas.Nat.{mul-lt}
 use Rattle.ark_math.specs.Field.{power}
 use Rattle.ark_math.specs.Module.{item}
 use Rattle.ark_math.proofs.Numbers.Factors.{part_size, parts_whole, part_positive}
-use Rattle.ark_fft.proofs.Mixed.{level_steps, level_products, counted_more, joined_more, stepped_more, level_joins}
+use Rattle.ark_fft.proofs.Mixed.{counted_more, joined_more, stepped_more, all_products, all_butterflies, all_steps}
+use Rattle.ark_fft.proofs.Counts.{positive, none_yet, ended, past, middle, no_part, no_parts}
 use Rattle.ark_fft.proofs.Blocks.{block_within, part_length, sub_whole, table_size, stride_small, block_done, block_after, mixed_joined, dealt_items}
 use Rattle.ark_fft.proofs.domain.mixed_radix.kernel.+mixed.Goals as goal
 
@@ -14,43 +15,51 @@ part_within levels q odds n r base some size in_base =
     let pos : 0 < q = omega arith in
     (omega (arith, block_within q (n / q) r in_base, parts_whole levels q odds n pos some size), part_positive levels q odds n pos some size)
 
+-- nor past what a word holds
+part_small : (levels q odds n stride table r : ℕ) → 1 < q → 0 < odds → n ≡ 2 ^ levels * q ^ odds → r < q → n * stride ≡ table → 0 < stride → table < 2 ^ 64 → (r * (n / q) < 2 ^ 64) × (r * (n / q) + n / q < 2 ^ 64)
+part_small levels q odds n stride table r base some size in_base whole pos small =
+    let w = part_within levels q odds n r base some size in_base in
+    let turned : stride * n ≡ table = omega (arith, whole) in
+    let b = stride_small stride n table turned pos small in
+    (omega (arith, w, b), omega (arith, w, b))
+
 pub deinterleave-requires-clause-whole_size : goal.deinterleave-requires-clause-whole_size
 deinterleave-requires-clause-whole_size g t c =
-    let pos : 0 < c.args.base = omega arith in
+    let pos = positive c.args.base c.requires.odd in
     parts_whole c.args.levels c.args.base c.args.odds (length c.args.xs.now) pos c.if-odds-gt0.true c.requires.size
 
 pub deinterleave-requires-clause-parts_size : goal.deinterleave-requires-clause-parts_size
 deinterleave-requires-clause-parts_size g t c =
-    let pos : 0 < c.args.base = omega arith in
+    let pos = positive c.args.base c.requires.odd in
     c.requires.scratch_size ∙ parts_whole c.args.levels c.args.base c.args.odds (length c.args.xs.now) pos c.if-odds-gt0.true c.requires.size
 
 pub loop-r-init : goal.loop-r-init
 loop-r-init g t c =
     let V = g.T.DomainCoeff.group in
     let m = g.T.DomainCoeff.meaning in
-    let pos : 0 < c.args.base = omega arith in
+    let pos = positive c.args.base c.requires.odd in
     let n = length c.args.xs.now / c.args.base in
     let whole = parts_whole c.args.levels c.args.base c.args.odds (length c.args.xs.now) pos c.if-odds-gt0.true c.requires.size in
     let size : length c.deinterleave.new.parts ≡ c.args.base * n = c.deinterleave.auto.parts ∙ (c.requires.scratch_size ∙ whole) in
     record {
-      products = omega arith;
-      butterflies = omega arith;
-      steps = omega arith;
-      done = λ w table r i rl il. absurd (omega arith);
+      products = no_parts c.args.work.now.products _ _;
+      butterflies = no_part c.args.work.now.butterflies _;
+      steps = no_part c.args.work.now.steps _;
+      done = λ w table r i rl il. none_yet r rl;
       rest = λ r i l rl il. dealt_items m V.zero c.args.base n c.args.xs.now c.deinterleave.new.parts whole size c.deinterleave.ensures r i rl il;
     }
 
 pub overflow_mul-from : goal.overflow_mul-from
-overflow_mul-from g t c = omega (arith, part_within c.args.levels c.args.base c.args.odds (length c.args.xs.now) c.loop-r.r c.requires.odd c.if-odds-gt0.true c.requires.size c.loop-r-test.true)
+overflow_mul-from g t c = let small = part_small c.args.levels c.args.base c.args.odds (length c.args.xs.now) c.args.stride (length c.args.table.now) c.loop-r.r c.requires.odd c.if-odds-gt0.true c.requires.size c.loop-r-test.true c.requires.whole c.requires.some c.requires.small in omega (arith, small)
 
 pub overflow_add-from : goal.overflow_add-from
-overflow_add-from g t c = omega (arith, part_within c.args.levels c.args.base c.args.odds (length c.args.xs.now) c.loop-r.r c.requires.odd c.if-odds-gt0.true c.requires.size c.loop-r-test.true)
+overflow_add-from g t c = let small = part_small c.args.levels c.args.base c.args.odds (length c.args.xs.now) c.args.stride (length c.args.table.now) c.loop-r.r c.requires.odd c.if-odds-gt0.true c.requires.size c.loop-r-test.true c.requires.whole c.requires.some c.requires.small in omega (arith, small)
 
 pub slice_bounds-mixed-end : goal.slice_bounds-mixed-end
 slice_bounds-mixed-end g t c = omega (arith, part_within c.args.levels c.args.base c.args.odds (length c.args.xs.now) c.loop-r.r c.requires.odd c.if-odds-gt0.true c.requires.size c.loop-r-test.true)
 
 pub overflow_add-from-in-loop-r : goal.overflow_add-from-in-loop-r
-overflow_add-from-in-loop-r g t c = omega (arith, part_within c.args.levels c.args.base c.args.odds (length c.args.xs.now) c.loop-r.r c.requires.odd c.if-odds-gt0.true c.requires.size c.loop-r-test.true)
+overflow_add-from-in-loop-r g t c = let small = part_small c.args.levels c.args.base c.args.odds (length c.args.xs.now) c.args.stride (length c.args.table.now) c.loop-r.r c.requires.odd c.if-odds-gt0.true c.requires.size c.loop-r-test.true c.requires.whole c.requires.some c.requires.small in omega (arith, small)
 
 pub slice_bounds-mixed-end-in-loop-r : goal.slice_bounds-mixed-end-in-loop-r
 slice_bounds-mixed-end-in-loop-r g t c = omega (arith, part_within c.args.levels c.args.base c.args.odds (length c.args.xs.now) c.loop-r.r c.requires.odd c.if-odds-gt0.true c.requires.size c.loop-r-test.true)
@@ -69,29 +78,29 @@ offset_bounds-xs-from g t c =
 
 pub overflow_mul-stride : goal.overflow_mul-stride
 overflow_mul-stride g t c =
-    let pos : 0 < c.args.base = omega arith in
+    let pos = positive c.args.base c.requires.odd in
     let len = length c.args.xs.now in
     let n = len / c.args.base in
     let whole = parts_whole c.args.levels c.args.base c.args.odds len pos c.if-odds-gt0.true c.requires.size in
     let some = part_positive c.args.levels c.args.base c.args.odds len pos c.if-odds-gt0.true c.requires.size in
-    let same : n ≡ n = omega arith in
-    let e = sub_whole len c.args.stride (length c.args.table.now) c.args.base n n c.requires.whole whole same in
+    let e = sub_whole len c.args.stride (length c.args.table.now) c.args.base n n c.requires.whole whole refl in
     let s = stride_small n (c.args.stride * c.args.base) (length c.args.table.now) e some c.requires.small in
-    omega arith
+    omega (arith, s)
 
 pub mixed-requires : goal.mixed-requires
 mixed-requires g t c κs within =
     let q = c.args.base in
-    let pos : 0 < q = omega arith in
+    let pos = positive q c.requires.odd in
     let len = length c.args.xs.now in
     let n = len / q in
     let r = c.loop-r.r in
     let k = r * n + n - r * n in
-    let same : k ≡ n = omega arith in
+    let same : k ≡ n = middle (r * n) n in
     let whole = parts_whole c.args.levels q c.args.odds len pos c.if-odds-gt0.true c.requires.size in
     let b = block_within q n r c.loop-r-test.true in
-    let of_scratch : length (take k (drop (r * n) c.loop-r.scratch)) ≡ n = part_length (r * n) k n c.loop-r.scratch same (omega (arith, b, whole)) in
-    let of_xs : length (take k (drop (r * n) c.loop-r.xs)) ≡ n = part_length (r * n) k n c.loop-r.xs same (omega (arith, b, whole)) in
+    let size_scratch : length c.loop-r.scratch ≡ q * n = c.loop-r.auto.scratch ∙ (c.deinterleave.auto.parts ∙ (c.requires.scratch_size ∙ whole)) in
+    let of_scratch : length (take k (drop (r * n) c.loop-r.scratch)) ≡ n = part_length (r * n) k n c.loop-r.scratch same (subst (λ x. r * n + n ≤ x) (sym size_scratch) b) in
+    let of_xs : length (take k (drop (r * n) c.loop-r.xs)) ≡ n = part_length (r * n) k n c.loop-r.xs same (subst (λ x. r * n + n ≤ x) (sym (c.loop-r.auto.xs ∙ whole)) b) in
     let size = of_scratch ∙ part_size c.args.levels q c.args.odds len pos c.if-odds-gt0.true c.requires.size in
     let e = sub_whole len c.args.stride (length c.args.table.now) q n (length (take k (drop (r * n) c.loop-r.scratch))) c.requires.whole whole of_scratch in
     let p : 0 < c.args.stride * q = mul-lt 0 0 c.args.stride q c.requires.some pos in
@@ -103,17 +112,17 @@ loop-r-preserved g t c =
     let V = g.T.DomainCoeff.group in
     let m = g.T.DomainCoeff.meaning in
     let q = c.args.base in
-    let pos : 0 < q = omega arith in
+    let pos = positive q c.requires.odd in
     let len = length c.args.xs.now in
     let n = len / q in
     let r0 = c.loop-r.r in
     let k = r0 * n + n - r0 * n in
-    let same : k ≡ n = omega arith in
+    let same : k ≡ n = middle (r0 * n) n in
     let v = c.loop-r.invariant in
     let whole = parts_whole c.args.levels q c.args.odds len pos c.if-odds-gt0.true c.requires.size in
-    let size : length c.loop-r.scratch ≡ q * n = omega (arith, whole) in
+    let size : length c.loop-r.scratch ≡ q * n = c.loop-r.auto.scratch ∙ (c.deinterleave.auto.parts ∙ (c.requires.scratch_size ∙ whole)) in
     let b = block_within q n r0 c.loop-r-test.true in
-    let of_scratch : length (take k (drop (r0 * n) c.loop-r.scratch)) ≡ n = part_length (r0 * n) k n c.loop-r.scratch same (omega (arith, b, whole)) in
+    let of_scratch : length (take k (drop (r0 * n) c.loop-r.scratch)) ≡ n = part_length (r0 * n) k n c.loop-r.scratch same (subst (λ x. r0 * n + n ≤ x) (sym size) b) in
     let of_new : length c.mixed.new.xs ≡ n = c.mixed.auto.xs ∙ of_scratch in
     let a = q * q - 1 in
     let b = c.args.odds - 1 in
@@ -125,69 +134,60 @@ loop-r-preserved g t c =
       done = λ w table r i rl il.
           block_done g.met.F.Field.field_laws g.met.T.DomainCoeff.module_laws m n q r0 k (power K w (c.args.stride * q)) c.loop-r.scratch c.mixed.new.xs (λ r k. item V (map m c.args.xs.now) (q * k + r)) c.loop-r-test.true size same of_new (c.mixed.ensures.transformed w table) v.rest (v.done w table) r i rl il;
       rest = λ r i l rl il.
-          let after : r0 < r = omega arith in
-          block_after m V.zero n q r0 k c.loop-r.scratch c.mixed.new.xs r i c.loop-r-test.true size same of_new after ∙ v.rest r i (omega arith) rl il;
+          let after = past r0 r l in
+          block_after m V.zero n q r0 k c.loop-r.scratch c.mixed.new.xs r i c.loop-r-test.true size same of_new after.0 ∙ v.rest r i after.1 rl il;
     }
 
 pub join-requires-clause-parts_size : goal.join-requires-clause-parts_size
 join-requires-clause-parts_size g t c =
-    let pos : 0 < c.args.base = omega arith in
-    omega (arith, parts_whole c.args.levels c.args.base c.args.odds (length c.args.xs.now) pos c.if-odds-gt0.true c.requires.size)
+    let pos = positive c.args.base c.requires.odd in
+    c.loop-r.auto.scratch ∙ (c.deinterleave.auto.parts ∙ (c.requires.scratch_size ∙ parts_whole c.args.levels c.args.base c.args.odds (length c.args.xs.now) pos c.if-odds-gt0.true c.requires.size))
 
 pub join-requires-clause-whole_size : goal.join-requires-clause-whole_size
 join-requires-clause-whole_size g t c =
-    let pos : 0 < c.args.base = omega arith in
-    omega (arith, parts_whole c.args.levels c.args.base c.args.odds (length c.args.xs.now) pos c.if-odds-gt0.true c.requires.size)
+    let pos = positive c.args.base c.requires.odd in
+    c.loop-r.auto.xs ∙ parts_whole c.args.levels c.args.base c.args.odds (length c.args.xs.now) pos c.if-odds-gt0.true c.requires.size
 
 pub join-requires-clause-table_size : goal.join-requires-clause-table_size
 join-requires-clause-table_size g t c =
-    let pos : 0 < c.args.base = omega arith in
+    let pos = positive c.args.base c.requires.odd in
     table_size (length c.args.xs.now) c.args.stride (length c.args.table.now) c.args.base (length c.args.xs.now / c.args.base) c.requires.whole
     (parts_whole c.args.levels c.args.base c.args.odds (length c.args.xs.now) pos c.if-odds-gt0.true c.requires.size)
 
 pub returns-after-loop-r-clause-products : goal.returns-after-loop-r-clause-products
 returns-after-loop-r-clause-products g t c =
-    let pos : 0 < c.args.base = omega arith in
-    let len = length c.args.xs.now in
-    let end : c.loop-r.r ≡ c.args.base = omega arith in
-    let a = c.args.base * c.args.base - 1 in
-    let e = level_products a c.args.levels c.args.base c.args.odds len pos c.if-odds-gt0.true c.requires.size in
-    let d = level_joins c.args.levels c.args.base c.args.odds len pos c.if-odds-gt0.true c.requires.size in
-    let f : c.loop-r.work.products ≡ c.args.work.now.products + (c.args.base * (c.args.levels * (len / c.args.base) / 2) + c.args.base * (a * ((c.args.odds - 1) * (len / c.args.base / c.args.base)))) = rw end at c.loop-r.invariant.products in
-    omega (arith, d, e, f, c.join.ensures.products)
+    all_products c.args.work.now.products c.loop-r.work.products c.join.new.work.products c.loop-r.r c.args.base c.args.levels c.args.odds (length c.args.xs.now) (positive c.args.base c.requires.odd) c.if-odds-gt0.true c.requires.size
+    (ended c.loop-r.r c.args.base c.loop-r.auto.r-end c.loop-r-test.false) (c.args.base * c.args.base - 1) c.loop-r.invariant.products c.join.ensures.products
 
 pub returns-after-loop-r-clause-butterflies : goal.returns-after-loop-r-clause-butterflies
 returns-after-loop-r-clause-butterflies g t c =
-    let pos : 0 < c.args.base = omega arith in
-    let len = length c.args.xs.now in
-    let end : c.loop-r.r ≡ c.args.base = omega arith in
-    let d = level_joins c.args.levels c.args.base c.args.odds len pos c.if-odds-gt0.true c.requires.size in
-    let f : c.loop-r.work.butterflies ≡ c.args.work.now.butterflies + c.args.base * (c.args.levels * (len / c.args.base) / 2) = rw end at c.loop-r.invariant.butterflies in
-    omega (arith, d, f, c.join.ensures.butterflies)
+    all_butterflies c.args.work.now.butterflies c.loop-r.work.butterflies c.join.new.work.butterflies c.loop-r.r c.args.base c.args.levels c.args.odds (length c.args.xs.now) (positive c.args.base c.requires.odd) c.if-odds-gt0.true c.requires.size
+    (ended c.loop-r.r c.args.base c.loop-r.auto.r-end c.loop-r-test.false) c.loop-r.invariant.butterflies c.join.ensures.butterflies
 
 pub returns-after-loop-r-clause-steps : goal.returns-after-loop-r-clause-steps
 returns-after-loop-r-clause-steps g t c =
-    let pos : 0 < c.args.base = omega arith in
-    let len = length c.args.xs.now in
-    let end : c.loop-r.r ≡ c.args.base = omega arith in
-    let e = level_steps c.args.levels c.args.base c.args.odds len pos c.if-odds-gt0.true c.requires.size in
-    let f : c.loop-r.work.steps ≡ c.args.work.now.steps + c.args.base * ((c.args.odds - 1) * (len / c.args.base / c.args.base)) = rw end at c.loop-r.invariant.steps in
-    omega (arith, e, f, c.join.ensures.steps)
+    all_steps c.args.work.now.steps c.loop-r.work.steps c.join.new.work.steps c.loop-r.r c.args.base c.args.levels c.args.odds (length c.args.xs.now) (positive c.args.base c.requires.odd) c.if-odds-gt0.true c.requires.size
+    (ended c.loop-r.r c.args.base c.loop-r.auto.r-end c.loop-r-test.false) c.loop-r.invariant.steps c.join.ensures.steps
 
 pub returns-after-loop-r-clause-transformed : goal.returns-after-loop-r-clause-transformed
 returns-after-loop-r-clause-transformed g t c = λ w table i l.
     let q = c.args.base in
-    let pos : 0 < q = omega arith in
+    let pos = positive q c.requires.odd in
     let len = length c.args.xs.now in
     let n = len / q in
+    let end = ended c.loop-r.r q c.loop-r.auto.r-end c.loop-r-test.false in
     let whole = parts_whole c.args.levels q c.args.odds len pos c.if-odds-gt0.true c.requires.size in
     let size = table_size len c.args.stride (length c.args.table.now) q n c.requires.whole whole in
     mixed_joined g.met.F.Field.field_laws g.met.T.DomainCoeff.module_laws g.T.DomainCoeff.meaning w c.args.table.now q n c.args.stride len c.args.xs.now c.loop-r.scratch c.join.new.whole table size whole c.requires.some
-    (λ r i rl il. c.loop-r.invariant.done w table r i (omega arith) il) c.join.ensures.joined i l
+    (λ r i rl il. c.loop-r.invariant.done w table r i (subst (λ k. r < k) (sym end) rl) il) c.join.ensures.joined i l
+
+-- no part is left to deal out
+even_size : (levels q odds n : ℕ) → odds ≤ 0 → n ≡ 2 ^ levels * q ^ odds → n ≡ 2 ^ levels
+even_size levels q odds n none size =
+    let zero_odds : odds ≡ 0 = omega arith in
+    let one : q ^ odds ≡ 1 = ap (λ k. q ^ k) zero_odds ∙ pow-zero q in
+    let same : 2 ^ levels * q ^ odds ≡ 2 ^ levels * 1 = ap (λ k. 2 ^ levels * k) one in
+    omega (arith, size, same)
 
 pub even_transform-requires-clause-size : goal.even_transform-requires-clause-size
-even_transform-requires-clause-size g t c =
-    let none : c.args.odds ≡ 0 = omega arith in
-    let one : c.args.base ^ c.args.odds ≡ 1 = ap (λ k. c.args.base ^ k) none ∙ pow-zero c.args.base in
-    let same : 2 ^ c.args.levels * c.args.base ^ c.args.odds ≡ 2 ^ c.args.levels * 1 = ap (λ k. 2 ^ c.args.levels * k) one in
-    omega (arith, c.requires.size, same)
+even_transform-requires-clause-size g t c = even_size c.args.levels c.args.base c.args.odds (length c.args.xs.now) c.if-odds-gt0.false c.requires.size

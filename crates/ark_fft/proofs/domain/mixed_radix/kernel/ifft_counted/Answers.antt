@@ -1,15 +1,16 @@
-use Rattle.std.proofs.Common.{◌≡◌, ℕ, map, length, ◌-◌, ◌*◌, ◌/◌, Some, ◌<◌, arith, sym, ap, subst, ◌∙◌}
+use Rattle.std.proofs.Common.{◌≡◌, ℕ, map, length, Some, ◌<◌, sym, ap, subst, ◌∙◌}
 use Rattle.ark_math.specs.Domain.{Domain, mixed_radix}
 use Rattle.ark_math.specs.Field.{natural}
 use Rattle.ark_fft.specs.Halves.{ArePowers}
-use Rattle.ark_math.specs.Root.{HasOrder, Splits, odd_base}
+use Rattle.ark_math.specs.Root.{HasOrder, odd_base}
 use Rattle.ark_math.proofs.Domains.MixedSizes.{base_above}
-use Rattle.ark_base.proofs.Cost.{mixed_cost}
+use Rattle.ark_math.specs.Cost.{inverse}
 use Rattle.ark_math.specs.Module.{item}
 use Rattle.ark_math.specs.Transform.{IsInverse}
 use Rattle.ark_math.proofs.Transforms.Inverses.{not_zero, one_inverse}
 use Rattle.ark_math.proofs.Lists.Lists.{written_back}
-use Rattle.ark_fft.proofs.Mixed.{backward}
+use Rattle.ark_fft.proofs.Mixed.{backward, cost_then_scaled}
+use Rattle.ark_fft.proofs.Counts.{positive}
 use Rattle.ark_fft.proofs.domain.mixed_radix.kernel.ifft_counted.Goals as goal
 
 pub returns-clause-inverse : goal.returns-clause-inverse
@@ -29,18 +30,18 @@ returns-clause-inverse g c =
     let now = c.scale_by_powers.new.xs in
     let fit : (j : ℕ) → j < t.size → item V (map m fitted) j ≡ item V (map m old) j = λ j l.
     ap (λ xs. item V (map m xs) j) c.as_mut_slice-xs.ensures.value ∙ c.in_ok-table.ensures.fitted j l in
-    let size_fitted : length fitted ≡ t.size = omega (arith, c.in_ok-table.ensures.len) in
-    let size_mid : length c.mixed.new.xs ≡ t.size = omega (arith, c.in_ok-table.ensures.len) in
-    let size_now : length now ≡ t.size = omega (arith, c.in_ok-table.ensures.len) in
+    let size_fitted : length fitted ≡ t.size = c.as_mut_slice-xs.ensures.len ∙ c.in_ok-table.ensures.len in
+    let size_mid : length c.mixed.new.xs ≡ t.size = c.mixed.auto.xs ∙ size_fitted in
+    let size_now : length now ≡ t.size = c.scale_by_powers.auto.xs ∙ size_mid in
     let table : ArePowers K t.group_gen_inv t.size c.as_slice.result.now =
     subst (ArePowers K t.group_gen_inv t.size) (sym c.as_slice.ensures.value) c.in_ok-table.ensures.table in
-    let inverse : IsInverse K V d (map m old) (map m now) =
+    let is_inverse : IsInverse K V d (map m old) (map m now) =
     backward g.met.F.Field.field_laws g.met.T.DomainCoeff.module_laws m d order t.group_gen_inv t.offset_inv t.size_inv c.as_slice.result.now old fitted c.mixed.new.xs now root_inverse offset_inverse size_inverse table size_fitted size_now fit c.mixed.ensures.transformed
-    (λ j l. c.scale_by_powers.ensures.items j (omega arith)) in
-    subst (λ u. IsInverse K V d (map m old) (map m u)) (sym (written_back now _ _ (omega (arith, c.in_ok-table.ensures.len)))) inverse
+    (λ j l. c.scale_by_powers.ensures.items j (subst (λ k. j < k) (sym size_mid) l)) in
+    subst (λ u. IsInverse K V d (map m old) (map m u)) (sym (written_back now _ _ (size_now ∙ sym c.in_ok-table.ensures.len))) is_inverse
 
 pub returns-clause-only : goal.returns-clause-only
-returns-clause-only g c = λ u inverse.
+returns-clause-only g c = λ u other.
     let K = g.F.Field.field in
     let N = g.met.F.Field.field_laws in
     let t = c.args.coset.now in
@@ -48,7 +49,7 @@ returns-clause-only g c = λ u inverse.
     let d : Domain g.row.F.Denot = record { kind = mixed_radix; size = t.size; root = t.group_gen; offset = t.offset } in
     let order : HasOrder K d.root d.size = subst (λ w. HasOrder K w t.size) (sym (same _ _ t.root_is)) (g.met.F.FftField.roots_law.order t.size (t.log_size_of_group, t.odd_exponent, t.splits)) in
     let size_inverse : K.times (natural K t.size) t.size_inv ≡ K.one = ap (λ x. K.times x t.size_inv) (sym (same _ _ t.size_element_is)) ∙ same _ _ t.size_inverse_is in
-    one_inverse N g.met.T.DomainCoeff.module_laws d order (not_zero K N _ _ size_inverse) (not_zero K N _ _ (same _ _ t.offset_inverse_is)) _ u _ inverse (returns-clause-inverse g c)
+    one_inverse N g.met.T.DomainCoeff.module_laws d order (not_zero K N _ _ size_inverse) (not_zero K N _ _ (same _ _ t.offset_inverse_is)) _ u _ other (returns-clause-inverse g c)
 
 pub returns-clause-cost : goal.returns-clause-cost
 returns-clause-cost g c =
@@ -57,19 +58,16 @@ returns-clause-cost g c =
     let e : s.odd ≡ Some c.unwrap-base.result = sym c.odd_base.ensures ∙ c.unwrap-base.ensures in
     let q = c.unwrap-base.result.0 in
     let base : q ≡ odd_base s.odd = sym (ap odd_base e) in
-    let above = base_above s.odd c.unwrap-base.result g.met.F.FftField.roots_law.base e in
-    let some : 0 < q = omega arith in
-    let splits : Splits s t.size t.log_size_of_group t.odd_exponent = t.splits in
-    let size : length c.as_mut_slice-xs.result.now ≡ t.size = omega (arith, c.in_ok-table.ensures.len) in
-    let joins : t.log_size_of_group * length c.as_mut_slice-xs.result.now / 2 ≡ t.log_size_of_group * t.size / 2 = ap (λ n. t.log_size_of_group * n / 2) size in
-    let steps : t.odd_exponent * (length c.as_mut_slice-xs.result.now / q) ≡ t.odd_exponent * (t.size / q) = ap (λ n. t.odd_exponent * (n / q)) size in
-    let products : (q * q - 1) * (t.odd_exponent * (length c.as_mut_slice-xs.result.now / q)) ≡ (q * q - 1) * (t.odd_exponent * (t.size / q)) = ap (λ x. (q * q - 1) * x) steps in
-    mixed_cost _ _ _ _ _ _ t.size q t.log_size_of_group t.odd_exponent t.size splits base some (omega arith) (omega arith) (omega arith) (omega (arith, c.in_ok-table.ensures.len))
+    let some : 0 < q = subst (λ k. 0 < k) (sym base) (positive (odd_base s.odd) (base_above s.odd c.unwrap-base.result g.met.F.FftField.roots_law.base e)) in
+    let of_fitted : length c.as_mut_slice-xs.result.now ≡ t.size = c.as_mut_slice-xs.ensures.len ∙ c.in_ok-table.ensures.len in
+    let j = c.mixed.ensures in
+    let p = c.scale_by_powers.ensures in
+    cost_then_scaled s t.group_gen t.offset inverse (length c.args.evals.now.items) t.size q t.log_size_of_group t.odd_exponent t.splits base some
+    (length c.as_mut_slice-xs.result.now) (length c.mixed.new.xs) c.args.work.now c.mixed.new.work c.scale_by_powers.new.work of_fitted (c.mixed.auto.xs ∙ of_fitted)
+    j.butterflies j.products j.steps p.butterflies p.products p.steps
 
 pub mixed-requires-clause-odd : goal.mixed-requires-clause-odd
 mixed-requires-clause-odd g c =
     let s = g.F.FftField.adicity in
     let e : s.odd ≡ Some c.unwrap-base.result = sym c.odd_base.ensures ∙ c.unwrap-base.ensures in
-    let base : odd_base s.odd ≡ c.unwrap-base.result.0 = ap odd_base e in
-    let above = base_above s.odd c.unwrap-base.result g.met.F.FftField.roots_law.base e in
-    omega arith
+    subst (λ k. 1 < k) (ap odd_base e) (base_above s.odd c.unwrap-base.result g.met.F.FftField.roots_law.base e)

@@ -1,10 +1,53 @@
-use Rattle.std.proofs.Common.{rules, ◌≡◌, ◌≢◌, set, map, length, ◌+◌, ◌-◌, ◌*◌, ◌<◌, sym, ◌∙◌, arith, subst, ⊎_elim}
+use Rattle.std.proofs.Common.{rules, refl, ℕ, ◌≡◌, ◌≢◌, set, map, length, ◌+◌, ◌-◌, ◌*◌, ◌<◌, ◌≤◌, sym, ◌∙◌, arith, subst, ⊎_elim}
 use Rattle.std.proofs.lemmas.Bool.{cases_eq}
 use Rattle.ark_math.specs.Field.{power}
 use Rattle.ark_math.specs.Module.{item, sum_below}
 use Rattle.ark_math.proofs.Lists.Lists.{written_same, written_other}
-use Rattle.ark_fft.proofs.Parts.{place_below, columns_differ, rows_differ, step_row}
+use Rattle.ark_fft.proofs.Blocks.{block_within}
+use Rattle.ark_fft.proofs.Counts.{none_yet, ended, not_last, no_part, part_more, all_parts}
+use Rattle.ark_fft.proofs.Parts.{place_below, columns_differ, rows_differ}
 use Rattle.ark_fft.proofs.domain.mixed_radix.kernel.sum_row.Goals as goal
+
+place_within : (q m size r i : ℕ) → size ≡ q * m → r < q → i < m → r * m + i < size
+place_within q m size r i is in_rows in_row = subst (λ k. r * m + i < k) (sym is) (place_below q m r i in_rows in_row)
+
+earlier : (i k m : ℕ) → i < k → k < m → i < m
+earlier i k m a b = omega arith
+
+some_rows : (j q : ℕ) → j < q → 0 < q
+some_rows j q row = omega arith
+
+last_row : (j q : ℕ) → j < q → q - 1 < q
+last_row j q row = omega arith
+
+row_start : (a i : ℕ) → a ≤ a + i
+row_start a i = omega arith
+
+row_within : (q m size r : ℕ) → size ≡ q * m → r < q → r * m ≤ size
+row_within q m size r is in_rows = omega (arith, block_within q m r in_rows, is)
+
+pub overflow_mul-row : goal.overflow_mul-row
+overflow_mul-row g c =
+    let b = row_within c.args.base c.args.m (length c.args.parts.now) c.args.j c.requires.parts_size c.requires.row in
+    omega (arith, b)
+
+pub overflow_sub-last : goal.overflow_sub-last
+overflow_sub-last g c = some_rows c.args.j c.args.base c.requires.row
+
+pub overflow_mul-last : goal.overflow_mul-last
+overflow_mul-last g c =
+    let b = row_within c.args.base c.args.m (length c.args.parts.now) (c.args.base - 1) c.requires.parts_size (last_row c.args.j c.args.base c.requires.row) in
+    omega (arith, b)
+
+pub overflow_add-last : goal.overflow_add-last
+overflow_add-last g c =
+    let b = place_within c.args.base c.args.m (length c.args.parts.now) (c.args.base - 1) c.loop-i.i c.requires.parts_size (last_row c.args.j c.args.base c.requires.row) c.loop-i-test.true in
+    omega (arith, b)
+
+pub overflow_add-row : goal.overflow_add-row
+overflow_add-row g c =
+    let b = place_within c.args.base c.args.m (length c.args.parts.now) c.args.j c.loop-i.i c.requires.parts_size c.requires.row c.loop-i-test.true in
+    omega (arith, b)
 
 pub loop-i-preserved : goal.loop-i-preserved
 loop-i-preserved g c =
@@ -16,27 +59,62 @@ loop-i-preserved g c =
     let xs = c.loop-i.whole in
     let v = c.loop-i.invariant in
     let at = j0 * c.args.m + i0 in
-    let l = place_below c.args.base c.args.m j0 i0 c.requires.row c.loop-i-test.true in
-    let b : at < length xs = omega arith in
+    let b : at < length xs = place_within c.args.base c.args.m (length xs) j0 i0 (c.loop-i.auto.whole ∙ c.requires.whole_size) c.requires.row c.loop-i-test.true in
     let new = c.horner_sum.result in
-    let last : (c.args.base - 1) * c.args.m + i0 ≡ (c.args.base - 1) * c.args.m + i0 = omega arith in
     record {
-      products = omega (arith, step_row c.loop-i.i (c.args.base - 1));
-      butterflies = omega arith;
-      steps = omega arith;
+      products = part_more c.args.work.now.products c.loop-i.work.products c.horner_sum.new.work.products i0 (c.args.base - 1) v.products c.horner_sum.ensures.products;
+      butterflies = c.horner_sum.ensures.butterflies ∙ v.butterflies;
+      steps = c.horner_sum.ensures.steps ∙ v.steps;
       done = λ i il.
           ⊎_elim
           (λ (e : i ≡ i0).
           subst (λ t. item V (map m (set xs at new)) (j0 * c.args.m + t) ≡ sum_below V c.args.base (λ r. V.scale (power K c.args.factor r) (item V (map m c.args.parts.now) (r * c.args.m + t)))) (sym e)
-          (written_same m V.zero xs at new b ∙ c.horner_sum.ensures.sum i0 last))
-          (λ (ne : i ≢ i0). let im : i < c.args.m = omega arith in written_other m V.zero xs at (j0 * c.args.m + i) new (columns_differ c.args.m j0 i0 j0 i c.loop-i-test.true im ne) ∙ v.done i (omega arith))
+          (written_same m V.zero xs at new b ∙ c.horner_sum.ensures.sum i0 refl))
+          (λ (ne : i ≢ i0). let before = not_last i i0 il ne in written_other m V.zero xs at (j0 * c.args.m + i) new (columns_differ c.args.m j0 i0 j0 i c.loop-i-test.true (earlier i i0 c.args.m before c.loop-i-test.true) ne) ∙ v.done i before)
           (cases_eq i i0);
       others = λ k i il ne.
           written_other m V.zero xs at (k * c.args.m + i) new (rows_differ c.args.m j0 i0 k i c.loop-i-test.true il ne) ∙ v.others k i il ne;
     }
 
+pub loop-i-init : goal.loop-i-init
+loop-i-init g c = record {
+  products = no_part c.args.work.now.products (c.args.base - 1);
+  butterflies = refl;
+  steps = refl;
+  done = λ i il. none_yet i il;
+  others = λ k i il ne. refl;
+}
+
 pub offset_bounds-whole-row : goal.offset_bounds-whole-row
 offset_bounds-whole-row g c =
-    let l = place_below c.args.base c.args.m c.args.j c.loop-i.i c.requires.row c.loop-i-test.true in
-    let b : c.args.j * c.args.m + c.loop-i.i < length c.loop-i.whole = omega arith in
+    let b : c.args.j * c.args.m + c.loop-i.i < length c.loop-i.whole = place_within c.args.base c.args.m (length c.loop-i.whole) c.args.j c.loop-i.i (c.loop-i.auto.whole ∙ c.requires.whole_size) c.requires.row c.loop-i-test.true in
     search rules
+
+pub bounds-whole-row : goal.bounds-whole-row
+bounds-whole-row g c = place_within c.args.base c.args.m (length c.loop-i.whole) c.args.j c.loop-i.i (c.loop-i.auto.whole ∙ c.requires.whole_size) c.requires.row c.loop-i-test.true
+
+pub horner_sum-requires-clause-some : goal.horner_sum-requires-clause-some
+horner_sum-requires-clause-some g c = some_rows c.args.j c.args.base c.requires.row
+
+pub horner_sum-requires-clause-rows : goal.horner_sum-requires-clause-rows
+horner_sum-requires-clause-rows g c = row_start ((c.args.base - 1) * c.args.m) c.loop-i.i
+
+pub horner_sum-requires-clause-inside : goal.horner_sum-requires-clause-inside
+horner_sum-requires-clause-inside g c =
+    place_within c.args.base c.args.m (length c.args.parts.now) (c.args.base - 1) c.loop-i.i c.requires.parts_size (last_row c.args.j c.args.base c.requires.row) c.loop-i-test.true
+
+pub returns-clause-products : goal.returns-clause-products
+returns-clause-products g c =
+    all_parts c.loop-i.work.products c.args.work.now.products c.loop-i.i c.args.m (c.args.base - 1) (ended c.loop-i.i c.args.m c.loop-i.auto.i-end c.loop-i-test.false) c.loop-i.invariant.products
+
+pub returns-clause-butterflies : goal.returns-clause-butterflies
+returns-clause-butterflies g c = c.loop-i.invariant.butterflies
+
+pub returns-clause-steps : goal.returns-clause-steps
+returns-clause-steps g c = c.loop-i.invariant.steps
+
+pub returns-clause-sums : goal.returns-clause-sums
+returns-clause-sums g c = λ i il. c.loop-i.invariant.done i (subst (λ k. i < k) (sym (ended c.loop-i.i c.args.m c.loop-i.auto.i-end c.loop-i-test.false)) il)
+
+pub returns-clause-other_rows : goal.returns-clause-other_rows
+returns-clause-other_rows g c = c.loop-i.invariant.others

@@ -1,9 +1,11 @@
-use Rattle.std.proofs.Common.{◌≡◌, ◌+◌, arith, Some, IsSome, sym, ap, subst, refl}
-use Rattle.std.proofs.lemmas.Bool.Decides.{not_from_Decides}
+use Rattle.std.proofs.Common.{◌≡◌, ◌↔◌, ◌+◌, Bool, IsTrue, false, arith, Some, IsSome, sym, ap, subst, refl}
 use Rattle.ark_math.specs.Root.{odd_most}
 use Rattle.ark_math.proofs.Domains.MixedSizes.{IsLeastBelow, base_above, least_below-none, least_below-more, least_below-kept, least_below-same, least_of_all, none_of_all}
 use Rattle.ark_fft.proofs.domain.mixed_radix.size.least_size.Goals as goal
 use Rattle.ark_fft.proofs.domain.mixed_radix.size.least_size.Goals.{in-Some+then-improves, in-Some+else-improves, in_default}
+
+refused : {P : Type 0} (answer : Bool) → IsTrue answer ↔ P → answer ≡ false → P → ⊥
+refused answer decides is_false fact = cc (decides.1 fact, is_false)
 
 pub loop-odds-init : goal.loop-odds-init
 loop-odds-init g c = least_below-none g.F.FftField.adicity c.args.num_coeffs
@@ -20,7 +22,7 @@ loop-odds-preserved g c =
           (least_below-more s k b w.in-Some.size w.in-Some.twos old w.in-Some.ensures.least w.in-Some.ensures.splits (w.improves.ensures.0 w.if-improves.true) c.loop-odds.invariant)
       | in-Some+else-improves w ↦
           subst (IsLeastBelow s k (b + 1)) (sym w.least-is)
-          (least_below-kept s k b w.in-Some.size old w.in-Some.ensures.least (not_from_Decides _ w.improves.ensures w.if-improves.false) c.loop-odds.invariant)
+          (least_below-kept s k b w.in-Some.size old w.in-Some.ensures.least (refused w.improves.result w.improves.ensures w.if-improves.false) c.loop-odds.invariant)
       | in_default w ↦
           subst (IsLeastBelow s k (b + 1)) (sym w.least-is)
           (least_below-same s k b old w.in_default.ensures.none c.loop-odds.invariant)

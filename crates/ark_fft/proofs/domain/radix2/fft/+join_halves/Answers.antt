@@ -1,26 +1,62 @@
-use Rattle.std.proofs.Common.{rules, arith, ◌≡◌, ◌-◌, ◌*◌, ◌+◌, ◌/◌, ◌^◌, ◌<◌, ◌∙◌, suc, length, take, drop, ap, sym, subst}
+use Rattle.std.proofs.Common.{rules, arith, ◌≡◌, ◌-◌, ◌*◌, ◌+◌, ◌/◌, ◌^◌, ◌∙◌, length, sym}
 use Rattle.ark_math.specs.Field.{power}
-use Rattle.ark_fft.specs.Halves.{AreLevels, IsHalfTable}
-use Rattle.ark_fft.proofs.Halving.{count_levels}
-use Rattle.ark_fft.proofs.Joining.{blocks_of_front, blocks_of_back, joined_level, one_block}
-use Rattle.ark_fft.proofs.Reversal.{pow_pred}
+use Rattle.ark_fft.proofs.Counts.{one_less}
+use Rattle.ark_fft.proofs.Joining.{some_levels, front_half, back_half, joined_count, no_count, blocks_of_front, blocks_of_back, joined_level, one_block, next_levels}
 use Rattle.ark_fft.proofs.domain.radix2.fft.+join_halves.Goals as goal
 
 pub join_halves-requires : goal.join_halves-requires
 join_halves-requires g t c κs within =
-    let pos : 0 < c.args.levels = omega arith in
-    let d = pow_pred c.args.levels pos in
-    let n : length c.split_at_mut-lo.result.0.now ≡ 2 ^ (c.args.levels - 1) = omega arith in
-    let r : length c.split_at.result.1.now ≡ 2 ^ (c.args.levels - 1) = omega arith in
-    (omega arith, (search rules, (search rules, (n, (r, omega arith)))))
+    let n = c.args.levels in
+    let e = c.args.log_len in
+    let some = c.if-log_len-gt0.true in
+    let len = length c.args.xs.now in
+    let s = c.split_at_mut-lo in
+    let r = c.split_at in (
+      omega arith,
+      (
+        search rules,
+        (
+          search rules,
+          (
+            front_half n e some c.requires.within len (length s.result.0.now) c.requires.size s.ensures.front_len,
+            (back_half n e some c.requires.within (length c.args.tables.now) len (length r.result.1.now) c.requires.whole c.requires.size r.ensures.back_len, one_less e n c.requires.within),
+          ),
+        ),
+      ),
+    )
 
 pub join_halves-requires-then-log_len-gt0 : goal.join_halves-requires-then-log_len-gt0
 join_halves-requires-then-log_len-gt0 g t c κs within =
-    let pos : 0 < c.args.levels = omega arith in
-    let d = pow_pred c.args.levels pos in
-    let n : length c.split_at_mut-lo.result.1.now ≡ 2 ^ (c.args.levels - 1) = omega arith in
-    let r : length c.split_at.result.1.now ≡ 2 ^ (c.args.levels - 1) = omega arith in
-    (omega arith, (search rules, (search rules, (n, (r, omega arith)))))
+    let n = c.args.levels in
+    let e = c.args.log_len in
+    let some = c.if-log_len-gt0.true in
+    let len = length c.args.xs.now in
+    let s = c.split_at_mut-lo in
+    let r = c.split_at in (
+      omega arith,
+      (
+        search rules,
+        (
+          search rules,
+          (
+            back_half n e some c.requires.within len len (length s.result.1.now) c.requires.size c.requires.size s.ensures.back_len,
+            (back_half n e some c.requires.within (length c.args.tables.now) len (length r.result.1.now) c.requires.whole c.requires.size r.ensures.back_len, one_less e n c.requires.within),
+          ),
+        ),
+      ),
+    )
+
+pub join_butterflies-requires-clause-same : goal.join_butterflies-requires-clause-same
+join_butterflies-requires-clause-same g t c =
+    let s = c.split_at_mut-lo in
+    let len = length c.args.xs.now in
+    let some = c.if-log_len-gt0.true in
+    c.join_halves.auto.xs
+    ∙ (front_half c.args.levels c.args.log_len some c.requires.within len (length s.result.0.now) c.requires.size s.ensures.front_len
+    ∙ sym (c.join_halves-then-log_len-gt0.auto.xs ∙ back_half c.args.levels c.args.log_len some c.requires.within len len (length s.result.1.now) c.requires.size c.requires.size s.ensures.back_len))
+
+pub join_butterflies-requires-clause-enough : goal.join_butterflies-requires-clause-enough
+join_butterflies-requires-clause-enough g t c = c.join_halves.auto.xs ∙ (c.split_at_mut-lo.ensures.front_len ∙ sym c.split_at.ensures.front_len)
 
 pub returns-then-log_len-gt0-clause-sums : goal.returns-then-log_len-gt0-clause-sums
 returns-then-log_len-gt0-clause-sums g t c = λ w f tables blocks p l.
@@ -30,43 +66,49 @@ returns-then-log_len-gt0-clause-sums g t c = λ w f tables blocks p l.
     let m = g.T.DomainCoeff.meaning in
     let n = c.args.levels in
     let e = c.args.log_len in
-    let some : 0 < e = c.if-log_len-gt0.true in
-    let pos : 0 < n = omega arith in
-    let d = pow_pred n pos in
-    let lo = c.split_at_mut-lo.result.0.now in
-    let hi = c.split_at_mut-lo.result.1.now in
-    let old = c.args.tables.now in
-    let twiddles = c.split_at.result.0.now in
-    let rest = c.split_at.result.1.now in
-    let half : length c.args.xs.now / 2 ≡ 2 ^ (n - 1) = omega arith in
-    let one_more : n ≡ suc (n - 1) = omega arith in
-    let all : AreLevels K w (suc (n - 1)) old = subst (λ k. AreLevels K w k old) one_more tables in
-    let first : IsHalfTable K w twiddles = subst (IsHalfTable K w) (ap (λ k. take k old) (sym half) ∙ sym c.split_at.ensures.front) all.0 in
-    let others : AreLevels K (power K w 2) (n - 1) rest = subst (AreLevels K (power K w 2) (n - 1)) (ap (λ k. drop k old) (sym half) ∙ sym c.split_at.ensures.back) all.1 in
-    let len_twiddles : length twiddles ≡ 2 ^ (n - 1) = omega arith in
-    let n0 : length lo ≡ 2 ^ (n - 1) = omega arith in
-    let n1 : length c.join_halves.new.xs ≡ 2 ^ (n - 1) = omega arith in
-    let n2 : length c.join_butterflies.new.lo ≡ 2 ^ (n - 1) = omega arith in
-    joined_level N L m n e w twiddles f c.join_halves.new.xs c.join_halves-then-log_len-gt0.new.xs c.join_butterflies.new.lo c.join_butterflies.new.hi first some c.requires.within len_twiddles n1 n2
-    (c.join_halves.ensures.sums (power K w 2) (λ j. f (2 * j + 0)) others (blocks_of_front N L m n e c.args.xs.now lo hi f some c.requires.within c.split_at_mut-lo.ensures.value n0 blocks))
-    (c.join_halves-then-log_len-gt0.ensures.sums (power K w 2) (λ j. f (2 * j + 1)) others (blocks_of_back N L m n e c.args.xs.now lo hi f some c.requires.within c.split_at_mut-lo.ensures.value n0 blocks))
+    let some = c.if-log_len-gt0.true in
+    let within = c.requires.within in
+    let s = c.split_at_mut-lo in
+    let lo = s.result.0.now in
+    let hi = s.result.1.now in
+    let len = length c.args.xs.now in
+    let r = c.split_at in
+    let n0 : length lo ≡ 2 ^ (n - 1) = front_half n e some within len (length lo) c.requires.size s.ensures.front_len in
+    let n1 : length c.join_halves.new.xs ≡ 2 ^ (n - 1) = c.join_halves.auto.xs ∙ n0 in
+    let half : len / 2 ≡ 2 ^ (n - 1) = sym s.ensures.front_len ∙ n0 in
+    let both = next_levels K n (len / 2) w c.args.tables.now r.result.0.now r.result.1.now (some_levels n e some within) half r.ensures.front r.ensures.back tables in
+    joined_level N L m n e w r.result.0.now f c.join_halves.new.xs c.join_halves-then-log_len-gt0.new.xs c.join_butterflies.new.lo c.join_butterflies.new.hi both.0 some within (r.ensures.front_len ∙ half) n1 (c.join_butterflies.auto.lo ∙ n1)
+    (c.join_halves.ensures.sums (power K w 2) (λ j. f (2 * j + 0)) both.1 (blocks_of_front N L m n e c.args.xs.now lo hi f some within s.ensures.value n0 blocks))
+    (c.join_halves-then-log_len-gt0.ensures.sums (power K w 2) (λ j. f (2 * j + 1)) both.1 (blocks_of_back N L m n e c.args.xs.now lo hi f some within s.ensures.value n0 blocks))
     c.join_butterflies.ensures.sums c.join_butterflies.ensures.differences p l
 
 pub returns-then-log_len-gt0-clause-butterflies : goal.returns-then-log_len-gt0-clause-butterflies
 returns-then-log_len-gt0-clause-butterflies g t c =
-    let pos : 0 < c.args.levels = omega arith in
-    let d = pow_pred c.args.levels pos in
-    let n : length c.join_halves.new.xs ≡ 2 ^ (c.args.levels - 1) = omega arith in
-    omega (arith, count_levels c.args.levels c.args.log_len c.if-log_len-gt0.true c.requires.within)
+    let s = c.split_at_mut-lo in
+    let some = c.if-log_len-gt0.true in
+    joined_count c.args.levels c.args.log_len some c.requires.within c.args.work.now.butterflies c.join_halves.new.work.butterflies c.join_halves-then-log_len-gt0.new.work.butterflies c.join_butterflies.new.work.butterflies (length c.join_halves.new.xs)
+    c.join_halves.ensures.butterflies c.join_halves-then-log_len-gt0.ensures.butterflies c.join_butterflies.ensures.butterflies
+    (c.join_halves.auto.xs ∙ front_half c.args.levels c.args.log_len some c.requires.within (length c.args.xs.now) (length s.result.0.now) c.requires.size s.ensures.front_len)
 
 pub returns-then-log_len-gt0-clause-products : goal.returns-then-log_len-gt0-clause-products
 returns-then-log_len-gt0-clause-products g t c =
-    let pos : 0 < c.args.levels = omega arith in
-    let d = pow_pred c.args.levels pos in
-    let n : length c.join_halves.new.xs ≡ 2 ^ (c.args.levels - 1) = omega arith in
-    omega (arith, count_levels c.args.levels c.args.log_len c.if-log_len-gt0.true c.requires.within)
+    let s = c.split_at_mut-lo in
+    let some = c.if-log_len-gt0.true in
+    joined_count c.args.levels c.args.log_len some c.requires.within c.args.work.now.products c.join_halves.new.work.products c.join_halves-then-log_len-gt0.new.work.products c.join_butterflies.new.work.products (length c.join_halves.new.xs)
+    c.join_halves.ensures.products c.join_halves-then-log_len-gt0.ensures.products c.join_butterflies.ensures.products
+    (c.join_halves.auto.xs ∙ front_half c.args.levels c.args.log_len some c.requires.within (length c.args.xs.now) (length s.result.0.now) c.requires.size s.ensures.front_len)
+
+pub returns-then-log_len-gt0-clause-steps : goal.returns-then-log_len-gt0-clause-steps
+returns-then-log_len-gt0-clause-steps g t c =
+    c.join_butterflies.ensures.steps ∙ (c.join_halves-then-log_len-gt0.ensures.steps ∙ c.join_halves.ensures.steps)
 
 pub returns-else-log_len-gt0-clause-sums : goal.returns-else-log_len-gt0-clause-sums
 returns-else-log_len-gt0-clause-sums g t c = λ w f table blocks p l.
     let none : c.args.log_len ≡ 0 = omega arith in
     one_block g.met.F.Field.field_laws g.met.T.DomainCoeff.module_laws g.T.DomainCoeff.meaning c.args.levels c.args.log_len _ c.args.xs.now f none blocks p l
+
+pub returns-else-log_len-gt0-clause-butterflies : goal.returns-else-log_len-gt0-clause-butterflies
+returns-else-log_len-gt0-clause-butterflies g t c = no_count c.args.work.now.butterflies (2 ^ c.args.levels / 2) c.args.log_len c.if-log_len-gt0.false
+
+pub returns-else-log_len-gt0-clause-products : goal.returns-else-log_len-gt0-clause-products
+returns-else-log_len-gt0-clause-products g t c = no_count c.args.work.now.products (2 ^ c.args.levels / 2) c.args.log_len c.if-log_len-gt0.false

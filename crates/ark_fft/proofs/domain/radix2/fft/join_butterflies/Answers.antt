@@ -1,7 +1,8 @@
-use Rattle.std.proofs.Common.{◌≡◌, ◌<◌, ◌≤◌, ℕ, map, length, get_or, ap₂, ◌∙◌, arith}
+use Rattle.std.proofs.Common.{◌≡◌, ◌<◌, ℕ, map, length, get_or, ap₂, sym, subst, ◌∙◌}
 use Rattle.std.proofs.lemmas.List.{get_or_read}
 use Rattle.ark_math.specs.Module.{item}
 use Rattle.ark_math.proofs.Lists.Lists.{read_at, written_more, written_rest}
+use Rattle.ark_fft.proofs.Counts.{ended, one_more, itself}
 use Rattle.ark_fft.proofs.domain.radix2.fft.join_butterflies.Goals as goal
 
 pub loop-i-preserved : goal.loop-i-preserved
@@ -10,20 +11,20 @@ loop-i-preserved g c =
     let m = g.T.DomainCoeff.meaning in
     let i = c.loop-i.i in
     let v = c.loop-i.invariant in
-    let in_lo : i < length c.loop-i.lo = omega arith in
-    let in_hi : i < length c.loop-i.hi = omega arith in
-    let here : i ≤ i = omega arith in
+    let in_lo : i < length c.loop-i.lo = subst (λ k. i < k) (sym c.loop-i.auto.lo) c.loop-i-test.true in
+    let in_hi : i < length c.loop-i.hi = subst (λ k. i < k) (sym (c.loop-i.auto.hi ∙ sym c.requires.same)) c.loop-i-test.true in
+    let here = itself i in
     let rest_lo : m (get_or c.loop-i.lo i c.index-lo-i.result) ≡ item V (map m c.args.lo.now) i = read_at m V.zero c.loop-i.lo i c.index-lo-i.result in_lo ∙ v.rest_lo i here in
     let rest_hi : m (get_or c.loop-i.hi i c.index-hi-i.result) ≡ item V (map m c.args.hi.now) i = read_at m V.zero c.loop-i.hi i c.index-hi-i.result in_hi ∙ v.rest_hi i here in
-    let in_roots : i < length c.args.twiddles.now = omega arith in
+    let in_roots : i < length c.args.twiddles.now = subst (λ k. i < k) c.requires.enough c.loop-i-test.true in
     let root : c.index-twiddles-i.result ≡ get_or c.args.twiddles.now i g.F.Field.field.zero = get_or_read c.args.twiddles.now _ _ in_roots c.index-twiddles-i.is g.F.Field.field.zero in
     let lo0 = λ (k : ℕ). item V (map m c.args.lo.now) k in
     let hi0 = λ (k : ℕ). item V (map m c.args.hi.now) k in
     let scaled = λ (k : ℕ). V.scale (get_or c.args.twiddles.now k g.F.Field.field.zero) (hi0 k) in
     record {
-      butterflies = omega arith;
-      products = omega arith;
-      steps = omega arith;
+      butterflies = one_more c.args.work.now.butterflies c.loop-i.work.butterflies c.join.new.work.butterflies i v.butterflies c.join.ensures.butterflies;
+      products = one_more c.args.work.now.products c.loop-i.work.products c.join.new.work.products i v.products c.join.ensures.products;
+      steps = c.join.ensures.steps ∙ v.steps;
       sums = written_more m V.zero (λ k. V.plus (lo0 k) (scaled k)) c.loop-i.lo i c.join.new.lo in_lo v.sums
           (c.join.ensures.sum ∙ ap₂ V.plus rest_lo (ap₂ V.scale root rest_hi));
       differences = written_more m V.zero (λ k. V.plus (lo0 k) (V.negated (scaled k))) c.loop-i.hi i c.join.new.hi in_hi v.differences
@@ -31,3 +32,9 @@ loop-i-preserved g c =
       rest_lo = written_rest m V.zero lo0 c.loop-i.lo i c.join.new.lo v.rest_lo;
       rest_hi = written_rest m V.zero hi0 c.loop-i.hi i c.join.new.hi v.rest_hi;
     }
+
+pub returns-clause-sums : goal.returns-clause-sums
+returns-clause-sums g c = λ i l. c.loop-i.invariant.sums i (subst (λ k. i < k) (sym (ended c.loop-i.i (length c.args.lo.now) c.loop-i.auto.i-end c.loop-i-test.false)) l)
+
+pub returns-clause-differences : goal.returns-clause-differences
+returns-clause-differences g c = λ i l. c.loop-i.invariant.differences i (subst (λ k. i < k) (sym (ended c.loop-i.i (length c.args.lo.now) c.loop-i.auto.i-end c.loop-i-test.false)) l)

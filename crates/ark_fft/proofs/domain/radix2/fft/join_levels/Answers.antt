@@ -1,10 +1,51 @@
-use Rattle.std.proofs.Common.{arith, ◌≡◌, ◌-◌, ◌*◌, ◌+◌, ◌/◌, ◌^◌, ◌<◌, ◌∙◌, length, ap, sym, subst}
+use Rattle.std.proofs.Common.{◌≡◌, arith, ◌-◌, ◌*◌, ◌+◌, ◌/◌, ◌^◌, ◌∙◌, length, ap, sym, refl}
 use Rattle.ark_math.specs.Field.{power}
-use Rattle.ark_fft.specs.Halves.{ArePowers, IsHalfTable}
-use Rattle.ark_fft.proofs.Halving.{count_levels}
-use Rattle.ark_fft.proofs.Joining.{blocks_of_front, blocks_of_back, joined_level, one_block}
-use Rattle.ark_fft.proofs.Reversal.{pow_pred}
+use Rattle.ark_fft.specs.Halves.{IsHalfTable}
+use Rattle.ark_fft.proofs.Counts.{one_less}
+use Rattle.ark_fft.proofs.Joining.{some_levels, front_half, back_half, joined_count, no_count, half_table, blocks_of_front, blocks_of_back, joined_level, one_block}
 use Rattle.ark_fft.proofs.domain.radix2.fft.join_levels.Goals as goal
+
+pub join_halves-requires-clause-size : goal.join_halves-requires-clause-size
+join_halves-requires-clause-size g c =
+    let s = c.split_at_mut-lo in
+    front_half c.args.levels c.args.log_len c.if-log_len-gt0.true c.requires.within (length c.args.xs.now) (length s.result.0.now) c.requires.size s.ensures.front_len
+
+pub join_halves-requires-clause-whole : goal.join_halves-requires-clause-whole
+join_halves-requires-clause-whole g c =
+    front_half c.args.levels c.args.log_len c.if-log_len-gt0.true c.requires.within (2 ^ c.args.levels) (length c.args.tables.now) refl c.requires.whole
+
+pub join_halves-requires-clause-within : goal.join_halves-requires-clause-within
+join_halves-requires-clause-within g c = one_less c.args.log_len c.args.levels c.requires.within
+
+pub join_halves-requires-then-log_len-gt0-clause-size : goal.join_halves-requires-then-log_len-gt0-clause-size
+join_halves-requires-then-log_len-gt0-clause-size g c =
+    let s = c.split_at_mut-lo in
+    let len = length c.args.xs.now in
+    back_half c.args.levels c.args.log_len c.if-log_len-gt0.true c.requires.within len len (length s.result.1.now) c.requires.size c.requires.size s.ensures.back_len
+
+pub join_halves-requires-then-log_len-gt0-clause-whole : goal.join_halves-requires-then-log_len-gt0-clause-whole
+join_halves-requires-then-log_len-gt0-clause-whole g c =
+    front_half c.args.levels c.args.log_len c.if-log_len-gt0.true c.requires.within (2 ^ c.args.levels) (length c.args.tables.now) refl c.requires.whole
+
+pub join_halves-requires-then-log_len-gt0-clause-within : goal.join_halves-requires-then-log_len-gt0-clause-within
+join_halves-requires-then-log_len-gt0-clause-within g c = one_less c.args.log_len c.args.levels c.requires.within
+
+pub join_butterflies-requires-clause-same : goal.join_butterflies-requires-clause-same
+join_butterflies-requires-clause-same g c =
+    let s = c.split_at_mut-lo in
+    let len = length c.args.xs.now in
+    let some = c.if-log_len-gt0.true in
+    c.join_halves.auto.xs
+    ∙ (front_half c.args.levels c.args.log_len some c.requires.within len (length s.result.0.now) c.requires.size s.ensures.front_len
+    ∙ sym (c.join_halves-then-log_len-gt0.auto.xs ∙ back_half c.args.levels c.args.log_len some c.requires.within len len (length s.result.1.now) c.requires.size c.requires.size s.ensures.back_len))
+
+pub join_butterflies-requires-clause-enough : goal.join_butterflies-requires-clause-enough
+join_butterflies-requires-clause-enough g c =
+    let s = c.split_at_mut-lo in
+    let some = c.if-log_len-gt0.true in
+    c.join_halves.auto.xs
+    ∙ (front_half c.args.levels c.args.log_len some c.requires.within (length c.args.xs.now) (length s.result.0.now) c.requires.size s.ensures.front_len
+    ∙ sym (c.fill_with_powers.auto.xs ∙ front_half c.args.levels c.args.log_len some c.requires.within (2 ^ c.args.levels) (length c.args.tables.now) refl c.requires.whole))
 
 pub returns-then-log_len-gt0-clause-sums : goal.returns-then-log_len-gt0-clause-sums
 returns-then-log_len-gt0-clause-sums g c = λ f levels half blocks p l.
@@ -15,42 +56,49 @@ returns-then-log_len-gt0-clause-sums g c = λ f levels half blocks p l.
     let n = c.args.levels in
     let e = c.args.log_len in
     let w = c.args.root in
-    let some : 0 < e = c.if-log_len-gt0.true in
-    let pos : 0 < n = omega arith in
-    let d = pow_pred n pos in
-    let lo = c.split_at_mut-lo.result.0.now in
-    let hi = c.split_at_mut-lo.result.1.now in
+    let some = c.if-log_len-gt0.true in
+    let within = c.requires.within in
+    let s = c.split_at_mut-lo in
+    let lo = s.result.0.now in
+    let hi = s.result.1.now in
     let twiddles = c.fill_with_powers.new.xs in
-    let h : 2 ^ n / 2 ≡ 2 ^ (n - 1) = omega arith in
-    let len_tables : length c.args.tables.now ≡ 2 ^ (n - 1) = omega arith in
-    let powers : ArePowers K w (2 ^ (n - 1)) twiddles = subst (λ k. ArePowers K w k twiddles) len_tables c.fill_with_powers.ensures in
-    let first : IsHalfTable K w twiddles = record {
-      powers = λ i b. powers.powers i (omega (arith, b, powers.len));
-      half = λ b. ap (power K w) (powers.len ∙ sym h) ∙ half pos;
-    } in
-    let n0 : length lo ≡ 2 ^ (n - 1) = omega arith in
-    let n1 : length c.join_halves.new.xs ≡ 2 ^ (n - 1) = omega arith in
-    let n2 : length c.join_butterflies.new.lo ≡ 2 ^ (n - 1) = omega arith in
-    joined_level N L m n e w twiddles f c.join_halves.new.xs c.join_halves-then-log_len-gt0.new.xs c.join_butterflies.new.lo c.join_butterflies.new.hi first some c.requires.within powers.len n1 n2
-    (c.join_halves.ensures.sums (power K w 2) (λ j. f (2 * j + 0)) levels (blocks_of_front N L m n e c.args.xs.now lo hi f some c.requires.within c.split_at_mut-lo.ensures.value n0 blocks))
-    (c.join_halves-then-log_len-gt0.ensures.sums (power K w 2) (λ j. f (2 * j + 1)) levels (blocks_of_back N L m n e c.args.xs.now lo hi f some c.requires.within c.split_at_mut-lo.ensures.value n0 blocks))
+    let tables = length c.args.tables.now in
+    let first : IsHalfTable K w twiddles = half_table K w tables twiddles c.fill_with_powers.ensures (ap (power K w) c.requires.whole ∙ half (some_levels n e some within)) in
+    let len_twiddles : length twiddles ≡ 2 ^ (n - 1) = c.fill_with_powers.auto.xs ∙ front_half n e some within (2 ^ n) tables refl c.requires.whole in
+    let n0 : length lo ≡ 2 ^ (n - 1) = front_half n e some within (length c.args.xs.now) (length lo) c.requires.size s.ensures.front_len in
+    let n1 : length c.join_halves.new.xs ≡ 2 ^ (n - 1) = c.join_halves.auto.xs ∙ n0 in
+    joined_level N L m n e w twiddles f c.join_halves.new.xs c.join_halves-then-log_len-gt0.new.xs c.join_butterflies.new.lo c.join_butterflies.new.hi first some within len_twiddles n1 (c.join_butterflies.auto.lo ∙ n1)
+    (c.join_halves.ensures.sums (power K w 2) (λ j. f (2 * j + 0)) levels (blocks_of_front N L m n e c.args.xs.now lo hi f some within s.ensures.value n0 blocks))
+    (c.join_halves-then-log_len-gt0.ensures.sums (power K w 2) (λ j. f (2 * j + 1)) levels (blocks_of_back N L m n e c.args.xs.now lo hi f some within s.ensures.value n0 blocks))
     c.join_butterflies.ensures.sums c.join_butterflies.ensures.differences p l
 
 pub returns-then-log_len-gt0-clause-butterflies : goal.returns-then-log_len-gt0-clause-butterflies
 returns-then-log_len-gt0-clause-butterflies g c =
-    let pos : 0 < c.args.levels = omega arith in
-    let d = pow_pred c.args.levels pos in
-    let n : length c.join_halves.new.xs ≡ 2 ^ (c.args.levels - 1) = omega arith in
-    omega (arith, count_levels c.args.levels c.args.log_len c.if-log_len-gt0.true c.requires.within)
+    let s = c.split_at_mut-lo in
+    let some = c.if-log_len-gt0.true in
+    joined_count c.args.levels c.args.log_len some c.requires.within c.args.work.now.butterflies c.join_halves.new.work.butterflies c.join_halves-then-log_len-gt0.new.work.butterflies c.join_butterflies.new.work.butterflies (length c.join_halves.new.xs)
+    c.join_halves.ensures.butterflies c.join_halves-then-log_len-gt0.ensures.butterflies c.join_butterflies.ensures.butterflies
+    (c.join_halves.auto.xs ∙ front_half c.args.levels c.args.log_len some c.requires.within (length c.args.xs.now) (length s.result.0.now) c.requires.size s.ensures.front_len)
 
 pub returns-then-log_len-gt0-clause-products : goal.returns-then-log_len-gt0-clause-products
 returns-then-log_len-gt0-clause-products g c =
-    let pos : 0 < c.args.levels = omega arith in
-    let d = pow_pred c.args.levels pos in
-    let n : length c.join_halves.new.xs ≡ 2 ^ (c.args.levels - 1) = omega arith in
-    omega (arith, count_levels c.args.levels c.args.log_len c.if-log_len-gt0.true c.requires.within)
+    let s = c.split_at_mut-lo in
+    let some = c.if-log_len-gt0.true in
+    joined_count c.args.levels c.args.log_len some c.requires.within c.args.work.now.products c.join_halves.new.work.products c.join_halves-then-log_len-gt0.new.work.products c.join_butterflies.new.work.products (length c.join_halves.new.xs)
+    c.join_halves.ensures.products c.join_halves-then-log_len-gt0.ensures.products c.join_butterflies.ensures.products
+    (c.join_halves.auto.xs ∙ front_half c.args.levels c.args.log_len some c.requires.within (length c.args.xs.now) (length s.result.0.now) c.requires.size s.ensures.front_len)
+
+pub returns-then-log_len-gt0-clause-steps : goal.returns-then-log_len-gt0-clause-steps
+returns-then-log_len-gt0-clause-steps g c =
+    c.join_butterflies.ensures.steps ∙ (c.join_halves-then-log_len-gt0.ensures.steps ∙ c.join_halves.ensures.steps)
 
 pub returns-else-log_len-gt0-clause-sums : goal.returns-else-log_len-gt0-clause-sums
 returns-else-log_len-gt0-clause-sums g c = λ f tables half blocks p l.
     let none : c.args.log_len ≡ 0 = omega arith in
     one_block g.met.F.Field.field_laws g.met.T.DomainCoeff.module_laws g.T.DomainCoeff.meaning c.args.levels c.args.log_len _ c.args.xs.now f none blocks p l
+
+pub returns-else-log_len-gt0-clause-butterflies : goal.returns-else-log_len-gt0-clause-butterflies
+returns-else-log_len-gt0-clause-butterflies g c = no_count c.args.work.now.butterflies (2 ^ c.args.levels / 2) c.args.log_len c.if-log_len-gt0.false
+
+pub returns-else-log_len-gt0-clause-products : goal.returns-else-log_len-gt0-clause-products
+returns-else-log_len-gt0-clause-products g c = no_count c.args.work.now.products (2 ^ c.args.levels / 2) c.args.log_len c.if-log_len-gt0.false

@@ -1,9 +1,10 @@
-use Rattle.std.proofs.Common.{◌≡◌, ◌<◌, ◌≤◌, ℕ, map, length, get_or, ◌+◌, suc, sym, ap, ap₂, ◌∙◌, arith, rules, refl, add-one}
+use Rattle.std.proofs.Common.{◌≡◌, ◌<◌, ℕ, map, length, get_or, ◌+◌, suc, sym, subst, ap, ap₂, ◌∙◌, refl, add-one}
 use Rattle.ark_math.specs.Field.{power}
 use Rattle.ark_math.specs.Module.{item}
 use Rattle.ark_math.proofs.Lists.Lists.{read_at, written_more, written_rest}
 use Rattle.ark_math.proofs.Algebra.Solve.{◌⊗◌}
 use Rattle.ark_math.proofs.Algebra.Ring.{ring3}
+use Rattle.ark_fft.proofs.Counts.{ended, none_yet, one_more, itself, start}
 use Rattle.ark_fft.proofs.Radix2.{scaled_by_one}
 use Rattle.ark_fft.proofs.domain.radix2.fft.scale_by_powers.Goals as goal
 
@@ -11,15 +12,15 @@ pub loop-i-init : goal.loop-i-init
 loop-i-init g c =
     let K = g.F.Field.field in
     let N = g.met.F.Field.field_laws in
-    let e : 1 ≡ 0 + 1 = omega arith in
-    let q : c.mul-after.result ≡ K.times c.args.start c.args.factor = search rules in
+    let e : 1 ≡ 0 + 1 = refl in
+    let q : c.mul-after.result ≡ K.times c.args.start c.args.factor = g.met.F.Field.mul_law _ _ _ c.mul-after.ensures in
     record {
       butterflies = refl;
-      products = omega arith;
+      products = start c.args.work.now.products;
       steps = refl;
       next_scale = sym (N.times_one c.args.start);
       after_scale = q ∙ (ap (K.times c.args.start) (sym (N.times_one c.args.factor)) ∙ ap (λ n. K.times c.args.start (power K c.args.factor n)) e);
-      before = λ i l. absurd (omega arith);
+      before = λ i l. none_yet i l;
       rest = λ i l. refl;
     }
 
@@ -30,19 +31,19 @@ loop-i-preserved g c =
     let m = g.T.DomainCoeff.meaning in
     let i = c.loop-i.i in
     let v = c.loop-i.invariant in
-    let in_xs : i < length c.loop-i.xs = omega arith in
-    let here : i ≤ i = omega arith in
+    let in_xs : i < length c.loop-i.xs = subst (λ k. i < k) (sym c.loop-i.auto.xs) c.loop-i-test.true in
+    let here = itself i in
     let old = λ (k : ℕ). item V (map m c.args.xs.now) k in
     let scales = λ (k : ℕ). K.times c.args.start (power K c.args.factor k) in
     let e = c.scale.ensures.product in
     record {
-      butterflies = omega arith;
-      products = omega arith;
-      steps = omega arith;
+      butterflies = c.scale.ensures.butterflies ∙ v.butterflies;
+      products = one_more c.args.work.now.products c.loop-i.work.products c.scale.new.self.products i v.products c.scale.ensures.products;
+      steps = c.scale.ensures.steps ∙ v.steps;
       next_scale = v.after_scale;
       after_scale =
-          let q : c.mul-later.result ≡ K.times c.loop-i.next c.mul-square.result = search rules in
-          let square : c.mul-square.result ≡ K.times c.args.factor c.args.factor = search rules in
+          let q : c.mul-later.result ≡ K.times c.loop-i.next c.mul-square.result = g.met.F.Field.mul_law _ _ _ c.mul-later.ensures in
+          let square : c.mul-square.result ≡ K.times c.args.factor c.args.factor = g.met.F.Field.mul_law _ _ _ c.mul-square.ensures in
           q
           ∙ (ap₂ K.times v.next_scale square
           ∙ (ring3 K g.met.F.Field.field_laws (λ s p f. ((s ⊗ p) ⊗ (f ⊗ f), s ⊗ (f ⊗ (f ⊗ p)))) refl c.args.start (power K c.args.factor i) c.args.factor
@@ -56,3 +57,21 @@ pub returns-then-is_one-clause-items : goal.returns-then-is_one-clause-items
 returns-then-is_one-clause-items g c = λ i l.
     let one : c.args.factor ≡ g.F.Field.field.one = (g.met.F.Field.equality_law c.args.factor g.F.One.one).0 (sym c.is_one.ensures ∙ c.if-is_one.true) ∙ g.met.F.Field.one_law in
     c.scale_each.ensures.items i l ∙ scaled_by_one g.T.DomainCoeff.group g.met.F.Field.field_laws c.args.factor c.args.start i _ one
+
+pub returns-then-is_one-clause-butterflies : goal.returns-then-is_one-clause-butterflies
+returns-then-is_one-clause-butterflies g c = c.scale_each.ensures.butterflies
+
+pub returns-then-is_one-clause-products : goal.returns-then-is_one-clause-products
+returns-then-is_one-clause-products g c = c.scale_each.ensures.products
+
+pub returns-after-loop-i-clause-items : goal.returns-after-loop-i-clause-items
+returns-after-loop-i-clause-items g c = λ i l. c.loop-i.invariant.before i (subst (λ k. i < k) (sym (ended c.loop-i.i (length c.args.xs.now) c.loop-i.auto.i-end c.loop-i-test.false)) l)
+
+pub returns-after-loop-i-clause-butterflies : goal.returns-after-loop-i-clause-butterflies
+returns-after-loop-i-clause-butterflies g c = c.loop-i.invariant.butterflies
+
+pub returns-after-loop-i-clause-products : goal.returns-after-loop-i-clause-products
+returns-after-loop-i-clause-products g c = c.loop-i.invariant.products ∙ ap (λ k. c.args.work.now.products + k) (ended c.loop-i.i (length c.args.xs.now) c.loop-i.auto.i-end c.loop-i-test.false)
+
+pub returns-after-loop-i-clause-steps : goal.returns-after-loop-i-clause-steps
+returns-after-loop-i-clause-steps g c = c.loop-i.invariant.steps

@@ -1,0 +1,32 @@
+-- One term more.
+use Rattle.std.proofs.Common.{◌<◌, ℕ, length, map, sym, ap, ap₂, ◌∙◌, arith, add-one}
+use Rattle.ark_math.specs.Field.{power}
+use Rattle.ark_math.specs.Module.{item, sum_below}
+use Rattle.ark_math.proofs.Lists.Lists.{read_as}
+use Rattle.ark_fft.proofs.Counts.{one_more}
+use Rattle.ark_fft.proofs.domain.radix2.plain.plain_value.Goals as goal
+
+pub loop-i-preserved : goal.loop-i-preserved
+loop-i-preserved g c =
+    let K = g.F.Field.field in
+    let V = g.T.DomainCoeff.group in
+    let m = g.T.DomainCoeff.meaning in
+    let i = c.loop-i.i in
+    let v = c.loop-i.invariant in
+    let items = c.args.items.now in
+    let term = λ (k : ℕ). V.scale (power K c.args.point k) (item V (map m items) k) in
+    let inside : i < length items = omega arith in
+    record {
+      butterflies = c.scale.ensures.butterflies ∙ v.butterflies;
+      products = one_more _ _ _ i v.products c.scale.ensures.products;
+      steps = c.scale.ensures.steps ∙ v.steps;
+      next_factor =
+          g.met.F.Field.mul_law _ _ _ c.mul-factor.ensures
+          ∙ (ap (λ t. K.times t c.args.point) v.next_factor
+          ∙ (g.met.F.Field.field_laws.times_comm (power K c.args.point i) c.args.point ∙ ap (power K c.args.point) (sym (add-one i))));
+      sum =
+          g.met.T.DomainCoeff.add_assign_meaning _ _ _ c.add_assign.ensures.after
+          ∙ (ap₂ V.plus v.sum
+          (c.scale.ensures.product ∙ ap₂ V.scale v.next_factor (read_as m V.zero items i c.index-items-i.result inside c.index-items-i.is))
+          ∙ ap (λ n. sum_below V n term) (sym (add-one i)));
+    }
