@@ -71,6 +71,9 @@ module _ (n e : ℕ) (some : 0 < e) (within : e ≤ n) where
   pub joined_count : (before first second after joins : ℕ) → first ≡ before + 2 ^ (n - 1) / 2 * (e - 1) → second ≡ first + 2 ^ (n - 1) / 2 * (e - 1) → after ≡ second + joins → joins ≡ 2 ^ (n - 1) → after ≡ before + 2 ^ n / 2 * e
   joined_count before first second after joins a b c is = omega (arith, a, b, c, is, count_levels n e some within)
 
+  pub split_count : (before split first after joins : ℕ) → split ≡ before + joins → joins ≡ 2 ^ (n - 1) → first ≡ split + 2 ^ (n - 1) / 2 * (e - 1) → after ≡ first + 2 ^ (n - 1) / 2 * (e - 1) → after ≡ before + 2 ^ n / 2 * e
+  split_count before split first after joins a is b c = omega (arith, a, b, c, is, count_levels n e some within)
+
 -- no level, no cost
 pub no_count : (before half e : ℕ) → e ≤ 0 → before ≡ before + half * e
 no_count before half zero none = omega arith

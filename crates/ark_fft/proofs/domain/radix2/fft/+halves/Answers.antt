@@ -1,18 +1,18 @@
-use Rattle.std.proofs.Common.{rules, arith, ◌≡◌, ◌-◌, ◌*◌, ◌^◌, ◌<◌, ◌≤◌, length}
-use Rattle.ark_fft.proofs.Halving.{some_level, one_item, no_level, one_level, half_strides, count_levels, stride_within}
-use Rattle.ark_fft.proofs.Reversal.{pow_pred}
+use Rattle.std.proofs.Common.{rules, arith, ◌≡◌, ◌-◌, ◌*◌, ◌^◌, ◌<◌, ◌∙◌, sym, length}
+use Rattle.ark_fft.proofs.Halving.{some_level, one_item, no_level, one_level, half_strides, stride_within}
+use Rattle.ark_fft.proofs.Joining.{front_half, back_half, split_count}
+use Rattle.ark_fft.proofs.Counts.{itself}
 use Rattle.std.proofs.lemmas.Nat.{pow_pos}
 use Rattle.ark_fft.proofs.domain.radix2.fft.+halves.Goals as goal
 
 pub butterflies-requires-clause-same : goal.butterflies-requires-clause-same
 butterflies-requires-clause-same g t c =
-    let d = pow_pred c.args.levels (some_level c.args.levels (length c.args.xs.now) c.requires.size c.if-xs-gt1.true) in
-    omega arith
+    front_half c.args.levels c.args.levels (some_level c.args.levels (length c.args.xs.now) c.requires.size c.if-xs-gt1.true) (itself c.args.levels) (length c.args.xs.now) (length c.split_at_mut-lo.result.0.now) c.requires.size c.split_at_mut-lo.ensures.front_len
+    ∙ sym (back_half c.args.levels c.args.levels (some_level c.args.levels (length c.args.xs.now) c.requires.size c.if-xs-gt1.true) (itself c.args.levels) (length c.args.xs.now) (length c.args.xs.now) (length c.split_at_mut-lo.result.1.now) c.requires.size c.requires.size c.split_at_mut-lo.ensures.back_len)
 
 pub butterflies-requires-clause-enough : goal.butterflies-requires-clause-enough
 butterflies-requires-clause-enough g t c =
-    let d = pow_pred c.args.levels (some_level c.args.levels (length c.args.xs.now) c.requires.size c.if-xs-gt1.true) in
-    let n : length c.split_at_mut-lo.result.0.now ≡ 2 ^ (c.args.levels - 1) = omega arith in
+    let n : length c.split_at_mut-lo.result.0.now ≡ 2 ^ (c.args.levels - 1) = front_half c.args.levels c.args.levels (some_level c.args.levels (length c.args.xs.now) c.requires.size c.if-xs-gt1.true) (itself c.args.levels) (length c.args.xs.now) (length c.split_at_mut-lo.result.0.now) c.requires.size c.split_at_mut-lo.ensures.front_len in
     let w = half_strides c.args.levels c.args.stride (length c.args.table.now) (some_level c.args.levels (length c.args.xs.now) c.requires.size c.if-xs-gt1.true) c.requires.whole in
     rw n (omega (arith, w.0))
 
@@ -30,40 +30,35 @@ overflow_mul-stride-then-xs-gt1 g t c =
 
 pub halves-requires : goal.halves-requires
 halves-requires g t c κs within =
-    let d = pow_pred c.args.levels (some_level c.args.levels (length c.args.xs.now) c.requires.size c.if-xs-gt1.true) in
-    let n : length c.butterflies.new.lo ≡ 2 ^ (c.args.levels - 1) = omega arith in
+    let n : length c.butterflies.new.lo ≡ 2 ^ (c.args.levels - 1) = c.butterflies.auto.lo ∙ front_half c.args.levels c.args.levels (some_level c.args.levels (length c.args.xs.now) c.requires.size c.if-xs-gt1.true) (itself c.args.levels) (length c.args.xs.now) (length c.split_at_mut-lo.result.0.now) c.requires.size c.split_at_mut-lo.ensures.front_len in
     let w = half_strides c.args.levels c.args.stride (length c.args.table.now) (some_level c.args.levels (length c.args.xs.now) c.requires.size c.if-xs-gt1.true) c.requires.whole in
     let some = some_level c.args.levels (length c.args.xs.now) c.requires.size c.if-xs-gt1.true in
     (omega arith, (search rules, (search rules, (n, (w.1, (c.requires.small, omega arith))))))
 
 pub halves-requires-then-xs-gt1 : goal.halves-requires-then-xs-gt1
 halves-requires-then-xs-gt1 g t c κs within =
-    let d = pow_pred c.args.levels (some_level c.args.levels (length c.args.xs.now) c.requires.size c.if-xs-gt1.true) in
-    let n : length c.butterflies.new.hi ≡ 2 ^ (c.args.levels - 1) = omega arith in
+    let n : length c.butterflies.new.hi ≡ 2 ^ (c.args.levels - 1) = c.butterflies.auto.hi ∙ back_half c.args.levels c.args.levels (some_level c.args.levels (length c.args.xs.now) c.requires.size c.if-xs-gt1.true) (itself c.args.levels) (length c.args.xs.now) (length c.args.xs.now) (length c.split_at_mut-lo.result.1.now) c.requires.size c.requires.size c.split_at_mut-lo.ensures.back_len in
     let w = half_strides c.args.levels c.args.stride (length c.args.table.now) (some_level c.args.levels (length c.args.xs.now) c.requires.size c.if-xs-gt1.true) c.requires.whole in
     let some = some_level c.args.levels (length c.args.xs.now) c.requires.size c.if-xs-gt1.true in
     (omega arith, (search rules, (search rules, (n, (w.1, (c.requires.small, omega arith))))))
 
 pub returns-then-xs-gt1-clause-sums : goal.returns-then-xs-gt1-clause-sums
 returns-then-xs-gt1-clause-sums g t c = λ w table p l.
-    let d = pow_pred c.args.levels (some_level c.args.levels (length c.args.xs.now) c.requires.size c.if-xs-gt1.true) in
-    let n : length c.split_at_mut-lo.result.0.now ≡ 2 ^ (c.args.levels - 1) = omega arith in
-    let n2 : length c.halves.new.xs ≡ 2 ^ (c.args.levels - 1) = omega arith in
+    let n : length c.split_at_mut-lo.result.0.now ≡ 2 ^ (c.args.levels - 1) = front_half c.args.levels c.args.levels (some_level c.args.levels (length c.args.xs.now) c.requires.size c.if-xs-gt1.true) (itself c.args.levels) (length c.args.xs.now) (length c.split_at_mut-lo.result.0.now) c.requires.size c.split_at_mut-lo.ensures.front_len in
+    let n2 : length c.halves.new.xs ≡ 2 ^ (c.args.levels - 1) = c.halves.auto.xs ∙ (c.butterflies.auto.lo ∙ n) in
     one_level g.met.F.Field.field_laws g.met.T.DomainCoeff.module_laws g.T.DomainCoeff.meaning c.args.levels w c.args.stride c.args.table.now c.args.xs.now c.split_at_mut-lo.result.0.now c.split_at_mut-lo.result.1.now c.butterflies.new.lo c.butterflies.new.hi c.halves.new.xs c.halves-then-xs-gt1.new.xs table (some_level c.args.levels (length c.args.xs.now) c.requires.size c.if-xs-gt1.true) c.requires.whole c.requires.some c.split_at_mut-lo.ensures.value n n2 c.butterflies.ensures.sums c.butterflies.ensures.differences (c.halves.ensures.sums w table) (c.halves-then-xs-gt1.ensures.sums w table) p l
 
 pub returns-then-xs-gt1-clause-butterflies : goal.returns-then-xs-gt1-clause-butterflies
 returns-then-xs-gt1-clause-butterflies g t c =
-    let d = pow_pred c.args.levels (some_level c.args.levels (length c.args.xs.now) c.requires.size c.if-xs-gt1.true) in
-    let n : length c.split_at_mut-lo.result.0.now ≡ 2 ^ (c.args.levels - 1) = omega arith in
-    let all : c.args.levels ≤ c.args.levels = omega arith in
-    omega (arith, count_levels c.args.levels c.args.levels (some_level c.args.levels (length c.args.xs.now) c.requires.size c.if-xs-gt1.true) all)
+    let some = some_level c.args.levels (length c.args.xs.now) c.requires.size c.if-xs-gt1.true in
+    split_count c.args.levels c.args.levels some (itself c.args.levels) c.args.work.now.butterflies c.butterflies.new.work.butterflies c.halves.new.work.butterflies c.halves-then-xs-gt1.new.work.butterflies (length c.split_at_mut-lo.result.0.now)
+    c.butterflies.ensures.butterflies (front_half c.args.levels c.args.levels (some_level c.args.levels (length c.args.xs.now) c.requires.size c.if-xs-gt1.true) (itself c.args.levels) (length c.args.xs.now) (length c.split_at_mut-lo.result.0.now) c.requires.size c.split_at_mut-lo.ensures.front_len) c.halves.ensures.butterflies c.halves-then-xs-gt1.ensures.butterflies
 
 pub returns-then-xs-gt1-clause-products : goal.returns-then-xs-gt1-clause-products
 returns-then-xs-gt1-clause-products g t c =
-    let d = pow_pred c.args.levels (some_level c.args.levels (length c.args.xs.now) c.requires.size c.if-xs-gt1.true) in
-    let n : length c.split_at_mut-lo.result.0.now ≡ 2 ^ (c.args.levels - 1) = omega arith in
-    let all : c.args.levels ≤ c.args.levels = omega arith in
-    omega (arith, count_levels c.args.levels c.args.levels (some_level c.args.levels (length c.args.xs.now) c.requires.size c.if-xs-gt1.true) all)
+    let some = some_level c.args.levels (length c.args.xs.now) c.requires.size c.if-xs-gt1.true in
+    split_count c.args.levels c.args.levels some (itself c.args.levels) c.args.work.now.products c.butterflies.new.work.products c.halves.new.work.products c.halves-then-xs-gt1.new.work.products (length c.split_at_mut-lo.result.0.now)
+    c.butterflies.ensures.products (front_half c.args.levels c.args.levels (some_level c.args.levels (length c.args.xs.now) c.requires.size c.if-xs-gt1.true) (itself c.args.levels) (length c.args.xs.now) (length c.split_at_mut-lo.result.0.now) c.requires.size c.split_at_mut-lo.ensures.front_len) c.halves.ensures.products c.halves-then-xs-gt1.ensures.products
 
 pub returns-else-xs-gt1-clause-sums : goal.returns-else-xs-gt1-clause-sums
 returns-else-xs-gt1-clause-sums g t c = λ w table p l.
