@@ -426,8 +426,8 @@ fn fill_with_powers<F: FftField>(root: F, xs: &mut [F])
     }
 }
 
-/// The powers of a root from 0 on.
-pub(crate) fn powers<F: FftField>(
+/// The powers of a root from 0 on, so many: the twiddles of a transform are those up to half its size.
+pub fn powers<F: FftField>(
     alloc: Global,
     root: F,
     count: usize,
