@@ -1,13 +1,11 @@
 ghost use Rattle.std.specs.Prelude.{◌≡◌, IfOk, length};
 
-use crate::calls::coset;
 use crate::counts::{
     five_back_over_sixteen, five_over_sixteen, four_back_over_sixteen, four_over_sixteen,
     none_over_eight, sixteen_back_over_sixteen, sixteen_over_sixteen, two_over_eight,
     two_over_eighteen, two_over_one, two_over_six, two_over_twelve, two_over_twenty_seven,
 };
-use crate::transforms::radix2_goes;
-use ark_base::{F5, F433, FftField, Field, Lanes, PolyError, Work, k_adicity, log2};
+use ark_base::{F433, FftField, Field, PolyError, Work};
 use ark_poly::{EvaluationDomain, MixedRadixEvaluationDomain, Radix2EvaluationDomain};
 use std::alloc::{AllocError, Global};
 use std::test::Fail;
@@ -16,7 +14,7 @@ use std::test::Fail;
 fn subgroup<F: FftField, D: EvaluationDomain<F>>(size: usize) -> Result<D, PolyError>
     ensures { IfOk result (λ d. (D.domain d).size ≡ size) }
 {
-    let domain: D = coset(size, 1)?;
+    let domain = D::new(size).ok_or(PolyError::NoDomain)?;
     if domain.size() == size {
         Ok(domain)
     } else {
@@ -160,65 +158,4 @@ fn counted_over_powers_of_three(rt: HostRuntime) -> Result<(), Fail> {
     two_over_twenty_seven(alloc, &mixed::<F433>(27)?, &mut all, &mut Work::new())?;
     assert!(rt; is_mixed_transform(alloc, 27, &all)?);
     Ok(())
-}
-
-#[test]
-fn calls_in_place(rt: HostRuntime) -> Result<(), Fail> {
-    let coeffs = [1, 2, 3, 4].map(F5::from);
-    let values = [0, 4, 3, 2].map(F5::from);
-    assert!(rt; radix2_goes::<F5, F5>(rt.alloc(), &coeffs, &values)?);
-    Ok(())
-}
-
-fn lanes(first: u64, second: u64) -> Lanes<F5> {
-    Lanes::new(F5::from(first), F5::from(second))
-}
-
-// A module of pairs transforms lane by lane.
-#[test]
-fn transforms_of_lanes(rt: HostRuntime) -> Result<(), Fail> {
-    let (coeffs, values) = ([lanes(1, 2), lanes(3, 4)], [lanes(4, 1), lanes(3, 3)]);
-    assert!(rt; radix2_goes::<F5, Lanes<F5>>(rt.alloc(), &coeffs, &values)?);
-    Ok(())
-}
-
-#[test]
-fn parts_of_lanes(rt: HostRuntime) {
-    let pair = lanes(1, 2);
-    assert!(rt; pair.get(0) == F5::from(1));
-    assert!(rt; pair.get(1) == F5::from(2));
-    assert!(rt; pair != lanes(1, 3));
-}
-
-#[test]
-fn logarithms(rt: HostRuntime) {
-    for (x, log) in [
-        (0, 0),
-        (1, 0),
-        (2, 1),
-        (3, 2),
-        (4, 2),
-        (5, 3),
-        (1024, 10),
-        (1025, 11),
-        (usize::MAX, 64),
-    ] {
-        assert!(rt; log2(x) == log, "{x}");
-    }
-}
-
-#[test]
-fn adicities(rt: HostRuntime) {
-    for (k, n, adicity) in [
-        (2, 0, 0),
-        (2, 1, 0),
-        (2, 48, 4),
-        (3, 48, 1),
-        (3, 432, 3),
-        (10, 1000, 3),
-        (2, u64::MAX, 0),
-        (7, 6, 0),
-    ] {
-        assert!(rt; k_adicity(k, n) == adicity, "{k} {n}");
-    }
 }

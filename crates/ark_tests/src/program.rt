@@ -4,8 +4,8 @@ use std::alloc::Global;
 use std::string::String;
 use std::test::Fail;
 
-/// What the program writes for these words, and its status.
-pub fn ran(alloc: Global, words: &[&str]) -> Result<(String, u8), Fail> {
+// What the program writes for these words, and its status.
+fn ran(alloc: Global, words: &[&str]) -> Result<(String, u8), Fail> {
     let mut owned = Vec::with_capacity(alloc, words.len())?;
     for word in words {
         owned.push(word.to_string(alloc)?)?;
@@ -15,11 +15,16 @@ pub fn ran(alloc: Global, words: &[&str]) -> Result<(String, u8), Fail> {
     Ok((String::from_utf8(out.into_inner())?, status))
 }
 
-// Whether the program writes the line beside each row's words, and ends with this status.
+/// Whether the program writes the line for these words, and ends with this status.
+pub fn writes(alloc: Global, words: &[&str], line: &str, status: u8) -> Result<bool, Fail> {
+    let (text, ended) = ran(alloc, words)?;
+    Ok(text.strip_suffix('\n') == Some(line) && ended == status)
+}
+
+// Whether it does for each row, with this status.
 fn answers(alloc: Global, rows: &[(&[&str], &str)], status: u8) -> Result<bool, Fail> {
     for (words, line) in rows {
-        let (text, ended) = ran(alloc, words)?;
-        if text.strip_suffix('\n') != Some(*line) || ended != status {
+        if !writes(alloc, words, line, status)? {
             return Ok(false);
         }
     }

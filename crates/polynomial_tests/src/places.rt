@@ -1,29 +1,15 @@
 //! What is done with values place by place, and the polynomials through them.
 
-ghost use Rattle.std.specs.Prelude.{◌≡◌, ◌<◌, IfOk};
+ghost use Rattle.std.specs.Prelude.{◌≡◌, IfOk};
 
-use crate::calls::{coset, elements};
-use crate::trials::{Trial, radix2_mod_5, radix2_mod_433};
-use ark_base::{FftField, PolyError};
+use crate::evaluations::over;
+use ark_base::{F5, F433, FftField, PolyError};
 use ark_poly::univariate::DensePolynomial;
 use ark_poly::{DenseUVPolynomial, EvaluationDomain, Evaluations};
+use ark_trials::calls::{coset, elements};
+use ark_trials::trials::{Trial, over_radix2};
 use std::alloc::Global;
 use std::test::Fail;
-
-// These values over the domain.
-fn over<F: FftField, D: EvaluationDomain<F>>(
-    alloc: Global,
-    domain: D,
-    values: &[u64],
-) -> Result<Evaluations<F, D>, PolyError>
-    ensures { IfOk result (λ v. v.domain ≡ domain) }
-{
-    let evals = elements(alloc, values)?;
-    if evals.len() != domain.size() {
-        return Err(PolyError::NoDomain);
-    }
-    Ok(Evaluations::from_vec_and_domain(evals, domain))
-}
 
 #[derive(Clone, Copy)]
 enum Operation {
@@ -75,9 +61,32 @@ fn operations_by_places(rt: HostRuntime) -> Result<(), Fail> {
         (Operation::Div, &[3, 0, 3, 1]),
     ];
     for (operation, answer) in rows {
-        assert!(rt; radix2_mod_5(rt.alloc(), &Row { operation, answer })?);
+        assert!(rt; over_radix2::<F5, _>(rt.alloc(), &Row { operation, answer })?);
     }
     Ok(())
+}
+
+// The values over the domain of the polynomial with these coefficients.
+fn values_of<F: FftField, D: EvaluationDomain<F>>(
+    alloc: Global,
+    domain: D,
+    coeffs: &[u64],
+) -> Result<Evaluations<F, D>, PolyError>
+    ensures { IfOk result (λ v. v.domain ≡ domain) }
+{
+    let p = DensePolynomial::from_coefficients_vec(elements(alloc, coeffs)?);
+    p.evaluate_over_domain(alloc, domain)
+}
+
+// The products of the values of two.
+fn products<F: FftField, D: EvaluationDomain<F>>(
+    alloc: Global,
+    domain: D,
+    left: &[u64],
+    right: &[u64],
+) -> Result<Evaluations<F, D>, PolyError> {
+    let left = values_of(alloc, domain, left)?;
+    left.mul(alloc, &values_of(alloc, domain, right)?)
 }
 
 /// The coefficients of the polynomial through the products of the values of 1 + x^3 and x^2 at four elements.
@@ -90,40 +99,20 @@ struct Composed<'a> {
 impl Trial for Composed<'_> {
     fn holds<F: FftField, D: EvaluationDomain<F>>(&self, alloc: Global) -> Result<bool, PolyError> {
         let domain: D = coset(4, self.offset)?;
-        let left = DensePolynomial::from_coefficients_vec(elements(alloc, &[1, 0, 0, 1])?);
-        let right = DensePolynomial::from_coefficients_vec(elements(alloc, &[0, 0, 1])?);
-        let values = left.evaluate_over_domain(alloc, domain)?;
-        let product = values.mul(alloc, &right.evaluate_over_domain(alloc, domain)?)?;
+        let values = products::<F, D>(alloc, domain, &[1, 0, 0, 1], &[0, 0, 1])?;
         let known = elements::<F>(alloc, self.coeffs)?;
-        Ok(
-            product.interpolate_by_ref(alloc)?.coeffs() == known.as_slice()
-                && product.interpolate(alloc)?.coeffs() == known.as_slice(),
-        )
+        let same = values.interpolate_by_ref(alloc)?.coeffs() == known.as_slice();
+        Ok(same && values.interpolate(alloc)?.coeffs() == known.as_slice())
     }
 }
 
 // x^2 + x^5, where x^4 is the offset's fourth power.
 #[test]
 fn products_are_interpolated(rt: HostRuntime) -> Result<(), Fail> {
-    let alloc = rt.alloc();
-    assert!(rt;
-        radix2_mod_433(
-            alloc,
-            &Composed {
-                offset: 1,
-                coeffs: &[0, 1, 1]
-            }
-        )?
-    );
-    assert!(rt;
-        radix2_mod_433(
-            alloc,
-            &Composed {
-                offset: 2,
-                coeffs: &[0, 16, 1]
-            }
-        )?
-    );
+    let rows: [(u64, &[u64]); 2] = [(1, &[0, 1, 1]), (2, &[0, 16, 1])];
+    for (offset, coeffs) in rows {
+        assert!(rt; over_radix2::<F433, _>(rt.alloc(), &Composed { offset, coeffs })?);
+    }
     Ok(())
 }
 
@@ -156,6 +145,6 @@ fn a_scaled_value(rt: HostRuntime) -> Result<(), Fail> {
         factor: 2,
         answer: &[0, 0, 1, 0],
     };
-    assert!(rt; radix2_mod_5(rt.alloc(), &row)?);
+    assert!(rt; over_radix2::<F5, _>(rt.alloc(), &row)?);
     Ok(())
 }

@@ -1,9 +1,9 @@
-use crate::calls::{coset, elements, fft, ifft};
-use crate::plain::{agrees, drawn, forward, has_plain_sums, inverse};
-use crate::trials::{Trial, radix2_mod_5, radix2_mod_433, radix2_mod_65537};
-use ark_base::{DomainCoeff, FftField, PolyError, Work};
+use ark_base::{DomainCoeff, F5, F433, F65537, FftField, Lanes, PolyError, Work};
 use ark_poly::{EvaluationDomain, Radix2EvaluationDomain};
 use ark_test_types::nothing::Nothing;
+use ark_trials::calls::{coset, elements, fft, ifft};
+use ark_trials::plain::{agrees, drawn, forward, has_plain_sums, inverse};
+use ark_trials::trials::{Trial, over_radix2};
 use rand_core::Rng;
 use rand_pcg::Pcg64;
 use std::alloc::Global;
@@ -67,7 +67,7 @@ fn forward_rows(rt: HostRuntime) -> Result<(), Fail> {
             coeffs,
             values,
         };
-        assert!(rt; radix2_mod_5(rt.alloc(), &row)?);
+        assert!(rt; over_radix2::<F5, _>(rt.alloc(), &row)?);
     }
     Ok(())
 }
@@ -81,7 +81,7 @@ fn inverse_rows(rt: HostRuntime) -> Result<(), Fail> {
             values,
             coeffs,
         };
-        assert!(rt; radix2_mod_5(rt.alloc(), &row)?);
+        assert!(rt; over_radix2::<F5, _>(rt.alloc(), &row)?);
     }
     Ok(())
 }
@@ -91,7 +91,7 @@ fn rows_of_the_mixed_field(rt: HostRuntime) -> Result<(), Fail> {
     let (coeffs, values): (&[u64], &[u64]) = (&[1, 2, 3, 4], &[10, 73, 431, 356]);
     let (size, offset) = (4, 1);
     assert!(rt;
-        radix2_mod_433(
+        over_radix2::<F433, _>(
             rt.alloc(),
             &Forward {
                 size,
@@ -102,7 +102,7 @@ fn rows_of_the_mixed_field(rt: HostRuntime) -> Result<(), Fail> {
         )?
     );
     assert!(rt;
-        radix2_mod_433(
+        over_radix2::<F433, _>(
             rt.alloc(),
             &Back {
                 size,
@@ -140,7 +140,7 @@ impl Trial for EveryLength {
 fn plain_sums_at_every_length(rt: HostRuntime) -> Result<(), Fail> {
     for size in [1, 2, 4, 8, 16] {
         for offset in [1, 5] {
-            assert!(rt; radix2_mod_433(rt.alloc(), &EveryLength { size, offset })?);
+            assert!(rt; over_radix2::<F433, _>(rt.alloc(), &EveryLength { size, offset })?);
         }
     }
     Ok(())
@@ -183,7 +183,7 @@ fn plain_bodies_agree(rt: HostRuntime) -> Result<(), Fail> {
     for size in [1, 2, 4, 8, 16, 32, 64, 128, 256, 512, 1024] {
         for offset in [1, rng.next_u64() % 65536 + 1] {
             let seed = rng.next_u64();
-            assert!(rt; radix2_mod_65537(rt.alloc(), &PlainBodies { size, offset, seed })?);
+            assert!(rt; over_radix2::<F65537, _>(rt.alloc(), &PlainBodies { size, offset, seed })?);
         }
     }
     Ok(())
@@ -207,7 +207,7 @@ impl Trial for Nothings {
 #[test]
 fn lists_of_no_size(rt: HostRuntime) -> Result<(), Fail> {
     for len in [0, 1, 4, 70000] {
-        assert!(rt; radix2_mod_5(rt.alloc(), &Nothings { len })?);
+        assert!(rt; over_radix2::<F5, _>(rt.alloc(), &Nothings { len })?);
     }
     Ok(())
 }
@@ -252,4 +252,24 @@ pub fn radix2_goes<F: FftField, T: DomainCoeff<F>>(
         goes_both_ways(alloc, &domain, coeffs, values)?
             && goes_counted(alloc, &domain, coeffs, values)?,
     )
+}
+
+#[test]
+fn calls_in_place(rt: HostRuntime) -> Result<(), Fail> {
+    let coeffs = [1, 2, 3, 4].map(F5::from);
+    let values = [0, 4, 3, 2].map(F5::from);
+    assert!(rt; radix2_goes::<F5, F5>(rt.alloc(), &coeffs, &values)?);
+    Ok(())
+}
+
+fn lanes(first: u64, second: u64) -> Lanes<F5> {
+    Lanes::new(F5::from(first), F5::from(second))
+}
+
+// A module of pairs transforms lane by lane.
+#[test]
+fn transforms_of_lanes(rt: HostRuntime) -> Result<(), Fail> {
+    let (coeffs, values) = ([lanes(1, 2), lanes(3, 4)], [lanes(4, 1), lanes(3, 3)]);
+    assert!(rt; radix2_goes::<F5, Lanes<F5>>(rt.alloc(), &coeffs, &values)?);
+    Ok(())
 }

@@ -1,8 +1,9 @@
-use crate::calls::{coset, elements, fft, hash_of};
-use crate::plain::{drawn, product};
 use ark_base::{F5, F433, F65537, FftField, Field, PolyError};
 use ark_poly::univariate::DensePolynomial;
-use ark_poly::{DenseUVPolynomial, EvaluationDomain, Polynomial, Radix2EvaluationDomain};
+use ark_poly::{DenseUVPolynomial, EvaluationDomain, Evaluations, Polynomial};
+use ark_trials::calls::{coset, elements, hash_of};
+use ark_trials::plain::{drawn, product};
+use ark_trials::trials::{Trial, over_radix2};
 use rand_pcg::Pcg64;
 use std::alloc::{AllocError, Global};
 use std::string::String;
@@ -97,31 +98,44 @@ fn values(rt: HostRuntime) -> Result<(), Fail> {
     Ok(())
 }
 
-// Whether the list, cut to four coefficients, has this transform, and the polynomial this value four times.
-fn has_values<F: FftField>(
-    alloc: Global,
-    coeffs: &[u64],
-    transform: &[u64],
+// The value at the last of four elements.
+fn fourth<F: FftField, D: EvaluationDomain<F>>(values: &Evaluations<F, D>) -> Option<F> {
+    if values.domain().size() == 4 {
+        Some(values[3])
+    } else {
+        None
+    }
+}
+
+// Coefficients of a polynomial that has this value at each of four elements.
+#[derive(Clone, Copy)]
+struct FourTimes<'a> {
+    coeffs: &'a [u64],
     value: u64,
-) -> Result<bool, PolyError> {
-    let domain: Radix2EvaluationDomain<F> = coset(4, 1)?;
-    let cut = fft(alloc, &domain, coeffs)? == elements(alloc, transform)?;
-    let values = elements::<F>(alloc, &[value; 4])?;
-    let p = poly::<F>(alloc, coeffs)?;
-    let evals = p.evaluate_over_domain_by_ref(alloc, domain)?;
-    let again = p.evaluate_over_domain(alloc, domain)?;
-    let last = domain.size() == 4 && evals[3] == F::from(value);
-    Ok(
-        cut && evals.evals() == values.as_slice()
-            && evals.domain() == domain
-            && again == evals
-            && last,
-    )
+}
+
+impl Trial for FourTimes<'_> {
+    fn holds<F: FftField, D: EvaluationDomain<F>>(&self, alloc: Global) -> Result<bool, PolyError> {
+        let domain: D = coset(4, 1)?;
+        let p = poly::<F>(alloc, self.coeffs)?;
+        let values = p.evaluate_over_domain_by_ref(alloc, domain)?;
+        let known = elements::<F>(alloc, &[self.value; 4])?;
+        Ok(
+            values.evals() == known.as_slice()
+                && values.domain() == domain
+                && fourth(&values) == Some(F::from(self.value))
+                && p.evaluate_over_domain(alloc, domain)? == values,
+        )
+    }
 }
 
 #[test]
 fn values_over_a_domain(rt: HostRuntime) -> Result<(), Fail> {
-    assert!(rt; has_values::<F5>(rt.alloc(), &[1, 0, 0, 0, 1], &[1; 4], 2)?);
+    let two = FourTimes {
+        coeffs: &[1, 0, 0, 0, 1],
+        value: 2,
+    };
+    assert!(rt; over_radix2::<F5, _>(rt.alloc(), &two)?);
     Ok(())
 }
 

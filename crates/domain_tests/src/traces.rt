@@ -1,11 +1,11 @@
 // How many distinct products are behind the answers of the kernels, seen from outside.
 
-use crate::calls::coset;
 use crate::transforms::radix2_goes;
 use ark_base::{DomainCoeff, F433, F65537, FftField, PolyError, Work};
 use ark_fft::domain::radix2::plain::fft_plain;
 use ark_poly::{EvaluationDomain, MixedRadixEvaluationDomain, Radix2EvaluationDomain};
 use ark_test_types::traced::{Numbered, Products, Traced};
+use ark_trials::calls::coset;
 use std::alloc::{AllocError, Global};
 use std::test::Fail;
 
@@ -35,65 +35,61 @@ fn has_at_most<F: Numbered>(most: usize, answers: &[Traced<F>]) -> bool {
     }
 }
 
-// Whether that is so of a transform of this many items, over the subgroup and over a coset.
+// Whether that is so of a transform of this many items.
 fn forward_takes<F: FftField + Numbered, D: EvaluationDomain<F>>(
     alloc: Global,
-    size: usize,
+    domain: &D,
     count: u64,
     most: usize,
 ) -> Result<bool, PolyError> {
-    let subgroup = D::new(size).ok_or(PolyError::NoDomain)?;
-    let coset = subgroup.get_coset(F::GENERATOR).ok_or(PolyError::NoDomain)?;
     let items = items::<F>(alloc, count)?;
-    Ok(
-        has_at_most(most, &subgroup.fft(alloc, &items)?)
-            && has_at_most(most, &coset.fft(alloc, &items)?),
-    )
+    Ok(has_at_most(most, &domain.fft(alloc, &items)?))
 }
 
 // Whether it is of the inverse.
 fn inverse_takes<F: FftField + Numbered, D: EvaluationDomain<F>>(
     alloc: Global,
-    size: usize,
+    domain: &D,
     count: u64,
     most: usize,
 ) -> Result<bool, PolyError> {
-    let subgroup = D::new(size).ok_or(PolyError::NoDomain)?;
-    let coset = subgroup.get_coset(F::GENERATOR).ok_or(PolyError::NoDomain)?;
     let items = items::<F>(alloc, count)?;
-    Ok(
-        has_at_most(most, &subgroup.ifft(alloc, &items)?)
-            && has_at_most(most, &coset.ifft(alloc, &items)?),
-    )
+    Ok(has_at_most(most, &domain.ifft(alloc, &items)?))
 }
 
 // Whether plain sums give the transform's values by more products than a set can hold.
 fn plain_sums_take_more<F: FftField + Numbered, D: EvaluationDomain<F>>(
     alloc: Global,
-    size: usize,
+    domain: &D,
     count: u64,
 ) -> Result<bool, PolyError> {
-    let domain: D = coset(size, 1)?;
     let mut list = items::<F>(alloc, count)?;
     let values = domain.fft(alloc, &list)?;
     fft_plain(domain.coset(), alloc, &mut list, &mut Work::new())?;
     Ok(values == list && behind(&list).is_none())
 }
 
-// Whether a domain of 64 elements takes so few products. So many as plain sums take do not go unseen.
+// Whether a domain of 64 elements takes so few products.
 fn sixty_four_take<F: FftField + Numbered, D: EvaluationDomain<F>>(
     alloc: Global,
+    domain: &D,
 ) -> Result<bool, PolyError> {
     Ok(
-        forward_takes::<F, D>(alloc, 64, 64, 256)?
-            && inverse_takes::<F, D>(alloc, 64, 64, 256)?
-            && forward_takes::<F, D>(alloc, 64, 16, 192)?
-            && plain_sums_take_more::<F, D>(alloc, 64, 64)?,
+        forward_takes(alloc, domain, 64, 256)?
+            && inverse_takes(alloc, domain, 64, 256)?
+            && forward_takes(alloc, domain, 16, 192)?,
     )
 }
 
+// Whether the subgroup and a coset do. So many as plain sums take do not go unseen.
 fn radix2_takes<F: FftField + Numbered>(alloc: Global) -> Result<bool, PolyError> {
-    sixty_four_take::<F, Radix2EvaluationDomain<F>>(alloc)
+    let subgroup: Radix2EvaluationDomain<F> = coset(64, 1)?;
+    let coset = subgroup.get_coset(F::GENERATOR).ok_or(PolyError::NoDomain)?;
+    Ok(
+        sixty_four_take(alloc, &subgroup)?
+            && sixty_four_take(alloc, &coset)?
+            && plain_sums_take_more(alloc, &subgroup, 64)?,
+    )
 }
 
 #[test]
@@ -105,12 +101,15 @@ fn products_behind_the_answers(rt: HostRuntime) -> Result<(), Fail> {
 // Whether a domain of 27 elements does.
 fn twenty_seven_take<F: FftField + Numbered, D: EvaluationDomain<F>>(
     alloc: Global,
+    domain: &D,
 ) -> Result<bool, PolyError> {
-    Ok(forward_takes::<F, D>(alloc, 27, 27, 243)? && inverse_takes::<F, D>(alloc, 27, 27, 243)?)
+    Ok(forward_takes(alloc, domain, 27, 243)? && inverse_takes(alloc, domain, 27, 243)?)
 }
 
 fn mixed_takes<F: FftField + Numbered>(alloc: Global) -> Result<bool, PolyError> {
-    twenty_seven_take::<F, MixedRadixEvaluationDomain<F>>(alloc)
+    let subgroup: MixedRadixEvaluationDomain<F> = coset(27, 1)?;
+    let coset = subgroup.get_coset(F::GENERATOR).ok_or(PolyError::NoDomain)?;
+    Ok(twenty_seven_take(alloc, &subgroup)? && twenty_seven_take(alloc, &coset)?)
 }
 
 #[test]

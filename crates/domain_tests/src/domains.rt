@@ -1,68 +1,65 @@
-use crate::calls::{coset, listed};
-use crate::trials::{
-    Trial, general_mod_433, mixed_mod_433, radix2_mod_5, radix2_mod_433, radix2_mod_65537,
-};
 use ark_base::{F5, F433, F65537, FftField, PolyError};
 use ark_poly::{
     EvaluationDomain, GeneralEvaluationDomain, MixedRadixEvaluationDomain, Radix2EvaluationDomain,
 };
+use ark_trials::calls::{coset, listed};
+use ark_trials::trials::{Trial, over_general, over_mixed, over_radix2};
 use rand_pcg::Pcg64;
 use std::alloc::{AllocError, Global};
 use std::fmt::Debug;
 use std::test::Fail;
 
-// The first number of coefficients of which the domain's size is another than the one beside it.
-fn wrong_size<F: FftField, D: EvaluationDomain<F>>(
-    rows: &[(usize, Option<usize>)],
-) -> Option<usize> {
-    for (asked, size) in rows {
-        let found = match D::new(*asked) {
-            Some(domain) => Some(domain.size()),
-            None => None,
-        };
-        if found != *size || D::compute_size_of_domain(*asked) != *size {
-            return Some(*asked);
+// Numbers of coefficients, and the sizes of their domains.
+#[derive(Clone, Copy)]
+struct Sizes<'a> {
+    rows: &'a [(usize, Option<usize>)],
+}
+
+impl Trial for Sizes<'_> {
+    fn holds<F: FftField, D: EvaluationDomain<F>>(&self, _: Global) -> Result<bool, PolyError> {
+        let mut right = true;
+        for (asked, size) in self.rows {
+            let found = match D::new(*asked) {
+                Some(domain) => Some(domain.size()),
+                None => None,
+            };
+            right = right && found == *size && D::compute_size_of_domain(*asked) == *size;
         }
+        Ok(right)
     }
-    None
-}
-
-fn wrong_radix2_size<F: FftField>(rows: &[(usize, Option<usize>)]) -> Option<usize> {
-    wrong_size::<F, Radix2EvaluationDomain<F>>(rows)
-}
-
-fn wrong_mixed_size<F: FftField>(rows: &[(usize, Option<usize>)]) -> Option<usize> {
-    wrong_size::<F, MixedRadixEvaluationDomain<F>>(rows)
-}
-
-fn wrong_general_size<F: FftField>(rows: &[(usize, Option<usize>)]) -> Option<usize> {
-    wrong_size::<F, GeneralEvaluationDomain<F>>(rows)
 }
 
 #[test]
-fn radix2_sizes(rt: HostRuntime) {
-    let rows = [
-        (0, Some(1)),
-        (1, Some(1)),
-        (3, Some(4)),
-        (4, Some(4)),
-        (5, None),
-    ];
-    assert_eq!(rt; wrong_radix2_size::<F5>(&rows), None);
-    let rows = [
-        (0, Some(1)),
-        (9, Some(16)),
-        (16, Some(16)),
-        (17, None),
-        (usize::MAX, None),
-    ];
-    assert_eq!(rt; wrong_radix2_size::<F433>(&rows), None);
-    let rows = [(65536, Some(65536)), (65537, None)];
-    assert_eq!(rt; wrong_radix2_size::<F65537>(&rows), None);
+fn radix2_sizes(rt: HostRuntime) -> Result<(), Fail> {
+    let five = Sizes {
+        rows: &[
+            (0, Some(1)),
+            (1, Some(1)),
+            (3, Some(4)),
+            (4, Some(4)),
+            (5, None),
+        ],
+    };
+    assert!(rt; over_radix2::<F5, _>(rt.alloc(), &five)?);
+    let some = Sizes {
+        rows: &[
+            (0, Some(1)),
+            (9, Some(16)),
+            (16, Some(16)),
+            (17, None),
+            (usize::MAX, None),
+        ],
+    };
+    assert!(rt; over_radix2::<F433, _>(rt.alloc(), &some)?);
+    let many = Sizes {
+        rows: &[(65536, Some(65536)), (65537, None)],
+    };
+    assert!(rt; over_radix2::<F65537, _>(rt.alloc(), &many)?);
+    Ok(())
 }
 
 #[test]
-fn mixed_sizes(rt: HostRuntime) {
+fn mixed_sizes(rt: HostRuntime) -> Result<(), Fail> {
     let rows = [
         (0, Some(1)),
         (5, Some(6)),
@@ -73,14 +70,17 @@ fn mixed_sizes(rt: HostRuntime) {
         (433, None),
         (usize::MAX, None),
     ];
-    assert_eq!(rt; wrong_mixed_size::<F433>(&rows), None);
-    let rows = [(0, None), (1, None)];
-    assert_eq!(rt; wrong_mixed_size::<F5>(&rows), None);
-    assert_eq!(rt; wrong_mixed_size::<F65537>(&rows), None);
+    assert!(rt; over_mixed::<F433, _>(rt.alloc(), &Sizes { rows: &rows })?);
+    let without = Sizes {
+        rows: &[(0, None), (1, None)],
+    };
+    assert!(rt; over_mixed::<F5, _>(rt.alloc(), &without)?);
+    assert!(rt; over_mixed::<F65537, _>(rt.alloc(), &without)?);
+    Ok(())
 }
 
 #[test]
-fn general_sizes(rt: HostRuntime) {
+fn general_sizes(rt: HostRuntime) -> Result<(), Fail> {
     let rows = [
         (0, Some(1)),
         (5, Some(8)),
@@ -89,9 +89,12 @@ fn general_sizes(rt: HostRuntime) {
         (433, None),
         (usize::MAX, None),
     ];
-    assert_eq!(rt; wrong_general_size::<F433>(&rows), None);
-    let rows = [(3, Some(4)), (5, None)];
-    assert_eq!(rt; wrong_general_size::<F5>(&rows), None);
+    assert!(rt; over_general::<F433, _>(rt.alloc(), &Sizes { rows: &rows })?);
+    let few = Sizes {
+        rows: &[(3, Some(4)), (5, None)],
+    };
+    assert!(rt; over_general::<F5, _>(rt.alloc(), &few)?);
+    Ok(())
 }
 
 // The exponent of two in a size, and its root.
@@ -121,11 +124,11 @@ fn subgroups(rt: HostRuntime) -> Result<(), Fail> {
         twos: 4,
         root: 238,
     };
-    assert!(rt; radix2_mod_433(alloc, &even)?);
-    assert!(rt; mixed_mod_433(alloc, &even)?);
+    assert!(rt; over_radix2::<F433, _>(alloc, &even)?);
+    assert!(rt; over_mixed::<F433, _>(alloc, &even)?);
     for (size, twos, root) in [(12, 2, 64), (27, 0, 17), (432, 4, 5)] {
         let mixed = Subgroup { size, twos, root };
-        assert!(rt; mixed_mod_433(alloc, &mixed)?, "size {size}");
+        assert!(rt; over_mixed::<F433, _>(alloc, &mixed)?, "size {size}");
     }
     Ok(())
 }
@@ -141,12 +144,6 @@ fn kinds_differ<F: FftField>(size: usize) -> Result<bool, PolyError> {
     )
 }
 
-#[test]
-fn general_kinds(rt: HostRuntime) -> Result<(), Fail> {
-    assert!(rt; kinds_differ::<F433>(16)?);
-    Ok(())
-}
-
 // Whether the general domain for so many coefficients is of the mixed kind.
 fn is_mixed<F: FftField>(num_coeffs: usize) -> bool {
     let domain = GeneralEvaluationDomain::<F>::new(num_coeffs);
@@ -154,16 +151,17 @@ fn is_mixed<F: FftField>(num_coeffs: usize) -> bool {
 }
 
 #[test]
-fn a_general_domain_of_the_mixed_kind(rt: HostRuntime) {
+fn general_kinds(rt: HostRuntime) -> Result<(), Fail> {
+    assert!(rt; kinds_differ::<F433>(16)?);
     assert!(rt; is_mixed::<F433>(17));
+    Ok(())
 }
 
 // Whether the offset zero is refused, and the offset one gives the subgroup, which is another than this coset.
-fn has_cosets<F: FftField, D: EvaluationDomain<F>>(coset: &D) -> bool {
-    let subgroup = D::new(coset.size());
-    coset.get_coset(F::zero()) == None
-        && coset.get_coset(F::one()) == subgroup
-        && subgroup != Some(*coset)
+fn has_cosets<F: FftField, D: EvaluationDomain<F>>(coset: &D) -> Result<bool, PolyError> {
+    let subgroup = D::new(coset.size()).ok_or(PolyError::NoDomain)?;
+    let shifted_back = coset.get_coset(F::one()).ok_or(PolyError::NoDomain)?;
+    Ok(coset.get_coset(F::zero()).is_none() && shifted_back == subgroup && subgroup != *coset)
 }
 
 // Whether the iterator gives the elements in order, as many as there are.
@@ -225,7 +223,7 @@ impl Trial for Getters {
                 && self.has_root(&domain)
                 && self.has_offset(&domain)
                 && has_elements(alloc, &domain)?
-                && has_cosets(&domain),
+                && has_cosets(&domain)?,
         )
     }
 }
@@ -243,7 +241,7 @@ fn radix2_getters(rt: HostRuntime) -> Result<(), Fail> {
         offset_power: 4,
         elements: [2, 3, 3],
     };
-    assert!(rt; radix2_mod_5(rt.alloc(), &getters)?);
+    assert!(rt; over_radix2::<F5, _>(rt.alloc(), &getters)?);
     Ok(())
 }
 
@@ -260,7 +258,7 @@ fn general_getters(rt: HostRuntime) -> Result<(), Fail> {
         offset_power: 179,
         elements: [2, 274, 37],
     };
-    assert!(rt; general_mod_433(rt.alloc(), &getters)?);
+    assert!(rt; over_general::<F433, _>(rt.alloc(), &getters)?);
     Ok(())
 }
 
@@ -295,7 +293,10 @@ fn containment(rt: HostRuntime) -> Result<(), Fail> {
             part,
             contained,
         };
-        assert!(rt; radix2_mod_433(rt.alloc(), &row)?, "{part:?} in {whole:?}");
+        assert!(rt;
+            over_radix2::<F433, _>(rt.alloc(), &row)?,
+            "{part:?} in {whole:?}"
+        );
     }
     Ok(())
 }
@@ -318,10 +319,10 @@ impl Trial for Copied {
 fn clones(rt: HostRuntime) -> Result<(), Fail> {
     let alloc = rt.alloc();
     let (even, mixed) = (Copied { size: 16 }, Copied { size: 18 });
-    assert!(rt; radix2_mod_433(alloc, &even)?);
-    assert!(rt; mixed_mod_433(alloc, &mixed)?);
-    assert!(rt; general_mod_433(alloc, &even)?);
-    assert!(rt; general_mod_433(alloc, &mixed)?);
+    assert!(rt; over_radix2::<F433, _>(alloc, &even)?);
+    assert!(rt; over_mixed::<F433, _>(alloc, &mixed)?);
+    assert!(rt; over_general::<F433, _>(alloc, &even)?);
+    assert!(rt; over_general::<F433, _>(alloc, &mixed)?);
     Ok(())
 }
 
@@ -345,7 +346,7 @@ fn texts(rt: HostRuntime) -> Result<(), Fail> {
     let alloc = rt.alloc();
     let text = "Radix-2 multiplicative subgroup of size 16";
     assert!(rt;
-        radix2_mod_433(
+        over_radix2::<F433, _>(
             alloc,
             &Text {
                 num_coeffs: 9,
@@ -355,7 +356,7 @@ fn texts(rt: HostRuntime) -> Result<(), Fail> {
     );
     let text = "Mixed-radix multiplicative subgroup of size 9";
     assert!(rt;
-        mixed_mod_433(
+        over_mixed::<F433, _>(
             alloc,
             &Text {
                 num_coeffs: 9,
@@ -365,7 +366,7 @@ fn texts(rt: HostRuntime) -> Result<(), Fail> {
     );
     let text = "Radix2(Radix-2 multiplicative subgroup of size 16)";
     assert!(rt;
-        general_mod_433(
+        over_general::<F433, _>(
             alloc,
             &Text {
                 num_coeffs: 9,
@@ -375,7 +376,7 @@ fn texts(rt: HostRuntime) -> Result<(), Fail> {
     );
     let text = "MixedRadix(Mixed-radix multiplicative subgroup of size 18)";
     assert!(rt;
-        general_mod_433(
+        over_general::<F433, _>(
             alloc,
             &Text {
                 num_coeffs: 17,
@@ -421,7 +422,7 @@ fn samples_outside(rt: HostRuntime) -> Result<(), Fail> {
         offset: 5,
         count: 100,
     };
-    assert!(rt; radix2_mod_65537(rt.alloc(), &samples)?);
+    assert!(rt; over_radix2::<F65537, _>(rt.alloc(), &samples)?);
     Ok(())
 }
 
@@ -447,7 +448,7 @@ impl Trial for ZeroSample {
 fn samples_after_draws_inside(rt: HostRuntime) -> Result<(), Fail> {
     for seed in 0..64 {
         assert!(rt;
-            radix2_mod_5(rt.alloc(), &ZeroSample { seed })?,
+            over_radix2::<F5, _>(rt.alloc(), &ZeroSample { seed })?,
             "seed {seed}"
         );
     }
@@ -474,6 +475,6 @@ impl Trial for SameSeed {
 
 #[test]
 fn samples_of_one_seed(rt: HostRuntime) -> Result<(), Fail> {
-    assert!(rt; radix2_mod_65537(rt.alloc(), &SameSeed { seed: 3 })?);
+    assert!(rt; over_radix2::<F65537, _>(rt.alloc(), &SameSeed { seed: 3 })?);
     Ok(())
 }

@@ -1,11 +1,11 @@
 // Transforms of every kind and at every size that a field with a base has.
 
-use crate::calls::{coset, elements, fft};
-use crate::plain::agrees;
-use crate::trials::{Trial, general_mod_433, mixed_mod_433};
 use ark_base::{F433, FftField, Field, One, PolyError, Zero};
 use ark_poly::{EvaluationDomain, GeneralEvaluationDomain, MixedRadixEvaluationDomain};
 use ark_test_types::four::Four;
+use ark_trials::calls::{coset, elements, fft};
+use ark_trials::plain::agrees;
+use ark_trials::trials::{Trial, over_general, over_mixed};
 use rand_core::Rng;
 use rand_pcg::Pcg64;
 use std::alloc::Global;
@@ -39,7 +39,7 @@ fn six_elements(rt: HostRuntime) -> Result<(), Fail> {
         root: 199,
         powers: &[1, 199, 198, 432, 234, 235],
     };
-    assert!(rt; mixed_mod_433(rt.alloc(), &six)?);
+    assert!(rt; over_mixed::<F433, _>(rt.alloc(), &six)?);
     Ok(())
 }
 
@@ -82,7 +82,7 @@ fn plain_sums_at_every_size(rt: HostRuntime) -> Result<(), Fail> {
     let mut rng = Pcg64::new(2, 3);
     for num_coeffs in SIZES {
         let seed = rng.next_u64();
-        assert!(rt; mixed_mod_433(rt.alloc(), &PlainSums { num_coeffs, seed })?);
+        assert!(rt; over_mixed::<F433, _>(rt.alloc(), &PlainSums { num_coeffs, seed })?);
         assert!(rt; mixed_agrees::<F433>(rt.alloc(), &mut rng, num_coeffs)?);
     }
     Ok(())
@@ -93,7 +93,7 @@ fn plain_sums_over_general_domains(rt: HostRuntime) -> Result<(), Fail> {
     let mut rng = Pcg64::new(5, 3);
     for num_coeffs in SIZES {
         let seed = rng.next_u64();
-        assert!(rt; general_mod_433(rt.alloc(), &PlainSums { num_coeffs, seed })?);
+        assert!(rt; over_general::<F433, _>(rt.alloc(), &PlainSums { num_coeffs, seed })?);
     }
     Ok(())
 }

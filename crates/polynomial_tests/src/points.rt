@@ -1,7 +1,8 @@
-use crate::calls::{coset, elements, listed};
-use crate::trials::{Trial, mixed_mod_433, radix2_mod_5, radix2_mod_433, radix2_mod_65537};
-use ark_base::{FftField, Field, PolyError};
+use ark_base::{F5, F433, F65537, FftField, Field, PolyError};
+use ark_poly::univariate::{DensePolynomial, SparsePolynomial};
 use ark_poly::{DenseUVPolynomial, EvaluationDomain, Polynomial};
+use ark_trials::calls::{coset, elements, listed};
+use ark_trials::trials::{Trial, over_mixed, over_radix2};
 use std::alloc::{AllocError, Global};
 use std::test::Fail;
 
@@ -31,7 +32,7 @@ fn vanishing_polynomial_of_a_coset(rt: HostRuntime) -> Result<(), Fail> {
         offset: 2,
         constant: 1,
     };
-    assert!(rt; radix2_mod_5(rt.alloc(), &vanishing)?);
+    assert!(rt; over_radix2::<F5, _>(rt.alloc(), &vanishing)?);
     Ok(())
 }
 
@@ -75,7 +76,7 @@ fn weights_at_points(rt: HostRuntime) -> Result<(), Fail> {
         },
     ];
     for row in &rows {
-        assert!(rt; radix2_mod_5(rt.alloc(), row)?);
+        assert!(rt; over_radix2::<F5, _>(rt.alloc(), row)?);
     }
     Ok(())
 }
@@ -120,7 +121,7 @@ fn filters(rt: HostRuntime) -> Result<(), Fail> {
         point: 0,
         value: 3,
     };
-    assert!(rt; radix2_mod_5(alloc, &subgroup)?);
+    assert!(rt; over_radix2::<F5, _>(alloc, &subgroup)?);
     let coset = Filter {
         offset: 2,
         constant: 3,
@@ -128,7 +129,7 @@ fn filters(rt: HostRuntime) -> Result<(), Fail> {
         point: 2,
         value: 1,
     };
-    assert!(rt; radix2_mod_5(alloc, &coset)?);
+    assert!(rt; over_radix2::<F5, _>(alloc, &coset)?);
     let coset = Filter {
         offset: 179,
         constant: 217,
@@ -136,7 +137,7 @@ fn filters(rt: HostRuntime) -> Result<(), Fail> {
         point: 3,
         value: 429,
     };
-    assert!(rt; radix2_mod_433(alloc, &coset)?);
+    assert!(rt; over_radix2::<F433, _>(alloc, &coset)?);
     Ok(())
 }
 
@@ -158,7 +159,7 @@ impl Trial for ForeignFilter {
 
 #[test]
 fn filters_of_foreign_domains(rt: HostRuntime) -> Result<(), Fail> {
-    assert!(rt; radix2_mod_5(rt.alloc(), &ForeignFilter)?);
+    assert!(rt; over_radix2::<F5, _>(rt.alloc(), &ForeignFilter)?);
     Ok(())
 }
 
@@ -201,13 +202,13 @@ fn reindexing(rt: HostRuntime) -> Result<(), Fail> {
         part: 2,
         indices: &[0, 4, 1, 2, 3, 5, 6, 7],
     };
-    assert!(rt; radix2_mod_65537(alloc, &halves)?);
+    assert!(rt; over_radix2::<F65537, _>(alloc, &halves)?);
     let whole = Indices {
         size: 4,
         part: 4,
         indices: &[0, 1, 2, 3],
     };
-    assert!(rt; radix2_mod_65537(alloc, &whole)?);
+    assert!(rt; over_radix2::<F65537, _>(alloc, &whole)?);
     Ok(())
 }
 
@@ -238,7 +239,20 @@ fn has_weights<F: FftField, D: EvaluationDomain<F>>(
     Ok(same)
 }
 
-// Whether the vanishing polynomial is zero exactly at the elements, and its value the one that is told without it.
+// Whether the vanishing polynomial's value at the point is the one told without it, and zero at an element alone.
+fn vanishes<F: FftField, D: EvaluationDomain<F>>(
+    alloc: Global,
+    domain: &D,
+    vanishing: &SparsePolynomial<F>,
+    elements: &[F],
+    point: F,
+) -> Result<bool, PolyError> {
+    let value = vanishing.evaluate(alloc, &point)?;
+    let told = domain.evaluate_vanishing_polynomial(point);
+    Ok(value == told && value.is_zero() == elements.contains(&point))
+}
+
+// Whether that is so at each point of the field, and the degree is the size.
 fn has_vanishing<F: FftField, D: EvaluationDomain<F>>(
     alloc: Global,
     domain: &D,
@@ -248,16 +262,23 @@ fn has_vanishing<F: FftField, D: EvaluationDomain<F>>(
     let vanishing = domain.vanishing_polynomial(alloc)?;
     let mut same = vanishing.degree() == domain.size();
     for number in 0..field_size {
-        let point = F::from(number);
-        let value = vanishing.evaluate(alloc, &point)?;
-        same = same && value == domain.evaluate_vanishing_polynomial(point);
-        same = same && value.is_zero() == elements.contains(&point);
+        same = same && vanishes(alloc, domain, &vanishing, &elements, F::from(number))?;
     }
     Ok(same)
 }
 
-// Whether the filter of the coset of so many elements that has element `first` is one at its elements and zero at the
-// others, and no longer than it has to be.
+// The filter of the coset of so many elements that has element `first`.
+fn filter_of<F: FftField, D: EvaluationDomain<F>>(
+    alloc: Global,
+    domain: &D,
+    size: usize,
+    first: usize,
+) -> Result<DensePolynomial<F>, PolyError> {
+    let part = D::new_coset(size, domain.element(first)).ok_or(PolyError::NoDomain)?;
+    domain.filter_polynomial(alloc, &part)
+}
+
+// Whether it is one at its elements and zero at the others, and no longer than it has to be.
 fn has_filter<F: FftField, D: EvaluationDomain<F>>(
     alloc: Global,
     domain: &D,
@@ -265,8 +286,7 @@ fn has_filter<F: FftField, D: EvaluationDomain<F>>(
     first: usize,
 ) -> Result<bool, PolyError> {
     let step = domain.size() / size.max(1);
-    let part = D::new_coset(size, domain.element(first)).ok_or(PolyError::NoDomain)?;
-    let filter = domain.filter_polynomial(alloc, &part)?;
+    let filter = filter_of(alloc, domain, size, first)?;
     let mut right = filter.coeffs().len() == domain.size().saturating_sub(size).saturating_add(1);
     for i in 0..domain.size() {
         let wanted = F::from(u64::from(i % step.max(1) == first));
@@ -352,7 +372,7 @@ fn every_mixed_size(rt: HostRuntime) -> Result<(), Fail> {
                 offset,
                 parts: &sizes,
             };
-            assert!(rt; mixed_mod_433(rt.alloc(), &coset)?, "size {size}");
+            assert!(rt; over_mixed::<F433, _>(rt.alloc(), &coset)?, "size {size}");
         }
     }
     Ok(())
@@ -369,7 +389,7 @@ fn every_radix_2_size(rt: HostRuntime) -> Result<(), Fail> {
                 offset,
                 parts: &sizes,
             };
-            assert!(rt; radix2_mod_433(rt.alloc(), &coset)?, "size {size}");
+            assert!(rt; over_radix2::<F433, _>(rt.alloc(), &coset)?, "size {size}");
         }
     }
     Ok(())

@@ -1,6 +1,6 @@
-use crate::calls::hash_of;
 use ark_base::{F5, Field, PolyError};
 use ark_poly::univariate::SparsePolynomial;
+use ark_trials::calls::hash_of;
 use std::alloc::{AllocError, Global};
 use std::string::String;
 use std::test::Fail;
@@ -63,6 +63,21 @@ fn has_values<F: Field>(
     Ok(right)
 }
 
+fn terms_have_values<F: Field>(
+    alloc: Global,
+    terms: Terms<'_>,
+    degree: usize,
+    values: &[(u64, u64)],
+) -> Result<bool, PolyError> {
+    has_values::<F>(alloc, &sparse(alloc, terms)?, degree, values)
+}
+
+// Whether zero has no terms, and the value zero at a point.
+fn zero_is_empty<F: Field>(alloc: Global) -> Result<bool, PolyError> {
+    let zero = SparsePolynomial::<F>::zero(alloc)?;
+    Ok(zero.coeffs().is_empty() && has_values(alloc, &zero, 0, &[(3, 0)])?)
+}
+
 #[test]
 fn degrees_and_values(rt: HostRuntime) -> Result<(), Fail> {
     let alloc = rt.alloc();
@@ -76,11 +91,9 @@ fn degrees_and_values(rt: HostRuntime) -> Result<(), Fail> {
         (&[(usize::MAX, 1)], usize::MAX, &[(2, 3), (0, 0)]),
     ];
     for (terms, degree, values) in rows {
-        assert!(rt; has_values::<F5>(alloc, &sparse(alloc, terms)?, degree, values)?);
+        assert!(rt; terms_have_values::<F5>(alloc, terms, degree, values)?);
     }
-    let zero = SparsePolynomial::zero(alloc)?;
-    assert!(rt; has_values::<F5>(alloc, &zero, 0, &[(3, 0)])?);
-    assert!(rt; zero.coeffs().is_empty());
+    assert!(rt; zero_is_empty::<F5>(alloc)?);
     Ok(())
 }
 

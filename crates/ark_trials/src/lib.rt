@@ -1,0 +1,7 @@
+//! What several test crates share: lists and domains from numbers, plain bodies to compare with, and trials that are
+//! written once for domains of every field and kind.
+#![tactic(auto)]
+
+pub mod calls;
+pub mod plain;
+pub mod trials;

@@ -1,0 +1,13 @@
+//! Tests of polynomials, of their values over a domain, and of what domains give at points.
+#![tactic(auto)]
+
+#[cfg(test)]
+mod evaluations;
+#[cfg(test)]
+mod places;
+#[cfg(test)]
+mod points;
+#[cfg(test)]
+mod polynomials;
+#[cfg(test)]
+mod sparse;
