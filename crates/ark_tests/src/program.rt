@@ -83,6 +83,23 @@ fn values(rt: HostRuntime) -> Result<(), Fail> {
     Ok(())
 }
 
+const PRODUCTS: [(&[&str], &str); 5] = [
+    (
+        &["433", "mul", "1,1,1,1,1,1,1,1,1", "1,1,1,1,1,1,1,1,1"],
+        "1,2,3,4,5,6,7,8,9,8,7,6,5,4,3,2,1",
+    ),
+    (&["5", "mul", "1,2,0", "1,8"], "1,0,1"),
+    (&["5", "mul", "", "1,0,1,0,1"], ""),
+    (&["5", "mul", "1,0,1,0,1", "5,0"], ""),
+    (&["65537", "mul", "65536", "65536"], "1"),
+];
+
+#[test]
+fn products(rt: HostRuntime) -> Result<(), Fail> {
+    assert!(rt; answers(rt.alloc(), &PRODUCTS, 0)?);
+    Ok(())
+}
+
 const SIZES: [(&[&str], &str); 8] = [
     (&["65537", "size", "0"], "1"),
     (&["433", "size", "5"], "8"),
@@ -107,7 +124,8 @@ fn sizes(rt: HostRuntime) -> Result<(), Fail> {
     Ok(())
 }
 
-const WITHOUT_DOMAIN: [(&[&str], &str); 8] = [
+const WITHOUT_DOMAIN: [(&[&str], &str); 9] = [
+    (&["5", "mul", "1,0,1", "1,0,1"], "error 2: NoDomain"),
     (&["5", "fft", "5", "1", "1"], "error 2: NoDomain"),
     (&["5", "fft", "4", "0", "1"], "error 2: NoDomain"),
     (&["5", "fft", "4", "5", "1"], "error 2: NoDomain"),
@@ -130,7 +148,7 @@ fn without_a_domain(rt: HostRuntime) -> Result<(), Fail> {
     Ok(())
 }
 
-const NO_COMMANDS: [(&[&str], &str); 10] = [
+const NO_COMMANDS: [(&[&str], &str); 12] = [
     (&[], "usage"),
     (&["5"], "usage"),
     (&["7", "fft", "4", "1", "1"], "usage"),
@@ -138,6 +156,8 @@ const NO_COMMANDS: [(&[&str], &str); 10] = [
     (&["5", "FFT", "4", "1", "1"], "usage"),
     (&["5", "fft", "4", "1"], "usage"),
     (&["5", "fft", "4", "1", "1", "1"], "usage"),
+    (&["5", "mul", "1"], "usage"),
+    (&["5", "mul", "1", "1", "1"], "usage"),
     (&["5", "eval", "1"], "usage"),
     (&["5", "size"], "usage"),
     (&["5", "size", "1", "1"], "usage"),
@@ -186,6 +206,7 @@ const NO_LISTS: [&str; 9] = [
 fn words_that_are_no_list(rt: HostRuntime) -> Result<(), Fail> {
     for word in NO_LISTS {
         assert!(rt; answers(rt.alloc(), &[(&["5", "eval", word, "1"], "usage")], 2)?);
+        assert!(rt; answers(rt.alloc(), &[(&["5", "mul", "1", word], "usage")], 2)?);
     }
     Ok(())
 }

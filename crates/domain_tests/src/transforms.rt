@@ -1,4 +1,5 @@
-use ark_base::{DomainCoeff, F5, F433, F65537, FftField, Lanes, PolyError, Work};
+use ark_base::{DomainCoeff, F5, F433, F65537, FftField, Field, Lanes, PolyError, Work};
+use ark_fft::domain::radix2::fft::powers;
 use ark_poly::{EvaluationDomain, Radix2EvaluationDomain};
 use ark_test_types::nothing::Nothing;
 use ark_trials::calls::{coset, elements, fft, ifft};
@@ -271,5 +272,51 @@ fn lanes(first: u64, second: u64) -> Lanes<F5> {
 fn transforms_of_lanes(rt: HostRuntime) -> Result<(), Fail> {
     let (coeffs, values) = ([lanes(1, 2), lanes(3, 4)], [lanes(4, 1), lanes(3, 3)]);
     assert!(rt; radix2_goes::<F5, Lanes<F5>>(rt.alloc(), &coeffs, &values)?);
+    Ok(())
+}
+
+// Whether drawn items come back from their transform over a coset, and from its inverse.
+fn composes<F: FftField, T: DomainCoeff<F>>(
+    alloc: Global,
+    coeffs: &[T],
+    offset: u64,
+) -> Result<bool, PolyError> {
+    let domain: Radix2EvaluationDomain<F> = coset(coeffs.len(), offset)?;
+    let values = domain.fft(alloc, coeffs)?;
+    goes_both_ways(alloc, &domain, coeffs, &values)
+}
+
+#[test]
+fn drawn_lanes_come_back(rt: HostRuntime) -> Result<(), Fail> {
+    let mut rng = Pcg64::new(17, 5);
+    for len in [1, 2, 64] {
+        let mut items = Vec::with_capacity(rt.alloc(), len)?;
+        for _ in 0..len {
+            items.push(Lanes::new(F65537::rand(&mut rng), F65537::rand(&mut rng)))?;
+        }
+        for offset in [1, 3] {
+            assert!(rt; composes::<F65537, Lanes<F65537>>(rt.alloc(), &items, offset)?);
+        }
+    }
+    Ok(())
+}
+
+// Whether the table of a root's powers has each of them.
+fn has_powers<F: FftField>(alloc: Global, n: u64) -> Result<bool, PolyError> {
+    let root = F::get_root_of_unity(n).ok_or(PolyError::NoDomain)?;
+    let table = powers(alloc, root, n as usize / 2)?;
+    for (i, power) in table.iter().enumerate() {
+        if *power != root.pow(i as u64) {
+            return Ok(false);
+        }
+    }
+    Ok(table.len() == n as usize / 2)
+}
+
+#[test]
+fn tables_of_twiddles(rt: HostRuntime) -> Result<(), Fail> {
+    for log in 0..11 {
+        assert!(rt; has_powers::<F65537>(rt.alloc(), 1 << log)?);
+    }
     Ok(())
 }

@@ -10,4 +10,6 @@ mod points;
 #[cfg(test)]
 mod polynomials;
 #[cfg(test)]
+mod products;
+#[cfg(test)]
 mod sparse;

@@ -9,7 +9,8 @@ use std::alloc::{AllocError, Global};
 use std::string::String;
 use std::test::Fail;
 
-fn poly<F: Field>(alloc: Global, coeffs: &[u64]) -> Result<DensePolynomial<F>, AllocError> {
+/// The polynomial with these coefficients.
+pub fn poly<F: Field>(alloc: Global, coeffs: &[u64]) -> Result<DensePolynomial<F>, AllocError> {
     Ok(DensePolynomial::from_coefficients_vec(elements(alloc, coeffs)?))
 }
 
