@@ -1,6 +1,7 @@
 //! Small callers, as a user of the crates writes them. The program prints what each of them gives.
 #![tactic(auto)]
 
+mod convolution;
 mod coset;
 mod cost;
 mod field;
@@ -10,6 +11,7 @@ mod there_and_back;
 
 use ark_base::{F433, F65537, FftField, PolyError, PrimeField, PrimeModulus, Work};
 use ark_poly::{EvaluationDomain, MixedRadixEvaluationDomain, Radix2EvaluationDomain};
+use convolution::convolution;
 use coset::values_on_coset;
 use cost::over_sixteen_and_back;
 use field::{F97, quotient};
@@ -25,6 +27,12 @@ fn main(rt: HostRuntime) -> anyhow::Result<()> {
     print_list(&rt, alloc, "there and back", &back)?;
     let others = on_coset(alloc, F97::from(5), &[10, 20, 30, 40].map(F97::from))?;
     print_list(&rt, alloc, "values on a coset", &others)?;
+    let both = convolution(
+        alloc,
+        &[1, 2, 3].map(F65537::from),
+        &[4, 5].map(F65537::from),
+    )?;
+    print_list(&rt, alloc, "convolution", &both)?;
     let items = over_sixteen(alloc, [1, 2, 3, 4].map(F65537::from))?;
     print_list(&rt, alloc, "over sixteen elements and back", &items)?;
     print_fields(&rt)?;
