@@ -27,11 +27,11 @@ pub fn both_products<F: FftField>(
     ensures equal { IfOk result (λ p. IsTrue (⟦<DensePolynomial<F> as PartialEq>⟧.eq p.0 p.1)) }
 {
     let fast = left.mul(alloc, right)?;
-    let plain = left.naive_mul(alloc, right)?;
+    let naive = left.naive_mul(alloc, right)?;
     // Both are trimmed, and so no other list denotes them.
     fast.coeffs();
-    plain.coeffs();
-    Ok((fast, plain))
+    naive.coeffs();
+    Ok((fast, naive))
 }
 
 /// The degree of the product of two polynomials, neither of them zero: the sum of their degrees.
