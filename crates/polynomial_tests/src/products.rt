@@ -62,12 +62,10 @@ fn are_naive<F: FftField>(
     alloc: Global,
     rng: &mut Pcg64,
     products: usize,
-    longest: usize,
 ) -> Result<bool, PolyError> {
     for i in 0..products {
-        let left = DensePolynomial::<F>::from_coefficients_vec(drawn(alloc, rng, i % longest)?);
-        let len = i / longest % longest;
-        let right = DensePolynomial::from_coefficients_vec(drawn(alloc, rng, len)?);
+        let left = DensePolynomial::<F>::from_coefficients_vec(drawn(alloc, rng, i % 38)?);
+        let right = DensePolynomial::from_coefficients_vec(drawn(alloc, rng, i / 38)?);
         let (product, plain) = both_products(alloc, &left, &right)?;
         if product != plain {
             return Ok(false);
@@ -85,8 +83,8 @@ fn are_naive<F: FftField>(
 #[test]
 fn products_of_drawn_polynomials(rt: HostRuntime) -> Result<(), Fail> {
     let mut rng = Pcg64::new(7, 11);
-    assert!(rt; are_naive::<F433>(rt.alloc(), &mut rng, 1500, 38)?);
-    assert!(rt; are_naive::<F65537>(rt.alloc(), &mut rng, 1500, 38)?);
+    assert!(rt; are_naive::<F433>(rt.alloc(), &mut rng, 1500)?);
+    assert!(rt; are_naive::<F65537>(rt.alloc(), &mut rng, 1500)?);
     Ok(())
 }
 
@@ -165,7 +163,7 @@ impl Trial for Valued {
     fn holds<F: FftField, D: EvaluationDomain<F>>(&self, alloc: Global) -> Result<bool, PolyError> {
         let domain: D = coset(self.size, self.offset)?;
         let mut rng = Pcg64::new(13, 1);
-        for len in [0, 1, self.size, self.size + 1, 3 * self.size + 2] {
+        for len in [0, 1, 6, 28, 70] {
             let p = DensePolynomial::<F>::from_coefficients_vec(drawn(alloc, &mut rng, len)?);
             let values = p.evaluate_over_domain_by_ref(alloc, domain)?;
             for (value, element) in values.evals().iter().zip(domain.elements()) {
