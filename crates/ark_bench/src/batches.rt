@@ -18,11 +18,22 @@ pub trait Benchmark {
     fn checksum(&self) -> u64;
 }
 
+/// An element that counts in checksums, as this number.
+pub trait Number {
+    fn number(&self) -> u64;
+}
+
+impl<M: PrimeModulus> Number for PrimeField<M> {
+    fn number(&self) -> u64 {
+        self.value()
+    }
+}
+
 /// A number in which each value of the list counts by its place.
-pub fn mixed<M: PrimeModulus>(values: &[PrimeField<M>]) -> u64 {
+pub fn mixed<F: Number>(values: &[F]) -> u64 {
     let mut sum: u64 = 0;
     for value in values {
-        sum = sum.wrapping_mul(31).wrapping_add(value.value());
+        sum = sum.wrapping_mul(31).wrapping_add(value.number());
     }
     sum
 }

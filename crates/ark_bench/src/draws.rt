@@ -1,6 +1,6 @@
 //! Inputs, the same at each run.
 
-use ark_base::{PrimeField, PrimeModulus};
+use ark_base::Field;
 use rand_core::Rng;
 use rand_pcg::Pcg64;
 use std::alloc::{AllocError, Global};
@@ -17,15 +17,11 @@ impl Draws {
         }
     }
 
-    pub fn element<M: PrimeModulus>(&mut self) -> PrimeField<M> {
-        PrimeField::from(self.rng.next_u64())
+    pub fn element<F: Field>(&mut self) -> F {
+        F::from(self.rng.next_u64())
     }
 
-    pub fn list<M: PrimeModulus>(
-        &mut self,
-        alloc: Global,
-        len: usize,
-    ) -> Result<Vec<PrimeField<M>>, AllocError> {
+    pub fn list<F: Field>(&mut self, alloc: Global, len: usize) -> Result<Vec<F>, AllocError> {
         let mut list = Vec::with_capacity(alloc, len)?;
         for _ in 0..len {
             list.push(self.element())?;

@@ -8,14 +8,14 @@ mod large_field;
 mod polynomials;
 mod transforms;
 
-use ark_base::{F433, F65537, FftField, Field, Modulus433, Modulus65537};
+use ark_base::{F433, F65537, FftField};
 use ark_poly::univariate::DensePolynomial;
 use ark_poly::{
     DenseUVPolynomial, EvaluationDomain, MixedRadixEvaluationDomain, Radix2EvaluationDomain,
 };
-use batches::report;
+use batches::{Number, report};
 use draws::Draws;
-use large_field::{F2013265921, Modulus2013265921};
+use large_field::F2013265921;
 use polynomials::{Interpolation, Product, Quotients, Value, Way, Weights};
 use std::alloc::{AllocGlobal, Global};
 use std::env;
@@ -29,103 +29,116 @@ fn main(rt: HostRuntime) -> anyhow::Result<()> {
         None => false,
     };
     let mut draws = Draws::new();
-    report_radix2(&rt, rt.alloc(), timed, &mut draws)?;
-    report_mixed_radix(&rt, rt.alloc(), timed, &mut draws)?;
-    report_largest(&rt, rt.alloc(), timed, &mut draws)?;
-    report_dense(&rt, rt.alloc(), timed, &mut draws)?;
-    report_evaluations(&rt, rt.alloc(), timed, &mut draws)?;
+    report_radix2::<F65537>(&rt, rt.alloc(), timed, &mut draws)?;
+    report_mixed_radix::<F433>(&rt, rt.alloc(), timed, &mut draws)?;
+    report_largest::<F65537>(&rt, rt.alloc(), timed, &mut draws)?;
+    report_dense::<F65537>(&rt, rt.alloc(), timed, &mut draws)?;
+    report_evaluations::<F65537>(&rt, rt.alloc(), timed, &mut draws)?;
     if timed {
-        report_growth(&rt, rt.alloc(), &mut draws)?;
+        report_growth::<F2013265921>(&rt, rt.alloc(), &mut draws)?;
     }
     Ok(())
 }
 
-fn report_radix2(
+fn report_radix2<F: FftField + Number>(
     rt: &(impl Print + Clock),
     alloc: Global,
     timed: bool,
     draws: &mut Draws,
 ) -> anyhow::Result<()> {
     for size in [1 << 10, 1 << 12, 1 << 14, 1 << 16] {
-        let Some(domain) = Radix2EvaluationDomain::<F65537>::new(size) else {
-            continue;
-        };
-        let items = draws.list::<Modulus65537>(alloc, size)?;
-        let mut forward = InPlace::forward("radix2_fft_in_place", domain, items);
-        report(rt, alloc, timed, &mut forward)?;
-        let items = draws.list::<Modulus65537>(alloc, size)?;
-        let mut inverse = InPlace::inverse("radix2_ifft_in_place", domain, items);
-        report(rt, alloc, timed, &mut inverse)?;
+        if let Some(domain) = Radix2EvaluationDomain::<F>::new(size) {
+            let names = ["radix2_fft_in_place", "radix2_ifft_in_place"];
+            report_both_ways(rt, alloc, timed, draws, names, domain)?;
+        }
     }
     Ok(())
 }
 
 // How the time grows with the size, over a field with great domains.
-fn report_growth(
+fn report_growth<F: FftField + Number>(
     rt: &(impl Print + Clock),
     alloc: Global,
     draws: &mut Draws,
 ) -> anyhow::Result<()> {
     for size in [1 << 16, 1 << 18, 1 << 20, 1 << 22] {
-        let Some(domain) = Radix2EvaluationDomain::<F2013265921>::new(size) else {
-            continue;
-        };
-        let items = draws.list::<Modulus2013265921>(alloc, size)?;
-        let mut forward = InPlace::forward("growth_fft_in_place", domain, items);
-        report(rt, alloc, true, &mut forward)?;
-        let items = draws.list::<Modulus2013265921>(alloc, size)?;
-        let mut inverse = InPlace::inverse("growth_ifft_in_place", domain, items);
-        report(rt, alloc, true, &mut inverse)?;
+        if let Some(domain) = Radix2EvaluationDomain::<F>::new(size) {
+            let names = ["growth_fft_in_place", "growth_ifft_in_place"];
+            report_both_ways(rt, alloc, true, draws, names, domain)?;
+        }
     }
     Ok(())
 }
 
-fn report_mixed_radix(
+fn report_mixed_radix<F: FftField + Number>(
     rt: &(impl Print + Clock),
     alloc: Global,
     timed: bool,
     draws: &mut Draws,
 ) -> anyhow::Result<()> {
     for size in [432, 216, 27] {
-        let Some(domain) = MixedRadixEvaluationDomain::<F433>::new(size) else {
-            continue;
-        };
-        let items = draws.list::<Modulus433>(alloc, size)?;
-        let mut forward = InPlace::forward("mixed_fft_in_place", domain, items);
-        report(rt, alloc, timed, &mut forward)?;
-        let items = draws.list::<Modulus433>(alloc, size)?;
-        let mut inverse = InPlace::inverse("mixed_ifft_in_place", domain, items);
-        report(rt, alloc, timed, &mut inverse)?;
+        if let Some(domain) = MixedRadixEvaluationDomain::<F>::new(size) {
+            let names = ["mixed_fft_in_place", "mixed_ifft_in_place"];
+            report_both_ways(rt, alloc, timed, draws, names, domain)?;
+        }
     }
     Ok(())
 }
 
-// Over all elements but zero.
-fn report_largest(
+// A transform and an inverse one, under these names.
+fn report_both_ways<F: FftField + Number, D: EvaluationDomain<F>>(
+    rt: &(impl Print + Clock),
+    alloc: Global,
+    timed: bool,
+    draws: &mut Draws,
+    names: [&'static str; 2],
+    domain: D,
+) -> anyhow::Result<()> {
+    let [forward, inverse] = names;
+    let items = draws.list(alloc, domain.size())?;
+    let mut forward = InPlace::forward(forward, domain, items);
+    report(rt, alloc, timed, &mut forward)?;
+    let items = draws.list(alloc, domain.size())?;
+    let mut inverse = InPlace::inverse(inverse, domain, items);
+    report(rt, alloc, timed, &mut inverse)
+}
+
+// Over 2^16 elements, which are all but zero of the field that it is called with.
+fn report_largest<F: FftField + Number>(
     rt: &(impl Print + Clock),
     alloc: Global,
     timed: bool,
     draws: &mut Draws,
 ) -> anyhow::Result<()> {
-    let Some(domain) = Radix2EvaluationDomain::<F65537>::new(1 << 16) else {
-        return Ok(());
-    };
-    if let Some(coset) = domain.get_coset(F65537::GENERATOR) {
-        let items = draws.list::<Modulus65537>(alloc, 1 << 16)?;
+    match Radix2EvaluationDomain::<F>::new(1 << 16) {
+        Some(domain) => report_over_domain(rt, alloc, timed, draws, domain),
+        None => Ok(()),
+    }
+}
+
+fn report_over_domain<F: FftField + Number, D: EvaluationDomain<F>>(
+    rt: &(impl Print + Clock),
+    alloc: Global,
+    timed: bool,
+    draws: &mut Draws,
+    domain: D,
+) -> anyhow::Result<()> {
+    if let Some(coset) = domain.get_coset(F::GENERATOR) {
+        let items = draws.list(alloc, domain.size())?;
         let mut forward = InPlace::forward("coset_fft_in_place", coset, items);
         report(rt, alloc, timed, &mut forward)?;
     }
-    let items = draws.list::<Modulus65537>(alloc, 1 << 10)?;
+    let items = draws.list(alloc, 1 << 10)?;
     let mut short = OfShortList::new(alloc, "degree_aware_fft_1024_over", domain, items);
     report(rt, alloc, timed, &mut short)?;
-    let mut far = Weights::new(alloc, "lagrange_all", domain, F65537::from(0));
+    let mut far = Weights::new(alloc, "lagrange_all", domain, F::from(0));
     report(rt, alloc, timed, &mut far)?;
     let last = domain.element((1 << 16) - 1);
     let mut near = Weights::new(alloc, "lagrange_all_at_last_element", domain, last);
     report(rt, alloc, timed, &mut near)
 }
 
-fn report_dense(
+fn report_dense<F: FftField + Number>(
     rt: &(impl Print + Clock),
     alloc: Global,
     timed: bool,
@@ -136,26 +149,37 @@ fn report_dense(
         (Way::Transforms, 1 << 13),
         (Way::Transforms, (1 << 15) - 1),
     ] {
-        let left = draws.list(alloc, len)?;
+        let left = draws.list::<F>(alloc, len)?;
         let right = draws.list(alloc, len)?;
         let mut product = Product::new(alloc, way, left, right)?;
         report(rt, alloc, timed, &mut product)?;
     }
-    let coeffs = draws.list(alloc, 1 << 16)?;
+    let coeffs = draws.list::<F>(alloc, 1 << 16)?;
     let mut value = Value::new(coeffs, draws.element());
     report(rt, alloc, timed, &mut value)
 }
 
-fn report_evaluations(
+// Over the same elements.
+fn report_evaluations<F: FftField + Number>(
     rt: &(impl Print + Clock),
     alloc: Global,
     timed: bool,
     draws: &mut Draws,
 ) -> anyhow::Result<()> {
-    let Some(domain) = Radix2EvaluationDomain::<F65537>::new(1 << 16) else {
-        return Ok(());
-    };
-    let coeffs = draws.list(alloc, 1 << 16)?;
+    match Radix2EvaluationDomain::<F>::new(1 << 16) {
+        Some(domain) => report_values(rt, alloc, timed, draws, domain),
+        None => Ok(()),
+    }
+}
+
+fn report_values<F: FftField + Number, D: EvaluationDomain<F>>(
+    rt: &(impl Print + Clock),
+    alloc: Global,
+    timed: bool,
+    draws: &mut Draws,
+    domain: D,
+) -> anyhow::Result<()> {
+    let coeffs = draws.list(alloc, domain.size())?;
     let polynomial = DensePolynomial::from_coefficients_vec(coeffs);
     let values = polynomial.evaluate_over_domain(alloc, domain)?;
     let mut interpolation = Interpolation::new(alloc, values.clone()?)?;

@@ -1,22 +1,20 @@
 //! Dense polynomials, and the weights of their values.
 
-use crate::batches::{Benchmark, mixed};
-use ark_base::{F65537, PolyError};
+use crate::batches::{Benchmark, Number, mixed};
+use ark_base::{FftField, PolyError};
 use ark_poly::univariate::DensePolynomial;
-use ark_poly::{
-    DenseUVPolynomial, EvaluationDomain, Evaluations, Polynomial, Radix2EvaluationDomain,
-};
+use ark_poly::{DenseUVPolynomial, EvaluationDomain, Evaluations, Polynomial};
 use std::alloc::Global;
 
 /// The value at a point, which is the next point.
 #[derive(Drop)]
-pub struct Value {
-    polynomial: DensePolynomial<F65537>,
-    point: F65537,
+pub struct Value<F: FftField> {
+    polynomial: DensePolynomial<F>,
+    point: F,
 }
 
-impl Value {
-    pub fn new(coeffs: Vec<F65537>, point: F65537) -> Value {
+impl<F: FftField> Value<F> {
+    pub fn new(coeffs: Vec<F>, point: F) -> Self {
         Value {
             polynomial: DensePolynomial::from_coefficients_vec(coeffs),
             point,
@@ -24,7 +22,7 @@ impl Value {
     }
 }
 
-impl Benchmark for Value {
+impl<F: FftField + Number> Benchmark for Value<F> {
     fn name(&self) -> &'static str {
         "dense_evaluate"
     }
@@ -39,7 +37,7 @@ impl Benchmark for Value {
     }
 
     fn checksum(&self) -> u64 {
-        self.point.value()
+        self.point.number()
     }
 }
 
@@ -54,20 +52,15 @@ pub enum Way {
 
 /// The product of two polynomials of one length.
 #[derive(Drop)]
-pub struct Product {
+pub struct Product<F: FftField> {
     way: Way,
-    left: DensePolynomial<F65537>,
-    right: DensePolynomial<F65537>,
-    product: DensePolynomial<F65537>,
+    left: DensePolynomial<F>,
+    right: DensePolynomial<F>,
+    product: DensePolynomial<F>,
 }
 
-impl Product {
-    pub fn new(
-        alloc: Global,
-        way: Way,
-        left: Vec<F65537>,
-        right: Vec<F65537>,
-    ) -> Result<Product, PolyError> {
+impl<F: FftField> Product<F> {
+    pub fn new(alloc: Global, way: Way, left: Vec<F>, right: Vec<F>) -> Result<Self, PolyError> {
         Ok(Product {
             way,
             left: DensePolynomial::from_coefficients_vec(left),
@@ -77,7 +70,7 @@ impl Product {
     }
 }
 
-impl Benchmark for Product {
+impl<F: FftField + Number> Benchmark for Product<F> {
     fn name(&self) -> &'static str {
         match self.way {
             Way::Naive => "naive_mul",
@@ -104,16 +97,13 @@ impl Benchmark for Product {
 
 /// The polynomial with given values over a domain.
 #[derive(Drop)]
-pub struct Interpolation {
-    values: Evaluations<F65537, Radix2EvaluationDomain<F65537>>,
-    polynomial: DensePolynomial<F65537>,
+pub struct Interpolation<F: FftField, D: EvaluationDomain<F>> {
+    values: Evaluations<F, D>,
+    polynomial: DensePolynomial<F>,
 }
 
-impl Interpolation {
-    pub fn new(
-        alloc: Global,
-        values: Evaluations<F65537, Radix2EvaluationDomain<F65537>>,
-    ) -> Result<Interpolation, PolyError> {
+impl<F: FftField, D: EvaluationDomain<F>> Interpolation<F, D> {
+    pub fn new(alloc: Global, values: Evaluations<F, D>) -> Result<Self, PolyError> {
         Ok(Interpolation {
             values,
             polynomial: DensePolynomial::zero(alloc)?,
@@ -121,7 +111,7 @@ impl Interpolation {
     }
 }
 
-impl Benchmark for Interpolation {
+impl<F: FftField + Number, D: EvaluationDomain<F>> Benchmark for Interpolation<F, D> {
     fn name(&self) -> &'static str {
         "interpolate"
     }
@@ -142,17 +132,17 @@ impl Benchmark for Interpolation {
 
 /// The quotients of the values by themselves, place by place.
 #[derive(Drop)]
-pub struct Quotients {
-    values: Evaluations<F65537, Radix2EvaluationDomain<F65537>>,
+pub struct Quotients<F: FftField, D: EvaluationDomain<F>> {
+    values: Evaluations<F, D>,
 }
 
-impl Quotients {
-    pub fn new(values: Evaluations<F65537, Radix2EvaluationDomain<F65537>>) -> Quotients {
+impl<F: FftField, D: EvaluationDomain<F>> Quotients<F, D> {
+    pub fn new(values: Evaluations<F, D>) -> Self {
         Quotients { values }
     }
 }
 
-impl Benchmark for Quotients {
+impl<F: FftField + Number, D: EvaluationDomain<F>> Benchmark for Quotients<F, D> {
     fn name(&self) -> &'static str {
         "evaluations_div"
     }
@@ -173,20 +163,15 @@ impl Benchmark for Quotients {
 
 /// The weights of the values at a domain's elements.
 #[derive(Drop)]
-pub struct Weights {
+pub struct Weights<F: FftField, D: EvaluationDomain<F>> {
     name: &'static str,
-    domain: Radix2EvaluationDomain<F65537>,
-    point: F65537,
-    weights: Vec<F65537>,
+    domain: D,
+    point: F,
+    weights: Vec<F>,
 }
 
-impl Weights {
-    pub fn new(
-        alloc: Global,
-        name: &'static str,
-        domain: Radix2EvaluationDomain<F65537>,
-        point: F65537,
-    ) -> Weights {
+impl<F: FftField, D: EvaluationDomain<F>> Weights<F, D> {
+    pub fn new(alloc: Global, name: &'static str, domain: D, point: F) -> Self {
         Weights {
             name,
             domain,
@@ -196,7 +181,7 @@ impl Weights {
     }
 }
 
-impl Benchmark for Weights {
+impl<F: FftField + Number, D: EvaluationDomain<F>> Benchmark for Weights<F, D> {
     fn name(&self) -> &'static str {
         self.name
     }

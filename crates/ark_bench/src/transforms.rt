@@ -1,21 +1,21 @@
 //! Transforms.
 
-use crate::batches::{Benchmark, mixed};
-use ark_base::{PolyError, PrimeField, PrimeModulus};
+use crate::batches::{Benchmark, Number, mixed};
+use ark_base::{FftField, PolyError};
 use ark_poly::EvaluationDomain;
 use std::alloc::Global;
 
 /// In place, over and over on one list.
 #[derive(Drop)]
-pub struct InPlace<M: PrimeModulus, D: EvaluationDomain<PrimeField<M>>> {
+pub struct InPlace<F: FftField, D: EvaluationDomain<F>> {
     name: &'static str,
     domain: D,
     inverse: bool,
-    items: Vec<PrimeField<M>>,
+    items: Vec<F>,
 }
 
-impl<M: PrimeModulus, D: EvaluationDomain<PrimeField<M>>> InPlace<M, D> {
-    pub fn forward(name: &'static str, domain: D, items: Vec<PrimeField<M>>) -> Self {
+impl<F: FftField, D: EvaluationDomain<F>> InPlace<F, D> {
+    pub fn forward(name: &'static str, domain: D, items: Vec<F>) -> Self {
         InPlace {
             name,
             domain,
@@ -24,7 +24,7 @@ impl<M: PrimeModulus, D: EvaluationDomain<PrimeField<M>>> InPlace<M, D> {
         }
     }
 
-    pub fn inverse(name: &'static str, domain: D, items: Vec<PrimeField<M>>) -> Self {
+    pub fn inverse(name: &'static str, domain: D, items: Vec<F>) -> Self {
         InPlace {
             name,
             domain,
@@ -34,7 +34,7 @@ impl<M: PrimeModulus, D: EvaluationDomain<PrimeField<M>>> InPlace<M, D> {
     }
 }
 
-impl<M: PrimeModulus, D: EvaluationDomain<PrimeField<M>>> Benchmark for InPlace<M, D> {
+impl<F: FftField + Number, D: EvaluationDomain<F>> Benchmark for InPlace<F, D> {
     fn name(&self) -> &'static str {
         self.name
     }
@@ -58,15 +58,15 @@ impl<M: PrimeModulus, D: EvaluationDomain<PrimeField<M>>> Benchmark for InPlace<
 
 /// Of a list much shorter than the domain, whose first item the last call's values give.
 #[derive(Drop)]
-pub struct OfShortList<M: PrimeModulus, D: EvaluationDomain<PrimeField<M>>> {
+pub struct OfShortList<F: FftField, D: EvaluationDomain<F>> {
     name: &'static str,
     domain: D,
-    items: Vec<PrimeField<M>>,
-    values: Vec<PrimeField<M>>,
+    items: Vec<F>,
+    values: Vec<F>,
 }
 
-impl<M: PrimeModulus, D: EvaluationDomain<PrimeField<M>>> OfShortList<M, D> {
-    pub fn new(alloc: Global, name: &'static str, domain: D, items: Vec<PrimeField<M>>) -> Self {
+impl<F: FftField, D: EvaluationDomain<F>> OfShortList<F, D> {
+    pub fn new(alloc: Global, name: &'static str, domain: D, items: Vec<F>) -> Self {
         OfShortList {
             name,
             domain,
@@ -76,7 +76,7 @@ impl<M: PrimeModulus, D: EvaluationDomain<PrimeField<M>>> OfShortList<M, D> {
     }
 }
 
-impl<M: PrimeModulus, D: EvaluationDomain<PrimeField<M>>> Benchmark for OfShortList<M, D> {
+impl<F: FftField + Number, D: EvaluationDomain<F>> Benchmark for OfShortList<F, D> {
     fn name(&self) -> &'static str {
         self.name
     }
