@@ -1,5 +1,5 @@
 -- Examples, computed from the definitions.
-use Rattle.std.specs.Prelude.{◌≡◌, ℕ, ◌+◌, ◌-◌, ◌*◌, ◌%◌, Some, None, [], ◌∷◌, true, false, ◌==◌, refl}
+use Rattle.std.specs.Prelude.{◌≡◌, ℕ, ◌+◌, ◌-◌, ◌*◌, ◌%◌, Some, None, [], ◌∷◌, ◌==◌, refl}
 use Rattle.ark_math.specs.Field.{FieldOn}
 use Rattle.ark_math.specs.Module.{itself, tabulate, sum_below}
 use Rattle.ark_math.specs.Domain.{Domain, element, radix2, mixed_radix}
