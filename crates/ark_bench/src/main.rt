@@ -1,5 +1,7 @@
 //! Times the calls that take long. With no argument each is made once and its checksum printed; with `time` each is
 //! made in batches, and the nanoseconds of a call are printed.
+//!
+//! All but `main` is generic over the field, since what names a domain over a concrete one is dear to check.
 #![tactic(auto)]
 
 mod batches;
@@ -184,6 +186,7 @@ fn report_values<F: FftField + Number, D: EvaluationDomain<F>>(
     let values = polynomial.evaluate_over_domain(alloc, domain)?;
     let mut interpolation = Interpolation::new(alloc, values.clone()?)?;
     report(rt, alloc, timed, &mut interpolation)?;
-    let mut quotients = Quotients::new(values);
+    let divisors = values.mul(alloc, &values)?;
+    let mut quotients = Quotients::new(values, divisors);
     report(rt, alloc, timed, &mut quotients)
 }

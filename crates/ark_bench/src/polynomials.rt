@@ -130,15 +130,19 @@ impl<F: FftField + Number, D: EvaluationDomain<F>> Benchmark for Interpolation<F
     }
 }
 
-/// The quotients of the values by themselves, place by place.
+/// The quotients of the last ones by the divisors, place by place.
 #[derive(Drop)]
 pub struct Quotients<F: FftField, D: EvaluationDomain<F>> {
-    values: Evaluations<F, D>,
+    quotients: Evaluations<F, D>,
+    divisors: Evaluations<F, D>,
 }
 
 impl<F: FftField, D: EvaluationDomain<F>> Quotients<F, D> {
-    pub fn new(values: Evaluations<F, D>) -> Self {
-        Quotients { values }
+    pub fn new(dividends: Evaluations<F, D>, divisors: Evaluations<F, D>) -> Self {
+        Quotients {
+            quotients: dividends,
+            divisors,
+        }
     }
 }
 
@@ -148,16 +152,20 @@ impl<F: FftField + Number, D: EvaluationDomain<F>> Benchmark for Quotients<F, D>
     }
 
     fn size(&self) -> usize {
-        self.values.evals().len()
+        self.quotients.evals().len()
     }
 
     fn call(&mut self, alloc: Global) -> Result<(), PolyError> {
-        self.values = self.values.div(alloc, &self.values)?;
+        // Never so, and quick to see: values over two domains have no quotients.
+        if self.quotients.domain() != self.divisors.domain() {
+            return Err(PolyError::NoDomain);
+        }
+        self.quotients = self.quotients.div(alloc, &self.divisors)?;
         Ok(())
     }
 
     fn checksum(&self) -> u64 {
-        mixed(self.values.evals())
+        mixed(self.quotients.evals())
     }
 }
 

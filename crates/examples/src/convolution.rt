@@ -8,9 +8,9 @@ use ark_poly::DenseUVPolynomial;
 use ark_poly::univariate::DensePolynomial;
 use std::alloc::Global;
 
-/// The convolution of two lists, without zeros at its end: item k is the sum of `left[i] * right[k - i]` over all i.
-/// Where the field has no domain for its length it is made without one, by all products of two items. The only errors
-/// are `Memory`, and `Overflow` where the length is past `usize::MAX`.
+/// The convolution of two lists, without zeros at its end: item k is the sum of `left[i] * right[k - i]`
+/// over all i. Where the field has no domain for its length it is made without one, by all products of two
+/// items. The only errors are `Memory`, and `Overflow` where the length is past `usize::MAX`.
 pub fn convolution<F: FftField>(alloc: Global, left: &[F], right: &[F]) -> Result<Vec<F>, PolyError>
     ensures product { IfOk result (λ both. of_list F.field both.items
         ≡ product F.field (of_list F.field left.now) (of_list F.field right.now)) }

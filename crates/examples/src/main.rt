@@ -1,4 +1,5 @@
-//! Small callers, as a user of the crates writes them. The program prints what each of them gives.
+//! Small callers, as a user of the crates writes them: a transform and back, values on a coset, the
+//! convolution of two lists, exact costs, fields and a module of one's own. The program prints what each gives.
 #![tactic(auto)]
 
 mod convolution;
