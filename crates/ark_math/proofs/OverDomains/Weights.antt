@@ -188,5 +188,5 @@ weighted_values K N d tau l W a v b A = (
   b,
   sum_below-same (itself K) d.size (λ i. K.times (of_list K l i) (of_list K v i)) (λ i. K.times (of_list K l i) (value_below K d.size a (element K d i)))
       (λ i h. ap (K.times (of_list K l i)) (value_is K N d.size a (element K d i) (of_list K v i) b (values-item K N d a v A i h)))
-  ∙ W.give a b,
+      ∙ W.give a b,
 )

@@ -427,11 +427,7 @@ fn fill_with_powers<F: FftField>(root: F, xs: &mut [F])
 }
 
 /// The powers of a root from 0 on, so many: the twiddles of a transform are those up to half its size.
-pub fn powers<F: FftField>(
-    alloc: Global,
-    root: F,
-    count: usize,
-) -> Result<Vec<F>, AllocError>
+pub fn powers<F: FftField>(alloc: Global, root: F, count: usize) -> Result<Vec<F>, AllocError>
     ensures { IfOk result (λ t. ArePowers F.field root count t.items) }
 {
     let mut powers = Vec::new(alloc);
