@@ -47,6 +47,11 @@ stride_within s (suc h) n pos e l =
     omega arith
 stride_within s zero n pos e l = absurd (omega arith)
 
+pub pair_table : (n s t : ℕ) → n ≡ 1 → 2 ^ n * s / 2 ≡ t → 0 < s → 0 < t
+pair_table n s t one whole some =
+    let e : 2 ^ 1 * s / 2 ≡ t = subst (λ k. 2 ^ k * s / 2 ≡ t) one whole in
+    omega (arith, e, some)
+
 -- the butterflies of e levels of 2 ^ n items: those of the topmost, and those of its halves
 pub count_levels : (n e : ℕ) → 0 < e → e ≤ n → 2 ^ n / 2 * e ≡ 2 ^ (n - 1) + (2 ^ (n - 1) / 2 * (e - 1) + 2 ^ (n - 1) / 2 * (e - 1))
 count_levels zero e some within = absurd (omega arith)
@@ -134,6 +139,21 @@ module _ {F M : Type 0} {K : FieldOn F} {V : ModuleOn F M} (N : IsField K) (L : 
       let z : p ≡ 0 = omega arith in
       subst (λ t. f p ≡ dft_at K V (2 ^ t) w f (reversed t p)) (sym e)
       (ap f z ∙ sym (zero_plus L (V.scale K.one (f 0)) ∙ L.one_scale (f 0)))
+
+  -- two items: their sum, and their difference, which the table's first power, one, multiplies
+  pub one_pair : (n : ℕ) (w : F) (s : ℕ) (table : List F) (f r : ℕ → M) → IsHalfTable K w table → n ≡ 1 → 2 ^ n * s / 2 ≡ length table → 0 < s → r 0 ≡ V.plus (f 0) (f 1) → r 1 ≡ V.scale (get_or table 0 K.zero) (V.plus (f 0) (V.negated (f 1))) → (p : ℕ) → p < 2 ^ n → r p ≡ dft_at K V (2 ^ n) (power K w s) f (reversed n p)
+  one_pair n w s table f r t one whole some sum difference =
+      let whole1 : 2 ^ 1 * s / 2 ≡ length table = subst (λ k. 2 ^ k * s / 2 ≡ length table) one whole in
+      let all : s ≡ length table = omega (arith, whole1) in
+      let half : power K (power K w s) 1 ≡ K.negated K.one = sym (power-mul K N w s 1) ∙ (ap (power K w) (omega (arith, all)) ∙ t.half (omega (arith, all, some))) in
+      let g : ℕ → M = λ j. V.plus (f j) (f (1 + j)) in
+      let h : ℕ → M = λ j. V.scale (power K (power K w s) j) (V.plus (f j) (V.negated (f (1 + j)))) in
+      let first : get_or table 0 K.zero ≡ K.one = t.powers 0 (omega (arith, all, some)) in
+      let at_lo : (p : ℕ) → p < 1 → r p ≡ g p = λ p l. let z : p ≡ 0 = omega arith in subst (λ k. r k ≡ g k) (sym z) sum in
+      let at_hi : (p : ℕ) → p < 1 → r (1 + p) ≡ h p = λ p l. let z : p ≡ 0 = omega arith in subst (λ k. r (1 + k) ≡ h k) (sym z) (difference ∙ ap (λ x. V.scale x (V.plus (f 0) (V.negated (f 1)))) first) in
+      subst (λ k. (p : ℕ) → p < 2 ^ k → r p ≡ dft_at K V (2 ^ k) (power K w s) f (reversed k p)) (sym one)
+      (λ p l.
+      level_at 0 (power K w s) f g h r half (λ j b. refl) (λ j b. refl) (λ q b. at_lo q b ∙ no_level 0 (power K (power K w s) 2) g refl q b) (λ q b. at_hi q b ∙ no_level 0 (power K (power K w s) 2) h refl q b) p (half_of 0 p l))
 
 module _ {F M X : Type 0} {K : FieldOn F} {V : ModuleOn F M} (N : IsField K) (L : IsModule K V) (m : X → M) where
   -- one level, on lists: xs is lo and hi, the butterflies make them lo1 and hi1, and the levels below lo2 and hi2

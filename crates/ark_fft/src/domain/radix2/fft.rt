@@ -57,6 +57,25 @@ fn butterflies<F: FftField, T: DomainCoeff<F>>(
     }
 }
 
+/// The butterfly of a list of two items.
+fn pair<F: FftField, T: DomainCoeff<F>>(work: &mut Work, xs: &mut [T], twiddle: F)
+    requires { length xs.old ≡ 2 }
+    ensures sum { item T.group (map T.meaning xs.new) 0
+        ≡ T.group.plus (item T.group (map T.meaning xs.old) 0) (item T.group (map T.meaning xs.old) 1) }
+    ensures difference { item T.group (map T.meaning xs.new) 1 ≡ T.group.scale twiddle
+        (T.group.plus (item T.group (map T.meaning xs.old) 0)
+        (T.group.negated (item T.group (map T.meaning xs.old) 1))) }
+    ensures butterflies { work.new.butterflies ≡ work.old.butterflies + 1 }
+    ensures products { work.new.products ≡ work.old.products + 1 }
+    ensures steps { work.new.steps ≡ work.old.steps }
+{
+    let mut lo = xs[0];
+    let mut hi = xs[1];
+    butterfly(work, &mut lo, &mut hi, twiddle);
+    xs[0] = lo;
+    xs[1] = hi;
+}
+
 /// The transform at the table's root to the stride, in place. Place i of it is left at the index that has the bits of i
 /// backwards.
 pub(crate) fn halves<F: FftField, T: DomainCoeff<F>>(
@@ -77,7 +96,9 @@ pub(crate) fn halves<F: FftField, T: DomainCoeff<F>>(
     ensures products { work.new.products ≡ work.old.products + 2 ^ levels / 2 * levels }
     ensures steps { work.new.steps ≡ work.old.steps }
 {
-    if xs.len() > 1 {
+    if levels == 1 {
+        pair(work, xs, table[0]);
+    } else if xs.len() > 1 {
         let half = xs.len() / 2;
         let (lo, hi) = xs.split_at_mut(half);
         butterflies(work, lo, hi, table, stride);

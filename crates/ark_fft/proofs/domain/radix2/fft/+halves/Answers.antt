@@ -1,5 +1,7 @@
-use Rattle.std.proofs.Common.{rules, arith, ◌≡◌, ◌-◌, ◌*◌, ◌^◌, ◌<◌, ◌∙◌, sym, length}
-use Rattle.ark_fft.proofs.Halving.{some_level, one_item, no_level, one_level, half_strides, stride_within}
+use Rattle.std.proofs.Common.{rules, arith, ◌≡◌, ◌-◌, ◌*◌, ◌^◌, ◌<◌, ◌∙◌, sym, length, map, subst}
+use Rattle.std.proofs.lemmas.List.{get_or_read}
+use Rattle.ark_math.specs.Module.{item}
+use Rattle.ark_fft.proofs.Halving.{some_level, one_item, no_level, one_level, one_pair, pair_table, half_strides, stride_within}
 use Rattle.ark_fft.proofs.Joining.{front_half, back_half, split_count}
 use Rattle.ark_fft.proofs.Counts.{itself}
 use Rattle.std.proofs.lemmas.Nat.{pow_pos}
@@ -63,3 +65,12 @@ returns-then-xs-gt1-clause-products g t c =
 pub returns-else-xs-gt1-clause-sums : goal.returns-else-xs-gt1-clause-sums
 returns-else-xs-gt1-clause-sums g t c = λ w table p l.
     no_level g.met.F.Field.field_laws g.met.T.DomainCoeff.module_laws c.args.levels _ _ (one_item c.args.levels (length c.args.xs.now) c.requires.size (omega arith)) p l
+
+pub returns-then-levels-eq1-clause-sums : goal.returns-then-levels-eq1-clause-sums
+returns-then-levels-eq1-clause-sums g t c = λ w table p l.
+    let V = g.T.DomainCoeff.group in
+    let m = g.T.DomainCoeff.meaning in
+    let within : 0 < length c.args.table.now = pair_table c.args.levels c.args.stride (length c.args.table.now) c.if-levels-eq1.true c.requires.whole c.requires.some in
+    one_pair g.met.F.Field.field_laws g.met.T.DomainCoeff.module_laws c.args.levels w c.args.stride c.args.table.now (item V (map m c.args.xs.now)) (item V (map m c.pair.new.xs)) table c.if-levels-eq1.true c.requires.whole c.requires.some c.pair.ensures.sum
+    (subst (λ x. item V (map m c.pair.new.xs) 1 ≡ V.scale x (V.plus (item V (map m c.args.xs.now) 0) (V.negated (item V (map m c.args.xs.now) 1)))) (get_or_read c.args.table.now _ _ within c.index-table-0.is g.F.Field.field.zero) c.pair.ensures.difference)
+    p l
