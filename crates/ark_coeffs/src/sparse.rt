@@ -1,9 +1,9 @@
 //! Coefficients by terms: pairs of exponent and coefficient.
 
-ghost use Rattle.std.specs.Prelude.{◌≡◌, ℕ, ◌<◌, ◌≤◌, OnOk, IfOk, IsOkUnless};
+ghost use Rattle.std.specs.Prelude.{◌≡◌, ◌⊎◌, ℕ, ◌<◌, ◌≤◌, [], length, OnOk, IfOk, IfSome, IsNone, IsOkUnless};
 ghost use Rattle.std.specs.List.{All};
 ghost use Rattle.std.specs.List.Sorted.{IsNonDecreasingBy};
-ghost use Rattle.ark_math.specs.Univariate.{IsSparse, of_pairs, added, monomial};
+ghost use Rattle.ark_math.specs.Univariate.{IsSparse, IsValue, of_pairs, added, monomial, opposite, scaled};
 
 use ark_base::{Field, PolyError};
 use std::alloc::Global;
@@ -52,4 +52,109 @@ pub fn merged_terms<F: Field>(
     }
     push_term(&mut merged, degree, sum)?;
     Ok(merged)
+}
+
+/// The least degree of the terms of two lists; `None` where both are empty.
+fn least_degree<F: Field>(left: &[(usize, F)], right: &[(usize, F)]) -> Option<usize>
+    requires left { IsSparse F.field left.now }
+    requires right { IsSparse F.field right.now }
+    ensures left { IfSome result (λ d. All (λ t. d ≤ t.0) left.now) }
+    ensures right { IfSome result (λ d. All (λ t. d ≤ t.0) right.now) }
+    ensures greatest { IfSome result (λ d. (n : ℕ) → All (λ t. n < t.0) left.now
+        → All (λ t. n < t.0) right.now → n < d) }
+    ensures none { IsNone result → (left.now ≡ []) × (right.now ≡ []) }
+{
+    match (left.first(), right.first()) {
+        (Some(term), Some(other)) => Some(term.0.min(other.0)),
+        (Some(term), None) => Some(term.0),
+        (None, Some(term)) => Some(term.0),
+        (None, None) => None,
+    }
+}
+
+/// The coefficient at a degree that no term is below, and the terms of higher degrees.
+fn split_at_degree<F: Field>(terms: &[(usize, F)], degree: usize) -> (F, &[(usize, F)])
+    requires sparse { IsSparse F.field terms.now }
+    requires lowest { All (λ t. degree ≤ t.0) terms.now }
+    ensures sum { of_pairs F.field terms.now
+        ≡ added F.field (monomial F.field degree result.0) (of_pairs F.field result.1.now) }
+    ensures sparse { IsSparse F.field result.1.now }
+    ensures higher { All (λ t. degree < t.0) result.1.now }
+    ensures shorter { (result.1.now ≡ terms.now) ⊎ (length result.1.now < length terms.now) }
+{
+    match terms.split_first() {
+        Some((term, rest)) if term.0 == degree => (term.1, rest),
+        _ => (F::zero(), terms),
+    }
+}
+
+/// The sum of terms and a multiple of others, without zeros. One pass over both lists, and room for both at once.
+pub fn sum_of_terms<F: Field>(
+    alloc: Global,
+    left: &[(usize, F)],
+    factor: F,
+    right: &[(usize, F)],
+) -> Result<Vec<(usize, F)>, PolyError>
+    requires left { IsSparse F.field left.now }
+    requires right { IsSparse F.field right.now }
+    ensures sparse { IfOk result (λ s. IsSparse F.field s.items) }
+    ensures sum { IfOk result (λ s. of_pairs F.field s.items ≡ added F.field (of_pairs F.field left.now)
+        (scaled F.field factor (of_pairs F.field right.now))) }
+    ensures memory { IsOkUnless result PolyError.Memory }
+{
+    let mut sum = Vec::with_capacity(alloc, left.len().saturating_add(right.len()))?;
+    let mut left = left;
+    let mut right = right;
+    while let Some(degree) = least_degree(left, right) {
+        let (coefficient, higher) = split_at_degree(left, degree);
+        let (other, others) = split_at_degree(right, degree);
+        push_term(&mut sum, degree, coefficient + factor * other)?;
+        left = higher;
+        right = others;
+    }
+    Ok(sum)
+}
+
+/// The difference of terms and others, without zeros. One pass over both lists, and room for both at once.
+pub fn difference_of_terms<F: Field>(
+    alloc: Global,
+    left: &[(usize, F)],
+    right: &[(usize, F)],
+) -> Result<Vec<(usize, F)>, PolyError>
+    requires left { IsSparse F.field left.now }
+    requires right { IsSparse F.field right.now }
+    ensures sparse { IfOk result (λ d. IsSparse F.field d.items) }
+    ensures difference { IfOk result (λ d. of_pairs F.field d.items
+        ≡ added F.field (of_pairs F.field left.now) (opposite F.field (of_pairs F.field right.now))) }
+    ensures memory { IsOkUnless result PolyError.Memory }
+{
+    sum_of_terms(alloc, left, -F::one(), right)
+}
+
+/// The multiple of terms, without zeros: none for the factor zero. Takes room for all of them at once.
+pub fn scaled_terms<F: Field>(
+    alloc: Global,
+    factor: F,
+    terms: &[(usize, F)],
+) -> Result<Vec<(usize, F)>, PolyError>
+    requires { IsSparse F.field terms.now }
+    ensures sparse { IfOk result (λ s. IsSparse F.field s.items) }
+    ensures multiple { IfOk result (λ s. of_pairs F.field s.items
+        ≡ scaled F.field factor (of_pairs F.field terms.now)) }
+    ensures memory { IsOkUnless result PolyError.Memory }
+{
+    let none = Vec::new(alloc);
+    sum_of_terms(alloc, &none, factor, terms)
+}
+
+/// The value at a point, by one power of the point for each term.
+pub fn value_of_terms<F: Field>(terms: &[(usize, F)], point: F) -> F
+    ensures { IsValue F.field (of_pairs F.field terms.now) point result }
+{
+    let mut value = F::zero();
+    for i in 0..terms.len() {
+        let term = terms[i];
+        value += point.pow(term.0 as u64) * term.1;
+    }
+    value
 }

@@ -3,6 +3,7 @@ pub mod Binomials
 pub mod Gathered
 pub mod Quotients
 pub mod SortedPairs
+pub mod SparseSums
 pub mod Trimmed
 pub mod Univariate
 pub mod UnivariateLists

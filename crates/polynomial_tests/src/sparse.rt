@@ -1,4 +1,5 @@
 use ark_base::{F5, Field, PolyError};
+use ark_poly::Polynomial;
 use ark_poly::univariate::SparsePolynomial;
 use ark_trials::calls::hash_of;
 use std::alloc::{AllocError, Global};
@@ -6,9 +7,10 @@ use std::string::String;
 use std::test::Fail;
 
 /// Terms: degrees, and numbers as coefficients.
-type Terms<'a> = &'a [(usize, u64)];
+pub type Terms<'a> = &'a [(usize, u64)];
 
-fn pairs<F: Field>(alloc: Global, terms: Terms<'_>) -> Result<Vec<(usize, F)>, AllocError> {
+/// The same pairs, with elements as coefficients.
+pub fn pairs<F: Field>(alloc: Global, terms: Terms<'_>) -> Result<Vec<(usize, F)>, AllocError> {
     let mut pairs = Vec::with_capacity(alloc, terms.len())?;
     for (degree, coefficient) in terms {
         pairs.push((*degree, F::from(*coefficient)))?;
@@ -16,7 +18,8 @@ fn pairs<F: Field>(alloc: Global, terms: Terms<'_>) -> Result<Vec<(usize, F)>, A
     Ok(pairs)
 }
 
-fn sparse<F: Field>(alloc: Global, terms: Terms<'_>) -> Result<SparsePolynomial<F>, PolyError> {
+/// The polynomial with these terms.
+pub fn sparse<F: Field>(alloc: Global, terms: Terms<'_>) -> Result<SparsePolynomial<F>, PolyError> {
     SparsePolynomial::from_coefficients_vec(alloc, pairs(alloc, terms)?)
 }
 

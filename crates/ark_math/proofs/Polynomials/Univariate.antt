@@ -6,7 +6,7 @@ use Rattle.ark_math.specs.Field.{FieldOn, IsField}
 use Rattle.ark_math.specs.Module.{ModuleOn, IsModule}
 use Rattle.ark_math.specs.Univariate.{nothing, added, difference, opposite, scaled, IsBelow, monomial, IsDegree}
 use Rattle.ark_math.proofs.Algebra.Groups.{itself_is_module, scale_zero}
-use Rattle.ark_math.proofs.Algebra.Solve.{nought, negative}
+use Rattle.ark_math.proofs.Algebra.Solve.{nought, unit, negative, ◌⊗◌}
 use Rattle.ark_math.proofs.Algebra.Ring.{ring1}
 
 abbrev pub coefficients : {I F : Type 0} → FieldOn F → ModuleOn F (I → F)
@@ -90,3 +90,12 @@ monomial-opposite K N n c = fun_ext (λ i. ⊎_elim
     (λ (e : n ≡ i). subst (λ t. monomial K n (K.negated c) t ≡ K.negated (monomial K n c t)) e (monomial-same K n (K.negated c) ∙ ap K.negated (sym (monomial-same K n c))))
     (λ (ne : n ≢ i). monomial-other K n (K.negated c) i ne ∙ ring1 K N (λ x. (nought, negative nought)) refl K.one ∙ ap K.negated (sym (monomial-other K n c i ne)))
     (cases_eq n i))
+
+pub monomial-scaled : {F : Type 0} (K : FieldOn F) (N : IsField K) (n : ℕ) (s c : F) → monomial K n (K.times s c) ≡ scaled K s (monomial K n c)
+monomial-scaled K N n s c = fun_ext (λ i. ⊎_elim
+    (λ (e : n ≡ i). subst (λ t. monomial K n (K.times s c) t ≡ K.times s (monomial K n c t)) e (monomial-same K n (K.times s c) ∙ ap (K.times s) (sym (monomial-same K n c))))
+    (λ (ne : n ≢ i). monomial-other K n (K.times s c) i ne ∙ sym (scale_zero (itself_is_module K N) s) ∙ ap (K.times s) (sym (monomial-other K n c i ne)))
+    (cases_eq n i))
+
+pub scaled-negated_one : {I F : Type 0} (K : FieldOn F) (N : IsField K) (s : F) (a : I → F) → s ≡ K.negated K.one → scaled K s a ≡ opposite K a
+scaled-negated_one K N s a e = fun_ext (λ i. ap (λ t. K.times t (a i)) e ∙ ring1 K N (λ x. (negative unit ⊗ x, negative x)) refl (a i))

@@ -7,11 +7,15 @@ ghost use Rattle.std.specs.Cmp.Lexicographic.{pointwise, lists_equiv, lists_per}
 ghost use Rattle.std.specs.Hash as fed;
 ghost use Rattle.std.specs.Hash.{and-Alike, items_Alike, on_Alike, same_Alike};
 ghost use Rattle.ark_math.specs.NormalForms.{gather};
-ghost use Rattle.ark_math.specs.Univariate.{IsSparse, IsDegree, IsValue, of_pairs, nothing};
+ghost use Rattle.ark_math.specs.Univariate.{IsSparse, IsDegree, IsValue, of_pairs, nothing, added, opposite};
+ghost use Rattle.ark_math.specs.Univariate.{scaled as multiple};
 
+use crate::polynomial::Polynomial;
 use crate::polynomial::univariate::write_term;
 use ark_base::{Field, PolyError};
-use ark_coeffs::sparse::merged_terms;
+use ark_coeffs::sparse::{
+    difference_of_terms, merged_terms, scaled_terms, sum_of_terms, value_of_terms,
+};
 use std::alloc::{AllocError, Global};
 use std::fmt::{self, Debug, Formatter, Write};
 use std::hash::{Hash, Hasher};
@@ -90,6 +94,150 @@ impl<F: Field> Debug for SparsePolynomial<F> {
     }
 }
 
+impl<F: Field> Polynomial<F> for SparsePolynomial<F> {
+    ghost use Rattle.std.specs.Prelude.{ℕ};
+    ghost use Rattle.std.proofs.Common.{[], ap};
+    ghost use Rattle.ark_math.proofs.Algebra.Groups.{scale_zero};
+    ghost use Rattle.ark_math.proofs.Polynomials.Univariate.{coefficients_are_module, one_degree};
+    ghost use Rattle.ark_math.proofs.Polynomials.Gathered.{gather_equality};
+    ghost use Rattle.ark_math.proofs.Polynomials.UnivariateLists.{trimmed-nil, trimmed_degree};
+    ghost use Rattle.ark_math.proofs.Polynomials.UnivariateValues.{one_value, value-added, value-opposite};
+    ghost use Rattle.ark_math.proofs.Polynomials.UnivariateValues.{value-scaled};
+
+    type Point = F;
+
+    ghost Meaning = { ℕ → F };
+
+    ghost meaning = { of_pairs F.field };
+
+    ghost has_degree = { IsDegree F.field };
+
+    ghost fits = { λ _ _. Unit {0} };
+
+    ghost has_value = { IsValue F.field };
+
+    ghost addable = { λ _ _. Unit {0} };
+
+    ghost zero = { nothing F.field };
+
+    ghost sum = { added F.field };
+
+    ghost negated = { opposite F.field };
+
+    ghost scaled = { multiple F.field };
+
+    fn degree(&self) -> usize {
+        match self.coeffs.last() {
+            None => 0,
+            Some(term) => term.0,
+        }
+    }
+
+    fn point_fits(&self, _point: &F) -> bool {
+        true
+    }
+
+    fn evaluate(&self, _alloc: Global, point: &F) -> Result<F, PolyError>
+        ensures value { IfOk result (IsValue F.field (of_pairs F.field self.now) point.now) }
+        ensures succeeds { IsOk result }
+    {
+        Ok(value_of_terms(&self.coeffs, *point))
+    }
+
+    fn zero(alloc: Global) -> Result<Self, PolyError> {
+        Ok(SparsePolynomial {
+            coeffs: Vec::new(alloc),
+        })
+    }
+
+    fn is_zero(&self) -> bool {
+        self.coeffs.is_empty()
+    }
+
+    fn addable(&self, _other: &Self) -> bool {
+        true
+    }
+
+    fn add(&self, alloc: Global, other: &Self) -> Result<Self, PolyError> {
+        Ok(SparsePolynomial {
+            coeffs: sum_of_terms(alloc, &self.coeffs, F::one(), &other.coeffs)?,
+        })
+    }
+
+    fn sub(&self, alloc: Global, other: &Self) -> Result<Self, PolyError> {
+        Ok(SparsePolynomial {
+            coeffs: difference_of_terms(alloc, &self.coeffs, &other.coeffs)?,
+        })
+    }
+
+    fn neg(&self, alloc: Global) -> Result<Self, PolyError> {
+        SparsePolynomial::zero(alloc)?.sub(alloc, self)
+    }
+
+    // The three in place make a list of both's terms, and then put it in place of the old one.
+    fn add_assign(&mut self, alloc: Global, other: &Self) -> Result<(), PolyError> {
+        self.coeffs = sum_of_terms(alloc, &self.coeffs, F::one(), &other.coeffs)?;
+        Ok(())
+    }
+
+    fn sub_assign(&mut self, alloc: Global, other: &Self) -> Result<(), PolyError> {
+        self.coeffs = difference_of_terms(alloc, &self.coeffs, &other.coeffs)?;
+        Ok(())
+    }
+
+    fn add_assign_scaled(
+        &mut self,
+        alloc: Global,
+        factor: F,
+        other: &Self,
+    ) -> Result<(), PolyError> {
+        self.coeffs = sum_of_terms(alloc, &self.coeffs, factor, &other.coeffs)?;
+        Ok(())
+    }
+
+    ghost equality_law = { gather_equality F.field F.field_laws F.eq F.zero F.equality_law F.zero_law };
+
+    ghost clone_law = { λ a b e. ap (of_pairs F.field) e };
+
+    ghost clone_fits = { λ a b e x fits. fits };
+
+    ghost degree_zero = { trimmed_degree F.field [] (trimmed-nil F.field) };
+
+    ghost degree_law = { one_degree F.field };
+
+    ghost value_law = { one_value F.field F.field_laws };
+
+    ghost addable_zero = { λ a. tt };
+
+    ghost addable_comm = { λ a b addable. tt };
+
+    ghost addable_negated = { λ a b addable. tt };
+
+    ghost addable_scaled = { λ c a b addable. tt };
+
+    ghost sum_zero = { (coefficients_are_module F.field F.field_laws).plus_zero };
+
+    ghost sum_comm = { λ a b addable. (coefficients_are_module F.field F.field_laws).plus_comm a b };
+
+    ghost sum_assoc = { λ a b c left right. (coefficients_are_module F.field F.field_laws).plus_assoc a b c };
+
+    ghost scaled_one = { (coefficients_are_module F.field F.field_laws).one_scale };
+
+    ghost scaled_times = { (coefficients_are_module F.field F.field_laws).times_scale };
+
+    ghost scaled_plus = { (coefficients_are_module F.field F.field_laws).plus_scale };
+
+    ghost scaled_sum = { λ c a b addable. (coefficients_are_module F.field F.field_laws).scale_plus c a b };
+
+    ghost scaled_zero = { scale_zero (coefficients_are_module F.field F.field_laws) };
+
+    ghost value_sum = { λ a b x y z addable. value-added F.field F.field_laws a b x y z };
+
+    ghost value_negated = { value-opposite F.field F.field_laws };
+
+    ghost value_scaled = { value-scaled F.field F.field_laws };
+}
+
 impl<F: Field> SparsePolynomial<F> {
     /// The sum of these terms, given by degree and coefficient: in any order, repeated or zero.
     pub fn from_coefficients_slice(alloc: Global, coeffs: &[(usize, F)]) -> Result<Self, PolyError>
@@ -119,44 +267,15 @@ impl<F: Field> SparsePolynomial<F> {
         &self.coeffs
     }
 
-    /// The degree; 0 for zero.
-    pub fn degree(&self) -> usize
-        ensures { IsDegree F.field (of_pairs F.field self.now) result }
-    {
-        match self.coeffs.last() {
-            None => 0,
-            Some(term) => term.0,
-        }
-    }
-
-    /// The value at a point. Takes no memory, and is always `Ok`.
-    pub fn evaluate(&self, _alloc: Global, point: &F) -> Result<F, PolyError>
-        ensures value { IfOk result (IsValue F.field (of_pairs F.field self.now) point.now) }
-        ensures succeeds { IsOk result }
-    {
-        let mut value = F::zero();
-        for i in 0..self.coeffs.len() {
-            let (degree, coefficient) = self.coeffs[i];
-            value += point.pow(degree as u64) * coefficient;
-        }
-        Ok(value)
-    }
-
-    /// The zero polynomial. Takes no memory.
-    pub fn zero(alloc: Global) -> Result<Self, PolyError>
-        ensures zero { IfOk result (λ p. of_pairs F.field p ≡ nothing F.field) }
+    /// The multiple by a factor: zero for the factor zero. Takes memory for as many terms, and a product for each.
+    pub fn mul_scalar(&self, alloc: Global, factor: F) -> Result<Self, PolyError>
+        ensures multiple { IfOk result (λ p. of_pairs F.field p
+            ≡ multiple F.field factor (of_pairs F.field self.now)) }
         ensures memory { IsOkUnless result PolyError.Memory }
     {
         Ok(SparsePolynomial {
-            coeffs: Vec::new(alloc),
+            coeffs: scaled_terms(alloc, factor, &self.coeffs)?,
         })
-    }
-
-    /// Whether it is the zero polynomial.
-    pub fn is_zero(&self) -> bool
-        ensures { IsTrue result ↔ (of_pairs F.field self.now ≡ nothing F.field) }
-    {
-        self.coeffs.is_empty()
     }
 
     /// A law: two are equal by `==` exactly where they denote the same polynomial.

@@ -1,6 +1,6 @@
 use Rattle.std.proofs.Common.{ap, ◌∙◌, ◌==◌}
 use Rattle.ark_math.proofs.Polynomials.UnivariatePairs.{sparse_none_Decides}
-use Rattle.ark_poly.proofs.polynomial.univariate.sparse.SparsePolynomial.is_zero.Goals as goal
+use Rattle.ark_poly.proofs.polynomial.univariate.sparse.SparsePolynomialPolynomial.is_zero.Goals as goal
 
 pub returns : goal.returns
 returns g c =
