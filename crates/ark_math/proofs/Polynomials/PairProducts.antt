@@ -20,6 +20,15 @@ module _ {F : Type 0} (K : FieldOn F) (N : IsField K) where
   of_pairs-next : (p : List (ℕ × F)) (i : ℕ) (x : ℕ × F) → i < length p → x ≡ get_or p i x → of_pairs K (take (i + 1) p) ≡ added K (of_pairs K (take i p)) (monomial K x.0 x.1)
   of_pairs-next p i x l e = ap (of_pairs K) (take_next K N p i x l e) ∙ of_pairs-push K N (take i p) x
 
+  -- ---- bounds
+
+  pub pairs_bound : (p : List (ℕ × F)) → (n : ℕ) × IsBelow K n (of_pairs K p)
+  pairs_bound [] = (0, nothing-below K 0)
+  pairs_bound (x ∷ p) =
+      let h = pairs_bound p in
+      let n = h.0 + suc x.0 in
+      (n, added-below K N n (monomial K x.0 x.1) (of_pairs K p) (monomial-below K x.0 n x.1 (omega arith)) (IsBelow-more K h.0 n (of_pairs K p) (omega arith) h.1))
+
   -- ---- products
 
   -- the product of a term with no pair
