@@ -6,9 +6,10 @@ use std::string::String;
 use std::test::Fail;
 
 /// Terms: degrees, and numbers as coefficients.
-type Terms<'a> = &'a [(usize, u64)];
+pub type Terms<'a> = &'a [(usize, u64)];
 
-fn pairs<F: Field>(alloc: Global, terms: Terms<'_>) -> Result<Vec<(usize, F)>, AllocError> {
+/// The terms with elements as coefficients.
+pub fn pairs<F: Field>(alloc: Global, terms: Terms<'_>) -> Result<Vec<(usize, F)>, AllocError> {
     let mut pairs = Vec::with_capacity(alloc, terms.len())?;
     for (degree, coefficient) in terms {
         pairs.push((*degree, F::from(*coefficient)))?;
@@ -16,7 +17,8 @@ fn pairs<F: Field>(alloc: Global, terms: Terms<'_>) -> Result<Vec<(usize, F)>, A
     Ok(pairs)
 }
 
-fn sparse<F: Field>(alloc: Global, terms: Terms<'_>) -> Result<SparsePolynomial<F>, PolyError> {
+/// The sum of the terms.
+pub fn sparse<F: Field>(alloc: Global, terms: Terms<'_>) -> Result<SparsePolynomial<F>, PolyError> {
     SparsePolynomial::from_coefficients_vec(alloc, pairs(alloc, terms)?)
 }
 
