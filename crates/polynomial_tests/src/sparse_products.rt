@@ -248,14 +248,13 @@ impl Trial for LikeDense {
         let right = sparse_of(alloc, &drawn_with_zeros::<F>(alloc, &mut rng, self.right)?)?;
         let dense = DensePolynomial::from_coefficients_vec(coeffs);
         let values = left.evaluate_over_domain_by_ref(alloc, domain)?;
-        let products = values.mul(
-            alloc,
-            &right.evaluate_over_domain_by_ref(alloc, domain)?,
-        )?;
+        let products = values.mul(alloc, &right.evaluate_over_domain_by_ref(alloc, domain)?)?;
         let product = left.mul(alloc, &right)?;
-        Ok(values == dense.evaluate_over_domain_by_ref(alloc, domain)?
-            && values.interpolate_by_ref(alloc)? == dense
-            && product.evaluate_over_domain(alloc, domain)? == products)
+        Ok(
+            values == dense.evaluate_over_domain_by_ref(alloc, domain)?
+                && values.interpolate_by_ref(alloc)? == dense
+                && product.evaluate_over_domain(alloc, domain)? == products,
+        )
     }
 }
 

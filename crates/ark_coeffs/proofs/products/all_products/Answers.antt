@@ -1,4 +1,4 @@
-use Rattle.std.proofs.Common.{length, ap, ◌∙◌, arith}
+use Rattle.std.proofs.Common.{ap, ◌∙◌, arith}
 use Rattle.ark_math.specs.Univariate.{of_pairs, added, product, monomial}
 use Rattle.ark_math.proofs.Polynomials.PairProducts.{product_rows_none, product_rows_more, product_rows_all}
 use Rattle.ark_coeffs.proofs.products.all_products.Goals as goal

@@ -1,4 +1,4 @@
-use Rattle.std.proofs.Common.{◌≡◌, ◌≤◌, ◌+◌, sym, ap, ap₂, ◌∙◌, arith}
+use Rattle.std.proofs.Common.{arith}
 use Rattle.ark_base.specs.declared.error.PolyError.TheVariants.{Memory, Overflow}
 use Rattle.ark_math.specs.Univariate.{of_pairs}
 use Rattle.ark_math.proofs.Outcomes.Results.{no_other_error}
@@ -12,8 +12,7 @@ all_products-requires g c =
 
 pub returns-clause-overflow : goal.returns-clause-overflow
 returns-clause-overflow g c =
-    let K = g.F.Field.field in
-    (
+    let K = g.F.Field.field in (
       λ e. absurd (no_other_error c.gathered_terms.result Memory Overflow c.gathered_terms.ensures.memory (λ same. cc) e),
       λ past. absurd
           (no_degrees_past K g.met.F.Field.field_laws (of_pairs K c.args.left.now) (of_pairs K c.args.right.now) c.degree_of_terms-2.result c.degree_of_terms.result _

@@ -1,4 +1,4 @@
-use Rattle.std.proofs.Common.{◌+◌, length, refl, ap, ◌∙◌, arith}
+use Rattle.std.proofs.Common.{◌+◌, refl, ap, ◌∙◌, arith}
 use Rattle.ark_math.specs.Univariate.{of_pairs, monomial}
 use Rattle.ark_math.proofs.Polynomials.PairProducts.{multiples_none, multiples_more, multiples_all}
 use Rattle.ark_coeffs.proofs.products.push_multiples.Goals as goal

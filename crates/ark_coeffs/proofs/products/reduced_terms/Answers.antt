@@ -22,8 +22,7 @@ loop-i-preserved g c =
     g.met.F.Field.add_assign_law _ _ _ c.add_assign.ensures.after
     ∙ ap₂ K.plus
     (get_or_read xs (x.0 % n) c.index_mut.result.now inside c.index_mut.ensures.value K.zero)
-    (g.met.F.Field.mul_law _ _ _ c.mul.ensures ∙ ap (λ t. K.times t x.1) c.pow.ensures) in
-    (
+    (g.met.F.Field.mul_law _ _ _ c.mul.ensures ∙ ap (λ t. K.times t x.1) c.pow.ensures) in (
       length-set xs (x.0 % n) y ∙ len,
       reduced_more K g.met.F.Field.field_laws n c.args.constant c.args.terms.now c.loop-i.i x xs y c.requires len c.loop-i-test.true c.index-terms-i.is is c.loop-i.invariant.1,
     )
