@@ -60,7 +60,8 @@ fn all_products<F: Field>(
 /// The product of two lists of terms by rising degrees, in the same form. `Overflow` exactly where the sum of the degrees
 /// is past `usize::MAX`, judged before memory is asked for.
 ///
-/// It takes a product for each two terms, sorts these products once, and takes memory for them and for the answer.
+/// It takes a product for each two terms, sorts these products once, and takes memory for them and for the answer; more
+/// of them than `usize` counts are answered as `Memory`.
 pub fn product_of_terms<F: Field>(
     alloc: Global,
     left: &[(usize, F)],
