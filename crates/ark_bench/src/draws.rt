@@ -28,4 +28,19 @@ impl Draws {
         }
         Ok(list)
     }
+    /// Terms of rising degrees, one in each block of 1,024.
+    pub fn terms<F: Field>(
+        &mut self,
+        alloc: Global,
+        count: usize,
+    ) -> Result<Vec<(usize, F)>, AllocError> {
+        let mut terms = Vec::with_capacity(alloc, count)?;
+        let mut block: usize = 0;
+        for _ in 0..count {
+            let place = (self.rng.next_u64() % 1024) as usize;
+            terms.push((block.saturating_add(place), self.element()))?;
+            block = block.saturating_add(1024);
+        }
+        Ok(terms)
+    }
 }

@@ -18,7 +18,7 @@ use ark_poly::{
 use batches::{Number, report};
 use draws::Draws;
 use large_field::F2013265921;
-use polynomials::{Interpolation, Product, Quotients, Value, Way, Weights};
+use polynomials::{Interpolation, Product, Quotients, SparseProduct, Value, Way, Weights};
 use std::alloc::{AllocGlobal, Global};
 use std::env;
 use std::io::Print;
@@ -36,6 +36,7 @@ fn main(rt: HostRuntime) -> anyhow::Result<()> {
     report_largest::<F65537>(&rt, rt.alloc(), timed, &mut draws)?;
     report_dense::<F65537>(&rt, rt.alloc(), timed, &mut draws)?;
     report_evaluations::<F65537>(&rt, rt.alloc(), timed, &mut draws)?;
+    report_sparse::<F65537>(&rt, rt.alloc(), timed, &mut draws)?;
     if timed {
         report_growth::<F2013265921>(&rt, rt.alloc(), &mut draws)?;
     }
@@ -189,4 +190,16 @@ fn report_values<F: FftField + Number, D: EvaluationDomain<F>>(
     let divisors = values.mul(alloc, &values)?;
     let mut quotients = Quotients::new(values, divisors);
     report(rt, alloc, timed, &mut quotients)
+}
+
+fn report_sparse<F: FftField + Number>(
+    rt: &(impl Print + Clock),
+    alloc: Global,
+    timed: bool,
+    draws: &mut Draws,
+) -> anyhow::Result<()> {
+    let left = draws.terms::<F>(alloc, 1 << 10)?;
+    let right = draws.terms(alloc, 1 << 10)?;
+    let mut product = SparseProduct::new(alloc, left, right)?;
+    report(rt, alloc, timed, &mut product)
 }

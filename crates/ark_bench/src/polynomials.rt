@@ -1,8 +1,8 @@
-//! Dense polynomials, and the weights of their values.
+//! Dense and sparse polynomials, and the weights of their values.
 
 use crate::batches::{Benchmark, Number, mixed};
-use ark_base::{FftField, PolyError};
-use ark_poly::univariate::DensePolynomial;
+use ark_base::{FftField, Field, PolyError};
+use ark_poly::univariate::{DensePolynomial, SparsePolynomial};
 use ark_poly::{DenseUVPolynomial, EvaluationDomain, Evaluations, Polynomial};
 use std::alloc::Global;
 
@@ -92,6 +92,52 @@ impl<F: FftField + Number> Benchmark for Product<F> {
 
     fn checksum(&self) -> u64 {
         mixed(self.product.coeffs())
+    }
+}
+
+/// The product of two sparse polynomials.
+#[derive(Drop)]
+pub struct SparseProduct<F: Field> {
+    left: SparsePolynomial<F>,
+    right: SparsePolynomial<F>,
+    product: SparsePolynomial<F>,
+}
+
+impl<F: Field> SparseProduct<F> {
+    pub fn new(
+        alloc: Global,
+        left: Vec<(usize, F)>,
+        right: Vec<(usize, F)>,
+    ) -> Result<Self, PolyError> {
+        Ok(SparseProduct {
+            left: SparsePolynomial::from_coefficients_vec(alloc, left)?,
+            right: SparsePolynomial::from_coefficients_vec(alloc, right)?,
+            product: SparsePolynomial::zero(alloc)?,
+        })
+    }
+}
+
+impl<F: Field + Number> Benchmark for SparseProduct<F> {
+    fn name(&self) -> &'static str {
+        "sparse_mul"
+    }
+
+    fn size(&self) -> usize {
+        self.left.coeffs().len()
+    }
+
+    fn call(&mut self, alloc: Global) -> Result<(), PolyError> {
+        self.product = self.left.mul(alloc, &self.right)?;
+        Ok(())
+    }
+
+    fn checksum(&self) -> u64 {
+        let mut sum: u64 = 0;
+        for (degree, coefficient) in self.product.coeffs() {
+            sum = sum.wrapping_mul(31).wrapping_add(*degree as u64);
+            sum = sum.wrapping_mul(31).wrapping_add(coefficient.number());
+        }
+        sum
     }
 }
 

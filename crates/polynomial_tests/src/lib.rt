@@ -13,3 +13,5 @@ mod polynomials;
 mod products;
 #[cfg(test)]
 mod sparse;
+#[cfg(test)]
+mod sparse_products;
