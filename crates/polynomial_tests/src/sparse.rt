@@ -6,7 +6,7 @@ use std::string::String;
 use std::test::Fail;
 
 /// Terms: degrees, and numbers as coefficients.
-type Terms<'a> = &'a [(usize, u64)];
+pub type Terms<'a> = &'a [(usize, u64)];
 
 fn pairs<F: Field>(alloc: Global, terms: Terms<'_>) -> Result<Vec<(usize, F)>, AllocError> {
     let mut pairs = Vec::with_capacity(alloc, terms.len())?;
@@ -16,7 +16,8 @@ fn pairs<F: Field>(alloc: Global, terms: Terms<'_>) -> Result<Vec<(usize, F)>, A
     Ok(pairs)
 }
 
-fn sparse<F: Field>(alloc: Global, terms: Terms<'_>) -> Result<SparsePolynomial<F>, PolyError> {
+/// The sum of these terms.
+pub fn sparse<F: Field>(alloc: Global, terms: Terms<'_>) -> Result<SparsePolynomial<F>, PolyError> {
     SparsePolynomial::from_coefficients_vec(alloc, pairs(alloc, terms)?)
 }
 

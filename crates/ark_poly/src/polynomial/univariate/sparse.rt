@@ -7,10 +7,12 @@ ghost use Rattle.std.specs.Cmp.Lexicographic.{pointwise, lists_equiv, lists_per}
 ghost use Rattle.std.specs.Hash as fed;
 ghost use Rattle.std.specs.Hash.{and-Alike, items_Alike, on_Alike, same_Alike};
 ghost use Rattle.ark_math.specs.NormalForms.{gather};
-ghost use Rattle.ark_math.specs.Univariate.{IsSparse, IsDegree, IsValue, of_pairs, nothing};
+ghost use Rattle.ark_math.specs.Univariate.{IsSparse, IsDegree, IsValue, of_list, of_pairs, nothing};
 
-use crate::polynomial::univariate::write_term;
+use crate::polynomial::DenseUVPolynomial;
+use crate::polynomial::univariate::{DensePolynomial, write_term};
 use ark_base::{Field, PolyError};
+use ark_coeffs::conversions::terms_of;
 use ark_coeffs::sparse::merged_terms;
 use std::alloc::{AllocError, Global};
 use std::fmt::{self, Debug, Formatter, Write};
@@ -164,4 +166,16 @@ impl<F: Field> SparsePolynomial<F> {
         ensures { IsTrue (⟦<SparsePolynomial<F> as PartialEq>⟧.eq self.now other.now)
             ↔ (of_pairs F.field self.now ≡ of_pairs F.field other.now) }
     {}
+}
+
+impl<F: Field> SparsePolynomial<F> {
+    /// The same polynomial by its terms that aren't zero. Takes memory for these alone.
+    pub fn from_dense(alloc: Global, dense: &DensePolynomial<F>) -> Result<Self, PolyError>
+        ensures same { IfOk result (λ p. of_pairs F.field p ≡ of_list F.field dense.now) }
+        ensures memory { IsOkUnless result PolyError.Memory }
+    {
+        Ok(SparsePolynomial {
+            coeffs: terms_of(alloc, dense.coeffs())?,
+        })
+    }
 }
