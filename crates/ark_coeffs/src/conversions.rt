@@ -1,9 +1,10 @@
 //! Coefficients by exponents from terms, terms from them, and sums of the one with the other.
 
-ghost use Rattle.std.specs.Prelude.{◌≡◌, ◌≢◌, ◌↔◌, ◌⊎◌, ◌+◌, ◌-◌, ◌<◌, length, IfOk, IfErr, IfSome, IsNone, OnOk};
-ghost use Rattle.std.specs.Prelude.{OnErr, IsOkUnless};
+ghost use Rattle.std.specs.Prelude.{◌≡◌, ◌≢◌, ◌↔◌, ◌⊎◌, ◌-◌, ◌<◌, length, IfOk, IfErr, OnOk, OnErr};
+ghost use Rattle.std.specs.Prelude.{IfSome, IsNone, IsOkUnless};
 ghost use Rattle.std.specs.List.{All};
-ghost use Rattle.ark_math.specs.Univariate.{IsDegree, IsSparse, IsTrimmed, added, difference, of_list, of_pairs};
+ghost use Rattle.ark_math.specs.Univariate.{IsDegree, IsSparse, IsTrimmed, of_list, of_pairs};
+ghost use Rattle.ark_math.specs.Univariate.{added, difference};
 
 use crate::dense::{extended, grow, trim, zeros};
 use crate::sparse::push_term;
@@ -23,8 +24,8 @@ pub fn terms_of<F: Field>(alloc: Global, coeffs: &[F]) -> Result<Vec<(usize, F)>
     Ok(terms)
 }
 
-/// How many coefficients the terms have up to their degree: none where there is no term. `None` exactly where the degree
-/// is `usize::MAX`.
+/// How many coefficients the terms have up to their degree: none where there is no term. `None` exactly where the
+/// degree is `usize::MAX`.
 fn len_for<F: Field>(terms: &[(usize, F)]) -> Option<usize>
     requires { IsSparse F.field terms.now }
     ensures room { IfSome result (λ n. All (λ t. t.0 < n) terms.now) }

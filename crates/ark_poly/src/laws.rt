@@ -79,7 +79,8 @@ pub fn weighted_sum<F: FftField, D: EvaluationDomain<F>>(
     Ok(sum)
 }
 
-/// A sparse polynomial made dense and sparse again: the same value. `Overflow` exactly where its degree is `usize::MAX`.
+/// A sparse polynomial made dense and sparse again: the same value. `Overflow` exactly where its degree is
+/// `usize::MAX`.
 ///
 /// It takes memory for the coefficients up to the degree.
 pub fn dense_and_back<F: Field>(

@@ -358,8 +358,8 @@ impl<F: Field> DensePolynomial<F> {
         Ok(DensePolynomial { coeffs })
     }
 
-    /// The sum with a sparse polynomial. `Overflow` exactly where its degree is `usize::MAX`, judged first. Takes memory
-    /// for the answer alone, and a sum of two coefficients for each term.
+    /// The sum with a sparse polynomial. `Overflow` exactly where that one's degree is `usize::MAX`, judged first.
+    /// Takes memory for the answer alone, and a sum of two coefficients for each term.
     pub fn add_sparse(&self, alloc: Global, other: &SparsePolynomial<F>) -> Result<Self, PolyError>
         ensures sum { IfOk result (λ p. of_list F.field p
             ≡ added F.field (of_list F.field self.now) (of_pairs F.field other.now)) }
@@ -371,8 +371,8 @@ impl<F: Field> DensePolynomial<F> {
         Ok(Self::from_coefficients_vec(sum))
     }
 
-    /// The difference with a sparse polynomial. `Overflow` exactly where its degree is `usize::MAX`, judged first. Takes
-    /// memory for the answer alone, and a difference of two coefficients for each term.
+    /// The difference with a sparse polynomial. `Overflow` exactly where that one's degree is `usize::MAX`, judged
+    /// first. Takes memory for the answer alone, and a difference of two coefficients for each term.
     pub fn sub_sparse(&self, alloc: Global, other: &SparsePolynomial<F>) -> Result<Self, PolyError>
         ensures difference { IfOk result (λ p. of_list F.field p
             ≡ difference F.field (of_list F.field self.now) (of_pairs F.field other.now)) }
@@ -384,8 +384,8 @@ impl<F: Field> DensePolynomial<F> {
         Ok(Self::from_coefficients_vec(difference))
     }
 
-    /// Adds a sparse polynomial in place. `Overflow` exactly where its degree is `usize::MAX`, judged first. After an
-    /// error it has the value that it had. Takes memory only where the other one's degree is higher.
+    /// Adds a sparse polynomial in place. `Overflow` exactly where that one's degree is `usize::MAX`, judged first.
+    /// After an error it has the value that it had. Takes memory only where the other one's degree is higher.
     pub fn add_assign_sparse(
         &mut self,
         _alloc: Global,
@@ -401,8 +401,8 @@ impl<F: Field> DensePolynomial<F> {
         add_terms_trimmed(&mut self.coeffs, other.coeffs())
     }
 
-    /// Subtracts a sparse polynomial in place. `Overflow` exactly where its degree is `usize::MAX`, judged first. After
-    /// an error it has the value that it had. Takes memory only where the other one's degree is higher.
+    /// Subtracts a sparse polynomial in place. `Overflow` exactly where that one's degree is `usize::MAX`, judged
+    /// first. After an error it has the value that it had. Takes memory only where the other one's degree is higher.
     pub fn sub_assign_sparse(
         &mut self,
         _alloc: Global,
