@@ -1,15 +1,15 @@
 //! Laws of calls together, as contracts that callers may cite.
 
-ghost use Rattle.std.specs.Prelude.{◌≡◌, ◌≢◌, ℕ, ◌+◌, List, IsTrue, IfOk, IfErr, IsOkUnless, ◌⊎◌};
+ghost use Rattle.std.specs.Prelude.{◌≡◌, ◌≢◌, ◌↔◌, ℕ, ◌+◌, List, IsTrue, IfOk, IfErr, IsOkUnless, ◌⊎◌};
 ghost use Rattle.ark_math.specs.Module.{itself, sum_below};
 ghost use Rattle.ark_math.specs.Points.{AreValues, AreWeights};
-ghost use Rattle.ark_math.specs.Univariate.{IsBelow, IsDegree, IsValue, nothing, of_list, product};
+ghost use Rattle.ark_math.specs.Univariate.{IsBelow, IsDegree, IsValue, nothing, of_list, of_pairs, product};
 
 use crate::domain::EvaluationDomain;
 use crate::evaluations::univariate::Evaluations;
-use crate::polynomial::univariate::DensePolynomial;
+use crate::polynomial::univariate::{DensePolynomial, SparsePolynomial};
 use crate::polynomial::{DenseUVPolynomial, Polynomial};
-use ark_base::{FftField, PolyError};
+use ark_base::{FftField, Field, PolyError};
 use std::alloc::Global;
 
 /// The product by `mul` and the one by `naive_mul`: they have the same coefficients, and are equal by `==`. An
@@ -77,4 +77,43 @@ pub fn weighted_sum<F: FftField, D: EvaluationDomain<F>>(
         sum += weights[i] * evals[i];
     }
     Ok(sum)
+}
+
+/// A sparse polynomial made dense and sparse again: the same value. `Overflow` exactly where its degree is
+/// `usize::MAX`.
+///
+/// It takes memory for the coefficients up to the degree.
+pub fn dense_and_back<F: Field>(
+    alloc: Global,
+    sparse: &SparsePolynomial<F>,
+) -> Result<SparsePolynomial<F>, PolyError>
+    ensures same { IfOk result (λ p. p ≡ sparse.now) }
+    ensures overflow { (result ≡ Err PolyError.Overflow)
+        ↔ IsDegree F.field (of_pairs F.field sparse.now) usize.MAX }
+    ensures errors { IfErr result (λ e. (e ≡ PolyError.Memory) ⊎ (e ≡ PolyError.Overflow)) }
+{
+    let dense = DensePolynomial::from_sparse(alloc, sparse)?;
+    let back = SparsePolynomial::from_dense(alloc, &dense)?;
+    // Both are sparse, and so no other list denotes them.
+    sparse.coeffs();
+    back.coeffs();
+    Ok(back)
+}
+
+/// A dense polynomial made sparse and dense again: the same value.
+///
+/// It takes memory for the terms and for the coefficients.
+pub fn sparse_and_back<F: Field>(
+    alloc: Global,
+    dense: &DensePolynomial<F>,
+) -> Result<DensePolynomial<F>, PolyError>
+    ensures same { IfOk result (λ p. p ≡ dense.now) }
+    ensures memory { IsOkUnless result PolyError.Memory }
+{
+    // Both are trimmed, and so no other list denotes them.
+    dense.coeffs();
+    let sparse = SparsePolynomial::from_dense(alloc, dense)?;
+    let back = DensePolynomial::from_sparse(alloc, &sparse)?;
+    back.coeffs();
+    Ok(back)
 }

@@ -2,6 +2,8 @@
 #![tactic(auto)]
 
 #[cfg(test)]
+mod conversions;
+#[cfg(test)]
 mod evaluations;
 #[cfg(test)]
 mod places;

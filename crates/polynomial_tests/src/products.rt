@@ -12,8 +12,12 @@ use rand_pcg::Pcg64;
 use std::alloc::{AllocError, Global};
 use std::test::Fail;
 
-// Whether these are the coefficients.
-fn is<F: Field>(alloc: Global, p: &DensePolynomial<F>, coeffs: &[u64]) -> Result<bool, AllocError> {
+/// Whether these are the coefficients.
+pub fn is<F: Field>(
+    alloc: Global,
+    p: &DensePolynomial<F>,
+    coeffs: &[u64],
+) -> Result<bool, AllocError> {
     Ok(p.coeffs() == elements::<F>(alloc, coeffs)?.as_slice())
 }
 

@@ -1,7 +1,7 @@
 //! Polynomials in one variable by the list of their coefficients.
 
 ghost use Rattle.std.specs.Prelude.{◌≡◌, ◌↔◌, ℕ, ◌+◌, ◌-◌, ◌<◌, length, ◌⊎◌, IfOk, IfErr, IsOk, IsOkUnless};
-ghost use Rattle.std.specs.Prelude.{◌≤◌, IfSome, IsNone};
+ghost use Rattle.std.specs.Prelude.{◌≤◌, IfSome, IsNone, OnOk, OnErr};
 ghost use Rattle.std.specs.Cmp.{on_equiv, on_per};
 ghost use Rattle.std.specs.Cmp.Lexicographic.{pointwise, lists_equiv, lists_per};
 ghost use Rattle.std.specs.Hash as fed;
@@ -11,12 +11,17 @@ ghost use Rattle.ark_math.specs.Domain.{HasNoSize, IsGeneral};
 ghost use Rattle.ark_math.specs.Points.{AreValues, vanishing};
 ghost use Rattle.ark_math.specs.Univariate.{IsTrimmed, IsDegree, IsValue, of_list, nothing, added, opposite};
 ghost use Rattle.ark_math.specs.Univariate.{IsBelow, IsQuotient, product, scaled as multiple};
+ghost use Rattle.ark_math.specs.Univariate.{difference, of_pairs};
 
 use crate::domain::{EvaluationDomain, GeneralEvaluationDomain};
 use crate::evaluations::univariate::Evaluations;
-use crate::polynomial::univariate::write_term;
+use crate::polynomial::univariate::{SparsePolynomial, write_term};
 use crate::polynomial::{DenseUVPolynomial, Polynomial};
 use ark_base::{FftField, Field, PolyError};
+use ark_coeffs::conversions::{
+    add_terms_trimmed, coefficients_of, difference_with_terms, subtract_terms_trimmed,
+    sum_with_terms,
+};
 use ark_coeffs::dense::{
     add_each, add_scaled, divide_by_binomial, divided_by_binomial, extended, grow,
     multiplied_by_binomial, naive_product, scale_each, subtract_each, trim, value_at,
@@ -337,6 +342,80 @@ impl<F: Field> DensePolynomial<F> {
     {
         let coeffs = naive_product(alloc, &self.coeffs, &other.coeffs)?;
         Ok(Self::from_coefficients_vec(coeffs))
+    }
+}
+
+impl<F: Field> DensePolynomial<F> {
+    /// The same polynomial by all its coefficients. `Overflow` exactly where its degree is `usize::MAX`, judged first.
+    /// Takes memory for the coefficients up to the degree.
+    pub fn from_sparse(alloc: Global, sparse: &SparsePolynomial<F>) -> Result<Self, PolyError>
+        ensures same { IfOk result (λ p. of_list F.field p ≡ of_pairs F.field sparse.now) }
+        ensures overflow { (result ≡ Err PolyError.Overflow)
+            ↔ IsDegree F.field (of_pairs F.field sparse.now) usize.MAX }
+        ensures errors { IfErr result (λ e. (e ≡ PolyError.Memory) ⊎ (e ≡ PolyError.Overflow)) }
+    {
+        let coeffs = coefficients_of(alloc, sparse.coeffs())?;
+        Ok(DensePolynomial { coeffs })
+    }
+
+    /// The sum with a sparse polynomial. `Overflow` exactly where that one's degree is `usize::MAX`, judged first.
+    /// Takes memory for the answer alone, and a sum of two coefficients for each term.
+    pub fn add_sparse(&self, alloc: Global, other: &SparsePolynomial<F>) -> Result<Self, PolyError>
+        ensures sum { IfOk result (λ p. of_list F.field p
+            ≡ added F.field (of_list F.field self.now) (of_pairs F.field other.now)) }
+        ensures overflow { (result ≡ Err PolyError.Overflow)
+            ↔ IsDegree F.field (of_pairs F.field other.now) usize.MAX }
+        ensures errors { IfErr result (λ e. (e ≡ PolyError.Memory) ⊎ (e ≡ PolyError.Overflow)) }
+    {
+        let sum = sum_with_terms(alloc, &self.coeffs, other.coeffs())?;
+        Ok(Self::from_coefficients_vec(sum))
+    }
+
+    /// The difference with a sparse polynomial. `Overflow` exactly where that one's degree is `usize::MAX`, judged
+    /// first. Takes memory for the answer alone, and a difference of two coefficients for each term.
+    pub fn sub_sparse(&self, alloc: Global, other: &SparsePolynomial<F>) -> Result<Self, PolyError>
+        ensures difference { IfOk result (λ p. of_list F.field p
+            ≡ difference F.field (of_list F.field self.now) (of_pairs F.field other.now)) }
+        ensures overflow { (result ≡ Err PolyError.Overflow)
+            ↔ IsDegree F.field (of_pairs F.field other.now) usize.MAX }
+        ensures errors { IfErr result (λ e. (e ≡ PolyError.Memory) ⊎ (e ≡ PolyError.Overflow)) }
+    {
+        let difference = difference_with_terms(alloc, &self.coeffs, other.coeffs())?;
+        Ok(Self::from_coefficients_vec(difference))
+    }
+
+    /// Adds a sparse polynomial in place. `Overflow` exactly where that one's degree is `usize::MAX`, judged first.
+    /// After an error it has the value that it had. Takes memory only where the other one's degree is higher.
+    pub fn add_assign_sparse(
+        &mut self,
+        _alloc: Global,
+        other: &SparsePolynomial<F>,
+    ) -> Result<(), PolyError>
+        ensures sum { OnOk result (of_list F.field self.new
+            ≡ added F.field (of_list F.field self.old) (of_pairs F.field other.now)) }
+        ensures kept { OnErr result (self.new ≡ self.old) }
+        ensures overflow { (result ≡ Err PolyError.Overflow)
+            ↔ IsDegree F.field (of_pairs F.field other.now) usize.MAX }
+        ensures errors { IfErr result (λ e. (e ≡ PolyError.Memory) ⊎ (e ≡ PolyError.Overflow)) }
+    {
+        add_terms_trimmed(&mut self.coeffs, other.coeffs())
+    }
+
+    /// Subtracts a sparse polynomial in place. `Overflow` exactly where that one's degree is `usize::MAX`, judged
+    /// first. After an error it has the value that it had. Takes memory only where the other one's degree is higher.
+    pub fn sub_assign_sparse(
+        &mut self,
+        _alloc: Global,
+        other: &SparsePolynomial<F>,
+    ) -> Result<(), PolyError>
+        ensures difference { OnOk result (of_list F.field self.new
+            ≡ difference F.field (of_list F.field self.old) (of_pairs F.field other.now)) }
+        ensures kept { OnErr result (self.new ≡ self.old) }
+        ensures overflow { (result ≡ Err PolyError.Overflow)
+            ↔ IsDegree F.field (of_pairs F.field other.now) usize.MAX }
+        ensures errors { IfErr result (λ e. (e ≡ PolyError.Memory) ⊎ (e ≡ PolyError.Overflow)) }
+    {
+        subtract_terms_trimmed(&mut self.coeffs, other.coeffs())
     }
 }
 

@@ -9,14 +9,15 @@ ghost use Rattle.std.specs.Hash as fed;
 ghost use Rattle.std.specs.Hash.{and-Alike, items_Alike, on_Alike, same_Alike};
 ghost use Rattle.ark_math.specs.NormalForms.{gather};
 ghost use Rattle.ark_math.specs.Points.{AreValues};
-ghost use Rattle.ark_math.specs.Univariate.{IsSparse, IsDegree, IsValue, of_pairs, nothing, added, opposite};
-ghost use Rattle.ark_math.specs.Univariate.{product, scaled as multiple};
+ghost use Rattle.ark_math.specs.Univariate.{IsSparse, IsDegree, IsValue, of_list, of_pairs, nothing};
+ghost use Rattle.ark_math.specs.Univariate.{added, opposite, product, scaled as multiple};
 
 use crate::domain::EvaluationDomain;
 use crate::evaluations::univariate::Evaluations;
-use crate::polynomial::Polynomial;
-use crate::polynomial::univariate::write_term;
+use crate::polynomial::univariate::{DensePolynomial, write_term};
+use crate::polynomial::{DenseUVPolynomial, Polynomial};
 use ark_base::{FftField, Field, PolyError};
+use ark_coeffs::conversions::terms_of;
 use ark_coeffs::products::{product_of_terms, reduced_terms};
 use ark_coeffs::sparse::{
     difference_of_terms, gathered_terms, scaled_terms, sum_of_terms, value_of_terms,
@@ -289,6 +290,16 @@ impl<F: Field> SparsePolynomial<F> {
 }
 
 impl<F: Field> SparsePolynomial<F> {
+    /// The same polynomial by its terms that aren't zero. Takes memory for these alone.
+    pub fn from_dense(alloc: Global, dense: &DensePolynomial<F>) -> Result<Self, PolyError>
+        ensures same { IfOk result (λ p. of_pairs F.field p ≡ of_list F.field dense.now) }
+        ensures memory { IsOkUnless result PolyError.Memory }
+    {
+        Ok(SparsePolynomial {
+            coeffs: terms_of(alloc, dense.coeffs())?,
+        })
+    }
+
     /// The product. `Overflow` exactly where the sum of the degrees is past `usize::MAX`, judged before memory is asked
     /// for; so never with zero, whose degree is 0.
     ///
