@@ -2,6 +2,8 @@
 pub mod Binomials
 pub mod Gathered
 pub mod Quotients
+pub mod Reversed
+pub mod Series
 pub mod SortedPairs
 pub mod Trimmed
 pub mod Univariate
