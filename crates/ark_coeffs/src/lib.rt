@@ -3,4 +3,5 @@
 
 pub mod dense;
 pub mod rows;
+pub mod series;
 pub mod sparse;
