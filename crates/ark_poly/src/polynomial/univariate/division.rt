@@ -1,0 +1,135 @@
+//! Division of long dense polynomials by products through transforms.
+
+ghost use Rattle.std.specs.Prelude.{◌≡◌, ◌+◌, ◌-◌, ◌<◌, ◌≤◌, ◌⊎◌, length, IfOk, IfErr};
+ghost use Rattle.ark_math.specs.Univariate.{of_list, difference, product, IsBelow, IsQuotient};
+ghost use Rattle.ark_math.proofs.Polynomials.Reversed.{reversed as backwards};
+ghost use Rattle.ark_math.proofs.Polynomials.Series.{AgreeBelow, unity, past};
+
+use crate::polynomial::univariate::DensePolynomial;
+use crate::polynomial::{DenseUVPolynomial, Polynomial};
+use ark_base::{FftField, PolyError};
+use ark_coeffs::series::{corrected, part, reversed};
+use std::alloc::Global;
+
+impl<F: FftField> DensePolynomial<F> {
+    // The coefficients from `start` on and below `end`, moved down to zero.
+    fn part(&self, alloc: Global, start: usize, end: usize) -> Result<Self, PolyError>
+        ensures same { IfOk result (λ p. AgreeBelow (end - start) (of_list F.field p)
+            (past start (of_list F.field self.now))) }
+        ensures below { IfOk result (λ p. IsBelow F.field (end - start) (of_list F.field p)) }
+        ensures memory { IfErr result (λ e. e ≡ PolyError.Memory) }
+    {
+        let coeffs = part(alloc, self.coeffs(), start, end)?;
+        Ok(Self::from_coefficients_vec(coeffs))
+    }
+
+    // The coefficients at `degree` and at the exponents below it, `len` of them, that at `degree` first.
+    fn reversed(&self, alloc: Global, degree: usize, len: usize) -> Result<Self, PolyError>
+        requires { len ≤ degree + 1 }
+        ensures same { IfOk result (λ p. AgreeBelow len (of_list F.field p)
+            (backwards F.field degree (of_list F.field self.now))) }
+        ensures below { IfOk result (λ p. IsBelow F.field len (of_list F.field p)) }
+        ensures memory { IfErr result (λ e. e ≡ PolyError.Memory) }
+    {
+        let coeffs = reversed(alloc, self.coeffs(), degree, len)?;
+        Ok(Self::from_coefficients_vec(coeffs))
+    }
+
+    // Newton's step: from `known` coefficients of the inverse series to `len`, at most twice as many. The product with
+    // what is known is one up to there, and what it has after that is taken out.
+    fn refined_inverse(
+        &self,
+        alloc: Global,
+        inverse: &Self,
+        known: usize,
+        len: usize,
+    ) -> Result<Self, PolyError>
+        requires some { 0 < known }
+        requires more { known ≤ len }
+        requires most { len ≤ known + known }
+        requires below { IsBelow F.field known (of_list F.field inverse.now) }
+        requires inverse { AgreeBelow known (product F.field (of_list F.field self.now)
+            (of_list F.field inverse.now)) (unity F.field) }
+        ensures inverse { IfOk result (λ p. AgreeBelow len (product F.field (of_list F.field self.now)
+            (of_list F.field p)) (unity F.field)) }
+        ensures below { IfOk result (λ p. IsBelow F.field len (of_list F.field p)) }
+        ensures errors { IfErr result (λ e. (e ≡ PolyError.Memory) ⊎ (e ≡ PolyError.NoDomain)) }
+    {
+        let whole = self.part(alloc, 0, len)?.mul(alloc, inverse)?;
+        let correction = whole.part(alloc, known, len)?.mul(alloc, inverse)?;
+        let coeffs = corrected(alloc, inverse.coeffs(), correction.coeffs(), known, len)?;
+        Ok(Self::from_coefficients_vec(coeffs))
+    }
+
+    // The first `len` coefficients of the inverse series, from the inverse of the first one: by halves, since a step of
+    // Newton doubles them.
+    fn inverse_series(
+        &self,
+        alloc: Global,
+        first_inverted: F,
+        len: usize,
+    ) -> Result<Self, PolyError>
+        requires some { 0 < len }
+        requires first { F.field.times (of_list F.field self.now 0) first_inverted ≡ F.field.one }
+        ensures inverse { IfOk result (λ p. AgreeBelow len (product F.field (of_list F.field self.now)
+            (of_list F.field p)) (unity F.field)) }
+        ensures below { IfOk result (λ p. IsBelow F.field len (of_list F.field p)) }
+        ensures errors { IfErr result (λ e. (e ≡ PolyError.Memory) ⊎ (e ≡ PolyError.NoDomain)) }
+    {
+        if len == 1 {
+            let mut coeffs = Vec::with_capacity(alloc, 1)?;
+            coeffs.push(first_inverted)?;
+            return Ok(Self::from_coefficients_vec(coeffs));
+        }
+        let known = len - len / 2;
+        let inverse = self.inverse_series(alloc, first_inverted, known)?;
+        self.refined_inverse(alloc, &inverse, known, len)
+    }
+
+    // The quotient by a divisor that isn't longer, from the inverse of its leading coefficient: in the reversed order it is
+    // the product with the inverse series.
+    fn quotient_by_series(
+        &self,
+        alloc: Global,
+        divisor: &Self,
+        leading_inverted: F,
+    ) -> Result<Self, PolyError>
+        requires some { 0 < length divisor.now }
+        requires long { length divisor.now ≤ length self.now }
+        requires leading { F.field.times (of_list F.field divisor.now (length divisor.now - 1)) leading_inverted
+            ≡ F.field.one }
+        ensures quotient { IfOk result (λ q. IsQuotient F.field (of_list F.field self.now)
+            (of_list F.field divisor.now) (of_list F.field q) (difference F.field (of_list F.field self.now)
+            (product F.field (of_list F.field q) (of_list F.field divisor.now)))) }
+        ensures errors { IfErr result (λ e. (e ≡ PolyError.Memory) ⊎ (e ≡ PolyError.NoDomain)) }
+    {
+        let whole = self.coeffs().len();
+        let parts = divisor.coeffs().len();
+        let len = whole - parts + 1;
+        let backwards = divisor.reversed(alloc, parts - 1, parts)?;
+        let inverse = backwards.inverse_series(alloc, leading_inverted, len)?;
+        let series = self.reversed(alloc, whole - 1, len)?.mul(alloc, &inverse)?;
+        series.reversed(alloc, len - 1, len)
+    }
+
+    // The same with the remainder.
+    fn divided_by_series(
+        &self,
+        alloc: Global,
+        divisor: &Self,
+        leading_inverted: F,
+    ) -> Result<(Self, Self), PolyError>
+        requires some { 0 < length divisor.now }
+        requires long { length divisor.now ≤ length self.now }
+        requires leading { F.field.times (of_list F.field divisor.now (length divisor.now - 1)) leading_inverted
+            ≡ F.field.one }
+        ensures division { IfOk result (λ p. IsQuotient F.field (of_list F.field self.now)
+            (of_list F.field divisor.now) (of_list F.field p.0) (of_list F.field p.1)) }
+        ensures errors { IfErr result (λ e. (e ≡ PolyError.Memory) ⊎ (e ≡ PolyError.NoDomain)) }
+    {
+        let quotient = self.quotient_by_series(alloc, divisor, leading_inverted)?;
+        let product = quotient.mul(alloc, divisor)?;
+        let remainder = self.sub(alloc, &product)?;
+        Ok((quotient, remainder))
+    }
+}
