@@ -18,7 +18,7 @@ use ark_poly::{
 use batches::{Number, report};
 use draws::Draws;
 use large_field::F2013265921;
-use polynomials::{Interpolation, Product, Quotients, Value, Way, Weights};
+use polynomials::{Division, Interpolation, Product, Quotients, Value, Way, Weights};
 use std::alloc::{AllocGlobal, Global};
 use std::env;
 use std::io::Print;
@@ -158,7 +158,11 @@ fn report_dense<F: FftField + Number>(
     }
     let coeffs = draws.list::<F>(alloc, 1 << 16)?;
     let mut value = Value::new(coeffs, draws.element());
-    report(rt, alloc, timed, &mut value)
+    report(rt, alloc, timed, &mut value)?;
+    let dividend = draws.list::<F>(alloc, 1 << 12)?;
+    let divisor = draws.list(alloc, 1 << 11)?;
+    let mut division = Division::new(alloc, dividend, divisor)?;
+    report(rt, alloc, timed, &mut division)
 }
 
 // Over the same elements.

@@ -4,6 +4,8 @@
 #[cfg(test)]
 mod evaluations;
 #[cfg(test)]
+mod fast_division;
+#[cfg(test)]
 mod places;
 #[cfg(test)]
 mod points;

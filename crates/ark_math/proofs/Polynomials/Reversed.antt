@@ -4,6 +4,7 @@ use mathlib.Core.Path.{fun_ext}
 use Rattle.std.proofs.lemmas.Bool.{cases_lt, cases_eq}
 use Rattle.ark_math.specs.Field.{FieldOn, IsField, minus}
 use Rattle.ark_math.specs.Univariate.{nothing, added, difference, monomial, product, IsBelow, IsQuotient}
+use Rattle.ark_math.proofs.Algebra.Groups.{itself_is_module, zero_scale}
 use Rattle.ark_math.proofs.Algebra.Powers.{times_zero}
 use Rattle.ark_math.proofs.Algebra.Solve.{◌⊞◌, ◌⊟◌}
 use Rattle.ark_math.proofs.Algebra.Ring.{module0_2}
@@ -138,3 +139,23 @@ module _ {F : Type 0} (K : FieldOn F) (N : IsField K) where
               (cases_lt (k + n) i),
         );
       }
+
+  -- the same by lengths: e and b are the reversed divisor and the first reversed coefficients of the dividend, and x the
+  -- inverse of the leading coefficient
+  pub quotient_of_lengths : (n m len : ℕ) (x : F) (a d e g b s q : ℕ → F) → 0 < n → n ≤ m → len ≡ m - n + 1 → K.times (d (n - 1)) x ≡ K.one → IsBelow K n d → IsBelow K m a → AgreeBelow n e (reversed K (n - 1) d) → IsBelow K n e → AgreeBelow len (product K e g) (unity K) → AgreeBelow len b (reversed K (m - 1) a) → s ≡ product K b g → AgreeBelow len q (reversed K (len - 1) s) → IsBelow K len q → IsQuotient K a d q (difference K a (product K q d))
+  quotient_of_lengths n m len x a d e g b s q some long count leading fd fa same_e fe inverse same_b times same_q fq =
+      let j = n - 1 in
+      let k = len - 1 in
+      let n_is : j + 1 ≡ n = omega arith in
+      let len_is : k + 1 ≡ len = omega arith in
+      let m_is : k + j + 1 ≡ m = omega arith in
+      let top_is : m - 1 ≡ k + j = omega arith in
+      let ne : d j ≢ K.zero = λ z. N.one_not_zero (sym leading ∙ ap (λ t. K.times t x) z ∙ zero_scale N (itself_is_module K N) x) in
+      let e_is : e ≡ reversed K j d = same_below K n e (reversed K j d) fe (subst (λ t. IsBelow K t (reversed K j d)) n_is (reversed-below K j d)) same_e in
+      let q_is : q ≡ reversed K k s = same_below K len q (reversed K k s) fq (subst (λ t. IsBelow K t (reversed K k s)) len_is (reversed-below K k s)) same_q in
+      subst (λ t. IsQuotient K a d t (difference K a (product K t d))) (sym q_is)
+      (reversed_quotient j k a d g s ne
+      (subst (λ t. IsBelow K t d) (sym n_is) fd)
+      (subst (λ t. IsBelow K t a) (sym m_is) fa)
+      (λ i l. ap (λ t. product K t g i) (sym e_is) ∙ inverse i (omega arith))
+      (λ i l. ap (λ t. t i) times ∙ agree-product K len b (reversed K (k + j) a) g g (λ o h. same_b o h ∙ ap (λ t. reversed K t a o) top_is) (λ o h. refl) i (omega arith)))

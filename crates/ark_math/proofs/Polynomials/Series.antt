@@ -1,16 +1,16 @@
 -- Power series, of which the first coefficients alone count: agreement below a bound, and Newton's step to an inverse.
-use Rattle.std.proofs.Common.{◌≡◌, ℕ, suc, ◌+◌, ◌-◌, ◌<◌, ◌≤◌, sym, ◌∙◌, ap, ap₂, refl, arith, ⊎_elim}
+use Rattle.std.proofs.Common.{◌≡◌, ℕ, suc, ◌+◌, ◌-◌, ◌<◌, ◌≤◌, sym, ◌∙◌, ap, ap₂, refl, subst, arith, ⊎_elim}
 use mathlib.Core.Path.{fun_ext}
 use Rattle.std.proofs.lemmas.Bool.{cases_lt}
 use Rattle.ark_math.specs.Field.{FieldOn, IsField, minus}
 use Rattle.ark_math.specs.Module.{itself}
-use Rattle.ark_math.specs.Univariate.{nothing, added, difference, monomial, product, IsBelow}
+use Rattle.ark_math.specs.Univariate.{nothing, added, difference, opposite, monomial, product, IsBelow}
 use Rattle.ark_math.proofs.Algebra.Groups.{itself_is_module, scale_zero, zero_scale, zero_plus}
 use Rattle.ark_math.proofs.Algebra.Sums.{sum_below-same}
 use Rattle.ark_math.proofs.Algebra.Regrouped.{sum_below-zero}
 use Rattle.ark_math.proofs.Algebra.Solve.{◌⊞◌, ◌⊟◌, ◌⊖◌, nought}
 use Rattle.ark_math.proofs.Algebra.Ring.{ring1, module0_3}
-use Rattle.ark_math.proofs.Polynomials.Univariate.{coefficients_are_module, monomial-other}
+use Rattle.ark_math.proofs.Polynomials.Univariate.{coefficients_are_module, monomial-same, monomial-other}
 use Rattle.ark_math.proofs.Polynomials.UnivariateProducts.{product_assoc, product_comm, product-difference, added-product, one-product, monomial-product_past, monomial-product_before}
 
 -- the first n coefficients are the same
@@ -99,3 +99,19 @@ module _ {F : Type 0} (K : FieldOn F) (N : IsField K) where
       ∙ zero_plus (itself_is_module K N) (K.negated (product K g (past k fg) j))))
       (cases_lt i k) in
       λ i l. agree-product K n f f w new (λ i l. refl) same i l ∙ newton k f g s (one_and_past k fg pos inverse) z i (omega arith)
+
+  -- the step over parts: a and b are f and f * g as far as the step needs them, h is b from k on, and t is h * g
+  pub newton_step : (k n : ℕ) (f a b g h t w : ℕ → F) → 0 < k → k ≤ n → n ≤ k + k → IsBelow K k g → AgreeBelow k (product K f g) (unity K) → AgreeBelow (n - 0) a (past 0 f) → b ≡ product K a g → AgreeBelow (n - k) h (past k b) → t ≡ product K h g → AgreeBelow k w g → AgreeBelow (n - k) (past k w) (opposite K t) → AgreeBelow n (product K f w) (unity K)
+  newton_step k n f a b g h t w pos more most below inverse first whole high times kept rest =
+      let start : AgreeBelow n a f = λ i l. first i (omega arith) ∙ ap f (let e : 0 + i ≡ i = omega arith in e) in
+      newton_parts k n f g h t w pos more most below inverse
+      (λ i l. high i l ∙ ap (λ s. s (k + i)) whole ∙ agree-product K n a f g g start (λ j b. refl) (k + i) (omega arith))
+      (λ i l. ap (λ s. s i) (times ∙ product_comm K N h g))
+      kept rest
+
+  -- one coefficient of the inverse is the first one's inverse
+  pub inverse_constant : (n : ℕ) (f w : ℕ → F) (x : F) → n ≡ 1 → K.times (f 0) x ≡ K.one → w 0 ≡ x → AgreeBelow n (product K f w) (unity K)
+  inverse_constant n f w x one inverse is i l =
+      let first : i ≡ 0 = omega arith in
+      subst (λ t. product K f w t ≡ unity K t) (sym first)
+      (zero_plus (itself_is_module K N) (K.times (f 0) (w 0)) ∙ ap (K.times (f 0)) is ∙ inverse ∙ sym (monomial-same K 0 K.one))

@@ -1,7 +1,8 @@
 //! Division of long dense polynomials by products through transforms.
 
-ghost use Rattle.std.specs.Prelude.{◌≡◌, ◌+◌, ◌-◌, ◌<◌, ◌≤◌, ◌⊎◌, length, IfOk, IfErr};
-ghost use Rattle.ark_math.specs.Univariate.{of_list, difference, product, IsBelow, IsQuotient};
+ghost use Rattle.std.specs.Prelude.{◌≡◌, ◌≢◌, ◌↔◌, ◌+◌, ◌-◌, ◌<◌, ◌≤◌, ◌⊎◌, length, IfOk, IfErr};
+ghost use Rattle.std.specs.Prelude.{IfSome, IsNone};
+ghost use Rattle.ark_math.specs.Univariate.{of_list, nothing, difference, product, IsBelow, IsQuotient};
 ghost use Rattle.ark_math.proofs.Polynomials.Reversed.{reversed as backwards};
 ghost use Rattle.ark_math.proofs.Polynomials.Series.{AgreeBelow, unity, past};
 
@@ -12,6 +13,63 @@ use ark_coeffs::series::{corrected, part, reversed};
 use std::alloc::Global;
 
 impl<F: FftField> DensePolynomial<F> {
+    /// Quotient and remainder by products through transforms: for long operands the quicker way. There is no other such
+    /// pair. Zero by zero gives two zeros, and `None` comes exactly for any other dividend by zero. `NoDomain` comes only
+    /// where the field lacks a domain for one of the products, none of which is longer than both operands together.
+    ///
+    /// It takes some twelve transforms over the least domain for the dividend's length, and memory for what they take.
+    pub fn divide_by_transforms(
+        &self,
+        alloc: Global,
+        divisor: &Self,
+    ) -> Result<Option<(Self, Self)>, PolyError>
+        ensures division { IfOk result (λ o. IfSome o (λ p. 0 < length divisor.now → IsQuotient F.field
+            (of_list F.field self.now) (of_list F.field divisor.now) (of_list F.field p.0)
+            (of_list F.field p.1))) }
+        ensures zeros { IfOk result (λ o. IfSome o (λ p. length divisor.now ≡ 0 →
+            (of_list F.field p.0 ≡ nothing F.field) × (of_list F.field p.1 ≡ nothing F.field))) }
+        ensures none { IfOk result (λ o. IsNone o ↔ (of_list F.field self.now ≢ nothing F.field)
+            × (length divisor.now ≡ 0)) }
+        ensures errors { IfErr result (λ e. (e ≡ PolyError.Memory) ⊎ (e ≡ PolyError.NoDomain)) }
+    {
+        if let Some(inverted) = divisor.leading_inverse() {
+            return Ok(Some(self.divided(alloc, divisor, inverted)?));
+        }
+        if self.is_zero() {
+            return Ok(Some((Self::zero(alloc)?, Self::zero(alloc)?)));
+        }
+        Ok(None)
+    }
+
+    // The inverse of the leading coefficient, and `None` exactly for zero.
+    fn leading_inverse(&self) -> Option<F>
+        ensures some { IfSome result (λ y. F.field.times (of_list F.field self.now (length self.now - 1)) y
+            ≡ F.field.one) }
+        ensures none { IsNone result ↔ (length self.now ≡ 0) }
+    {
+        self.coeffs().last()?.inverse()
+    }
+
+    // Quotient and remainder by a divisor that isn't zero, from the inverse of its leading coefficient.
+    fn divided(
+        &self,
+        alloc: Global,
+        divisor: &Self,
+        leading_inverted: F,
+    ) -> Result<(Self, Self), PolyError>
+        requires some { 0 < length divisor.now }
+        requires leading { F.field.times (of_list F.field divisor.now (length divisor.now - 1)) leading_inverted
+            ≡ F.field.one }
+        ensures division { IfOk result (λ p. IsQuotient F.field (of_list F.field self.now)
+            (of_list F.field divisor.now) (of_list F.field p.0) (of_list F.field p.1)) }
+        ensures errors { IfErr result (λ e. (e ≡ PolyError.Memory) ⊎ (e ≡ PolyError.NoDomain)) }
+    {
+        if self.coeffs().len() < divisor.coeffs().len() {
+            return Ok((Self::zero(alloc)?, self.clone()?));
+        }
+        self.divided_by_series(alloc, divisor, leading_inverted)
+    }
+
     // The coefficients from `start` on and below `end`, moved down to zero.
     fn part(&self, alloc: Global, start: usize, end: usize) -> Result<Self, PolyError>
         ensures same { IfOk result (λ p. AgreeBelow (end - start) (of_list F.field p)

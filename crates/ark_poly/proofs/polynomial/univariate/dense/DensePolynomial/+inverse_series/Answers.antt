@@ -2,23 +2,17 @@ use Rattle.std.proofs.Common.{◌≡◌, ℕ, ◌+◌, ◌-◌, ◌<◌, ◌≤�
 use Rattle.ark_math.specs.Field.{FieldOn, IsField}
 use Rattle.ark_math.specs.Univariate.{of_list, product, IsBelow}
 use Rattle.ark_math.proofs.Algebra.Groups.{itself_is_module, zero_plus}
-use Rattle.ark_math.proofs.Polynomials.Series.{AgreeBelow, unity}
+use Rattle.ark_math.proofs.Polynomials.Series.{inverse_constant}
 use Rattle.ark_math.proofs.Polynomials.Univariate.{monomial-same}
 use Rattle.ark_math.proofs.Polynomials.UnivariateLists.{of_list-past}
 use Rattle.ark_poly.proofs.polynomial.univariate.dense.DensePolynomial.+inverse_series.Goals as goal
-
-inverse_constant : {F : Type 0} (K : FieldOn F) (N : IsField K) (n : ℕ) (f w : ℕ → F) (x : F) → n ≡ 1 → K.times (f 0) x ≡ K.one → w ≡ of_list K (x ∷ []) → AgreeBelow n (product K f w) (unity K)
-inverse_constant K N n f w x one inverse is i l =
-    let first : i ≡ 0 = omega arith in
-    subst (λ t. product K f w t ≡ unity K t) (sym first)
-    (zero_plus (itself_is_module K N) (K.times (f 0) (w 0)) ∙ ap (λ t. K.times (f 0) (t 0)) is ∙ inverse ∙ sym (monomial-same K 0 K.one))
 
 pub returns-then-len-eq1-clause-inverse : goal.returns-then-len-eq1-clause-inverse
 returns-then-len-eq1-clause-inverse g t c =
     let K = g.F.Field.field in
     let x = c.args.first_inverted in
     inverse_constant K g.met.F.Field.field_laws c.args.len (of_list K c.args.self.now) (of_list K c.from_coefficients_vec.result) x c.if-len-eq1.true c.requires.first
-    (c.from_coefficients_vec.ensures.coefficients ∙ ap (of_list K) (c.in_ok-push.ensures.items ∙ ap (λ t. t ++ x ∷ []) c.in_ok-coeffs.ensures.items))
+    (ap (λ t. t 0) (c.from_coefficients_vec.ensures.coefficients ∙ ap (of_list K) (c.in_ok-push.ensures.items ∙ ap (λ t. t ++ x ∷ []) c.in_ok-coeffs.ensures.items)))
 
 pub returns-then-len-eq1-clause-below : goal.returns-then-len-eq1-clause-below
 returns-then-len-eq1-clause-below g t c i l =
