@@ -15,9 +15,7 @@ fn some<F: FftField>(
     rng: &mut Pcg64,
     len: usize,
 ) -> Result<DensePolynomial<F>, PolyError> {
-    Ok(DensePolynomial::from_coefficients_vec(drawn(
-        alloc, rng, len,
-    )?))
+    Ok(DensePolynomial::from_coefficients_vec(drawn(alloc, rng, len)?))
 }
 
 // Whether a dividend that is made of a drawn quotient, divisor and remainder gives the quotient and the remainder.
