@@ -13,11 +13,12 @@ use ark_coeffs::series::{corrected, part, reversed};
 use std::alloc::Global;
 
 impl<F: FftField> DensePolynomial<F> {
-    /// Quotient and remainder by products through transforms: for long operands the quicker way. There is no other such
-    /// pair. Zero by zero gives two zeros, and `None` comes exactly for any other dividend by zero. `NoDomain` comes only
-    /// where the field lacks a domain for one of the products, none of which is longer than both operands together.
+    /// Quotient and remainder by products through transforms, for long operands. There is no other such pair. Zero by zero
+    /// gives two zeros, and `None` comes exactly for any other dividend by zero. `NoDomain` comes only where the field
+    /// lacks a domain for one of the products, none of which is longer than twice the dividend.
     ///
-    /// It takes some twelve transforms over the least domain for the dividend's length, and memory for what they take.
+    /// It takes two products for each time that the inverse series gets twice as long, one for the quotient and one for the
+    /// remainder, and memory for what these take.
     pub fn divide_by_transforms(
         &self,
         alloc: Global,

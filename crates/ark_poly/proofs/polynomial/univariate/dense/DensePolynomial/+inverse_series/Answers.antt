@@ -1,9 +1,6 @@
-use Rattle.std.proofs.Common.{◌≡◌, ℕ, ◌+◌, ◌-◌, ◌<◌, ◌≤◌, List, [], ◌∷◌, ◌++◌, length, sym, ap, subst, ◌∙◌, arith}
-use Rattle.ark_math.specs.Field.{FieldOn, IsField}
-use Rattle.ark_math.specs.Univariate.{of_list, product, IsBelow}
-use Rattle.ark_math.proofs.Algebra.Groups.{itself_is_module, zero_plus}
+use Rattle.std.proofs.Common.{◌≤◌, [], ◌∷◌, ◌++◌, ap, ◌∙◌, arith}
+use Rattle.ark_math.specs.Univariate.{of_list}
 use Rattle.ark_math.proofs.Polynomials.Series.{inverse_constant}
-use Rattle.ark_math.proofs.Polynomials.Univariate.{monomial-same}
 use Rattle.ark_math.proofs.Polynomials.UnivariateLists.{of_list-past}
 use Rattle.ark_poly.proofs.polynomial.univariate.dense.DensePolynomial.+inverse_series.Goals as goal
 

@@ -1,4 +1,4 @@
-use Rattle.std.proofs.Common.{◌≡◌, ◌≢◌, ◌+◌, ◌-◌, ◌<◌, ◌≤◌, length, sym, ap, subst, ◌∙◌, arith}
+use Rattle.std.proofs.Common.{◌≢◌, ◌-◌, ◌<◌, length, sym, ap, subst, ◌∙◌, arith}
 use Rattle.ark_math.specs.Univariate.{of_list, nothing, IsQuotient}
 use Rattle.ark_math.proofs.Algebra.Groups.{itself_is_module, zero_scale}
 use Rattle.ark_math.proofs.Polynomials.Quotients.{short_quotient}

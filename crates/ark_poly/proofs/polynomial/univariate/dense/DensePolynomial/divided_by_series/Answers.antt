@@ -1,5 +1,5 @@
-use Rattle.std.proofs.Common.{◌≡◌, sym, ap, subst, ◌∙◌}
-use Rattle.ark_math.specs.Univariate.{of_list, added, opposite, product, IsQuotient}
+use Rattle.std.proofs.Common.{sym, ap, subst, ◌∙◌}
+use Rattle.ark_math.specs.Univariate.{of_list, added, opposite, IsQuotient}
 use Rattle.ark_poly.proofs.polynomial.univariate.dense.DensePolynomial.divided_by_series.Goals as goal
 
 pub returns-clause-division : goal.returns-clause-division

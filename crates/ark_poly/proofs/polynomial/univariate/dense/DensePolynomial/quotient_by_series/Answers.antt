@@ -1,11 +1,7 @@
-use Rattle.std.proofs.Common.{◌≡◌, ◌≢◌, ℕ, ◌+◌, ◌-◌, ◌<◌, ◌≤◌, length, sym, ap, ap₂, refl, subst, ◌∙◌, arith}
-use Rattle.ark_math.specs.Field.{FieldOn, IsField}
-use Rattle.ark_math.specs.Univariate.{of_list, difference, product, IsBelow, IsQuotient}
-use Rattle.ark_math.proofs.Algebra.Groups.{itself_is_module, zero_scale}
+use Rattle.std.proofs.Common.{◌+◌, ◌-◌, length, sym, ap, refl, subst, ◌∙◌, arith}
+use Rattle.ark_math.specs.Univariate.{of_list, IsBelow}
 use Rattle.ark_math.proofs.Outcomes.Results.{IfOk_both}
 use Rattle.ark_math.proofs.Polynomials.Reversed.{quotient_of_lengths}
-use Rattle.ark_math.proofs.Polynomials.Series.{AgreeBelow, unity, agree-product}
-use Rattle.ark_math.proofs.Polynomials.Univariate.{same_below}
 use Rattle.ark_math.proofs.Polynomials.UnivariateLists.{of_list-below}
 use Rattle.ark_poly.proofs.polynomial.univariate.dense.DensePolynomial.quotient_by_series.Goals as goal
 

@@ -1,9 +1,7 @@
-use Rattle.std.proofs.Common.{◌≡◌, ℕ, ◌+◌, ◌-◌, ◌<◌, ◌≤◌, length, sym, ap, refl, ◌∙◌, arith}
-use Rattle.ark_math.specs.Field.{FieldOn, IsField}
-use Rattle.ark_math.specs.Univariate.{of_list, product, opposite, IsBelow}
+use Rattle.std.proofs.Common.{◌+◌, ap, ◌∙◌, arith}
+use Rattle.ark_math.specs.Univariate.{of_list, opposite}
 use Rattle.ark_math.proofs.Polynomials.Series.{newton_step}
 use Rattle.ark_math.proofs.Polynomials.UnivariateLists.{of_list-past}
-use Rattle.ark_math.proofs.Polynomials.UnivariateProducts.{product_comm}
 use Rattle.ark_poly.proofs.polynomial.univariate.dense.DensePolynomial.refined_inverse.Goals as goal
 
 pub returns-clause-inverse : goal.returns-clause-inverse
