@@ -13,12 +13,12 @@ use ark_coeffs::series::{corrected, part, reversed};
 use std::alloc::Global;
 
 impl<F: FftField> DensePolynomial<F> {
-    /// Quotient and remainder by products through transforms, for long operands. There is no other such pair. Zero by zero
-    /// gives two zeros, and `None` comes exactly for any other dividend by zero. `NoDomain` comes only where the field
-    /// lacks a domain for one of the products, none of which is longer than twice the dividend.
+    /// Quotient and remainder by products through transforms, for long operands. There is no other such pair. Zero by
+    /// zero gives two zeros, and `None` comes exactly for any other dividend by zero. `NoDomain` comes only where the
+    /// field lacks a domain for one of the products, none of which is longer than twice the dividend.
     ///
-    /// It takes two products for each time that the inverse series gets twice as long, one for the quotient and one for the
-    /// remainder, and memory for what these take.
+    /// It takes two products for each time that the inverse series gets twice as long, one for the quotient and one for
+    /// the remainder, and memory for what these take.
     pub fn divide_by_transforms(
         &self,
         alloc: Global,
@@ -59,8 +59,8 @@ impl<F: FftField> DensePolynomial<F> {
         leading_inverted: F,
     ) -> Result<(Self, Self), PolyError>
         requires some { 0 < length divisor.now }
-        requires leading { F.field.times (of_list F.field divisor.now (length divisor.now - 1)) leading_inverted
-            ≡ F.field.one }
+        requires leading { F.field.times (of_list F.field divisor.now (length divisor.now - 1))
+            leading_inverted ≡ F.field.one }
         ensures division { IfOk result (λ p. IsQuotient F.field (of_list F.field self.now)
             (of_list F.field divisor.now) (of_list F.field p.0) (of_list F.field p.1)) }
         ensures errors { IfErr result (λ e. (e ≡ PolyError.Memory) ⊎ (e ≡ PolyError.NoDomain)) }
@@ -145,8 +145,8 @@ impl<F: FftField> DensePolynomial<F> {
         self.refined_inverse(alloc, &inverse, known, len)
     }
 
-    // The quotient by a divisor that isn't longer, from the inverse of its leading coefficient: in the reversed order it is
-    // the product with the inverse series.
+    // The quotient by a divisor that isn't longer, from the inverse of its leading coefficient: in the reversed order
+    // it is the product with the inverse series.
     fn quotient_by_series(
         &self,
         alloc: Global,
@@ -155,8 +155,8 @@ impl<F: FftField> DensePolynomial<F> {
     ) -> Result<Self, PolyError>
         requires some { 0 < length divisor.now }
         requires long { length divisor.now ≤ length self.now }
-        requires leading { F.field.times (of_list F.field divisor.now (length divisor.now - 1)) leading_inverted
-            ≡ F.field.one }
+        requires leading { F.field.times (of_list F.field divisor.now (length divisor.now - 1))
+            leading_inverted ≡ F.field.one }
         ensures quotient { IfOk result (λ q. IsQuotient F.field (of_list F.field self.now)
             (of_list F.field divisor.now) (of_list F.field q) (difference F.field (of_list F.field self.now)
             (product F.field (of_list F.field q) (of_list F.field divisor.now)))) }
@@ -180,8 +180,8 @@ impl<F: FftField> DensePolynomial<F> {
     ) -> Result<(Self, Self), PolyError>
         requires some { 0 < length divisor.now }
         requires long { length divisor.now ≤ length self.now }
-        requires leading { F.field.times (of_list F.field divisor.now (length divisor.now - 1)) leading_inverted
-            ≡ F.field.one }
+        requires leading { F.field.times (of_list F.field divisor.now (length divisor.now - 1))
+            leading_inverted ≡ F.field.one }
         ensures division { IfOk result (λ p. IsQuotient F.field (of_list F.field self.now)
             (of_list F.field divisor.now) (of_list F.field p.0) (of_list F.field p.1)) }
         ensures errors { IfErr result (λ e. (e ≡ PolyError.Memory) ⊎ (e ≡ PolyError.NoDomain)) }
