@@ -18,7 +18,9 @@ use ark_poly::{
 use batches::{Number, report};
 use draws::Draws;
 use large_field::F2013265921;
-use polynomials::{Interpolation, Product, Quotients, SparseProduct, Value, Way, Weights};
+use polynomials::{
+    Division, Interpolation, Product, Quotients, SparseProduct, Value, Way, Weights,
+};
 use std::alloc::{AllocGlobal, Global};
 use std::env;
 use std::io::Print;
@@ -37,6 +39,7 @@ fn main(rt: HostRuntime) -> anyhow::Result<()> {
     report_dense::<F65537>(&rt, rt.alloc(), timed, &mut draws)?;
     report_evaluations::<F65537>(&rt, rt.alloc(), timed, &mut draws)?;
     report_sparse::<F65537>(&rt, rt.alloc(), timed, &mut draws)?;
+    report_division::<F65537>(&rt, rt.alloc(), timed, &mut draws)?;
     if timed {
         report_growth::<F2013265921>(&rt, rt.alloc(), &mut draws)?;
     }
@@ -160,6 +163,19 @@ fn report_dense<F: FftField + Number>(
     let coeffs = draws.list::<F>(alloc, 1 << 16)?;
     let mut value = Value::new(coeffs, draws.element());
     report(rt, alloc, timed, &mut value)
+}
+
+// A dividend of twice the divisor's length.
+fn report_division<F: FftField + Number>(
+    rt: &(impl Print + Clock),
+    alloc: Global,
+    timed: bool,
+    draws: &mut Draws,
+) -> anyhow::Result<()> {
+    let dividend = draws.list::<F>(alloc, 1 << 12)?;
+    let divisor = draws.list(alloc, 1 << 11)?;
+    let mut division = Division::new(alloc, dividend, divisor)?;
+    report(rt, alloc, timed, &mut division)
 }
 
 // Over the same elements.

@@ -141,6 +141,45 @@ impl<F: Field + Number> Benchmark for SparseProduct<F> {
     }
 }
 
+/// Quotient and remainder through transforms.
+#[derive(Drop)]
+pub struct Division<F: FftField> {
+    dividend: DensePolynomial<F>,
+    divisor: DensePolynomial<F>,
+    remainder: DensePolynomial<F>,
+}
+
+impl<F: FftField> Division<F> {
+    pub fn new(alloc: Global, dividend: Vec<F>, divisor: Vec<F>) -> Result<Self, PolyError> {
+        Ok(Division {
+            dividend: DensePolynomial::from_coefficients_vec(dividend),
+            divisor: DensePolynomial::from_coefficients_vec(divisor),
+            remainder: DensePolynomial::zero(alloc)?,
+        })
+    }
+}
+
+impl<F: FftField + Number> Benchmark for Division<F> {
+    fn name(&self) -> &'static str {
+        "divide_by_transforms"
+    }
+
+    fn size(&self) -> usize {
+        self.dividend.coeffs().len()
+    }
+
+    fn call(&mut self, alloc: Global) -> Result<(), PolyError> {
+        if let Some((_, remainder)) = self.dividend.divide_by_transforms(alloc, &self.divisor)? {
+            self.remainder = remainder;
+        }
+        Ok(())
+    }
+
+    fn checksum(&self) -> u64 {
+        mixed(self.remainder.coeffs())
+    }
+}
+
 /// The polynomial with given values over a domain.
 #[derive(Drop)]
 pub struct Interpolation<F: FftField, D: EvaluationDomain<F>> {

@@ -5,4 +5,5 @@ pub mod conversions;
 pub mod dense;
 pub mod products;
 pub mod rows;
+pub mod series;
 pub mod sparse;

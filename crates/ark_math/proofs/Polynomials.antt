@@ -4,6 +4,8 @@ pub mod Conversions
 pub mod Gathered
 pub mod PairProducts
 pub mod Quotients
+pub mod Reversed
+pub mod Series
 pub mod SortedPairs
 pub mod SparseSums
 pub mod Trimmed

@@ -6,6 +6,8 @@ mod conversions;
 #[cfg(test)]
 mod evaluations;
 #[cfg(test)]
+mod fast_division;
+#[cfg(test)]
 mod places;
 #[cfg(test)]
 mod points;

@@ -92,3 +92,11 @@ module _ {F : Type 0} (K : FieldOn F) (N : IsField K) where
   pub has_quotient : (k m : ℕ) (a d : ℕ → F) → d k ≢ K.zero → IsBelow K (k + 1) d → IsBelow K m a → (q : ℕ → F) × (r : ℕ → F) × IsQuotient K a d q r
   has_quotient k m a d ne f h = reduced k 0 m a d (nothing K) a ne f (nothing-below K 0) h
       (sym (ap (λ t. added K t a) (nothing-product K N d) ∙ zero_plus (coefficients_are_module K N) a))
+
+  -- of what is below the divisor's degree the quotient is zero
+  pub short_quotient : (n : ℕ) (a d : ℕ → F) → d n ≢ K.zero → IsBelow K (n + 1) d → IsBelow K n a → IsQuotient K a d (nothing K) a
+  short_quotient n a d ne f h = record {
+    finite = (0, nothing-below K 0);
+    whole = sym (ap (λ t. added K t a) (nothing-product K N d) ∙ zero_plus (coefficients_are_module K N) a);
+    degree = (n, ne, f, h);
+  }

@@ -1,6 +1,7 @@
 //! Polynomials in one variable.
 
 mod dense;
+mod division;
 mod sparse;
 
 use ark_base::Field;

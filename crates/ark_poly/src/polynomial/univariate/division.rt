@@ -1,0 +1,194 @@
+//! Division of long dense polynomials by products through transforms.
+
+ghost use Rattle.std.specs.Prelude.{◌≡◌, ◌≢◌, ◌↔◌, ◌+◌, ◌-◌, ◌<◌, ◌≤◌, ◌⊎◌, length, IfOk, IfErr};
+ghost use Rattle.std.specs.Prelude.{IfSome, IsNone};
+ghost use Rattle.ark_math.specs.Univariate.{of_list, nothing, difference, product, IsBelow, IsQuotient};
+ghost use Rattle.ark_math.proofs.Polynomials.Reversed.{reversed as backwards};
+ghost use Rattle.ark_math.proofs.Polynomials.Series.{AgreeBelow, unity, past};
+
+use crate::polynomial::univariate::DensePolynomial;
+use crate::polynomial::{DenseUVPolynomial, Polynomial};
+use ark_base::{FftField, PolyError};
+use ark_coeffs::series::{corrected, part, reversed};
+use std::alloc::Global;
+
+impl<F: FftField> DensePolynomial<F> {
+    /// Quotient and remainder by products through transforms, for long operands. There is no other such pair. Zero by
+    /// zero gives two zeros, and `None` comes exactly for any other dividend by zero. `NoDomain` comes only where the
+    /// field lacks a domain for one of the products, none of which is longer than twice the dividend.
+    ///
+    /// It takes two products for each time that the inverse series gets twice as long, one for the quotient and one for
+    /// the remainder, and memory for what these take.
+    pub fn divide_by_transforms(
+        &self,
+        alloc: Global,
+        divisor: &Self,
+    ) -> Result<Option<(Self, Self)>, PolyError>
+        ensures division { IfOk result (λ o. IfSome o (λ p. 0 < length divisor.now → IsQuotient F.field
+            (of_list F.field self.now) (of_list F.field divisor.now) (of_list F.field p.0)
+            (of_list F.field p.1))) }
+        ensures zeros { IfOk result (λ o. IfSome o (λ p. length divisor.now ≡ 0 →
+            (of_list F.field p.0 ≡ nothing F.field) × (of_list F.field p.1 ≡ nothing F.field))) }
+        ensures none { IfOk result (λ o. IsNone o ↔ (of_list F.field self.now ≢ nothing F.field)
+            × (length divisor.now ≡ 0)) }
+        ensures errors { IfErr result (λ e. (e ≡ PolyError.Memory) ⊎ (e ≡ PolyError.NoDomain)) }
+    {
+        if let Some(inverted) = divisor.leading_inverse() {
+            return Ok(Some(self.divided(alloc, divisor, inverted)?));
+        }
+        if self.is_zero() {
+            return Ok(Some((Self::zero(alloc)?, Self::zero(alloc)?)));
+        }
+        Ok(None)
+    }
+
+    // The inverse of the leading coefficient, and `None` exactly for zero.
+    fn leading_inverse(&self) -> Option<F>
+        ensures some { IfSome result (λ y. F.field.times (of_list F.field self.now (length self.now - 1)) y
+            ≡ F.field.one) }
+        ensures none { IsNone result ↔ (length self.now ≡ 0) }
+    {
+        self.coeffs().last()?.inverse()
+    }
+
+    // Quotient and remainder by a divisor that isn't zero, from the inverse of its leading coefficient.
+    fn divided(
+        &self,
+        alloc: Global,
+        divisor: &Self,
+        leading_inverted: F,
+    ) -> Result<(Self, Self), PolyError>
+        requires some { 0 < length divisor.now }
+        requires leading { F.field.times (of_list F.field divisor.now (length divisor.now - 1))
+            leading_inverted ≡ F.field.one }
+        ensures division { IfOk result (λ p. IsQuotient F.field (of_list F.field self.now)
+            (of_list F.field divisor.now) (of_list F.field p.0) (of_list F.field p.1)) }
+        ensures errors { IfErr result (λ e. (e ≡ PolyError.Memory) ⊎ (e ≡ PolyError.NoDomain)) }
+    {
+        if self.coeffs().len() < divisor.coeffs().len() {
+            return Ok((Self::zero(alloc)?, self.clone()?));
+        }
+        self.divided_by_series(alloc, divisor, leading_inverted)
+    }
+
+    // The coefficients from `start` on and below `end`, moved down to zero.
+    fn part(&self, alloc: Global, start: usize, end: usize) -> Result<Self, PolyError>
+        ensures same { IfOk result (λ p. AgreeBelow (end - start) (of_list F.field p)
+            (past start (of_list F.field self.now))) }
+        ensures below { IfOk result (λ p. IsBelow F.field (end - start) (of_list F.field p)) }
+        ensures memory { IfErr result (λ e. e ≡ PolyError.Memory) }
+    {
+        let coeffs = part(alloc, self.coeffs(), start, end)?;
+        Ok(Self::from_coefficients_vec(coeffs))
+    }
+
+    // The coefficients at `degree` and at the exponents below it, `len` of them, that at `degree` first.
+    fn reversed(&self, alloc: Global, degree: usize, len: usize) -> Result<Self, PolyError>
+        requires { len ≤ degree + 1 }
+        ensures same { IfOk result (λ p. AgreeBelow len (of_list F.field p)
+            (backwards F.field degree (of_list F.field self.now))) }
+        ensures below { IfOk result (λ p. IsBelow F.field len (of_list F.field p)) }
+        ensures memory { IfErr result (λ e. e ≡ PolyError.Memory) }
+    {
+        let coeffs = reversed(alloc, self.coeffs(), degree, len)?;
+        Ok(Self::from_coefficients_vec(coeffs))
+    }
+
+    // Newton's step: from `known` coefficients of the inverse series to `len`, at most twice as many. The product with
+    // what is known is one up to there, and what it has after that is taken out.
+    fn refined_inverse(
+        &self,
+        alloc: Global,
+        inverse: &Self,
+        known: usize,
+        len: usize,
+    ) -> Result<Self, PolyError>
+        requires some { 0 < known }
+        requires more { known ≤ len }
+        requires most { len ≤ known + known }
+        requires below { IsBelow F.field known (of_list F.field inverse.now) }
+        requires inverse { AgreeBelow known (product F.field (of_list F.field self.now)
+            (of_list F.field inverse.now)) (unity F.field) }
+        ensures inverse { IfOk result (λ p. AgreeBelow len (product F.field (of_list F.field self.now)
+            (of_list F.field p)) (unity F.field)) }
+        ensures below { IfOk result (λ p. IsBelow F.field len (of_list F.field p)) }
+        ensures errors { IfErr result (λ e. (e ≡ PolyError.Memory) ⊎ (e ≡ PolyError.NoDomain)) }
+    {
+        let whole = self.part(alloc, 0, len)?.mul(alloc, inverse)?;
+        let correction = whole.part(alloc, known, len)?.mul(alloc, inverse)?;
+        let coeffs = corrected(alloc, inverse.coeffs(), correction.coeffs(), known, len)?;
+        Ok(Self::from_coefficients_vec(coeffs))
+    }
+
+    // The first `len` coefficients of the inverse series, from the inverse of the first one: by halves, since a step of
+    // Newton doubles them.
+    fn inverse_series(
+        &self,
+        alloc: Global,
+        first_inverted: F,
+        len: usize,
+    ) -> Result<Self, PolyError>
+        requires some { 0 < len }
+        requires first { F.field.times (of_list F.field self.now 0) first_inverted ≡ F.field.one }
+        ensures inverse { IfOk result (λ p. AgreeBelow len (product F.field (of_list F.field self.now)
+            (of_list F.field p)) (unity F.field)) }
+        ensures below { IfOk result (λ p. IsBelow F.field len (of_list F.field p)) }
+        ensures errors { IfErr result (λ e. (e ≡ PolyError.Memory) ⊎ (e ≡ PolyError.NoDomain)) }
+    {
+        if len == 1 {
+            let mut coeffs = Vec::with_capacity(alloc, 1)?;
+            coeffs.push(first_inverted)?;
+            return Ok(Self::from_coefficients_vec(coeffs));
+        }
+        let known = len - len / 2;
+        let inverse = self.inverse_series(alloc, first_inverted, known)?;
+        self.refined_inverse(alloc, &inverse, known, len)
+    }
+
+    // The quotient by a divisor that isn't longer, from the inverse of its leading coefficient: in the reversed order
+    // it is the product with the inverse series.
+    fn quotient_by_series(
+        &self,
+        alloc: Global,
+        divisor: &Self,
+        leading_inverted: F,
+    ) -> Result<Self, PolyError>
+        requires some { 0 < length divisor.now }
+        requires long { length divisor.now ≤ length self.now }
+        requires leading { F.field.times (of_list F.field divisor.now (length divisor.now - 1))
+            leading_inverted ≡ F.field.one }
+        ensures quotient { IfOk result (λ q. IsQuotient F.field (of_list F.field self.now)
+            (of_list F.field divisor.now) (of_list F.field q) (difference F.field (of_list F.field self.now)
+            (product F.field (of_list F.field q) (of_list F.field divisor.now)))) }
+        ensures errors { IfErr result (λ e. (e ≡ PolyError.Memory) ⊎ (e ≡ PolyError.NoDomain)) }
+    {
+        let whole = self.coeffs().len();
+        let parts = divisor.coeffs().len();
+        let len = whole - parts + 1;
+        let backwards = divisor.reversed(alloc, parts - 1, parts)?;
+        let inverse = backwards.inverse_series(alloc, leading_inverted, len)?;
+        let series = self.reversed(alloc, whole - 1, len)?.mul(alloc, &inverse)?;
+        series.reversed(alloc, len - 1, len)
+    }
+
+    // The same with the remainder.
+    fn divided_by_series(
+        &self,
+        alloc: Global,
+        divisor: &Self,
+        leading_inverted: F,
+    ) -> Result<(Self, Self), PolyError>
+        requires some { 0 < length divisor.now }
+        requires long { length divisor.now ≤ length self.now }
+        requires leading { F.field.times (of_list F.field divisor.now (length divisor.now - 1))
+            leading_inverted ≡ F.field.one }
+        ensures division { IfOk result (λ p. IsQuotient F.field (of_list F.field self.now)
+            (of_list F.field divisor.now) (of_list F.field p.0) (of_list F.field p.1)) }
+        ensures errors { IfErr result (λ e. (e ≡ PolyError.Memory) ⊎ (e ≡ PolyError.NoDomain)) }
+    {
+        let quotient = self.quotient_by_series(alloc, divisor, leading_inverted)?;
+        let product = quotient.mul(alloc, divisor)?;
+        let remainder = self.sub(alloc, &product)?;
+        Ok((quotient, remainder))
+    }
+}

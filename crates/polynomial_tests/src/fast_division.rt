@@ -1,0 +1,113 @@
+//! Division through transforms, against multiplying back.
+
+use crate::polynomials::poly;
+use ark_base::{F5, F433, F65537, FftField, PolyError};
+use ark_poly::univariate::DensePolynomial;
+use ark_poly::{DenseUVPolynomial, Polynomial};
+use ark_trials::plain::drawn;
+use rand_pcg::Pcg64;
+use std::alloc::Global;
+use std::test::Fail;
+
+// A drawn polynomial with at most this many coefficients.
+fn some<F: FftField>(
+    alloc: Global,
+    rng: &mut Pcg64,
+    len: usize,
+) -> Result<DensePolynomial<F>, PolyError> {
+    Ok(DensePolynomial::from_coefficients_vec(drawn(alloc, rng, len)?))
+}
+
+// Whether a dividend that is made of a drawn quotient, divisor and remainder gives the quotient and the remainder.
+fn gives_back<F: FftField>(
+    alloc: Global,
+    rng: &mut Pcg64,
+    [quotient, divisor]: [usize; 2],
+) -> Result<bool, PolyError> {
+    let quotient = some::<F>(alloc, rng, quotient)?;
+    let divisor = some::<F>(alloc, rng, divisor)?;
+    if divisor.is_zero() {
+        return Ok(true);
+    }
+    let remainder = some::<F>(alloc, rng, divisor.degree())?;
+    let dividend = quotient.mul(alloc, &divisor)?.add(alloc, &remainder)?;
+    match dividend.divide_by_transforms(alloc, &divisor)? {
+        Some(found) => Ok(found.0 == quotient && found.1 == remainder),
+        None => Ok(false),
+    }
+}
+
+// The same for all lengths below these two.
+fn all_give_back<F: FftField>(
+    alloc: Global,
+    rng: &mut Pcg64,
+    quotients: usize,
+    divisors: usize,
+) -> Result<bool, PolyError> {
+    for quotient in 0..quotients {
+        for divisor in 0..divisors {
+            if !gives_back::<F>(alloc, rng, [quotient, divisor])? {
+                return Ok(false);
+            }
+        }
+    }
+    Ok(true)
+}
+
+#[test]
+fn short_ones_give_back(rt: HostRuntime) -> Result<(), Fail> {
+    let mut rng = Pcg64::new(13, 17);
+    assert!(rt; all_give_back::<F433>(rt.alloc(), &mut rng, 36, 36)?);
+    assert!(rt; all_give_back::<F65537>(rt.alloc(), &mut rng, 36, 36)?);
+    Ok(())
+}
+
+#[test]
+fn long_ones_give_back(rt: HostRuntime) -> Result<(), Fail> {
+    let alloc = rt.alloc();
+    let mut rng = Pcg64::new(19, 23);
+    let lengths: [[usize; 2]; 8] = [
+        [127, 128],
+        [128, 128],
+        [129, 128],
+        [128, 129],
+        [1, 1024],
+        [1024, 1],
+        [2049, 2048],
+        [700, 3000],
+    ];
+    for row in lengths {
+        assert!(rt; gives_back::<F65537>(alloc, &mut rng, row)?);
+    }
+    Ok(())
+}
+
+// Whether the quotient and the remainder are these, or there is none.
+fn divides<F: FftField>(
+    alloc: Global,
+    [dividend, divisor]: [&[u64]; 2],
+    expected: Option<[&[u64]; 2]>,
+) -> Result<bool, PolyError> {
+    let dividend = poly::<F>(alloc, dividend)?;
+    match (
+        dividend.divide_by_transforms(alloc, &poly(alloc, divisor)?)?,
+        expected,
+    ) {
+        (Some(found), Some([quotient, remainder])) => Ok(
+            found.0 == poly(alloc, quotient)? && found.1 == poly(alloc, remainder)?,
+        ),
+        (None, None) => Ok(true),
+        _ => Ok(false),
+    }
+}
+
+#[test]
+fn with_zero(rt: HostRuntime) -> Result<(), Fail> {
+    let alloc = rt.alloc();
+    assert!(rt; divides::<F5>(alloc, [&[], &[]], Some([&[], &[]]))?);
+    assert!(rt; divides::<F5>(alloc, [&[], &[1, 2]], Some([&[], &[]]))?);
+    assert!(rt; divides::<F5>(alloc, [&[1], &[]], None)?);
+    assert!(rt; divides::<F5>(alloc, [&[3], &[1, 2]], Some([&[], &[3]]))?);
+    assert!(rt; divides::<F5>(alloc, [&[1, 2, 3], &[1, 2]], Some([&[4, 4], &[2]]))?);
+    Ok(())
+}
