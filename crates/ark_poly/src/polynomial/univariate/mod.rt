@@ -1,10 +1,12 @@
 //! Polynomials in one variable.
 
 mod dense;
+mod dense_or_sparse;
 mod sparse;
 
 use ark_base::Field;
 pub use dense::DensePolynomial;
+pub use dense_or_sparse::DenseOrSparsePolynomial;
 pub use sparse::SparsePolynomial;
 use std::fmt::{self, Formatter, Write};
 
