@@ -1,2 +1,3 @@
 -- What the proofs of the crate's functions share.
+pub mod Divisors
 pub mod Pushed

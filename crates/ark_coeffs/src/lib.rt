@@ -4,6 +4,7 @@
 pub mod conversions;
 pub mod dense;
 pub mod products;
+pub mod division;
 pub mod rows;
 pub mod series;
 pub mod sparse;

@@ -3,6 +3,7 @@ pub mod Binomials
 pub mod Conversions
 pub mod Gathered
 pub mod PairProducts
+pub mod LongDivision
 pub mod Quotients
 pub mod Reversed
 pub mod Series

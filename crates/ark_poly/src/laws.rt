@@ -1,6 +1,7 @@
 //! Laws of calls together, as contracts that callers may cite.
 
 ghost use Rattle.std.specs.Prelude.{◌≡◌, ◌≢◌, ◌↔◌, ℕ, ◌+◌, List, IsTrue, IfOk, IfErr, IsOkUnless, ◌⊎◌};
+ghost use Rattle.std.specs.Prelude.{IsOk};
 ghost use Rattle.ark_math.specs.Module.{itself, sum_below};
 ghost use Rattle.ark_math.specs.Points.{AreValues, AreWeights};
 ghost use Rattle.ark_math.specs.Univariate.{IsBelow, IsDegree, IsValue, nothing, of_list, of_pairs, product};
@@ -116,4 +117,25 @@ pub fn sparse_and_back<F: Field>(
     let back = DensePolynomial::from_sparse(alloc, &sparse)?;
     back.coeffs();
     Ok(back)
+}
+
+/// The values at a point of one polynomial in dense and in sparse form: they are equal. Takes no memory, and is always
+/// `Ok`.
+///
+/// It takes as long as both.
+pub fn values_of_both_forms<F: Field>(
+    alloc: Global,
+    dense: &DensePolynomial<F>,
+    sparse: &SparsePolynomial<F>,
+    point: F,
+) -> Result<(F, F), PolyError>
+    requires { of_list F.field dense.now ≡ of_pairs F.field sparse.now }
+    ensures value { IfOk result (λ y. IsValue F.field (of_list F.field dense.now) point y.0) }
+    ensures same { IfOk result (λ y. y.0 ≡ y.1) }
+    ensures succeeds { IsOk result }
+{
+    Ok((
+        dense.evaluate(alloc, &point)?,
+        sparse.evaluate(alloc, &point)?,
+    ))
 }

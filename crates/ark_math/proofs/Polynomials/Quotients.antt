@@ -48,6 +48,16 @@ module _ {F : Type 0} (K : FieldOn F) (N : IsField K) where
       let rest : difference K s r ≡ nothing K = sym pd ∙ ap (λ t. product K t d) none ∙ nothing-product K N d in
       (same_from_difference q p none, sym (same_from_difference s r rest))
 
+  -- of zero
+  pub zero_quotient : (a d q r : ℕ → F) → a ≡ nothing K → IsQuotient K a d q r → (q ≡ nothing K) × (r ≡ nothing K)
+  zero_quotient a d q r none h =
+      let M = coefficients_are_module K N in
+      one_quotient a d q r (nothing K) (nothing K) h (record {
+        finite = (0, nothing-below K 0);
+        whole = none ∙ sym (M.plus_zero (nothing K)) ∙ ap (λ t. added K t (nothing K)) (sym (nothing-product K N d));
+        degree = (h.degree.0, h.degree.1, h.degree.2, nothing-below K h.degree.0);
+      })
+
   -- one step: c times the variable to the j is added to the quotient
   pub quotient_step : (a d q r : ℕ → F) (j : ℕ) (c : F) → a ≡ added K (product K q d) r → a ≡ added K (product K (added K q (monomial K j c)) d) (difference K r (product K (monomial K j c) d))
   quotient_step a d q r j c h =

@@ -9,7 +9,7 @@ use Rattle.std.proofs.lemmas.Bool.Decides.{Decides-eqb}
 use Rattle.ark_math.proofs.Algebra.Groups.{pair_Decides}
 use Rattle.std.proofs.lemmas.Slice.Eq.{slice_eq-Decides}
 use Rattle.std.proofs.lemmas.Option.{get_or_from_slice_get, slice_get_cases}
-use Rattle.std.proofs.lemmas.List.{length_push, get_or_push, get_or_append_left}
+use Rattle.std.proofs.lemmas.List.{length_push, get_or_push, get_or_append_left, get_or_default}
 use Rattle.std.proofs.lemmas.List.Quantifiers.{all_pairs_push}
 use Rattle.std.proofs.lemmas.List.Elements.{All-cons}
 use Rattle.std.proofs.lemmas.List.Kept.{AllPairs-cons}
@@ -170,6 +170,31 @@ module _ {F : Type 0} (K : FieldOn F) (N : IsField K) where
       (λ found. let some = found.1 in sparse_degree p (length p - 1) x h (omega (arith, some)) (λ d. get_or_from_slice_get p (length p - 1) x d e))
       (λ none. let same : None ≡ Some x = sym none.1 ∙ e in cc)
       (slice_get_cases p (length p - 1)).1
+
+  -- the last pair, and those before it
+  pub before_last : (p : List (ℕ × F)) (x : ℕ × F) → IsSparse K (p ++ x ∷ []) → All (λ y. y.0 < x.0) p
+  before_last p x h k d l =
+      let first : get_or (p ++ x ∷ []) k x ≡ get_or p k x = get_or_append_left p (x ∷ []) x k l in
+      let last : get_or (p ++ x ∷ []) (length p) x ≡ x = get_or_push p x x (length p) refl in
+      let same : get_or p k d ≡ get_or p k x = get_or_default p k d x l in
+      let less : (get_or (p ++ x ∷ []) k x).0 < (get_or (p ++ x ∷ []) (length p) x).0 = h.rising k (length p) x l (omega (arith, length_push p x)) in
+      subst (λ t. t.0 < x.0) (first ∙ sym same) (subst (λ t. (get_or (p ++ x ∷ []) k x).0 < t.0) last less)
+
+  pub last_coefficient : (p : List (ℕ × F)) (x : ℕ × F) → IsSparse K (p ++ x ∷ []) → of_pairs K (p ++ x ∷ []) x.0 ≡ x.1
+  last_coefficient p x h =
+      ap (λ t. t x.0) (of_pairs-push p x)
+      ∙ ap₂ K.plus (of_pairs-absent p x.0 (λ k d l e. let m = before_last p x h k d l in omega arith)) (monomial-same K x.0 x.1)
+      ∙ zero_plus (itself_is_module K N) x.1
+
+  pub without_last : (p : List (ℕ × F)) (x : ℕ × F) (i : ℕ) → i < x.0 → of_pairs K p i ≡ of_pairs K (p ++ x ∷ []) i
+  without_last p x i l =
+      sym (ap (λ t. t i) (of_pairs-push p x) ∙ ap (K.plus (of_pairs K p i)) (monomial-other K x.0 x.1 i (λ e. omega arith)) ∙ N.plus_zero (of_pairs K p i))
+
+  pub past_last : (p : List (ℕ × F)) (x : ℕ × F) (i : ℕ) → IsSparse K (p ++ x ∷ []) → x.0 < i → of_pairs K (p ++ x ∷ []) i ≡ K.zero
+  past_last p x i h l =
+      ap (λ t. t i) (of_pairs-push p x)
+      ∙ ap₂ K.plus (of_pairs-absent p i (λ k d b e. let m = before_last p x h k d b in omega arith)) (monomial-other K x.0 x.1 i (λ e. omega arith))
+      ∙ N.plus_zero K.zero
 
   -- ---- tests
 

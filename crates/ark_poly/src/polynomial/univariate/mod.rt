@@ -2,10 +2,12 @@
 
 mod dense;
 mod division;
+mod dense_or_sparse;
 mod sparse;
 
 use ark_base::Field;
 pub use dense::DensePolynomial;
+pub use dense_or_sparse::DenseOrSparsePolynomial;
 pub use sparse::SparsePolynomial;
 use std::fmt::{self, Formatter, Write};
 

@@ -1,0 +1,2 @@
+-- What the contracts of divisions cite.
+pub mod Divisors
