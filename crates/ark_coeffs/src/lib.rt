@@ -2,5 +2,6 @@
 #![tactic(auto)]
 
 pub mod dense;
+pub mod draws;
 pub mod rows;
 pub mod sparse;
