@@ -1,4 +1,4 @@
-use Rattle.std.proofs.Common.{◌≡◌, ◌+◌, ◌-◌, length, sym, ap, ◌∙◌, ◌==◌}
+use Rattle.std.proofs.Common.{◌≡◌, ◌+◌, ◌-◌, length, sym, ap, rules, refl, ◌∙◌, ◌==◌}
 use Rattle.ark_math.specs.Univariate.{of_list, nothing, product}
 use Rattle.ark_math.proofs.Polynomials.Univariate.{IsBelow-more}
 use Rattle.ark_math.proofs.Polynomials.UnivariateLists.{of_list-below, trimmed_none_Decides}
@@ -36,3 +36,6 @@ returns-clause-product g c =
     let others : c.len-2.result ≡ length right = c.len-2.ensures ∙ c.other.inside.coeffs.ok.0 ∙ ap length c.other.view_is in
     let room = rw (mine, others) at c.in-Some.ensures.room in
     IfOk_more c.mul_over_domain.result (λ p h. h (IsBelow-more K (length left + length right - 1) _ _ room below)) c.mul_over_domain.ensures.product
+
+pub returns-in_default-clause-none : goal.returns-in_default-clause-none
+returns-in_default-clause-none g c = (λ e. search rules, λ h. refl)
