@@ -1,7 +1,8 @@
 //! Coefficients by their exponents: item i of a list is the coefficient at i.
 
 ghost use Rattle.std.specs.Prelude.{◌≡◌, ◌≢◌, ◌↔◌, ◌⊎◌, ℕ, ◌+◌, ◌-◌, ◌<◌, ◌≤◌, length, IfOk, IfErr, OnOk, OnErr};
-ghost use Rattle.std.specs.Prelude.{IsOkUnless, replicate, take, drop};
+ghost use Rattle.std.specs.Prelude.{IsOkUnless, List, replicate, take, drop};
+ghost use Rattle.ark_math.specs.Module.{itself, sum_below};
 ghost use Rattle.ark_math.specs.Points.{IsPlaceQuotient};
 ghost use Rattle.ark_math.specs.Univariate.{IsBelow, of_list, added, difference, opposite, monomial, product, scaled};
 ghost use Rattle.ark_math.specs.Univariate.{IsTrimmed, IsValue};
@@ -92,6 +93,19 @@ pub fn divide_each<F: Field>(alloc: Global, items: &mut [F], other: &[F]) -> Res
     Ok(())
 }
 
+/// The sum of the products of the items at each place.
+pub fn sum_of_products<F: Field>(left: &[F], right: &[F]) -> F
+    requires { length right.now ≤ length left.now }
+    ensures { result ≡ sum_below (itself F.field) (length right.now)
+        (λ i. F.field.times (of_list F.field left.now i) (of_list F.field right.now i)) }
+{
+    let mut sum = F::zero();
+    for i in 0..right.len() {
+        sum += left[i] * right[i];
+    }
+    sum
+}
+
 /// Adds the product of two lists of coefficients.
 pub fn add_product<F: Field>(coeffs: &mut [F], left: &[F], right: &[F])
     requires zeros { coeffs.old ≡ replicate (length left.now + length right.now - 1) F.field.zero }
@@ -154,6 +168,19 @@ pub fn zeros<F: Field>(alloc: Global, len: usize) -> Result<Vec<F>, AllocError>
     let mut coeffs = Vec::with_capacity(alloc, len)?;
     coeffs.resize(len, F::zero())?;
     Ok(coeffs)
+}
+
+/// A copy of the coefficients, with room for at least this many.
+pub fn copy_with_room<F: Field>(
+    alloc: Global,
+    coeffs: &[F],
+    room: usize,
+) -> Result<Vec<F>, AllocError>
+    ensures { IfOk result (λ c. c.items ≡ coeffs.now) }
+{
+    let mut copy = Vec::with_capacity(alloc, coeffs.len().max(room))?;
+    copy.extend_from_slice(coeffs)?;
+    Ok(copy)
 }
 
 /// A copy of the coefficients, with zeros up to this length.
@@ -219,6 +246,20 @@ pub fn divide_by_binomial<F: Field>(coeffs: &mut [F], n: usize, constant: F)
         let carried = constant * coeffs[i];
         coeffs[i - n] += carried;
     }
+}
+
+/// The remainder by `x^n - constant` in place of the coefficients, at most `n` items. It takes one product for each
+/// coefficient from `n` on.
+pub fn reduce_by_binomial<F: Field>(coeffs: &mut Vec<F>, n: usize, constant: F)
+    requires { 0 < n }
+    ensures division { (q : List F) × (of_list F.field coeffs.old.items ≡ added F.field
+        (product F.field (of_list F.field q)
+        (difference F.field (monomial F.field n F.field.one) (monomial F.field 0 constant)))
+        (of_list F.field coeffs.new.items)) }
+    ensures len { length coeffs.new.items ≤ n }
+{
+    divide_by_binomial(coeffs.as_mut_slice(), n, constant);
+    coeffs.truncate(n);
 }
 
 /// Quotient and remainder by `x^n - constant`, each in a list of its own, of which the remainder's has at most `n`

@@ -3,8 +3,9 @@
 
 pub mod conversions;
 pub mod dense;
-pub mod products;
 pub mod division;
+pub mod draws;
+pub mod products;
 pub mod rows;
 pub mod series;
 pub mod sparse;

@@ -11,6 +11,7 @@ use crate::evaluations::univariate::Evaluations;
 use crate::polynomial::univariate::{DensePolynomial, SparsePolynomial};
 use crate::polynomial::{DenseUVPolynomial, Polynomial};
 use ark_base::{FftField, Field, PolyError};
+use ark_coeffs::dense::sum_of_products;
 use std::alloc::Global;
 
 /// The product by `mul` and the one by `naive_mul`: they have the same coefficients, and are equal by `==`. An
@@ -72,12 +73,7 @@ pub fn weighted_sum<F: FftField, D: EvaluationDomain<F>>(
     let weights = values
         .domain()
         .evaluate_all_lagrange_coefficients(alloc, tau)?;
-    let evals = values.evals();
-    let mut sum = F::zero();
-    for i in 0..evals.len() {
-        sum += weights[i] * evals[i];
-    }
-    Ok(sum)
+    Ok(sum_of_products(&weights, values.evals()))
 }
 
 /// A sparse polynomial made dense and sparse again: the same value. `Overflow` exactly where its degree is

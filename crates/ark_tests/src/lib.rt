@@ -3,14 +3,16 @@
 
 #[cfg(test)]
 mod counted;
-pub mod counts;
+#[cfg(test)]
+mod counts;
 #[cfg(test)]
 mod errors;
 #[cfg(test)]
 mod fields;
 #[cfg(test)]
 mod numbers;
-pub mod outside;
+#[cfg(test)]
+mod outside;
 #[cfg(test)]
 mod program;
 #[cfg(test)]

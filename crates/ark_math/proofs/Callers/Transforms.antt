@@ -1,6 +1,6 @@
 -- What `ifft` gives for `fft`, and what both are for a polynomial's coefficients and values.
-use Rattle.std.proofs.Common.{◌≡◌, ℕ, ◌<◌, ◌≤◌, List, length, map, take, drop, sym, ◌∙◌, ap, ap₂, refl, subst, arith}
-use Rattle.std.proofs.lemmas.List.{length-map, length-take}
+use Rattle.std.proofs.Common.{◌≡◌, ℕ, ◌<◌, ◌≤◌, List, length, map, sym, ◌∙◌, ap, ap₂, refl, subst, arith}
+use Rattle.std.proofs.lemmas.List.{length-map}
 use Rattle.ark_math.specs.Field.{FieldOn, IsField, power}
 use Rattle.ark_math.specs.Module.{ModuleOn, IsItself, itself, item, tabulate}
 use Rattle.ark_math.specs.Root.{HasOrder}
@@ -83,16 +83,16 @@ module _ {F M : Type 0} (K : FieldOn F) (V : ModuleOn F M) {meaning : F → M} (
     values_of_fft coeffs values l e = subst (AreValues K d (of_list K coeffs)) (sym (transform-meanings d coeffs values e)) (transform-values K N d coeffs l)
 
     -- `fft` of the remainder by x ^ n - offset ^ n gives the values of the whole
-    pub values_of_reduced : HasOrder K d.root d.size → 0 < d.size → (coeffs reduced values : List F) (n : ℕ) (c : F) → n ≡ d.size → c ≡ power K d.offset d.size → of_list K coeffs ≡ added K (product K (of_list K (drop n reduced)) (binomial K n c)) (of_list K (take n reduced)) → map meaning values ≡ transform K V d (map meaning (take n reduced)) → AreValues K d (of_list K coeffs) values
-    values_of_reduced o some coeffs reduced values n c same constant division transformed =
+    pub values_of_reduced : HasOrder K d.root d.size → 0 < d.size → (coeffs quotient rest values : List F) (n : ℕ) (c : F) → n ≡ d.size → c ≡ power K d.offset d.size → of_list K coeffs ≡ added K (product K (of_list K quotient) (binomial K n c)) (of_list K rest) → length rest ≤ n → map meaning values ≡ transform K V d (map meaning rest) → AreValues K d (of_list K coeffs) values
+    values_of_reduced o some coeffs quotient rest values n c same constant division short transformed =
         let a = of_list K coeffs in
-        let q = of_list K (drop n reduced) in
-        let r = of_list K (take n reduced) in
-        let short : length (take n reduced) ≤ d.size = let e = length-take n reduced in omega arith in
+        let q = of_list K quotient in
+        let r = of_list K rest in
+        let fits : length rest ≤ d.size = omega arith in
         let whole : a ≡ added K (product K q (vanishing K d)) r = division ∙ ap (λ t. added K (product K q t) r) (ap₂ (binomial K) same constant) in
         values_from_remainder K N d (length coeffs) a q r values o (of_list-below K coeffs)
-        (vanishing-quotient K N d a q r (length (drop n reduced)) some (of_list-below K (drop n reduced)) (IsBelow-more K (length (take n reduced)) d.size r short (of_list-below K (take n reduced))) whole)
-        (values_of_fft (take n reduced) values short transformed)
+        (vanishing-quotient K N d a q r (length quotient) some (of_list-below K quotient) (IsBelow-more K (length rest) d.size r fits (of_list-below K rest)) whole)
+        (values_of_fft rest values fits transformed)
 
     -- and so of a remainder with n items
     pub values_of_remainder : HasOrder K d.root d.size → 0 < d.size → (a q : ℕ → F) (m : ℕ) (rest values : List F) (n : ℕ) (c : F) → IsBelow K m a → n ≡ d.size → c ≡ power K d.offset d.size → IsQuotient K a (binomial K n c) q (of_list K rest) → length rest ≡ n → map meaning values ≡ transform K V d (map meaning rest) → AreValues K d a values

@@ -1,4 +1,4 @@
-use Rattle.std.proofs.Common.{◌≡◌, sym, subst, ◌∙◌, ap₂, arith}
+use Rattle.std.proofs.Common.{◌≡◌, sym, subst, ap, ap₂, ◌∙◌}
 use Rattle.ark_math.specs.Module.{itself, sum_below}
 use Rattle.ark_math.specs.Univariate.{of_list, IsValue}
 use Rattle.ark_math.proofs.OverDomains.Weights.{weighted_values}
@@ -11,8 +11,8 @@ returns-clause-value g c a below values =
     let part = sum_below (itself K) in
     let weights = c.in_ok-weights.weights.items in
     let evals = c.args.values.now.evals in
-    let end : c.loop-i.i ≡ d.size = omega (arith, c.evals-evals.ensures.whole) in
-    let is : c.loop-i.sum ≡ part d.size (λ i. K.times (of_list K weights i) (of_list K evals i)) =
-    c.loop-i.invariant
-    ∙ ap₂ (λ n xs. part n (λ i. K.times (of_list K weights i) (of_list K xs i))) end c.evals-evals.ensures.same in
+    let is : c.sum_of_products.result ≡ part d.size (λ i. K.times (of_list K weights i) (of_list K evals i)) =
+    c.sum_of_products.ensures
+    ∙ ap (λ n. part n (λ i. K.times (of_list K c.deref.result.now i) (of_list K c.evals.result.now i))) c.evals.ensures.whole
+    ∙ ap₂ (λ l v. part d.size (λ i. K.times (of_list K l i) (of_list K v i))) c.deref.ensures.value c.evals.ensures.same in
     subst (IsValue K a c.args.tau) (sym is) (weighted_values K g.met.F.Field.field_laws d c.args.tau weights (rw c.domain.ensures at c.in_ok-weights.ensures.weights) a evals below values)

@@ -23,9 +23,11 @@ use ark_coeffs::conversions::{
     sum_with_terms,
 };
 use ark_coeffs::dense::{
-    add_each, add_scaled, divide_by_binomial, divided_by_binomial, extended, grow,
-    multiplied_by_binomial, naive_product, scale_each, subtract_each, trim, value_at,
+    add_each, add_scaled, copy_with_room, divided_by_binomial, extended, grow,
+    multiplied_by_binomial, naive_product, reduce_by_binomial, scale_each, subtract_each, trim,
+    value_at,
 };
+use ark_coeffs::draws::drawn;
 use rand::Rng;
 use std::alloc::{AllocError, Global};
 use std::fmt::{self, Debug, Formatter, Write};
@@ -279,19 +281,13 @@ impl<F: Field> DenseUVPolynomial<F> for DensePolynomial<F> {
         rng: &mut R,
         tries: usize,
     ) -> Result<Option<Self>, PolyError> {
-        let len = d.checked_add(1).ok_or(PolyError::Overflow)?;
-        let mut coeffs = Vec::with_capacity(alloc, len)?;
-        for _ in 0..d {
-            coeffs.push(F::rand(rng))?;
+        if d == usize::MAX {
+            return Err(PolyError::Overflow);
         }
-        for _ in 0..tries {
-            let leading = F::rand(rng);
-            if !leading.is_zero() {
-                coeffs.push(leading)?;
-                return Ok(Some(DensePolynomial { coeffs }));
-            }
-        }
-        Ok(None)
+        let Some(coeffs) = drawn(alloc, d, rng, tries)? else {
+            return Ok(None);
+        };
+        Ok(Some(DensePolynomial { coeffs }))
     }
 
     ghost coefficients = { λ a. a };
@@ -436,8 +432,9 @@ impl<F: FftField> DensePolynomial<F> {
         if self.coeffs.is_empty() || other.coeffs.is_empty() {
             return Self::zero(alloc);
         }
-        let chosen = domain_of_product(self.coeffs.len(), other.coeffs.len());
-        let domain = chosen.ok_or(PolyError::NoDomain)?;
+        let Some(domain) = domain_of_product(self.coeffs.len(), other.coeffs.len()) else {
+            return Err(PolyError::NoDomain);
+        };
         self.mul_over_domain(alloc, other, domain)
     }
 
@@ -485,8 +482,7 @@ impl<F: FftField> DensePolynomial<F> {
     {
         let n = domain.size();
         let mut evals = self.coeffs;
-        divide_by_binomial(evals.as_mut_slice(), n, domain.coset_offset_pow_size());
-        evals.truncate(n);
+        reduce_by_binomial(&mut evals, n, domain.coset_offset_pow_size());
         domain.fft_in_place(alloc, &mut evals)?;
         Ok(Evaluations::from_vec_and_domain(evals, domain))
     }
@@ -502,8 +498,7 @@ impl<F: FftField> DensePolynomial<F> {
         ensures domain { IfOk result (λ v. v.domain ≡ domain) }
         ensures memory { IsOkUnless result PolyError.Memory }
     {
-        let mut coeffs = Vec::with_capacity(alloc, self.coeffs.len().max(domain.size()))?;
-        coeffs.extend_from_slice(&self.coeffs)?;
+        let coeffs = copy_with_room(alloc, &self.coeffs, domain.size())?;
         DensePolynomial { coeffs }.evaluate_over_domain(alloc, domain)
     }
 

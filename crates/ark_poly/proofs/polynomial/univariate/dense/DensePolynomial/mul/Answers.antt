@@ -1,4 +1,4 @@
-use Rattle.std.proofs.Common.{◌≡◌, ◌+◌, ◌-◌, length, sym, ap, ◌∙◌, ◌==◌}
+use Rattle.std.proofs.Common.{◌≡◌, ◌+◌, ◌-◌, length, sym, ap, rules, refl, ◌∙◌, ◌==◌}
 use Rattle.ark_math.specs.Univariate.{of_list, nothing, product}
 use Rattle.ark_math.proofs.Polynomials.Univariate.{IsBelow-more}
 use Rattle.ark_math.proofs.Polynomials.UnivariateLists.{of_list-below, trimmed_none_Decides}
@@ -34,5 +34,8 @@ returns-clause-product g c =
     let below = product-below K g.met.F.Field.field_laws (length left) (length right) (of_list K left) (of_list K right) (of_list-below K left) (of_list-below K right) in
     let mine : c.len.result ≡ length left = c.len.ensures ∙ c.self.inside.coeffs.ok.0 ∙ ap length c.self.view_is in
     let others : c.len-2.result ≡ length right = c.len-2.ensures ∙ c.other.inside.coeffs.ok.0 ∙ ap length c.other.view_is in
-    let room = rw (c.in_ok-domain.ensures.ok_part, mine, others) at c.domain_of_product-chosen.ensures.room in
+    let room = rw (mine, others) at c.in-Some.ensures.room in
     IfOk_more c.mul_over_domain.result (λ p h. h (IsBelow-more K (length left + length right - 1) _ _ room below)) c.mul_over_domain.ensures.product
+
+pub returns-in_default-clause-none : goal.returns-in_default-clause-none
+returns-in_default-clause-none g c = (λ e. search rules, λ h. refl)

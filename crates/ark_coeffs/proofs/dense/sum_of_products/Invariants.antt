@@ -1,9 +1,9 @@
 use Rattle.std.proofs.Common.{◌≡◌}
 use Rattle.ark_math.specs.Module.{itself, sum_below}
 use Rattle.ark_math.specs.Univariate.{of_list}
-use Rattle.ark_poly.proofs.laws.weighted_sum.Given as goal
+use Rattle.ark_coeffs.proofs.dense.sum_of_products.Given as goal
 
 abbrev pub invariant-loop-i : goal.invariant-loop-i
 invariant-loop-i g l =
     let K = g.F.Field.field in
-    l.sum ≡ sum_below (itself K) l.i (λ k. K.times (of_list K l.weights.items k) (of_list K l.evals k))
+    l.sum ≡ sum_below (itself K) l.i (λ k. K.times (of_list K l.left k) (of_list K l.right k))
