@@ -2,5 +2,6 @@
 #![tactic(auto)]
 
 pub mod dense;
+pub mod products;
 pub mod rows;
 pub mod sparse;

@@ -53,3 +53,17 @@ pub fn merged_terms<F: Field>(
     push_term(&mut merged, degree, sum)?;
     Ok(merged)
 }
+
+/// The sums of like terms that aren't zero, of terms in any order.
+pub fn gathered_terms<F: Field>(
+    alloc: Global,
+    terms: Vec<(usize, F)>,
+) -> Result<Vec<(usize, F)>, PolyError>
+    ensures sparse { IfOk result (λ m. IsSparse F.field m.items) }
+    ensures sum { IfOk result (λ m. of_pairs F.field m.items ≡ of_pairs F.field terms.items) }
+    ensures memory { IsOkUnless result PolyError.Memory }
+{
+    let mut terms = terms;
+    terms.sort_unstable_by_key(|term| term.0);
+    merged_terms(alloc, &terms)
+}

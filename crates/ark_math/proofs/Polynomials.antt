@@ -1,6 +1,7 @@
 -- Polynomials in one variable: coefficient functions, lists and pairs that denote them, products, quotients, values, zeros.
 pub mod Binomials
 pub mod Gathered
+pub mod PairProducts
 pub mod Quotients
 pub mod SortedPairs
 pub mod Trimmed

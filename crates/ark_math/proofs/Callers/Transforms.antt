@@ -6,7 +6,7 @@ use Rattle.ark_math.specs.Module.{ModuleOn, IsItself, itself, item, tabulate}
 use Rattle.ark_math.specs.Root.{HasOrder}
 use Rattle.ark_math.specs.Domain.{Domain, element}
 use Rattle.ark_math.specs.Transform.{transform, fit, value_at, IsInverse, IsOnlyInverse}
-use Rattle.ark_math.specs.Univariate.{IsBelow, added, product, of_list}
+use Rattle.ark_math.specs.Univariate.{IsBelow, IsQuotient, added, product, of_list}
 use Rattle.ark_math.specs.Points.{vanishing, AreValues}
 use Rattle.ark_math.proofs.Lists.Lists.{same_from_map}
 use Rattle.ark_math.proofs.Lists.Tabulated.{length-tabulate, is_tabulated}
@@ -93,6 +93,13 @@ module _ {F M : Type 0} (K : FieldOn F) (V : ModuleOn F M) {meaning : F → M} (
         values_from_remainder K N d (length coeffs) a q r values o (of_list-below K coeffs)
         (vanishing-quotient K N d a q r (length (drop n reduced)) some (of_list-below K (drop n reduced)) (IsBelow-more K (length (take n reduced)) d.size r short (of_list-below K (take n reduced))) whole)
         (values_of_fft (take n reduced) values short transformed)
+
+    -- and so of a remainder with n items
+    pub values_of_remainder : HasOrder K d.root d.size → 0 < d.size → (a q : ℕ → F) (m : ℕ) (rest values : List F) (n : ℕ) (c : F) → IsBelow K m a → n ≡ d.size → c ≡ power K d.offset d.size → IsQuotient K a (binomial K n c) q (of_list K rest) → length rest ≡ n → map meaning values ≡ transform K V d (map meaning rest) → AreValues K d a values
+    values_of_remainder o some a q m rest values n c below same constant h len transformed =
+        values_from_remainder K N d m a q (of_list K rest) values o below
+        (subst (λ t. IsQuotient K a t q (of_list K rest)) (ap₂ (binomial K) same constant) h)
+        (values_of_fft rest values (omega arith) transformed)
 
     -- `ifft` of n values gives the coefficients of the polynomial below n that has them
     pub values_of_ifft : (values coeffs : List F) → length values ≡ d.size → IsInverse K V d (map meaning values) (map meaning coeffs) → IsBelow K d.size (of_list K coeffs) × AreValues K d (of_list K coeffs) values

@@ -1,7 +1,7 @@
 -- The vanishing polynomial of a domain: its coefficients, and remainders by it.
-use Rattle.std.proofs.Common.{◌≡◌, ◌≢◌, ℕ, ◌+◌, ◌<◌, List, [], ◌∷◌, length, sym, ◌∙◌, ap, ap₂, refl, subst, arith}
+use Rattle.std.proofs.Common.{◌≡◌, ◌≢◌, ℕ, ◌+◌, ◌<◌, List, [], ◌∷◌, length, sym, ◌∙◌, ap, refl, subst}
 use mathlib.Core.Path.{fun_ext}
-use Rattle.ark_math.specs.Field.{FieldOn, IsField, power, minus}
+use Rattle.ark_math.specs.Field.{FieldOn, IsField, power}
 use Rattle.ark_math.specs.Module.{tabulate}
 use Rattle.ark_math.specs.Root.{HasOrder}
 use Rattle.ark_math.specs.Domain.{Domain, element}
@@ -10,8 +10,9 @@ use Rattle.ark_math.specs.Points.{vanishing, AreValues}
 use Rattle.ark_math.proofs.Algebra.Groups.{itself_is_module, zero_plus}
 use Rattle.ark_math.proofs.Algebra.Powers.{times_zero}
 use Rattle.ark_math.proofs.Algebra.Solve.{◌⊕◌, ◌⊖◌, nought, negative}
-use Rattle.ark_math.proofs.Algebra.Ring.{ring1, ring2}
-use Rattle.ark_math.proofs.Polynomials.Univariate.{difference-below, monomial-below, monomial-same, monomial-other, monomial-opposite}
+use Rattle.ark_math.proofs.Algebra.Ring.{ring2}
+use Rattle.ark_math.proofs.Polynomials.Univariate.{monomial-opposite}
+use Rattle.ark_math.proofs.Polynomials.Binomials.{binomial-below, binomial-leading}
 use Rattle.ark_math.proofs.Polynomials.UnivariateValues.{one_value, has_value, value-added}
 use Rattle.ark_math.proofs.Polynomials.UnivariateProducts.{product-below, value-product}
 use Rattle.ark_math.proofs.Domains.Elements.{element-vanishes}
@@ -20,15 +21,10 @@ use Rattle.ark_math.proofs.OverDomains.PlaceValues.{values_from, values-item, va
 
 module _ {F : Type 0} (K : FieldOn F) (N : IsField K) (d : Domain F) where
   pub vanishing-below : IsBelow K (d.size + 1) (vanishing K d)
-  vanishing-below =
-      difference-below K N (d.size + 1) (monomial K d.size K.one) (monomial K 0 (power K d.offset d.size))
-      (monomial-below K d.size (d.size + 1) K.one (omega arith))
-      (monomial-below K 0 (d.size + 1) (power K d.offset d.size) (omega arith))
+  vanishing-below = binomial-below K N d.size (power K d.offset d.size)
 
   pub vanishing-leading : 0 < d.size → vanishing K d d.size ≡ K.one
-  vanishing-leading l =
-      ap₂ (minus K) (monomial-same K d.size K.one) (monomial-other K 0 (power K d.offset d.size) d.size (λ e. omega arith))
-      ∙ ring1 K N (λ x. (x ⊖ nought, x)) refl K.one
+  vanishing-leading = binomial-leading K N d.size (power K d.offset d.size)
 
   pub vanishing-degree : 0 < d.size → IsDegree K (vanishing K d) d.size
   vanishing-degree l = record { rest = vanishing-below; leading = λ _ e. N.one_not_zero (sym (vanishing-leading l) ∙ e) }

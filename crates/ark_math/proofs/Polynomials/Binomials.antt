@@ -5,10 +5,11 @@ use mathlib.Core.Path.{fun_ext}
 use Rattle.std.proofs.lemmas.Bool.{cases_eq, cases_lt}
 use Rattle.std.proofs.lemmas.List.{get_or-drop, get_or-take, get_or-replicate, get_or_append_left, get_or-append_right, length-take, length-replicate}
 use Rattle.ark_math.specs.Field.{FieldOn, IsField, minus}
-use Rattle.ark_math.specs.Univariate.{added, scaled, difference, monomial, product, of_list}
+use Rattle.ark_math.specs.Univariate.{added, scaled, difference, monomial, product, IsBelow, of_list}
 use Rattle.ark_math.proofs.Algebra.Groups.{itself_is_module, one_times, scale_zero}
 use Rattle.ark_math.proofs.Algebra.Solve.{◌⊕◌, ◌⊖◌, ◌⊗◌, nought, negative}
-use Rattle.ark_math.proofs.Algebra.Ring.{ring3, ring3_by}
+use Rattle.ark_math.proofs.Algebra.Ring.{ring1, ring3, ring3_by}
+use Rattle.ark_math.proofs.Polynomials.Univariate.{difference-below, monomial-below, monomial-same, monomial-other}
 use Rattle.ark_math.proofs.Polynomials.UnivariateLists.{of_list-past}
 use Rattle.ark_math.proofs.Polynomials.UnivariateLoops.{cut, cut-inside, cut-outside}
 use Rattle.ark_math.proofs.Polynomials.UnivariateProducts.{product_comm, product-difference, constant-product, monomial-product_past, monomial-product_before}
@@ -27,6 +28,19 @@ pub record IsCarried {F : Type 0} (K : FieldOn F) (n : ℕ) (c : F) (i : ℕ) (a
   pub kept : (k : ℕ) → k + n < i → b k ≡ a k
 
 module _ {F : Type 0} (K : FieldOn F) (N : IsField K) (n : ℕ) (c : F) where
+  pub binomial-below : IsBelow K (n + 1) (binomial K n c)
+  binomial-below =
+      difference-below K N (n + 1) (monomial K n K.one) (monomial K 0 c)
+      (monomial-below K n (n + 1) K.one (omega arith))
+      (monomial-below K 0 (n + 1) c (omega arith))
+
+  pub binomial-leading : 0 < n → binomial K n c n ≡ K.one
+  binomial-leading l =
+      ap₂ (minus K) (monomial-same K n K.one) (monomial-other K 0 c n (λ e. omega arith))
+      ∙ ring1 K N (λ x. (x ⊖ nought, x)) refl K.one
+
+  -- ---- division
+
   pub carried-none : (xs : List F) → IsCarried K n c (length xs) (of_list K xs) (of_list K xs)
   carried-none xs = record {
     carried = λ k l.

@@ -1,17 +1,23 @@
 //! Polynomials in one variable by the coefficients that aren't zero.
 
 ghost use Rattle.std.specs.Prelude.{◌≡◌, ◌↔◌, ◌==◌, ◌&&◌, ◌++◌, IfOk, IsOk, IsOkUnless, IsTrue};
+ghost use Rattle.std.specs.Prelude.{◌⊎◌, ℕ, ◌+◌, ◌<◌, IfErr};
 ghost use Rattle.std.specs.Cmp.{and_equiv, and_per, nat_eq_equiv, on_equiv, on_per, partial_equiv_from_equiv};
 ghost use Rattle.std.specs.Cmp.{unsigned_Decides};
 ghost use Rattle.std.specs.Cmp.Lexicographic.{pointwise, lists_equiv, lists_per};
 ghost use Rattle.std.specs.Hash as fed;
 ghost use Rattle.std.specs.Hash.{and-Alike, items_Alike, on_Alike, same_Alike};
 ghost use Rattle.ark_math.specs.NormalForms.{gather};
+ghost use Rattle.ark_math.specs.Points.{AreValues};
 ghost use Rattle.ark_math.specs.Univariate.{IsSparse, IsDegree, IsValue, of_pairs, nothing};
+ghost use Rattle.ark_math.specs.Univariate.{product};
 
+use crate::domain::EvaluationDomain;
+use crate::evaluations::univariate::Evaluations;
 use crate::polynomial::univariate::write_term;
-use ark_base::{Field, PolyError};
-use ark_coeffs::sparse::merged_terms;
+use ark_base::{FftField, Field, PolyError};
+use ark_coeffs::products::{product_of_terms, reduced_terms};
+use ark_coeffs::sparse::gathered_terms;
 use std::alloc::{AllocError, Global};
 use std::fmt::{self, Debug, Formatter, Write};
 use std::hash::{Hash, Hasher};
@@ -104,10 +110,8 @@ impl<F: Field> SparsePolynomial<F> {
         ensures sum { IfOk result (λ p. of_pairs F.field p ≡ of_pairs F.field coeffs.items) }
         ensures memory { IsOkUnless result PolyError.Memory }
     {
-        let mut coeffs = coeffs;
-        coeffs.sort_unstable_by_key(|term| term.0);
         Ok(SparsePolynomial {
-            coeffs: merged_terms(alloc, &coeffs)?,
+            coeffs: gathered_terms(alloc, coeffs)?,
         })
     }
 
@@ -164,4 +168,59 @@ impl<F: Field> SparsePolynomial<F> {
         ensures { IsTrue (⟦<SparsePolynomial<F> as PartialEq>⟧.eq self.now other.now)
             ↔ (of_pairs F.field self.now ≡ of_pairs F.field other.now) }
     {}
+}
+
+impl<F: Field> SparsePolynomial<F> {
+    /// The product. `Overflow` exactly where the sum of the degrees is past `usize::MAX`, judged before memory is asked
+    /// for; so never with zero, whose degree is 0.
+    ///
+    /// It takes a product for each two terms, sorts these products once, and takes memory for them and for the answer.
+    pub fn mul(&self, alloc: Global, other: &Self) -> Result<Self, PolyError>
+        ensures product { IfOk result (λ p. of_pairs F.field p
+            ≡ product F.field (of_pairs F.field self.now) (of_pairs F.field other.now)) }
+        ensures overflow { (result ≡ Err PolyError.Overflow) ↔ (m : ℕ) × (n : ℕ)
+            × IsDegree F.field (of_pairs F.field self.now) m
+            × IsDegree F.field (of_pairs F.field other.now) n × (usize.MAX < m + n) }
+        ensures errors { IfErr result (λ e. (e ≡ PolyError.Memory) ⊎ (e ≡ PolyError.Overflow)) }
+    {
+        Ok(SparsePolynomial {
+            coeffs: product_of_terms(alloc, &self.coeffs, &other.coeffs)?,
+        })
+    }
+}
+
+impl<F: FftField> SparsePolynomial<F> {
+    /// Its values at the elements of the domain, no term cut off: all terms are reduced by the vanishing polynomial, with
+    /// a power and a product for each, and then transformed in place. Takes memory for the values, beside what a
+    /// transform takes.
+    pub fn evaluate_over_domain<D: EvaluationDomain<F>>(
+        self,
+        alloc: Global,
+        domain: D,
+    ) -> Result<Evaluations<F, D>, PolyError>
+        ensures values { IfOk result (λ v. AreValues F.field (D.domain domain) (of_pairs F.field self)
+            v.evals) }
+        ensures domain { IfOk result (λ v. v.domain ≡ domain) }
+        ensures memory { IsOkUnless result PolyError.Memory }
+    {
+        self.evaluate_over_domain_by_ref(alloc, domain)
+    }
+
+    /// The same, and the polynomial stays.
+    pub fn evaluate_over_domain_by_ref<D: EvaluationDomain<F>>(
+        &self,
+        alloc: Global,
+        domain: D,
+    ) -> Result<Evaluations<F, D>, PolyError>
+        ensures values { IfOk result (λ v. AreValues F.field (D.domain domain) (of_pairs F.field self.now)
+            v.evals) }
+        ensures domain { IfOk result (λ v. v.domain ≡ domain) }
+        ensures memory { IsOkUnless result PolyError.Memory }
+    {
+        let n = domain.size();
+        let constant = domain.coset_offset_pow_size();
+        let mut evals = reduced_terms(alloc, &self.coeffs, n, constant)?;
+        domain.fft_in_place(alloc, &mut evals)?;
+        Ok(Evaluations::from_vec_and_domain(evals, domain))
+    }
 }

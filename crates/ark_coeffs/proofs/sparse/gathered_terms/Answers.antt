@@ -3,7 +3,8 @@ use Rattle.std.specs.List.Sorted.{IsNonDecreasingBy}
 use Rattle.std.proofs.lemmas.List.Sorted.{IsNonDecreasingBy-from_sort_by_key}
 use Rattle.ark_math.specs.Univariate.{of_pairs}
 use Rattle.ark_math.proofs.Polynomials.SortedPairs.{of_pairs-permutation}
-use Rattle.ark_poly.proofs.polynomial.univariate.sparse.SparsePolynomial.from_coefficients_vec.Goals as goal
+use Rattle.ark_math.proofs.Outcomes.Results.{IfOk_more}
+use Rattle.ark_coeffs.proofs.sparse.gathered_terms.Goals as goal
 
 pub merged_terms-requires : goal.merged_terms-requires
 merged_terms-requires g c =
@@ -14,6 +15,8 @@ merged_terms-requires g c =
 pub returns-clause-sum : goal.returns-clause-sum
 returns-clause-sum g c =
     let K = g.F.Field.field in
-    c.in_ok-merged_terms.ensures.sum
+    IfOk_more c.merged_terms.result
+    (λ m e. e
     ∙ ap (of_pairs K) c.deref.ensures.value
-    ∙ of_pairs-permutation K g.met.F.Field.field_laws c.args.coeffs.items c.sort_unstable_by_key.new.self.items c.sort_unstable_by_key.ensures.permutation
+    ∙ of_pairs-permutation K g.met.F.Field.field_laws c.args.terms.items c.sort_unstable_by_key.new.self.items c.sort_unstable_by_key.ensures.permutation)
+    c.merged_terms.ensures.sum
