@@ -9,7 +9,7 @@ use ark_base::{Field, PolyError};
 use std::alloc::Global;
 
 /// Adds a term of a higher degree than the others, unless it's zero.
-fn push_term<F: Field>(
+pub fn push_term<F: Field>(
     terms: &mut Vec<(usize, F)>,
     degree: usize,
     coefficient: F,

@@ -1,5 +1,6 @@
 -- Polynomials in one variable: coefficient functions, lists and pairs that denote them, products, quotients, values, zeros.
 pub mod Binomials
+pub mod Conversions
 pub mod Gathered
 pub mod PairProducts
 pub mod Quotients
