@@ -7,9 +7,10 @@ ghost use Rattle.ark_poly.specs.DenseOrSparse.{denoted, IsDense};
 
 use crate::domain::EvaluationDomain;
 use crate::evaluations::univariate::Evaluations;
-use crate::polynomial::Polynomial;
+use crate::polynomial::{DenseUVPolynomial, Polynomial};
 use crate::polynomial::univariate::{DensePolynomial, SparsePolynomial};
 use ark_base::{FftField, Field, PolyError};
+use ark_coeffs::conversions::coefficients_of;
 use std::alloc::{AllocError, Global};
 use std::borrow::Cow;
 
@@ -86,6 +87,23 @@ impl<'a, F: Field> DenseOrSparsePolynomial<'a, F> {
         match self {
             SPolynomial(p) => p.degree(),
             DPolynomial(p) => p.degree(),
+        }
+    }
+
+    /// The polynomial in dense form. `Overflow` exactly where it is held in sparse form and its degree is `usize::MAX`,
+    /// judged first. Takes memory for the coefficients, and none for a dense one of its own.
+    pub fn into_dense(self, alloc: Global) -> Result<DensePolynomial<F>, PolyError>
+        ensures same { IfOk result (λ p. of_list F.field p ≡ denoted F.field self.entry) }
+        ensures overflow { (result ≡ Err PolyError.Overflow)
+            ↔ (IsDense self.entry → ⊥) × IsDegree F.field (denoted F.field self.entry) usize.MAX }
+        ensures errors { IfErr result (λ e. (e ≡ PolyError.Memory) ⊎ (e ≡ PolyError.Overflow)) }
+    {
+        match self {
+            SPolynomial(p) => {
+                let coeffs = coefficients_of(alloc, p.coeffs())?;
+                Ok(DensePolynomial::from_coefficients_vec(coeffs))
+            }
+            DPolynomial(p) => Ok(p.into_owned()?),
         }
     }
 
