@@ -7,8 +7,8 @@ ghost use Rattle.ark_poly.specs.DenseOrSparse.{denoted, IsDense};
 
 use crate::domain::EvaluationDomain;
 use crate::evaluations::univariate::Evaluations;
-use crate::polynomial::{DenseUVPolynomial, Polynomial};
 use crate::polynomial::univariate::{DensePolynomial, SparsePolynomial};
+use crate::polynomial::{DenseUVPolynomial, Polynomial};
 use ark_base::{FftField, Field, PolyError};
 use ark_coeffs::conversions::coefficients_of;
 use std::alloc::{AllocError, Global};
