@@ -1,5 +1,5 @@
 -- Polynomials of either form, dense or sparse, as contracts see them.
-use Rattle.std.specs.Prelude.{ℕ, List}
+use Rattle.std.specs.Prelude.{ℕ}
 use Rattle.std.specs.Cow.{cow_value}
 use Rattle.ark_math.specs.Field.{FieldOn}
 use Rattle.ark_math.specs.Univariate.{of_list, of_pairs}

@@ -4,11 +4,12 @@ ghost use Rattle.std.specs.Prelude.{◌≡◌, ◌≢◌, ◌↔◌, ℕ, ◌+�
 ghost use Rattle.std.specs.Prelude.{IsOk};
 ghost use Rattle.ark_math.specs.Module.{itself, sum_below};
 ghost use Rattle.ark_math.specs.Points.{AreValues, AreWeights};
+ghost use Rattle.ark_poly.specs.DenseOrSparse.{denoted};
 ghost use Rattle.ark_math.specs.Univariate.{IsBelow, IsDegree, IsValue, nothing, of_list, of_pairs, product};
 
 use crate::domain::EvaluationDomain;
 use crate::evaluations::univariate::Evaluations;
-use crate::polynomial::univariate::{DensePolynomial, SparsePolynomial};
+use crate::polynomial::univariate::{DenseOrSparsePolynomial, DensePolynomial, SparsePolynomial};
 use crate::polynomial::{DenseUVPolynomial, Polynomial};
 use ark_base::{FftField, Field, PolyError};
 use ark_coeffs::dense::sum_of_products;
@@ -133,5 +134,30 @@ pub fn values_of_both_forms<F: Field>(
     Ok((
         dense.evaluate(alloc, &point)?,
         sparse.evaluate(alloc, &point)?,
+    ))
+}
+
+/// The values over a domain of one polynomial in dense form, in sparse form and in either form: they are equal.
+///
+/// It takes a transform for each.
+pub fn values_of_all_forms<F: FftField, D: EvaluationDomain<F>>(
+    alloc: Global,
+    dense: &DensePolynomial<F>,
+    sparse: &SparsePolynomial<F>,
+    either: DenseOrSparsePolynomial<'_, F>,
+    domain: D,
+) -> Result<(Evaluations<F, D>, Evaluations<F, D>, Evaluations<F, D>), PolyError>
+    requires sparse { of_pairs F.field sparse.now ≡ of_list F.field dense.now }
+    requires either { denoted F.field either ≡ of_list F.field dense.now }
+    ensures values { IfOk result (λ v. AreValues F.field (D.domain domain) (of_list F.field dense.now)
+        v.0.evals) }
+    ensures sparse { IfOk result (λ v. v.1 ≡ v.0) }
+    ensures either { IfOk result (λ v. v.2 ≡ v.0) }
+    ensures memory { IsOkUnless result PolyError.Memory }
+{
+    Ok((
+        dense.evaluate_over_domain_by_ref(alloc, domain)?,
+        sparse.evaluate_over_domain_by_ref(alloc, domain)?,
+        DenseOrSparsePolynomial::evaluate_over_domain(either, alloc, domain)?,
     ))
 }

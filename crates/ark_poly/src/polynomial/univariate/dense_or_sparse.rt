@@ -1,12 +1,16 @@
 //! Polynomials in one variable of either form.
 
-ghost use Rattle.std.specs.Prelude.{◌≡◌, ◌↔◌, ◌⊎◌, IfOk, IfErr, IsTrue};
+ghost use Rattle.std.specs.Prelude.{◌≡◌, ◌↔◌, ◌⊎◌, IfOk, IfErr, IsOkUnless, IsTrue};
+ghost use Rattle.ark_math.specs.Points.{AreValues};
 ghost use Rattle.ark_math.specs.Univariate.{IsDegree, nothing, of_list, of_pairs};
 ghost use Rattle.ark_poly.specs.DenseOrSparse.{denoted, IsDense};
 
-use crate::polynomial::Polynomial;
+use crate::domain::EvaluationDomain;
+use crate::evaluations::univariate::Evaluations;
 use crate::polynomial::univariate::{DensePolynomial, SparsePolynomial};
-use ark_base::{Field, PolyError};
+use crate::polynomial::{DenseUVPolynomial, Polynomial};
+use ark_base::{FftField, Field, PolyError};
+use ark_coeffs::conversions::coefficients_of;
 use std::alloc::{AllocError, Global};
 use std::borrow::Cow;
 
@@ -86,6 +90,23 @@ impl<'a, F: Field> DenseOrSparsePolynomial<'a, F> {
         }
     }
 
+    /// The polynomial in dense form. `Overflow` exactly where it is held in sparse form and its degree is `usize::MAX`,
+    /// judged first. Takes memory for the coefficients, and none for a dense one of its own.
+    pub fn into_dense(self, alloc: Global) -> Result<DensePolynomial<F>, PolyError>
+        ensures same { IfOk result (λ p. of_list F.field p ≡ denoted F.field self.entry) }
+        ensures overflow { (result ≡ Err PolyError.Overflow)
+            ↔ (IsDense self.entry → ⊥) × IsDegree F.field (denoted F.field self.entry) usize.MAX }
+        ensures errors { IfErr result (λ e. (e ≡ PolyError.Memory) ⊎ (e ≡ PolyError.Overflow)) }
+    {
+        match self {
+            SPolynomial(p) => {
+                let coeffs = coefficients_of(alloc, p.coeffs())?;
+                Ok(DensePolynomial::from_coefficients_vec(coeffs))
+            }
+            DPolynomial(p) => Ok(p.into_owned()?),
+        }
+    }
+
     /// The polynomial in sparse form, without a change of form: `NotSparse` exactly where it is held in dense form,
     /// judged first. Takes memory only for a copy of a borrowed one.
     pub fn into_sparse(self, _alloc: Global) -> Result<SparsePolynomial<F>, PolyError>
@@ -96,6 +117,28 @@ impl<'a, F: Field> DenseOrSparsePolynomial<'a, F> {
         match self {
             SPolynomial(p) => Ok(p.into_owned()?),
             DPolynomial(_) => Err(PolyError::NotSparse),
+        }
+    }
+}
+
+impl<'a, F: FftField> DenseOrSparsePolynomial<'a, F> {
+    /// The values at the elements of the domain of a polynomial in either form, its own or a borrowed one: no
+    /// coefficient is cut off. A dense one of its own is reduced and transformed in place; else there is memory for the
+    /// values, and for a copy of a borrowed dense one, beside what a transform takes.
+    pub fn evaluate_over_domain<P: Into<Self>, D: EvaluationDomain<F>>(
+        poly: P,
+        alloc: Global,
+        domain: D,
+    ) -> Result<Evaluations<F, D>, PolyError>
+        ensures values { IfOk result (λ v. (p : DenseOrSparsePolynomial F) × P.converts poly p
+            × AreValues F.field (D.domain domain) (denoted F.field p) v.evals) }
+        ensures domain { IfOk result (λ v. v.domain ≡ domain) }
+        ensures memory { IsOkUnless result PolyError.Memory }
+    {
+        match poly.into() {
+            SPolynomial(p) => p.evaluate_over_domain_by_ref(alloc, domain),
+            DPolynomial(Cow::Borrowed(p)) => p.evaluate_over_domain_by_ref(alloc, domain),
+            DPolynomial(Cow::Owned(p)) => p.evaluate_over_domain(alloc, domain),
         }
     }
 }
