@@ -1,6 +1,7 @@
 //! Coefficients by terms: pairs of exponent and coefficient.
 
-ghost use Rattle.std.specs.Prelude.{◌≡◌, ◌⊎◌, ℕ, ◌<◌, ◌≤◌, [], length, OnOk, IfOk, IfSome, IsNone, IsOkUnless};
+ghost use Rattle.std.specs.Prelude.{◌≡◌, ◌⊎◌, ℕ, ◌<◌, ◌≤◌, [], length};
+ghost use Rattle.std.specs.Prelude.{OnOk, IfOk, IfSome, IsNone, IsOkUnless};
 ghost use Rattle.std.specs.List.{All};
 ghost use Rattle.std.specs.List.Sorted.{IsNonDecreasingBy};
 ghost use Rattle.ark_math.specs.Univariate.{IsSparse, IsValue, of_pairs, added, monomial, opposite, scaled};

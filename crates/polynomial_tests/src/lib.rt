@@ -19,3 +19,5 @@ mod products;
 mod sparse;
 #[cfg(test)]
 mod sparse_products;
+#[cfg(test)]
+mod sparse_sums;

@@ -1,8 +1,8 @@
 //! Polynomials in one variable.
 
 mod dense;
-mod division;
 mod dense_or_sparse;
+mod division;
 mod sparse;
 
 use ark_base::Field;
