@@ -1,7 +1,7 @@
 //! Polynomials in one variable by the list of their coefficients.
 
-ghost use Rattle.std.specs.Prelude.{◌≡◌, ◌↔◌, ℕ, ◌+◌, ◌-◌, ◌<◌, length, ◌⊎◌, IfOk, IfErr, IsOk, IsOkUnless};
-ghost use Rattle.std.specs.Prelude.{◌≤◌, IfSome, IsNone, OnOk, OnErr};
+ghost use Rattle.std.specs.Prelude.{◌≡◌, ◌≢◌, ◌↔◌, ℕ, ◌+◌, ◌-◌, ◌<◌, length, ◌⊎◌, IfOk, IfErr, IsOk};
+ghost use Rattle.std.specs.Prelude.{◌≤◌, IfSome, IsNone, IsOkUnless, OnOk, OnErr};
 ghost use Rattle.std.specs.Cmp.{on_equiv, on_per};
 ghost use Rattle.std.specs.Cmp.Lexicographic.{pointwise, lists_equiv, lists_per};
 ghost use Rattle.std.specs.Hash as fed;
@@ -27,6 +27,7 @@ use ark_coeffs::dense::{
     multiplied_by_binomial, naive_product, reduce_by_binomial, scale_each, subtract_each, trim,
     value_at,
 };
+use ark_coeffs::division::{Coefficients, divided};
 use ark_coeffs::draws::drawn;
 use rand::Rng;
 use std::alloc::{AllocError, Global};
@@ -412,6 +413,27 @@ impl<F: Field> DensePolynomial<F> {
         ensures errors { IfErr result (λ e. (e ≡ PolyError.Memory) ⊎ (e ≡ PolyError.Overflow)) }
     {
         subtract_terms_trimmed(&mut self.coeffs, other.coeffs())
+    }
+
+    /// The quotient, without the remainder. Zero divided by anything is zero; otherwise `ZeroDivisor` exactly for a zero
+    /// divisor, judged before memory is asked for.
+    ///
+    /// For each coefficient of the quotient there is one pass over the divisor's, on one copy of this polynomial's.
+    pub fn div(&self, alloc: Global, divisor: &Self) -> Result<Self, PolyError>
+        ensures quotient { IfOk result (λ q. of_list F.field divisor.now ≢ nothing F.field → (r : ℕ → F)
+            × IsQuotient F.field (of_list F.field self.now) (of_list F.field divisor.now) (of_list F.field q) r) }
+        ensures zero { IfOk result (λ q. of_list F.field self.now ≡ nothing F.field
+            → of_list F.field q ≡ nothing F.field) }
+        ensures zero_divisor { (result ≡ Err PolyError.ZeroDivisor)
+            ↔ (of_list F.field self.now ≢ nothing F.field) × (of_list F.field divisor.now ≡ nothing F.field) }
+        ensures errors { IfErr result (λ e. (e ≡ PolyError.Memory) ⊎ (e ≡ PolyError.ZeroDivisor)) }
+    {
+        let dividend = Coefficients::Listed(&self.coeffs);
+        let Some((quotient, _)) = divided(alloc, dividend, Coefficients::Listed(&divisor.coeffs))?
+        else {
+            return Err(PolyError::ZeroDivisor);
+        };
+        Ok(Self::from_coefficients_vec(quotient))
     }
 }
 

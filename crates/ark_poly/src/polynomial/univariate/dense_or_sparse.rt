@@ -1,8 +1,9 @@
 //! Polynomials in one variable of either form.
 
-ghost use Rattle.std.specs.Prelude.{◌≡◌, ◌↔◌, ◌⊎◌, IfOk, IfErr, IsOkUnless, IsTrue};
+ghost use Rattle.std.specs.Prelude.{◌≡◌, ◌≢◌, ◌↔◌, ◌⊎◌, ℕ, IfOk, IfErr, IfSome, IsOkUnless, IsTrue, None};
 ghost use Rattle.ark_math.specs.Points.{AreValues};
-ghost use Rattle.ark_math.specs.Univariate.{IsDegree, nothing, of_list, of_pairs};
+ghost use Rattle.ark_math.specs.Univariate.{IsDegree, IsQuotient, nothing, of_list, of_pairs};
+ghost use Rattle.ark_coeffs.specs.Divisors.{IsKept, denoted as coefficients_denote};
 ghost use Rattle.ark_poly.specs.DenseOrSparse.{denoted, IsDense};
 
 use crate::domain::EvaluationDomain;
@@ -11,6 +12,7 @@ use crate::polynomial::univariate::{DensePolynomial, SparsePolynomial};
 use crate::polynomial::{DenseUVPolynomial, Polynomial};
 use ark_base::{FftField, Field, PolyError};
 use ark_coeffs::conversions::coefficients_of;
+use ark_coeffs::division::{Coefficients, divided};
 use std::alloc::{AllocError, Global};
 use std::borrow::Cow;
 
@@ -88,6 +90,55 @@ impl<'a, F: Field> DenseOrSparsePolynomial<'a, F> {
             SPolynomial(p) => p.degree(),
             DPolynomial(p) => p.degree(),
         }
+    }
+
+    // Its coefficients in the form in which it has them.
+    fn coefficients(&self) -> Coefficients<'_, F>
+        ensures same { coefficients_denote F.field result ≡ denoted F.field self.now }
+        ensures kept { IsKept F.field result }
+    {
+        match self {
+            SPolynomial(p) => Coefficients::Terms(p.coeffs()),
+            DPolynomial(p) => Coefficients::Listed(p.coeffs()),
+        }
+    }
+
+    /// The quotient and the remainder by a divisor, of which there is no other pair. A zero dividend gives two zeros,
+    /// whatever the divisor; otherwise `None` exactly for a zero divisor, and then `Overflow` exactly where the dividend's
+    /// degree is `usize::MAX`, judged before memory is asked for.
+    ///
+    /// For each coefficient of the quotient there is one pass over the divisor's, on one list of the dividend's.
+    pub fn divide_with_q_and_r(
+        &self,
+        alloc: Global,
+        divisor: &DenseOrSparsePolynomial<'_, F>,
+    ) -> Result<Option<(DensePolynomial<F>, DensePolynomial<F>)>, PolyError>
+        ensures quotient { IfOk result (λ o. IfSome o (λ p. denoted F.field divisor.now ≢ nothing F.field
+            → IsQuotient F.field (denoted F.field self.now) (denoted F.field divisor.now) (of_list F.field p.0)
+            (of_list F.field p.1))) }
+        ensures only { IfOk result (λ o. IfSome o (λ p. (q r : ℕ → F)
+            → IsQuotient F.field (denoted F.field self.now) (denoted F.field divisor.now) q r
+            → (q ≡ of_list F.field p.0) × (r ≡ of_list F.field p.1))) }
+        ensures zeros { IfOk result (λ o. IfSome o (λ p. denoted F.field self.now ≡ nothing F.field
+            → (of_list F.field p.0 ≡ nothing F.field) × (of_list F.field p.1 ≡ nothing F.field))) }
+        ensures none { (result ≡ Ok None) ↔ (denoted F.field self.now ≢ nothing F.field)
+            × (denoted F.field divisor.now ≡ nothing F.field) }
+        ensures overflow { (result ≡ Err PolyError.Overflow) ↔ (denoted F.field divisor.now ≢ nothing F.field)
+            × IsDegree F.field (denoted F.field self.now) usize.MAX }
+        ensures errors { IfErr result (λ e. (e ≡ PolyError.Memory) ⊎ (e ≡ PolyError.Overflow)) }
+    {
+        let Some((quotient, remainder)) = divided(
+            alloc,
+            self.coefficients(),
+            divisor.coefficients(),
+        )?
+        else {
+            return Ok(None);
+        };
+        Ok(Some((
+            DensePolynomial::from_coefficients_vec(quotient),
+            DensePolynomial::from_coefficients_vec(remainder),
+        )))
     }
 
     /// The polynomial in dense form. `Overflow` exactly where it is held in sparse form and its degree is `usize::MAX`,
