@@ -36,14 +36,13 @@ abbrev pub shown_field : {M : Type 0} → Ghosts M → Known
 shown_field g = record { modulus = g.MODULUS; adicity = adicity g; generator = g.GENERATOR }
 
 -- a line that is what the command gives, or want of memory for it
-pub outcome_line : (f : Known) (asked c : Command) (outcome : Result (String Global) PolyError) (line : List ℕ) → asked ≡ c → Gives f c line
-    → IfOk outcome (λ text. string_bytes text ≡ line) → IsOkUnless outcome Memory → IsOutcome f asked outcome
-outcome_line f asked c (Ok text) line e gives same memory = subst (λ a. Gives f a (string_bytes text)) (sym e) (subst (Gives f c) (sym same) gives)
-outcome_line f asked c (Err error) line e gives same memory = inr (inl (line, subst (λ a. Gives f a line) (sym e) gives), memory)
+pub outcome_line : (f : Known) (c : Command) (outcome : Result (String Global) PolyError) (line : List ℕ) → Gives f c line → IfOk outcome (λ text. string_bytes text ≡ line) → IsOkUnless outcome Memory → IsOutcome f c outcome
+outcome_line f c (Ok text) line gives same memory = subst (Gives f c) (sym same) gives
+outcome_line f c (Err error) line gives same memory = inr (inl (line, gives), memory)
 
-pub outcome_error : (f : Known) (asked c : Command) (outcome : Result (String Global) PolyError) (error : PolyError) → asked ≡ c → IsErrAnd outcome (λ e. e ≡ error) → MayRefuse f c error → IsOutcome f asked outcome
-outcome_error f asked c (Ok text) error e same refused = absurd same
-outcome_error f asked c (Err told) error e same refused = subst (λ a. MayRefuse f a told) (sym e) (subst (MayRefuse f c) (sym same) refused)
+pub outcome_error : (f : Known) (c : Command) (outcome : Result (String Global) PolyError) (error : PolyError) → IsErrAnd outcome (λ e. e ≡ error) → MayRefuse f c error → IsOutcome f c outcome
+outcome_error f c (Ok text) error same refused = absurd same
+outcome_error f c (Err told) error same refused = subst (MayRefuse f c) (sym same) refused
 
 -- what is found is no error
 pub found_is_no_error : {A E : Type 0} {x : A} {error : E} → Ok x ≡ Err error → ⊥

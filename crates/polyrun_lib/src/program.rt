@@ -6,6 +6,7 @@ ghost use Rattle.ark_math.specs.Domain.{HasNoSize, IsDomain};
 ghost use Rattle.ark_base.specs.Element.{number};
 ghost use Rattle.polyrun_lib.specs.Words.{IsList, SpellsList};
 ghost use Rattle.polyrun_lib.specs.Commands.{Command as Asked, Spells, IsSpelled};
+ghost use Rattle.polyrun_lib.specs.Commands.{transform_of, product_of, value_of, size_for};
 ghost use Rattle.polyrun_lib.specs.Lines.{line_of};
 ghost use Rattle.polyrun_lib.specs.Answer.{Known, known_by, coefficients, IsCommand, MayWrite, IsWritten};
 ghost use Rattle.polyrun_lib.specs.Outcome.{IsOutcome, IsOutcomeOf};
@@ -86,33 +87,70 @@ fn answer_over<M: PrimeModulus>(alloc: Global, command: Command) -> Result<Strin
             size,
             offset,
             list,
-        } => {
-            let domain: Domain<M> = coset(size, PrimeField::from(offset))?;
-            let mut items = elements::<M>(alloc, list)?;
-            let work = &mut Work::new();
-            match direction {
-                Direction::Forward => domain.fft_counted(alloc, &mut items, work)?,
-                Direction::Inverse => domain.ifft_counted(alloc, &mut items, work)?,
-            }
-            element_line(alloc, &items)
-        }
-        Command::Mul { left, right } => {
-            let left = polynomial::<M>(alloc, left)?;
-            let right = polynomial::<M>(alloc, right)?;
-            let product = left.mul(alloc, &right)?;
-            element_line(alloc, product.coeffs())
-        }
-        Command::Eval { list, point } => {
-            let polynomial = DensePolynomial::from_coefficients_vec(elements::<M>(alloc, list)?);
-            let value = polynomial.evaluate(alloc, &PrimeField::from(point))?;
-            element_line(alloc, &[value])
-        }
-        Command::Size { num_coeffs } => {
-            let size = Domain::<M>::compute_size_of_domain(num_coeffs as usize);
-            let size = size.ok_or(PolyError::NoDomain)?;
-            Ok(line(alloc, &[size as u64])?)
-        }
+        } => transform_line::<M>(alloc, direction, size, offset, list),
+        Command::Mul { left, right } => product_line::<M>(alloc, left, right),
+        Command::Eval { list, point } => value_line::<M>(alloc, list, point),
+        Command::Size { num_coeffs } => size_line::<M>(alloc, num_coeffs),
     }
+}
+
+/// The line of a transform or its inverse. Whether there is a domain is judged before memory is asked for.
+fn transform_line<M: PrimeModulus>(
+    alloc: Global,
+    direction: Direction,
+    size: u64,
+    offset: u64,
+    list: &str,
+) -> Result<String, PolyError>
+    requires { SpellsList list.now }
+    ensures { (xs : List ℕ) → IsList list.now xs
+        → IsOutcome (known_by M.modulus) (transform_of direction size offset xs) result }
+{
+    let domain: Domain<M> = coset(size, PrimeField::from(offset))?;
+    let mut items = elements::<M>(alloc, list)?;
+    let work = &mut Work::new();
+    match direction {
+        Direction::Forward => domain.fft_counted(alloc, &mut items, work)?,
+        Direction::Inverse => domain.ifft_counted(alloc, &mut items, work)?,
+    }
+    element_line(alloc, &items)
+}
+
+/// The line of a product.
+fn product_line<M: PrimeModulus>(
+    alloc: Global,
+    left: &str,
+    right: &str,
+) -> Result<String, PolyError>
+    requires left { SpellsList left.now }
+    requires right { SpellsList right.now }
+    ensures { (xs ys : List ℕ) → IsList left.now xs → IsList right.now ys
+        → IsOutcome (known_by M.modulus) (product_of xs ys) result }
+{
+    let left = polynomial::<M>(alloc, left)?;
+    let right = polynomial::<M>(alloc, right)?;
+    let product = left.mul(alloc, &right)?;
+    element_line(alloc, product.coeffs())
+}
+
+/// The line of a value.
+fn value_line<M: PrimeModulus>(alloc: Global, list: &str, point: u64) -> Result<String, PolyError>
+    requires { SpellsList list.now }
+    ensures { (xs : List ℕ) → IsList list.now xs
+        → IsOutcome (known_by M.modulus) (value_of xs point) result }
+{
+    let polynomial = DensePolynomial::from_coefficients_vec(elements::<M>(alloc, list)?);
+    let value = polynomial.evaluate(alloc, &PrimeField::from(point))?;
+    element_line(alloc, &[value])
+}
+
+/// The line of a size.
+fn size_line<M: PrimeModulus>(alloc: Global, num_coeffs: u64) -> Result<String, PolyError>
+    ensures { IsOutcome (known_by M.modulus) (size_for num_coeffs) result }
+{
+    let size = Domain::<M>::compute_size_of_domain(num_coeffs as usize);
+    let size = size.ok_or(PolyError::NoDomain)?;
+    Ok(line(alloc, &[size as u64])?)
 }
 
 /// The coset of the size that the type of domain takes for `size`.
