@@ -100,6 +100,32 @@ fn products(rt: HostRuntime) -> Result<(), Fail> {
     Ok(())
 }
 
+// The quotient's line and the remainder's; both are empty for zero, whatever the divisor is.
+const DIVISIONS: [(&[&str], &str); 5] = [
+    (&["5", "div", "1,2,3", "1,2"], "4,4\n2"),
+    (&["65537", "div", "4,8,5,1", "1,1"], "4,4,1\n"),
+    (&["433", "div", "7", "1,1"], "\n7"),
+    (&["65537", "div", "", ""], "\n"),
+    (&["5", "div", "5,0", "1,1"], "\n"),
+];
+
+#[test]
+fn divisions(rt: HostRuntime) -> Result<(), Fail> {
+    assert!(rt; answers(rt.alloc(), &DIVISIONS, 0)?);
+    Ok(())
+}
+
+const BY_ZERO: [(&[&str], &str); 2] = [
+    (&["65537", "div", "1", ""], "error 5: ZeroDivisor"),
+    (&["5", "div", "1,2", "5,10"], "error 5: ZeroDivisor"),
+];
+
+#[test]
+fn divisions_by_zero(rt: HostRuntime) -> Result<(), Fail> {
+    assert!(rt; answers(rt.alloc(), &BY_ZERO, 1)?);
+    Ok(())
+}
+
 const SIZES: [(&[&str], &str); 8] = [
     (&["65537", "size", "0"], "1"),
     (&["433", "size", "5"], "8"),
@@ -148,7 +174,7 @@ fn without_a_domain(rt: HostRuntime) -> Result<(), Fail> {
     Ok(())
 }
 
-const NO_COMMANDS: [(&[&str], &str); 12] = [
+const NO_COMMANDS: [(&[&str], &str); 14] = [
     (&[], "usage"),
     (&["5"], "usage"),
     (&["7", "fft", "4", "1", "1"], "usage"),
@@ -158,6 +184,8 @@ const NO_COMMANDS: [(&[&str], &str); 12] = [
     (&["5", "fft", "4", "1", "1", "1"], "usage"),
     (&["5", "mul", "1"], "usage"),
     (&["5", "mul", "1", "1", "1"], "usage"),
+    (&["5", "div", "1"], "usage"),
+    (&["5", "div", "1", "1", "1"], "usage"),
     (&["5", "eval", "1"], "usage"),
     (&["5", "size"], "usage"),
     (&["5", "size", "1", "1"], "usage"),

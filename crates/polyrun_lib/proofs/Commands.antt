@@ -9,7 +9,7 @@ use Rattle.ark_base.specs.declared.error.PolyError.{PolyError}
 use Rattle.polyrun_lib.specs.Lines.{refusal_line_of, usage_text}
 use Rattle.polyrun_lib.specs.Answer.{Known, IsCommand, MayWrite}
 use Rattle.polyrun_lib.specs.Outcome.{MayRefuse}
-use Rattle.polyrun_lib.specs.Commands.{Command, transform_of, product_of, value_of, size_for, transform_name, command_name, IsNoTransform, AreMultiplied, AreEvaluated, Takes, Reads, IsNoCommand}
+use Rattle.polyrun_lib.specs.Commands.{Command, transform_of, product_of, division_of, value_of, size_for, transform_name, command_name, IsNoTransform, AreTwoLists, AreEvaluated, Takes, Reads, IsNoCommand}
 
 pub IfNone-weaker : {T : Type 0} (o : Option T) {P Q : Type 0} → IfNone o P → (P → Q) → IfNone o Q
 IfNone-weaker None p f = f p
@@ -55,24 +55,37 @@ pub not_transform : (words : List (List ℕ)) (name : List ℕ) (rest : List (Li
 not_transform words name rest direction e is none (transform_of way k h xs) r = none k h xs (named words name rest (transform_of way k h xs) e r).1
 not_transform words name rest Forward e is none (product_of xs ys) r = differ (codes "mul") (codes "fft") refl (named words name rest (product_of xs ys) e r).0 is
 not_transform words name rest Inverse e is none (product_of xs ys) r = differ (codes "mul") (codes "ifft") refl (named words name rest (product_of xs ys) e r).0 is
+not_transform words name rest Forward e is none (division_of xs ys) r = differ (codes "div") (codes "fft") refl (named words name rest (division_of xs ys) e r).0 is
+not_transform words name rest Inverse e is none (division_of xs ys) r = differ (codes "div") (codes "ifft") refl (named words name rest (division_of xs ys) e r).0 is
 not_transform words name rest Forward e is none (value_of xs x) r = differ (codes "eval") (codes "fft") refl (named words name rest (value_of xs x) e r).0 is
 not_transform words name rest Inverse e is none (value_of xs x) r = differ (codes "eval") (codes "ifft") refl (named words name rest (value_of xs x) e r).0 is
 not_transform words name rest Forward e is none (size_for k) r = differ (codes "size") (codes "fft") refl (named words name rest (size_for k) e r).0 is
 not_transform words name rest Inverse e is none (size_for k) r = differ (codes "size") (codes "ifft") refl (named words name rest (size_for k) e r).0 is
 
 pub not_multiplied : (words : List (List ℕ)) (name : List ℕ) (rest : List (List ℕ)) → words ≡ name ∷ rest → name ≡ codes "mul"
-    → ((xs ys : List ℕ) → AreMultiplied rest xs ys → ⊥) → IsNoCommand words
+    → ((xs ys : List ℕ) → AreTwoLists rest xs ys → ⊥) → IsNoCommand words
 not_multiplied words name rest e is none (transform_of Forward k h xs) r = differ (codes "fft") (codes "mul") refl (named words name rest (transform_of Forward k h xs) e r).0 is
 not_multiplied words name rest e is none (transform_of Inverse k h xs) r = differ (codes "ifft") (codes "mul") refl (named words name rest (transform_of Inverse k h xs) e r).0 is
 not_multiplied words name rest e is none (product_of xs ys) r = none xs ys (named words name rest (product_of xs ys) e r).1
+not_multiplied words name rest e is none (division_of xs ys) r = differ (codes "div") (codes "mul") refl (named words name rest (division_of xs ys) e r).0 is
 not_multiplied words name rest e is none (value_of xs x) r = differ (codes "eval") (codes "mul") refl (named words name rest (value_of xs x) e r).0 is
 not_multiplied words name rest e is none (size_for k) r = differ (codes "size") (codes "mul") refl (named words name rest (size_for k) e r).0 is
+
+pub not_divided : (words : List (List ℕ)) (name : List ℕ) (rest : List (List ℕ)) → words ≡ name ∷ rest → name ≡ codes "div"
+    → ((xs ys : List ℕ) → AreTwoLists rest xs ys → ⊥) → IsNoCommand words
+not_divided words name rest e is none (transform_of Forward k h xs) r = differ (codes "fft") (codes "div") refl (named words name rest (transform_of Forward k h xs) e r).0 is
+not_divided words name rest e is none (transform_of Inverse k h xs) r = differ (codes "ifft") (codes "div") refl (named words name rest (transform_of Inverse k h xs) e r).0 is
+not_divided words name rest e is none (product_of xs ys) r = differ (codes "mul") (codes "div") refl (named words name rest (product_of xs ys) e r).0 is
+not_divided words name rest e is none (division_of xs ys) r = none xs ys (named words name rest (division_of xs ys) e r).1
+not_divided words name rest e is none (value_of xs x) r = differ (codes "eval") (codes "div") refl (named words name rest (value_of xs x) e r).0 is
+not_divided words name rest e is none (size_for k) r = differ (codes "size") (codes "div") refl (named words name rest (size_for k) e r).0 is
 
 pub not_evaluated : (words : List (List ℕ)) (name : List ℕ) (rest : List (List ℕ)) → words ≡ name ∷ rest → name ≡ codes "eval"
     → ((xs : List ℕ) (x : ℕ) → AreEvaluated rest xs x → ⊥) → IsNoCommand words
 not_evaluated words name rest e is none (transform_of Forward k h xs) r = differ (codes "fft") (codes "eval") refl (named words name rest (transform_of Forward k h xs) e r).0 is
 not_evaluated words name rest e is none (transform_of Inverse k h xs) r = differ (codes "ifft") (codes "eval") refl (named words name rest (transform_of Inverse k h xs) e r).0 is
 not_evaluated words name rest e is none (product_of xs ys) r = differ (codes "mul") (codes "eval") refl (named words name rest (product_of xs ys) e r).0 is
+not_evaluated words name rest e is none (division_of xs ys) r = differ (codes "div") (codes "eval") refl (named words name rest (division_of xs ys) e r).0 is
 not_evaluated words name rest e is none (value_of xs x) r = none xs x (named words name rest (value_of xs x) e r).1
 not_evaluated words name rest e is none (size_for k) r = differ (codes "size") (codes "eval") refl (named words name rest (size_for k) e r).0 is
 

@@ -1,13 +1,13 @@
 -- An element's value carries a prime field's operations to those of the numbers below its prime, and so every answer.
-use Rattle.std.proofs.Common.{◌≡◌, ◌⊎◌, ◌+◌, ◌-◌, ◌/◌, ◌%◌, ◌<◌, ◌==◌, ℕ, List, [], ◌∷◌, length, Result, Ok, Err, map, IfOk, IsOkUnless, string_bytes, inl, inr, refl, sym, ap, ap₂, subst, ◌∙◌, mod-eq_of_lt}
+use Rattle.std.proofs.Common.{◌≡◌, ◌⊎◌, ◌+◌, ◌-◌, ◌/◌, ◌%◌, ◌<◌, ◌==◌, ℕ, List, [], ◌∷◌, ◌++◌, ◌≢◌, length, Result, Ok, Err, map, IfOk, IsOkUnless, string_bytes, inl, inr, refl, sym, ap, ap₂, subst, ◌∙◌, mod-eq_of_lt, arith}
 use Rattle.ark_math.specs.Field.{FieldOn}
 use Rattle.ark_math.specs.Module.{itself}
 use Rattle.ark_math.specs.Domain.{Domain, HasNoSize, IsDomain}
 use Rattle.ark_math.specs.Transform.{transform, value_at, IsInverse}
-use Rattle.ark_math.specs.Univariate.{of_list, product, IsTrimmed}
+use Rattle.ark_math.specs.Univariate.{of_list, product, nothing, IsTrimmed, IsQuotient}
 use Rattle.ark_math.proofs.Polynomials.Trimmed.{trim-same, trim-trimmed}
-use Rattle.ark_math.proofs.Polynomials.UnivariateLists.{same_trimmed}
-use Rattle.ark_math.proofs.Transforms.Carried.{Carries, carried, power-carried, value_at-carried, transform-carried, IsInverse-carried, of_list-carried, product-carried}
+use Rattle.ark_math.proofs.Polynomials.UnivariateLists.{same_trimmed, trimmed_nothing}
+use Rattle.ark_math.proofs.Transforms.Carried.{Carries, carried, power-carried, value_at-carried, transform-carried, IsInverse-carried, of_list-carried, product-carried, IsQuotient-carried}
 use Rattle.ark_math.proofs.Transforms.Inversion.{inverse_exists}
 use Rattle.ark_math.proofs.Domains.Domains.{root_order, size_not_zero}
 use mathlib.Core.Path.{fun_ext}
@@ -27,8 +27,8 @@ use Rattle.ark_base.specs.ElementLaws.{prime_field_laws, prime_module_laws, prim
 use Rattle.polyrun_lib.specs.Lines.{line_of}
 use Rattle.polyrun_lib.specs.declared.command.Direction.{Direction}
 use Rattle.polyrun_lib.specs.declared.command.Direction.TheVariants.{Forward, Inverse}
-use Rattle.polyrun_lib.specs.Commands.{Command, transform_of, product_of, value_of}
-use Rattle.polyrun_lib.specs.Answer.{Known, operations, reduced, coefficients, domain_of, IsChosen, IsDomainFor, HasNoDomain, HasNoProduct, Gives, TakesMemory}
+use Rattle.polyrun_lib.specs.Commands.{Command, transform_of, product_of, division_of, value_of}
+use Rattle.polyrun_lib.specs.Answer.{Known, operations, reduced, coefficients, domain_of, IsChosen, IsDomainFor, HasNoDomain, HasNoProduct, HasNoQuotient, Gives, TakesMemory}
 use Rattle.polyrun_lib.specs.Outcome.{MayRefuse, IsOutcome}
 
 -- the field that a modulus shows
@@ -175,9 +175,51 @@ module _ (M : Type 0) (g : Ghosts M) (S : Shown g) where
         map number c,
         (
           fun_ext (λ k. sym (of_list-carried number_carries c k) ∙ ap (λ h. number (h k)) whole ∙ product-carried number_carries (of_list K a) (of_list K b) k) ∙ ap₂ (product L) left right,
-          trimmed_numbers c trimmed,
-          reduced_values c,
+          (trimmed_numbers c trimmed, reduced_values c),
         ),
         (λ none. some (subst (λ m. HasNoPlaces m (length b)) (sym (numbers_length xs a e)) (subst (HasNoPlaces (length (coefficients (shown_field g) xs))) (sym (numbers_length ys b f)) none))),
         refl,
       )
+
+  -- what a list of elements denotes, and what their numbers denote
+  numbers_denote : (xs : List ℕ) (a : List (PrimeField M g)) → map (number {M = M} {g = g}) a ≡ coefficients (shown_field g) xs → (λ i. number (of_list K a i)) ≡ of_list (operations (shown_field g)) (coefficients (shown_field g) xs)
+  numbers_denote xs a e = fun_ext (of_list-carried number_carries a) ∙ ap (of_list (operations (shown_field g))) e
+
+  coefficients_nothing : (xs : List ℕ) (a : List (PrimeField M g)) → map (number {M = M} {g = g}) a ≡ coefficients (shown_field g) xs → of_list K a ≡ nothing K → coefficients (shown_field g) xs ≡ []
+  coefficients_nothing xs a e none =
+      let L = operations (shown_field g) in
+      trimmed_nothing L (coefficients (shown_field g) xs) (trim-trimmed L (λ x. x == 0) (λ x. Decides-eqb x 0) (reduced (shown_field g) xs))
+      (sym (numbers_denote xs a e) ∙ ap (λ h i. number (h i)) none)
+
+  numbers_nothing : (q : List (PrimeField M g)) → IsTrimmed K q → of_list K q ≡ nothing K → map (number {M = M} {g = g}) q ≡ []
+  numbers_nothing q trimmed none = ap (map number) (trimmed_nothing K q trimmed none)
+
+  pub no_quotient : (xs ys : List ℕ) (a b : List (PrimeField M g)) → map (number {M = M} {g = g}) a ≡ coefficients (shown_field g) xs → map (number {M = M} {g = g}) b ≡ coefficients (shown_field g) ys
+      → of_list K a ≢ nothing K → of_list K b ≡ nothing K → HasNoQuotient (coefficients (shown_field g) xs) (coefficients (shown_field g) ys)
+  no_quotient xs ys a b e f some none = (subst (λ n. 0 < n) (numbers_length xs a e) (some_items a some), coefficients_nothing ys b f none)
+    where
+      some_items : (a : List (PrimeField M g)) → of_list K a ≢ nothing K → 0 < length a
+      some_items [] some = absurd (some refl)
+      some_items (x ∷ a) some = omega arith
+
+  pub gives_quotient : (xs ys : List ℕ) (a b q r : List (PrimeField M g)) → map (number {M = M} {g = g}) a ≡ coefficients (shown_field g) xs → map (number {M = M} {g = g}) b ≡ coefficients (shown_field g) ys
+      → IsTrimmed K q → IsTrimmed K r
+      → ((of_list K a ≡ nothing K) × (of_list K q ≡ nothing K) × (of_list K r ≡ nothing K)) ⊎ IsQuotient K (of_list K a) (of_list K b) (of_list K q) (of_list K r)
+      → Gives (shown_field g) (division_of xs ys) (line_of (map (number {M = M} {g = g}) q) ++ line_of (map (number {M = M} {g = g}) r))
+  gives_quotient xs ys a b q r e f s t divided = (map number q, map number r, (pair divided, (trimmed_numbers q s, reduced_values q), (trimmed_numbers r t, reduced_values r)), refl)
+    where
+      L : FieldOn ℕ
+      L = operations (shown_field g)
+
+      IsPair : Type 0
+      IsPair = ((coefficients (shown_field g) xs ≡ []) × (map (number {M = M} {g = g}) q ≡ []) × (map (number {M = M} {g = g}) r ≡ []))
+          ⊎ IsQuotient L (of_list L (coefficients (shown_field g) xs)) (of_list L (coefficients (shown_field g) ys)) (of_list L (map number q)) (of_list L (map number r))
+
+      pair : ((of_list K a ≡ nothing K) × (of_list K q ≡ nothing K) × (of_list K r ≡ nothing K)) ⊎ IsQuotient K (of_list K a) (of_list K b) (of_list K q) (of_list K r) → IsPair
+      pair (inl zero) = inl (coefficients_nothing xs a e zero.0, numbers_nothing q s zero.1, numbers_nothing r t zero.2)
+      pair (inr Q) =
+          let carried_over = IsQuotient-carried number_carries (λ x z. same_from_value _ _ z) (of_list K a) (of_list K b) (of_list K q) (of_list K r) Q in
+          inr (subst (λ d. IsQuotient L d (of_list L (coefficients (shown_field g) ys)) (of_list L (map number q)) (of_list L (map number r))) (numbers_denote xs a e)
+          (subst (λ d. IsQuotient L (λ i. number (of_list K a i)) d (of_list L (map number q)) (of_list L (map number r))) (numbers_denote ys b f)
+          (subst (λ d. IsQuotient L (λ i. number (of_list K a i)) (λ i. number (of_list K b i)) d (of_list L (map number r))) (fun_ext (of_list-carried number_carries q))
+          (subst (λ d. IsQuotient L (λ i. number (of_list K a i)) (λ i. number (of_list K b i)) (λ i. number (of_list K q i)) d) (fun_ext (of_list-carried number_carries r)) carried_over))))

@@ -1,5 +1,5 @@
 -- What the program writes for some words, and its status.
-use Rattle.std.specs.Prelude.{◌≡◌, ◌≢◌, ℕ, ◌+◌, ◌-◌, ◌*◌, ◌/◌, ◌%◌, ◌<◌, ◌==◌, ◌⊎◌, Option, List, [], ◌∷◌, Some, None, length, map, codes}
+use Rattle.std.specs.Prelude.{◌≡◌, ◌≢◌, ℕ, ◌+◌, ◌-◌, ◌*◌, ◌/◌, ◌%◌, ◌<◌, ◌==◌, ◌⊎◌, Option, List, [], ◌∷◌, ◌++◌, Some, None, length, map, codes}
 use Rattle.std.specs.Io.KnownBytes.{Appends}
 use Rattle.ark_math.specs.Field.{FieldOn, power}
 use Rattle.ark_math.specs.Module.{itself}
@@ -8,13 +8,13 @@ use Rattle.ark_math.specs.Generator.{IsModulus}
 use Rattle.ark_math.specs.Domain.{Kind, Domain, HasNoSize, IsGeneral}
 use Rattle.ark_math.specs.Transform.{transform, value_at, IsInverse}
 use Rattle.ark_math.specs.NormalForms.{trim}
-use Rattle.ark_math.specs.Univariate.{of_list, product, IsTrimmed}
+use Rattle.ark_math.specs.Univariate.{of_list, product, IsTrimmed, IsQuotient}
 use Rattle.ark_base.specs.declared.error.PolyError.{PolyError}
-use Rattle.ark_base.specs.declared.error.PolyError.TheVariants.{Memory, NoDomain}
+use Rattle.ark_base.specs.declared.error.PolyError.TheVariants.{Memory, NoDomain, ZeroDivisor}
 use Rattle.ark_base.specs.Transfer.{AppendsBeginning}
 use Rattle.polyrun_lib.specs.declared.command.Direction.{Direction}
 use Rattle.polyrun_lib.specs.declared.command.Direction.TheVariants.{Forward, Inverse}
-use Rattle.polyrun_lib.specs.Commands.{Command, transform_of, product_of, value_of, size_for, Reads}
+use Rattle.polyrun_lib.specs.Commands.{Command, transform_of, product_of, division_of, value_of, size_for, Reads}
 use Rattle.polyrun_lib.specs.Lines.{line_of, refusal_line_of, usage_text}
 
 -- ---- fields
@@ -74,14 +74,29 @@ abbrev pub IsTransformed : Known → Direction → Domain ℕ → List ℕ → L
 IsTransformed f Forward d xs ys = ys ≡ transform (operations f) (itself (operations f)) d xs
 IsTransformed f Inverse d xs ys = IsInverse (operations f) (itself (operations f)) d xs ys × (reduced f ys ≡ ys)
 
--- the coefficients of the product of two polynomials, below the modulus, the last one not zero
+-- numbers below the modulus, the last one not zero
+abbrev pub AreCoefficients : Known → List ℕ → Type 0
+AreCoefficients f zs = IsTrimmed (operations f) zs × (reduced f zs ≡ zs)
+
+-- the coefficients of the product of two polynomials
 abbrev pub AreProduct : Known → List ℕ → List ℕ → List ℕ → Type 0
 AreProduct f xs ys zs = (of_list (operations f) zs ≡ product (operations f) (of_list (operations f) xs) (of_list (operations f) ys))
-    × IsTrimmed (operations f) zs × (reduced f zs ≡ zs)
+    × AreCoefficients f zs
 
 -- no domain is as long as the product of two polynomials, of which neither is zero
 abbrev pub HasNoProduct : Known → List ℕ → List ℕ → Type 0
 HasNoProduct f xs ys = (0 < length xs) × (0 < length ys) × HasNoSize (IsChosen f.adicity) (length xs + length ys - 1)
+
+-- the coefficients of the quotient and the remainder of a polynomial by another: both zero for zero, whatever the other is
+abbrev pub AreQuotient : Known → List ℕ → List ℕ → List ℕ → List ℕ → Type 0
+AreQuotient f xs ys qs rs =
+    (((xs ≡ []) × (qs ≡ []) × (rs ≡ []))
+    ⊎ IsQuotient (operations f) (of_list (operations f) xs) (of_list (operations f) ys) (of_list (operations f) qs) (of_list (operations f) rs))
+    × AreCoefficients f qs × AreCoefficients f rs
+
+-- a polynomial that isn't zero, and zero
+abbrev pub HasNoQuotient : List ℕ → List ℕ → Type 0
+HasNoQuotient xs ys = (0 < length xs) × (ys ≡ [])
 
 -- what a command writes where it has an answer
 abbrev pub Gives : Known → Command → List ℕ → Type 0
@@ -89,6 +104,8 @@ Gives f (transform_of direction k h xs) text = (d : Domain ℕ) × (ys : List �
     × IsTransformed f direction d (reduced f xs) ys × (text ≡ line_of ys)
 Gives f (product_of xs ys) text = (zs : List ℕ) × AreProduct f (coefficients f xs) (coefficients f ys) zs
     × (HasNoProduct f (coefficients f xs) (coefficients f ys) → ⊥) × (text ≡ line_of zs)
+Gives f (division_of xs ys) text = (qs : List ℕ) × (rs : List ℕ) × AreQuotient f (coefficients f xs) (coefficients f ys) qs rs
+    × (text ≡ line_of qs ++ line_of rs)
 Gives f (value_of xs x) text = text ≡ line_of (value_at (operations f) (itself (operations f)) (reduced f xs) (x % f.modulus) ∷ [])
 Gives f (size_for k) text = (kind : Kind) × (n : ℕ) × IsChosen f.adicity k kind n × (text ≡ line_of (n ∷ []))
 
@@ -100,13 +117,14 @@ HasNoDomain f k h = HasNoSize (IsChosen f.adicity) k ⊎ (h % f.modulus ≡ 0)
 abbrev pub Refuses : Known → Command → PolyError → Type 0
 Refuses f (transform_of direction k h xs) error = HasNoDomain f k h × (error ≡ NoDomain)
 Refuses f (product_of xs ys) error = HasNoProduct f (coefficients f xs) (coefficients f ys) × (error ≡ NoDomain)
+Refuses f (division_of xs ys) error = HasNoQuotient (coefficients f xs) (coefficients f ys) × (error ≡ ZeroDivisor)
 Refuses f (value_of xs x) error = ⊥
 Refuses f (size_for k) error = HasNoSize (IsChosen f.adicity) k × (error ≡ NoDomain)
 
--- a command for which want of memory may be reported: one that has an answer, and any product, whose factors are read
--- before it is known whether there is a domain for it
+-- a command for which want of memory may be reported: one that has an answer, and any product and any division, whose
+-- lists are read before it is known whether there is an answer
 abbrev pub TakesMemory : Known → Command → Type 0
-TakesMemory f c = ((text : List ℕ) × Gives f c text) ⊎ ((xs : List ℕ) × (ys : List ℕ) × (c ≡ product_of xs ys))
+TakesMemory f c = ((text : List ℕ) × Gives f c text) ⊎ ((xs : List ℕ) × (ys : List ℕ) × ((c ≡ product_of xs ys) ⊎ (c ≡ division_of xs ys)))
 
 abbrev pub Writes : Known → Command → List ℕ → ℕ → Type 0
 Writes f c text status = (Gives f c text × (status ≡ 0)) ⊎ ((error : PolyError) × Refuses f c error × (text ≡ refusal_line_of error) × (status ≡ 1))

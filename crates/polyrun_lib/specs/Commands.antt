@@ -3,14 +3,15 @@ use Rattle.std.specs.Prelude.{◌≡◌, ℕ, List, [], ◌∷◌, codes}
 use Rattle.polyrun_lib.specs.declared.command.Direction.{Direction}
 use Rattle.polyrun_lib.specs.declared.command.Direction.TheVariants.{Forward, Inverse}
 use Rattle.polyrun_lib.specs.declared.command.Command.{Command as Parsed}
-use Rattle.polyrun_lib.specs.declared.command.Command.TheVariants.{Transform, Mul, Eval, Size}
+use Rattle.polyrun_lib.specs.declared.command.Command.TheVariants.{Transform, Mul, Div, Eval, Size}
 use Rattle.polyrun_lib.specs.Words.{IsNumber, IsList}
 
--- the transform of a list over the domain for k with the offset h, the product of two polynomials, a polynomial's value
--- at a point, the size for k
+-- the transform of a list over the domain for k with the offset h, the product of two polynomials, the quotient and the
+-- remainder of the first of two by the second, a polynomial's value at a point, the size for k
 pub data Command : Type 0 where
   transform_of : Direction → ℕ → ℕ → List ℕ → Command
   product_of : List ℕ → List ℕ → Command
+  division_of : List ℕ → List ℕ → Command
   value_of : List ℕ → ℕ → Command
   size_for : ℕ → Command
 
@@ -22,6 +23,7 @@ transform_name Inverse = codes "ifft"
 abbrev pub command_name : Command → List ℕ
 command_name (transform_of direction k h xs) = transform_name direction
 command_name (product_of xs ys) = codes "mul"
+command_name (division_of xs ys) = codes "div"
 command_name (value_of xs x) = codes "eval"
 command_name (size_for k) = codes "size"
 
@@ -30,8 +32,8 @@ abbrev pub AreTransformed : List (List ℕ) → ℕ → ℕ → List ℕ → Typ
 AreTransformed words k h xs = (a : List ℕ) × (b : List ℕ) × (c : List ℕ) × (words ≡ a ∷ b ∷ c ∷ []) × IsNumber a k × IsNumber b h × IsList c xs
 
 -- two lists
-abbrev pub AreMultiplied : List (List ℕ) → List ℕ → List ℕ → Type 0
-AreMultiplied words xs ys = (a : List ℕ) × (b : List ℕ) × (words ≡ a ∷ b ∷ []) × IsList a xs × IsList b ys
+abbrev pub AreTwoLists : List (List ℕ) → List ℕ → List ℕ → Type 0
+AreTwoLists words xs ys = (a : List ℕ) × (b : List ℕ) × (words ≡ a ∷ b ∷ []) × IsList a xs × IsList b ys
 
 -- a list and a point
 abbrev pub AreEvaluated : List (List ℕ) → List ℕ → ℕ → Type 0
@@ -44,7 +46,8 @@ AreSized words k = (a : List ℕ) × (words ≡ a ∷ []) × IsNumber a k
 -- the words after the command's name
 abbrev pub Takes : List (List ℕ) → Command → Type 0
 Takes words (transform_of direction k h xs) = AreTransformed words k h xs
-Takes words (product_of xs ys) = AreMultiplied words xs ys
+Takes words (product_of xs ys) = AreTwoLists words xs ys
+Takes words (division_of xs ys) = AreTwoLists words xs ys
 Takes words (value_of xs x) = AreEvaluated words xs x
 Takes words (size_for k) = AreSized words k
 
@@ -56,6 +59,7 @@ Reads words c = (rest : List (List ℕ)) × (words ≡ command_name c ∷ rest) 
 abbrev pub Spells : Parsed → Command → Type 0
 Spells (Transform direction k h list) c = (xs : List ℕ) × IsList list.now xs × (c ≡ transform_of direction k h xs)
 Spells (Mul left right) c = (xs : List ℕ) × (ys : List ℕ) × IsList left.now xs × IsList right.now ys × (c ≡ product_of xs ys)
+Spells (Div left right) c = (xs : List ℕ) × (ys : List ℕ) × IsList left.now xs × IsList right.now ys × (c ≡ division_of xs ys)
 Spells (Eval list x) c = (xs : List ℕ) × IsList list.now xs × (c ≡ value_of xs x)
 Spells (Size k) c = c ≡ size_for k
 

@@ -2,7 +2,7 @@
 
 ghost use Rattle.std.specs.Prelude.{◌≡◌, ◌↔◌, ℕ, List, IfSome, IfNone, map, string_bytes};
 ghost use Rattle.polyrun_lib.specs.Words.{IsList, SpellsList};
-ghost use Rattle.polyrun_lib.specs.Commands.{IsTransform, IsNoTransform, IsRead, IsNoCommand};
+ghost use Rattle.polyrun_lib.specs.Commands.{AreTwoLists, IsTransform, IsNoTransform, IsRead, IsNoCommand};
 
 use crate::words::{is_list, number};
 
@@ -25,6 +25,11 @@ pub enum Command<'a> {
     },
     /// The product of the polynomials with these coefficients.
     Mul {
+        left: &'a str,
+        right: &'a str,
+    },
+    /// The quotient and the remainder of the first by the second of the polynomials with these coefficients.
+    Div {
         left: &'a str,
         right: &'a str,
     },
@@ -51,13 +56,12 @@ pub fn parse(words: &[String]) -> Option<Command>
         "fft" => parse_transform(Direction::Forward, arguments),
         "ifft" => parse_transform(Direction::Inverse, arguments),
         "mul" => {
-            let [left, right] = arguments else {
-                return None;
-            };
-            Some(Command::Mul {
-                left: list_word(left.as_str())?,
-                right: list_word(right.as_str())?,
-            })
+            let (left, right) = two_lists(arguments)?;
+            Some(Command::Mul { left, right })
+        }
+        "div" => {
+            let (left, right) = two_lists(arguments)?;
+            Some(Command::Div { left, right })
         }
         "eval" => {
             let [list, point] = arguments else {
@@ -94,6 +98,18 @@ fn parse_transform(direction: Direction, words: &[String]) -> Option<Command>
         offset: number(offset.as_str())?,
         list: list_word(list.as_str())?,
     })
+}
+
+/// The words themselves, where they spell two lists.
+fn two_lists(words: &[String]) -> Option<(&str, &str)>
+    ensures some { IfSome result (λ lists. (xs : List ℕ) × (ys : List ℕ)
+        × AreTwoLists (map string_bytes words.now) xs ys × IsList lists.0.now xs × IsList lists.1.now ys) }
+    ensures none { IfNone result ((xs ys : List ℕ) → ¬ AreTwoLists (map string_bytes words.now) xs ys) }
+{
+    let [left, right] = words else {
+        return None;
+    };
+    Some((list_word(left.as_str())?, list_word(right.as_str())?))
 }
 
 /// The word itself, where it spells a list.

@@ -1,12 +1,13 @@
 //! The answer to the words of a command line.
 
-ghost use Rattle.std.specs.Prelude.{◌≡◌, ◌⊎◌, ◌%◌, ℕ, List, map, IfOk, IfErr, IfSome, IfNone, IsOkUnless};
+ghost use Rattle.std.specs.Prelude.{◌≡◌, ◌≢◌, ◌⊎◌, ◌%◌, ◌++◌, ℕ, List, map, IfOk, IfErr, IfSome, IfNone, IsOkUnless};
 ghost use Rattle.std.specs.Prelude.{string_bytes};
 ghost use Rattle.ark_math.specs.Domain.{HasNoSize, IsDomain};
+ghost use Rattle.ark_math.specs.Univariate.{of_list, nothing, IsQuotient};
 ghost use Rattle.ark_base.specs.Element.{number};
 ghost use Rattle.polyrun_lib.specs.Words.{IsList, SpellsList};
 ghost use Rattle.polyrun_lib.specs.Commands.{Command as Asked, Spells, IsSpelled};
-ghost use Rattle.polyrun_lib.specs.Commands.{transform_of, product_of, value_of, size_for};
+ghost use Rattle.polyrun_lib.specs.Commands.{transform_of, product_of, division_of, value_of, size_for};
 ghost use Rattle.polyrun_lib.specs.Lines.{line_of};
 ghost use Rattle.polyrun_lib.specs.Answer.{Known, known_by, coefficients, IsCommand, MayWrite, IsWritten};
 ghost use Rattle.polyrun_lib.specs.Outcome.{IsOutcome, IsOutcomeOf};
@@ -15,7 +16,8 @@ use crate::command::{Command, Direction, parse};
 use crate::lines::{line, refusal_line, usage_line};
 use crate::words::list;
 use ark_base::{
-    FftField, Modulus5, Modulus433, Modulus65537, PolyError, PrimeField, PrimeModulus, Sink, Work,
+    FftField, Field, Modulus5, Modulus433, Modulus65537, PolyError, PrimeField, PrimeModulus, Sink,
+    Work,
 };
 use ark_poly::univariate::DensePolynomial;
 use ark_poly::{DenseUVPolynomial, EvaluationDomain, GeneralEvaluationDomain, Polynomial};
@@ -89,6 +91,7 @@ fn answer_over<M: PrimeModulus>(alloc: Global, command: Command) -> Result<Strin
             list,
         } => transform_line::<M>(alloc, direction, size, offset, list),
         Command::Mul { left, right } => product_line::<M>(alloc, left, right),
+        Command::Div { left, right } => quotient_lines::<M>(alloc, left, right),
         Command::Eval { list, point } => value_line::<M>(alloc, list, point),
         Command::Size { num_coeffs } => size_line::<M>(alloc, num_coeffs),
     }
@@ -131,6 +134,42 @@ fn product_line<M: PrimeModulus>(
     let right = polynomial::<M>(alloc, right)?;
     let product = left.mul(alloc, &right)?;
     element_line(alloc, product.coeffs())
+}
+
+/// The lines of a quotient and its remainder.
+fn quotient_lines<M: PrimeModulus>(
+    alloc: Global,
+    left: &str,
+    right: &str,
+) -> Result<String, PolyError>
+    requires left { SpellsList left.now }
+    requires right { SpellsList right.now }
+    ensures { (xs ys : List ℕ) → IsList left.now xs → IsList right.now ys
+        → IsOutcome (known_by M.modulus) (division_of xs ys) result }
+{
+    let dividend = polynomial::<M>(alloc, left)?;
+    let divisor = polynomial::<M>(alloc, right)?;
+    let (quotient, remainder) = divided(alloc, &dividend, &divisor)?;
+    two_lines(alloc, quotient.coeffs(), remainder.coeffs())
+}
+
+/// The quotient and the remainder of a polynomial by another: both zero for zero, whatever the other is.
+fn divided<F: Field>(
+    alloc: Global,
+    dividend: &DensePolynomial<F>,
+    divisor: &DensePolynomial<F>,
+) -> Result<(DensePolynomial<F>, DensePolynomial<F>), PolyError>
+    ensures quotient { IfOk result (λ p.
+        ((of_list F.field dividend.now ≡ nothing F.field)
+        × (of_list F.field p.0 ≡ nothing F.field) × (of_list F.field p.1 ≡ nothing F.field))
+        ⊎ IsQuotient F.field (of_list F.field dividend.now) (of_list F.field divisor.now)
+        (of_list F.field p.0) (of_list F.field p.1)) }
+    ensures none { (result ≡ Err PolyError.ZeroDivisor)
+        → (of_list F.field dividend.now ≢ nothing F.field) × (of_list F.field divisor.now ≡ nothing F.field) }
+    ensures errors { IfErr result (λ e. (e ≡ PolyError.Memory) ⊎ (e ≡ PolyError.ZeroDivisor)) }
+{
+    // UNFINISHED: it divides nothing until `divide_with_q_and_r` is there.
+    Err(PolyError::Memory)
 }
 
 /// The line of a value.
@@ -199,4 +238,19 @@ fn element_line<M: PrimeModulus>(
 {
     let numbers: Vec<u64> = elements.iter().map(|x| x.value()).collect(alloc)?;
     Ok(line(alloc, &numbers)?)
+}
+
+/// The line of each, in this order.
+fn two_lines<M: PrimeModulus>(
+    alloc: Global,
+    first: &[PrimeField<M>],
+    second: &[PrimeField<M>],
+) -> Result<String, PolyError>
+    ensures text { IfOk result (λ text. string_bytes text
+        ≡ line_of (map number first.now) ++ line_of (map number second.now)) }
+    ensures memory { IsOkUnless result PolyError.Memory }
+{
+    let mut text = element_line(alloc, first)?;
+    text.push_str(element_line(alloc, second)?.as_str())?;
+    Ok(text)
 }

@@ -1,5 +1,5 @@
 -- What dense lists denote, and lists whose last item isn't zero.
-use Rattle.std.proofs.Common.{◌≡◌, ◌≢◌, ℕ, ◌+◌, ◌-◌, ◌<◌, ◌≤◌, List, [], ◌∷◌, ◌++◌, length, get_or, set, take, map, replicate, Bool, Decides, ◌==◌, sym, ◌∙◌, ap, refl, subst, arith, ⊎_elim, get_or-set_same, get_or-set_other}
+use Rattle.std.proofs.Common.{◌≡◌, ◌≢◌, ℕ, ◌+◌, ◌-◌, ◌<◌, ◌≤◌, List, [], ◌∷◌, ◌++◌, length, get_or, set, take, map, replicate, Bool, Decides, ◌==◌, sym, ◌∙◌, ap, refl, subst, arith, ⊎_elim, ◌⊎◌, inl, inr, get_or-set_same, get_or-set_other}
 use mathlib.Core.Path.{fun_ext}
 use Rattle.std.proofs.lemmas.Bool.{cases_eq, cases_lt}
 use Rattle.std.proofs.lemmas.Slice.Eq.{slice_eq-Decides}
@@ -143,3 +143,14 @@ module _ {F : Type 0} (K : FieldOn F) where
       let k = length-take-le n c l in
       let last : length (take n c) - 1 ≡ n - 1 = omega arith in
       h (omega arith) (sym (get_or-take n c (n - 1) K.zero (omega arith)) ∙ sym (ap (of_list K (take n c)) last) ∙ e)
+
+  -- a trimmed list with an item denotes no zero
+  pub trimmed_some : (c : List F) → IsTrimmed K c → 0 < length c → of_list K c ≢ nothing K
+  trimmed_some c t l e = t l (ap (λ a. a (length c - 1)) e)
+
+  -- of two trimmed lists: the second denotes no zero, or both denote zero, or the first alone does not
+  pub zero_divisor_cases : (c d : List F) → IsTrimmed K c → IsTrimmed K d
+      → (of_list K d ≢ nothing K) ⊎ ((of_list K c ≡ nothing K) × (of_list K d ≡ nothing K)) ⊎ ((of_list K c ≢ nothing K) × (of_list K d ≡ nothing K))
+  zero_divisor_cases [] [] s t = inr (inl (refl, refl))
+  zero_divisor_cases (x ∷ c) [] s t = inr (inr (trimmed_some (x ∷ c) s (omega arith), refl))
+  zero_divisor_cases c (y ∷ d) s t = inl (trimmed_some (y ∷ d) t (omega arith))

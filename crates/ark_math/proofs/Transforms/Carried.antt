@@ -1,12 +1,13 @@
 -- Maps that carry the operations of one field to those of another, or of one module to those of another, carry sums,
 -- products, values and transforms.
-use Rattle.std.proofs.Common.{◌≡◌, ℕ, zero, suc, ◌-◌, List, [], ◌∷◌, length, map, sym, ◌∙◌, ap, ap₂, refl}
+use mathlib.Core.Path.{fun_ext}
+use Rattle.std.proofs.Common.{◌≡◌, ℕ, zero, suc, ◌+◌, ◌-◌, List, [], ◌∷◌, length, map, sym, ◌∙◌, ap, ap₂, refl}
 use Rattle.std.proofs.lemmas.List.{length-map}
 use Rattle.ark_math.specs.Field.{FieldOn, power}
 use Rattle.ark_math.specs.Module.{ModuleOn, IsItself, itself, item, tabulate, tabulate_from, sum_below}
 use Rattle.ark_math.specs.Domain.{Domain, element}
 use Rattle.ark_math.specs.Transform.{transform, fit, value_at, IsInverse}
-use Rattle.ark_math.specs.Univariate.{of_list, product}
+use Rattle.ark_math.specs.Univariate.{of_list, product, IsBelow, IsQuotient}
 use Rattle.ark_math.proofs.Lists.Tabulated.{tabulate-same}
 use Rattle.ark_math.proofs.Algebra.Sums.{sum_below-same}
 
@@ -100,3 +101,16 @@ module _ {F G : Type 0} {K : FieldOn F} {L : FieldOn G} {g : F → G} (C : Carri
   product-carried a b k =
       sum_below-linear (itself_linear C) (suc k) (λ i. K.times (a i) (b (k - i)))
       ∙ sum_below-same (itself L) (suc k) _ _ (λ i l. C.times_kept (a i) (b (k - i)))
+
+  below-carried : (n : ℕ) (a : ℕ → F) → IsBelow K n a → IsBelow L n (λ i. g (a i))
+  below-carried n a b i l = ap g (b i l) ∙ C.zero_kept
+
+  -- where nothing else is carried to zero
+  pub IsQuotient-carried : ((x : F) → g x ≡ L.zero → x ≡ K.zero) → (a d q r : ℕ → F) → IsQuotient K a d q r → IsQuotient L (λ i. g (a i)) (λ i. g (d i)) (λ i. g (q i)) (λ i. g (r i))
+  IsQuotient-carried one a d q r Q =
+      let k = Q.degree.0 in
+      record {
+        finite = (Q.finite.0, below-carried Q.finite.0 q Q.finite.1);
+        whole = fun_ext (λ i. ap (λ h. g (h i)) Q.whole ∙ C.plus_kept (product K q d i) (r i) ∙ ap (λ t. L.plus t (g (r i))) (product-carried q d i));
+        degree = (k, (λ e. Q.degree.1 (one (d k) e)), below-carried (k + 1) d Q.degree.2, below-carried k r Q.degree.3);
+      }

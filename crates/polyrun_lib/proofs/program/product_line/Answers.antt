@@ -1,9 +1,30 @@
-use Rattle.std.proofs.Common.{◌∙◌, ap}
+use Rattle.std.proofs.Common.{◌∙◌, ap, inl, inr, refl, ⊎_elim}
+use Rattle.std.specs.Prelude.{Err}
 use Rattle.ark_math.specs.Univariate.{of_list}
 use Rattle.ark_base.specs.Element.{prime_field}
 use Rattle.polyrun_lib.specs.Commands.{product_of}
-use Rattle.polyrun_lib.proofs.Values.{shown_field, found_is_no_error, outcome_line, gives_product}
+use Rattle.polyrun_lib.proofs.Values.{shown_field, found_is_no_error, outcome_line, outcome_error, no_product, gives_product}
 use Rattle.polyrun_lib.proofs.program.product_line.Goals as goal
+
+pub returns-in_err-left : goal.returns-in_err-left
+returns-in_err-left g c xs ys left_spelled right_spelled =
+    outcome_error (shown_field g.M.PrimeModulus) (product_of xs ys) _ _ c.from_residual.ensures.1 (inr (inr (xs, ys, inl refl), refl))
+
+pub returns-in_err-right : goal.returns-in_err-right
+returns-in_err-right g c xs ys left_spelled right_spelled =
+    outcome_error (shown_field g.M.PrimeModulus) (product_of xs ys) _ _ c.from_residual-in_err-right.ensures.1 (inr (inr (xs, ys, inl refl), refl))
+
+pub returns-in_err-product : goal.returns-in_err-product
+returns-in_err-product g c xs ys left_spelled right_spelled =
+    outcome_error (shown_field g.M.PrimeModulus) (product_of xs ys) _ _ c.from_residual-in_err-product.ensures.1
+    (⊎_elim
+    (λ memory. inr (inr (xs, ys, inl refl), memory))
+    (λ none. inl (
+      no_product g.row.M.Denot g.M.PrimeModulus g.M.PrimeModulus.modulus xs ys c.in_ok-left.left c.in_ok-right.right (c.in_ok-left.ensures xs left_spelled) (c.in_ok-right.ensures ys right_spelled)
+          (c.in_err-product.ensures.none.0 (ap Err none)),
+      none,
+    ))
+    c.in_err-product.ensures.errors)
 
 pub returns : goal.returns
 returns g c xs ys left_spelled right_spelled =
