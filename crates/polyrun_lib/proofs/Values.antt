@@ -6,7 +6,7 @@ use Rattle.ark_math.specs.Domain.{Domain, HasNoSize, IsDomain}
 use Rattle.ark_math.specs.Transform.{transform, value_at, IsInverse}
 use Rattle.ark_math.specs.Univariate.{of_list, product, nothing, IsTrimmed, IsQuotient}
 use Rattle.ark_math.proofs.Polynomials.Trimmed.{trim-same, trim-trimmed}
-use Rattle.ark_math.proofs.Polynomials.UnivariateLists.{same_trimmed, trimmed_nothing}
+use Rattle.ark_math.proofs.Polynomials.UnivariateLists.{same_trimmed, trimmed_nothing, zero_divisor_cases}
 use Rattle.ark_math.proofs.Transforms.Carried.{Carries, carried, power-carried, value_at-carried, transform-carried, IsInverse-carried, of_list-carried, product-carried, IsQuotient-carried}
 use Rattle.ark_math.proofs.Transforms.Inversion.{inverse_exists}
 use Rattle.ark_math.proofs.Domains.Domains.{root_order, size_not_zero}
@@ -223,3 +223,13 @@ module _ (M : Type 0) (g : Ghosts M) (S : Shown g) where
           (subst (λ d. IsQuotient L (λ i. number (of_list K a i)) d (of_list L (map number q)) (of_list L (map number r))) (numbers_denote ys b f)
           (subst (λ d. IsQuotient L (λ i. number (of_list K a i)) (λ i. number (of_list K b i)) d (of_list L (map number r))) (fun_ext (of_list-carried number_carries q))
           (subst (λ d. IsQuotient L (λ i. number (of_list K a i)) (λ i. number (of_list K b i)) (λ i. number (of_list K q i)) d) (fun_ext (of_list-carried number_carries r)) carried_over))))
+
+-- what a division of a by e promises makes quotient and remainder of two trimmed lists, or zeros
+pub quotient_or_zeros : {F : Type 0} (K : FieldOn F) (c d : List F) (a e q r : ℕ → F) → IsTrimmed K c → IsTrimmed K d → a ≡ of_list K c → e ≡ of_list K d → (e ≢ nothing K → IsQuotient K a e q r) → (a ≡ nothing K → (q ≡ nothing K) × (r ≡ nothing K)) → ((a ≢ nothing K) × (e ≡ nothing K) → ⊥)
+    → ((of_list K c ≡ nothing K) × (q ≡ nothing K) × (r ≡ nothing K)) ⊎ IsQuotient K (of_list K c) (of_list K d) q r
+quotient_or_zeros K c d a e q r s t is_a is_e quotient zeros some = by_cases (zero_divisor_cases K c d s t)
+  where
+    by_cases : (of_list K d ≢ nothing K) ⊎ ((of_list K c ≡ nothing K) × (of_list K d ≡ nothing K)) ⊎ ((of_list K c ≢ nothing K) × (of_list K d ≡ nothing K)) → ((of_list K c ≡ nothing K) × (q ≡ nothing K) × (r ≡ nothing K)) ⊎ IsQuotient K (of_list K c) (of_list K d) q r
+    by_cases (inl other) = inr (subst (λ x. IsQuotient K x (of_list K d) q r) is_a (subst (λ x. IsQuotient K a x q r) is_e (quotient (λ z. other (sym is_e ∙ z)))))
+    by_cases (inr (inl both)) = let none = zeros (is_a ∙ both.0) in inl (both.0, none.0, none.1)
+    by_cases (inr (inr alone)) = absurd (some ((λ z. alone.0 (sym is_a ∙ z)), is_e ∙ alone.1))

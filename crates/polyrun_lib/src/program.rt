@@ -19,7 +19,7 @@ use ark_base::{
     FftField, Field, Modulus5, Modulus433, Modulus65537, PolyError, PrimeField, PrimeModulus, Sink,
     Work,
 };
-use ark_poly::univariate::DensePolynomial;
+use ark_poly::univariate::{DenseOrSparsePolynomial, DensePolynomial};
 use ark_poly::{DenseUVPolynomial, EvaluationDomain, GeneralEvaluationDomain, Polynomial};
 use std::alloc::{AllocError, Global};
 
@@ -168,8 +168,15 @@ fn divided<F: Field>(
         → (of_list F.field dividend.now ≢ nothing F.field) × (of_list F.field divisor.now ≡ nothing F.field) }
     ensures errors { IfErr result (λ e. (e ≡ PolyError.Memory) ⊎ (e ≡ PolyError.ZeroDivisor)) }
 {
-    // UNFINISHED: it divides nothing until `divide_with_q_and_r` is there.
-    Err(PolyError::Memory)
+    // By these neither has a zero at its end, and no list is so long that its degree is `usize::MAX`.
+    dividend.coeffs();
+    divisor.coeffs();
+    let dividend = DenseOrSparsePolynomial::from(dividend);
+    let divisor = DenseOrSparsePolynomial::from(divisor);
+    let Some(pair) = dividend.divide_with_q_and_r(alloc, &divisor)? else {
+        return Err(PolyError::ZeroDivisor);
+    };
+    Ok(pair)
 }
 
 /// The line of a value.

@@ -1,6 +1,6 @@
-use Rattle.std.proofs.Common.{◌∙◌, ap, ap₂, ◌++◌, inl, inr, refl, sym, subst, ⊎_elim}
+use Rattle.std.proofs.Common.{ap, inl, inr, refl, subst, ⊎_elim}
 use Rattle.std.specs.Prelude.{Err}
-use Rattle.ark_math.specs.Univariate.{of_list, IsQuotient, IsTrimmed}
+use Rattle.ark_math.specs.Univariate.{IsTrimmed}
 use Rattle.ark_base.specs.Element.{prime_field}
 use Rattle.polyrun_lib.specs.Commands.{division_of}
 use Rattle.polyrun_lib.proofs.Values.{shown_field, outcome_line, outcome_error, gives_quotient, no_quotient}
