@@ -3,7 +3,7 @@
 use crate::sparse::{Terms, pairs, sparse};
 use ark_base::{F5, F433, F65537, FftField, Field, PolyError};
 use ark_poly::univariate::{DensePolynomial, SparsePolynomial};
-use ark_poly::{DenseUVPolynomial, EvaluationDomain};
+use ark_poly::{DenseUVPolynomial, EvaluationDomain, Polynomial};
 use ark_trials::calls::{coset, elements, listed};
 use ark_trials::plain::drawn;
 use ark_trials::trials::{Trial, over_general, over_mixed, over_radix2};
