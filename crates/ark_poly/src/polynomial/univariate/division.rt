@@ -2,9 +2,8 @@
 
 ghost use Rattle.std.specs.Prelude.{◌≡◌, ◌≢◌, ◌↔◌, ◌+◌, ◌-◌, ◌<◌, ◌≤◌, ◌⊎◌, length, IfOk, IfErr};
 ghost use Rattle.std.specs.Prelude.{ℕ, IfSome, IsNone, IsOkUnless};
+ghost use Rattle.ark_math.specs.Series.{AgreeBelow, past, reversed as backwards, unity};
 ghost use Rattle.ark_math.specs.Univariate.{of_list, nothing, difference, product, IsBelow, IsQuotient};
-ghost use Rattle.ark_math.proofs.Polynomials.Reversed.{reversed as backwards};
-ghost use Rattle.ark_math.proofs.Polynomials.Series.{AgreeBelow, unity, past};
 
 use crate::polynomial::univariate::DensePolynomial;
 use crate::polynomial::{DenseUVPolynomial, Polynomial};
