@@ -1,6 +1,6 @@
 //! Division with remainder, in place.
 
-ghost use Rattle.std.specs.Prelude.{◌≡◌, ◌≢◌, ◌↔◌, ◌⊎◌, ℕ, ◌+◌, ◌<◌, ◌≤◌, length, take, drop, IfOk, IfErr, IfSome};
+ghost use Rattle.std.specs.Prelude.{◌≡◌, ◌≢◌, ◌↔◌, ◌⊎◌, ℕ, ◌+◌, ◌-◌, ◌<◌, ◌≤◌, length, take, drop, IfOk, IfErr, IfSome};
 ghost use Rattle.std.specs.Prelude.{IsNone, IsTrue, None};
 ghost use Rattle.std.specs.List.{All};
 ghost use Rattle.ark_math.specs.Univariate.{IsDegree, IsQuotient, IsSparse, IsTrimmed, of_list, of_pairs, nothing};
@@ -202,4 +202,28 @@ pub fn divided<F: Field>(
     };
     let coeffs = dividend.list(alloc)?;
     Ok(Some(divisor.quotient_and_remainder(coeffs)?))
+}
+
+/// The quotient and the remainder of one list by another, from the inverse of its last coefficient.
+///
+/// For each coefficient of the quotient there is one pass over the divisor's, on a copy of the dividend's.
+pub fn divided_list<F: Field>(
+    alloc: Global,
+    dividend: &[F],
+    divisor: &[F],
+    leading_inverted: F,
+) -> Result<(Vec<F>, Vec<F>), AllocError>
+    requires some { 0 < length divisor.now }
+    requires leading { F.field.times (of_list F.field divisor.now (length divisor.now - 1)) leading_inverted
+        ≡ F.field.one }
+    ensures { IfOk result (λ p. IsQuotient F.field (of_list F.field dividend.now) (of_list F.field divisor.now)
+        (of_list F.field p.0.items) (of_list F.field p.1.items)) }
+{
+    let degree = divisor.len() - 1;
+    let divisor = Divisor {
+        degree,
+        inverse: leading_inverted,
+        lower: Coefficients::Listed(&divisor[..degree]),
+    };
+    divisor.quotient_and_remainder(Vec::from_slice(alloc, dividend)?)
 }

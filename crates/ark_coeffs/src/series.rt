@@ -1,8 +1,8 @@
 //! Lists of the first coefficients of power series.
 
 ghost use Rattle.std.specs.Prelude.{◌≡◌, ℕ, ◌+◌, ◌-◌, ◌<◌, ◌≤◌, length, IfOk};
+ghost use Rattle.ark_math.specs.Series.{AgreeBelow, past};
 ghost use Rattle.ark_math.specs.Univariate.{of_list, opposite};
-ghost use Rattle.ark_math.proofs.Polynomials.Series.{AgreeBelow, past};
 
 use ark_base::Field;
 use std::alloc::{AllocError, Global};

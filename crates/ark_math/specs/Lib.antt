@@ -9,6 +9,7 @@ pub mod Points
 pub mod Prime
 pub mod Root
 pub mod Rows
+pub mod Series
 pub mod Sizes
 pub mod Transform
 pub mod Univariate

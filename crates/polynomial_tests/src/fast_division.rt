@@ -30,7 +30,7 @@ fn gives_back<F: FftField>(
         return Ok(true);
     }
     let remainder = some::<F>(alloc, rng, divisor.degree())?;
-    let dividend = quotient.mul(alloc, &divisor)?.add(alloc, &remainder)?;
+    let dividend = quotient.naive_mul(alloc, &divisor)?.add(alloc, &remainder)?;
     match dividend.divide_by_transforms(alloc, &divisor)? {
         Some(found) => Ok(found.0 == quotient && found.1 == remainder),
         None => Ok(false),
@@ -66,7 +66,11 @@ fn short_ones_give_back(rt: HostRuntime) -> Result<(), Fail> {
 fn long_ones_give_back(rt: HostRuntime) -> Result<(), Fail> {
     let alloc = rt.alloc();
     let mut rng = Pcg64::new(19, 23);
-    let lengths: [[usize; 2]; 8] = [
+    let lengths: [[usize; 2]; 12] = [
+        [63, 65],
+        [64, 64],
+        [65, 63],
+        [66, 66],
         [127, 128],
         [128, 128],
         [129, 128],
@@ -79,6 +83,18 @@ fn long_ones_give_back(rt: HostRuntime) -> Result<(), Fail> {
     for row in lengths {
         assert!(rt; gives_back::<F65537>(alloc, &mut rng, row)?);
     }
+    Ok(())
+}
+
+#[test]
+fn without_a_domain_give_back(rt: HostRuntime) -> Result<(), Fail> {
+    let alloc = rt.alloc();
+    let mut rng = Pcg64::new(29, 31);
+    // No product of these has a domain.
+    assert!(rt; gives_back::<F5>(alloc, &mut rng, [100, 80])?);
+    assert!(rt; gives_back::<F5>(alloc, &mut rng, [80, 200])?);
+    // The last product alone has none.
+    assert!(rt; gives_back::<F433>(alloc, &mut rng, [70, 400])?);
     Ok(())
 }
 

@@ -1,9 +1,11 @@
--- Power series, of which the first coefficients alone count: agreement below a bound, and Newton's step to an inverse.
+-- Power series, of which the first coefficients alone count: products of those that agree below a bound, and Newton's
+-- step to an inverse.
 use Rattle.std.proofs.Common.{◌≡◌, ℕ, suc, ◌+◌, ◌-◌, ◌<◌, ◌≤◌, sym, ◌∙◌, ap, ap₂, refl, subst, arith, ⊎_elim}
 use mathlib.Core.Path.{fun_ext}
 use Rattle.std.proofs.lemmas.Bool.{cases_lt}
 use Rattle.ark_math.specs.Field.{FieldOn, IsField, minus}
 use Rattle.ark_math.specs.Module.{itself}
+use Rattle.ark_math.specs.Series.{AgreeBelow, unity, past}
 use Rattle.ark_math.specs.Univariate.{nothing, added, difference, opposite, monomial, product, IsBelow}
 use Rattle.ark_math.proofs.Algebra.Groups.{itself_is_module, scale_zero, zero_scale, zero_plus}
 use Rattle.ark_math.proofs.Algebra.Sums.{sum_below-same}
@@ -12,18 +14,6 @@ use Rattle.ark_math.proofs.Algebra.Solve.{◌⊞◌, ◌⊟◌, ◌⊖◌, nough
 use Rattle.ark_math.proofs.Algebra.Ring.{ring1, module0_3}
 use Rattle.ark_math.proofs.Polynomials.Univariate.{coefficients_are_module, monomial-same, monomial-other}
 use Rattle.ark_math.proofs.Polynomials.UnivariateProducts.{product_assoc, product_comm, product-difference, added-product, one-product, monomial-product_past, monomial-product_before}
-
--- the first n coefficients are the same
-abbrev pub AgreeBelow : {F : Type 0} → ℕ → (ℕ → F) → (ℕ → F) → Type 0
-AgreeBelow n a b = (i : ℕ) → i < n → a i ≡ b i
-
--- the series that is one
-abbrev pub unity : {F : Type 0} → FieldOn F → ℕ → F
-unity K = monomial K 0 K.one
-
--- the coefficients from k on, moved down to 0
-abbrev pub past : {F : Type 0} → ℕ → (ℕ → F) → ℕ → F
-past k a i = a (k + i)
 
 module _ {F : Type 0} (K : FieldOn F) where
   pub agree-product : (n : ℕ) (a b c d : ℕ → F) → AgreeBelow n a b → AgreeBelow n c d → AgreeBelow n (product K a c) (product K b d)

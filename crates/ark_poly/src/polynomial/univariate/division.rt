@@ -1,24 +1,29 @@
 //! Division of long dense polynomials by products through transforms.
 
 ghost use Rattle.std.specs.Prelude.{◌≡◌, ◌≢◌, ◌↔◌, ◌+◌, ◌-◌, ◌<◌, ◌≤◌, ◌⊎◌, length, IfOk, IfErr};
-ghost use Rattle.std.specs.Prelude.{IfSome, IsNone};
+ghost use Rattle.std.specs.Prelude.{ℕ, IfSome, IsNone, IsOkUnless};
+ghost use Rattle.ark_math.specs.Series.{AgreeBelow, past, reversed as backwards, unity};
 ghost use Rattle.ark_math.specs.Univariate.{of_list, nothing, difference, product, IsBelow, IsQuotient};
-ghost use Rattle.ark_math.proofs.Polynomials.Reversed.{reversed as backwards};
-ghost use Rattle.ark_math.proofs.Polynomials.Series.{AgreeBelow, unity, past};
 
 use crate::polynomial::univariate::DensePolynomial;
 use crate::polynomial::{DenseUVPolynomial, Polynomial};
 use ark_base::{FftField, PolyError};
+use ark_coeffs::division::divided_list;
 use ark_coeffs::series::{corrected, part, reversed};
 use std::alloc::Global;
 
+// A divisor with fewer coefficients than this, or a quotient with at most as many, is left to the plain division.
+const SHORT: usize = 64;
+
 impl<F: FftField> DensePolynomial<F> {
     /// Quotient and remainder by products through transforms, for long operands. There is no other such pair. Zero by
-    /// zero gives two zeros, and `None` comes exactly for any other dividend by zero. `NoDomain` comes only where the
-    /// field lacks a domain for one of the products, none of which is longer than twice the dividend.
+    /// zero gives two zeros, and `None` comes exactly for any other dividend by zero.
     ///
     /// It takes two products for each time that the inverse series gets twice as long, one for the quotient and one for
-    /// the remainder, and memory for what these take.
+    /// the remainder, and memory for what these take. Where the divisor or the quotient has few coefficients, and where
+    /// the field lacks a domain for one of the products, it is the plain division: a pass over the divisor's
+    /// coefficients for each one of the quotient's, and memory for the quotient and the dividend. A missing domain may
+    /// come up only after the first products, whose cost is then added.
     pub fn divide_by_transforms(
         &self,
         alloc: Global,
@@ -27,11 +32,14 @@ impl<F: FftField> DensePolynomial<F> {
         ensures division { IfOk result (λ o. IfSome o (λ p. 0 < length divisor.now → IsQuotient F.field
             (of_list F.field self.now) (of_list F.field divisor.now) (of_list F.field p.0)
             (of_list F.field p.1))) }
+        ensures only { IfOk result (λ o. IfSome o (λ p. (q r : ℕ → F) → IsQuotient F.field
+            (of_list F.field self.now) (of_list F.field divisor.now) q r
+            → (q ≡ of_list F.field p.0) × (r ≡ of_list F.field p.1))) }
         ensures zeros { IfOk result (λ o. IfSome o (λ p. length divisor.now ≡ 0 →
             (of_list F.field p.0 ≡ nothing F.field) × (of_list F.field p.1 ≡ nothing F.field))) }
         ensures none { IfOk result (λ o. IsNone o ↔ (of_list F.field self.now ≢ nothing F.field)
             × (length divisor.now ≡ 0)) }
-        ensures errors { IfErr result (λ e. (e ≡ PolyError.Memory) ⊎ (e ≡ PolyError.NoDomain)) }
+        ensures memory { IsOkUnless result PolyError.Memory }
     {
         if let Some(inverted) = divisor.leading_inverse() {
             return Ok(Some(self.divided(alloc, divisor, inverted)?));
@@ -63,12 +71,43 @@ impl<F: FftField> DensePolynomial<F> {
             leading_inverted ≡ F.field.one }
         ensures division { IfOk result (λ p. IsQuotient F.field (of_list F.field self.now)
             (of_list F.field divisor.now) (of_list F.field p.0) (of_list F.field p.1)) }
-        ensures errors { IfErr result (λ e. (e ≡ PolyError.Memory) ⊎ (e ≡ PolyError.NoDomain)) }
+        ensures memory { IsOkUnless result PolyError.Memory }
     {
-        if self.coeffs().len() < divisor.coeffs().len() {
-            return Ok((Self::zero(alloc)?, self.clone()?));
+        let whole = self.coeffs().len();
+        let parts = divisor.coeffs().len();
+        if parts < SHORT || whole < parts || whole - parts < SHORT {
+            return self.divided_plainly(alloc, divisor, leading_inverted);
         }
-        self.divided_by_series(alloc, divisor, leading_inverted)
+        match self.divided_by_series(alloc, divisor, leading_inverted) {
+            Err(PolyError::NoDomain) => self.divided_plainly(alloc, divisor, leading_inverted),
+            answer => answer,
+        }
+    }
+
+    // The same by passes over the divisor's coefficients, without a transform.
+    fn divided_plainly(
+        &self,
+        alloc: Global,
+        divisor: &Self,
+        leading_inverted: F,
+    ) -> Result<(Self, Self), PolyError>
+        requires some { 0 < length divisor.now }
+        requires leading { F.field.times (of_list F.field divisor.now (length divisor.now - 1))
+            leading_inverted ≡ F.field.one }
+        ensures division { IfOk result (λ p. IsQuotient F.field (of_list F.field self.now)
+            (of_list F.field divisor.now) (of_list F.field p.0) (of_list F.field p.1)) }
+        ensures memory { IsOkUnless result PolyError.Memory }
+    {
+        let (quotient, remainder) = divided_list(
+            alloc,
+            self.coeffs(),
+            divisor.coeffs(),
+            leading_inverted,
+        )?;
+        Ok((
+            Self::from_coefficients_vec(quotient),
+            Self::from_coefficients_vec(remainder),
+        ))
     }
 
     // The coefficients from `start` on and below `end`, moved down to zero.
