@@ -1,10 +1,12 @@
 //! Coefficients by their exponents: item i of a list is the coefficient at i.
 
-ghost use Rattle.std.specs.Prelude.{◌≡◌, ◌≢◌, ◌↔◌, ◌⊎◌, ℕ, ◌+◌, ◌-◌, ◌<◌, ◌≤◌, length, IfOk, IfErr, OnOk, OnErr};
+ghost use Rattle.std.specs.Prelude.{◌≡◌, ◌≢◌, ◌↔◌, ◌⊎◌, ℕ, ◌+◌, ◌-◌, ◌<◌, ◌≤◌, length, IfOk, IfErr, OnOk};
+ghost use Rattle.std.specs.Prelude.{OnErr};
 ghost use Rattle.std.specs.Prelude.{IsOkUnless, List, replicate, take, drop};
 ghost use Rattle.ark_math.specs.Module.{itself, sum_below};
 ghost use Rattle.ark_math.specs.Points.{IsPlaceQuotient};
-ghost use Rattle.ark_math.specs.Univariate.{IsBelow, of_list, added, difference, opposite, monomial, product, scaled};
+ghost use Rattle.ark_math.specs.Univariate.{IsBelow, of_list, added, difference, opposite, monomial};
+ghost use Rattle.ark_math.specs.Univariate.{product, scaled};
 ghost use Rattle.ark_math.specs.Univariate.{IsTrimmed, IsValue};
 
 use ark_base::{Field, PolyError, batch_inversion};
@@ -238,7 +240,8 @@ pub fn trim<F: Field>(coeffs: &mut Vec<F>)
 /// quotient's. Each item from `n` on is carried down by `n` places, times the constant.
 pub fn divide_by_binomial<F: Field>(coeffs: &mut [F], n: usize, constant: F)
     requires { 0 < n }
-    ensures { of_list F.field coeffs.old ≡ added F.field (product F.field (of_list F.field (drop n coeffs.new))
+    ensures { of_list F.field coeffs.old ≡ added F.field
+        (product F.field (of_list F.field (drop n coeffs.new))
         (difference F.field (monomial F.field n F.field.one) (monomial F.field 0 constant)))
         (of_list F.field (take n coeffs.new)) }
 {

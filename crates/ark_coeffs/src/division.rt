@@ -1,9 +1,11 @@
 //! Division with remainder, in place.
 
-ghost use Rattle.std.specs.Prelude.{◌≡◌, ◌≢◌, ◌↔◌, ◌⊎◌, ℕ, ◌+◌, ◌-◌, ◌<◌, ◌≤◌, length, take, drop, IfOk, IfErr, IfSome};
+ghost use Rattle.std.specs.Prelude.{◌≡◌, ◌≢◌, ◌↔◌, ◌⊎◌, ℕ, ◌+◌, ◌-◌, ◌<◌, ◌≤◌, length, take, drop, IfOk};
+ghost use Rattle.std.specs.Prelude.{IfErr, IfSome};
 ghost use Rattle.std.specs.Prelude.{IsNone, IsTrue, None};
 ghost use Rattle.std.specs.List.{All};
-ghost use Rattle.ark_math.specs.Univariate.{IsDegree, IsQuotient, IsSparse, IsTrimmed, of_list, of_pairs, nothing};
+ghost use Rattle.ark_math.specs.Univariate.{IsDegree, IsQuotient, IsSparse, IsTrimmed, of_list, of_pairs};
+ghost use Rattle.ark_math.specs.Univariate.{nothing};
 ghost use Rattle.ark_math.specs.Univariate.{added, difference, monomial, product};
 ghost use Rattle.ark_coeffs.specs.Divisors.{Divides, IsKept, StandBelow, denoted};
 
@@ -37,7 +39,8 @@ impl<'a, F: Field> Coefficients<'a, F> {
     fn list(&self, alloc: Global) -> Result<Vec<F>, PolyError>
         requires { IsKept F.field self.now }
         ensures same { IfOk result (λ c. of_list F.field c.items ≡ denoted F.field self.now) }
-        ensures overflow { (result ≡ Err PolyError.Overflow) ↔ IsDegree F.field (denoted F.field self.now) usize.MAX }
+        ensures overflow { (result ≡ Err PolyError.Overflow)
+            ↔ IsDegree F.field (denoted F.field self.now) usize.MAX }
         ensures errors { IfErr result (λ e. (e ≡ PolyError.Memory) ⊎ (e ≡ PolyError.Overflow)) }
     {
         match *self {
@@ -183,8 +186,8 @@ pub fn divided<F: Field>(
     requires dividend { IsKept F.field dividend }
     requires divisor { IsKept F.field divisor }
     ensures quotient { IfOk result (λ o. IfSome o (λ p. denoted F.field divisor.entry ≢ nothing F.field
-        → IsQuotient F.field (denoted F.field dividend.entry) (denoted F.field divisor.entry) (of_list F.field p.0.items)
-        (of_list F.field p.1.items))) }
+        → IsQuotient F.field (denoted F.field dividend.entry) (denoted F.field divisor.entry)
+        (of_list F.field p.0.items) (of_list F.field p.1.items))) }
     ensures zeros { IfOk result (λ o. IfSome o (λ p. denoted F.field dividend.entry ≡ nothing F.field
         → (of_list F.field p.0.items ≡ nothing F.field) × (of_list F.field p.1.items ≡ nothing F.field))) }
     ensures none { (result ≡ Ok None) ↔ (denoted F.field dividend.entry ≢ nothing F.field)
@@ -216,8 +219,8 @@ pub fn divided_list<F: Field>(
     requires some { 0 < length divisor.now }
     requires leading { F.field.times (of_list F.field divisor.now (length divisor.now - 1)) leading_inverted
         ≡ F.field.one }
-    ensures { IfOk result (λ p. IsQuotient F.field (of_list F.field dividend.now) (of_list F.field divisor.now)
-        (of_list F.field p.0.items) (of_list F.field p.1.items)) }
+    ensures { IfOk result (λ p. IsQuotient F.field (of_list F.field dividend.now)
+        (of_list F.field divisor.now) (of_list F.field p.0.items) (of_list F.field p.1.items)) }
 {
     let degree = divisor.len() - 1;
     let divisor = Divisor {

@@ -2,7 +2,8 @@
 
 ghost use Rattle.std.specs.Prelude.{◌≡◌, ◌↔◌, ◌⊎◌, ℕ, ◌+◌, ◌<◌, ◌≤◌, length, OnOk, IfOk, IfErr, IsOkUnless};
 ghost use Rattle.std.specs.List.{All};
-ghost use Rattle.ark_math.specs.Univariate.{IsSparse, IsDegree, IsQuotient, of_pairs, of_list, added, difference};
+ghost use Rattle.ark_math.specs.Univariate.{IsSparse, IsDegree, IsQuotient, of_pairs, of_list, added};
+ghost use Rattle.ark_math.specs.Univariate.{difference};
 ghost use Rattle.ark_math.specs.Univariate.{monomial, product};
 
 use crate::dense::zeros;

@@ -1,6 +1,7 @@
 //! The answer to the words of a command line.
 
-ghost use Rattle.std.specs.Prelude.{◌≡◌, ◌≢◌, ◌⊎◌, ◌%◌, ◌++◌, ℕ, List, map, IfOk, IfErr, IfSome, IfNone, IsOkUnless};
+ghost use Rattle.std.specs.Prelude.{◌≡◌, ◌≢◌, ◌⊎◌, ◌%◌, ◌++◌, ℕ, List, map, IfOk, IfErr, IfSome, IfNone};
+ghost use Rattle.std.specs.Prelude.{IsOkUnless};
 ghost use Rattle.std.specs.Prelude.{string_bytes};
 ghost use Rattle.ark_math.specs.Domain.{HasNoSize, IsDomain};
 ghost use Rattle.ark_math.specs.Univariate.{of_list, nothing, IsQuotient};

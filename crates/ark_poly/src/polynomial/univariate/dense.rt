@@ -421,7 +421,8 @@ impl<F: Field> DensePolynomial<F> {
     /// For each coefficient of the quotient there is one pass over the divisor's, on one copy of this polynomial's.
     pub fn div(&self, alloc: Global, divisor: &Self) -> Result<Self, PolyError>
         ensures quotient { IfOk result (λ q. of_list F.field divisor.now ≢ nothing F.field → (r : ℕ → F)
-            × IsQuotient F.field (of_list F.field self.now) (of_list F.field divisor.now) (of_list F.field q) r) }
+            × IsQuotient F.field (of_list F.field self.now) (of_list F.field divisor.now)
+            (of_list F.field q) r) }
         ensures zero { IfOk result (λ q. of_list F.field self.now ≡ nothing F.field
             → of_list F.field q ≡ nothing F.field) }
         ensures zero_divisor { (result ≡ Err PolyError.ZeroDivisor)

@@ -114,8 +114,8 @@ impl<'a, F: Field> DenseOrSparsePolynomial<'a, F> {
         divisor: &DenseOrSparsePolynomial<'_, F>,
     ) -> Result<Option<(DensePolynomial<F>, DensePolynomial<F>)>, PolyError>
         ensures quotient { IfOk result (λ o. IfSome o (λ p. denoted F.field divisor.now ≢ nothing F.field
-            → IsQuotient F.field (denoted F.field self.now) (denoted F.field divisor.now) (of_list F.field p.0)
-            (of_list F.field p.1))) }
+            → IsQuotient F.field (denoted F.field self.now) (denoted F.field divisor.now)
+            (of_list F.field p.0) (of_list F.field p.1))) }
         ensures only { IfOk result (λ o. IfSome o (λ p. (q r : ℕ → F)
             → IsQuotient F.field (denoted F.field self.now) (denoted F.field divisor.now) q r
             → (q ≡ of_list F.field p.0) × (r ≡ of_list F.field p.1))) }

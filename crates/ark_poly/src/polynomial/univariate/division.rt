@@ -12,7 +12,7 @@ use ark_coeffs::division::divided_list;
 use ark_coeffs::series::{corrected, part, reversed};
 use std::alloc::Global;
 
-// A divisor with fewer coefficients than this, or a quotient with at most as many, is left to the plain division.
+// A divisor with fewer coefficients than this, or a quotient with at most as many, is divided by passes.
 const SHORT: usize = 64;
 
 impl<F: FftField> DensePolynomial<F> {
@@ -21,7 +21,7 @@ impl<F: FftField> DensePolynomial<F> {
     ///
     /// It takes two products for each time that the inverse series gets twice as long, one for the quotient and one for
     /// the remainder, and memory for what these take. Where the divisor or the quotient has few coefficients, and where
-    /// the field lacks a domain for one of the products, it is the plain division: a pass over the divisor's
+    /// the field lacks a domain for one of the products, it divides by passes: one over the divisor's
     /// coefficients for each one of the quotient's, and memory for the quotient and the dividend. A missing domain may
     /// come up only after the first products, whose cost is then added.
     pub fn divide_by_transforms(
@@ -76,16 +76,16 @@ impl<F: FftField> DensePolynomial<F> {
         let whole = self.coeffs().len();
         let parts = divisor.coeffs().len();
         if parts < SHORT || whole < parts || whole - parts < SHORT {
-            return self.divided_plainly(alloc, divisor, leading_inverted);
+            return self.divided_by_passes(alloc, divisor, leading_inverted);
         }
         match self.divided_by_series(alloc, divisor, leading_inverted) {
-            Err(PolyError::NoDomain) => self.divided_plainly(alloc, divisor, leading_inverted),
+            Err(PolyError::NoDomain) => self.divided_by_passes(alloc, divisor, leading_inverted),
             answer => answer,
         }
     }
 
     // The same by passes over the divisor's coefficients, without a transform.
-    fn divided_plainly(
+    fn divided_by_passes(
         &self,
         alloc: Global,
         divisor: &Self,
