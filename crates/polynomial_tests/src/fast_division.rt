@@ -98,21 +98,33 @@ fn without_a_domain_give_back(rt: HostRuntime) -> Result<(), Fail> {
     Ok(())
 }
 
-// Whether the quotient and the remainder are these, or there is none.
+// Whether the quotient and the remainder are these, and `div` gives the same quotient.
 fn divides<F: FftField>(
     alloc: Global,
-    [dividend, divisor]: [&[u64]; 2],
-    expected: Option<[&[u64]; 2]>,
+    dividend: &[u64],
+    divisor: &[u64],
+    quotient: &[u64],
+    remainder: &[u64],
 ) -> Result<bool, PolyError> {
     let dividend = poly::<F>(alloc, dividend)?;
-    match (
-        dividend.divide_by_transforms(alloc, &poly(alloc, divisor)?)?,
-        expected,
-    ) {
-        (Some(found), Some([quotient, remainder])) => Ok(
-            found.0 == poly(alloc, quotient)? && found.1 == poly(alloc, remainder)?,
-        ),
-        (None, None) => Ok(true),
+    let divisor = poly::<F>(alloc, divisor)?;
+    let expected = poly::<F>(alloc, quotient)?;
+    let Some((quotient, rest)) = dividend.divide_by_transforms(alloc, &divisor)? else {
+        return Ok(false);
+    };
+    let same = quotient == expected && rest == poly(alloc, remainder)?;
+    Ok(same && dividend.div(alloc, &divisor)? == expected)
+}
+
+// Whether one has no quotient by zero.
+fn zero_divides_nothing<F: FftField>(alloc: Global) -> Result<bool, PolyError> {
+    let one = poly::<F>(alloc, &[1])?;
+    let zero = poly::<F>(alloc, &[])?;
+    if one.divide_by_transforms(alloc, &zero)?.is_some() {
+        return Ok(false);
+    }
+    match one.div(alloc, &zero) {
+        Err(PolyError::ZeroDivisor) => Ok(true),
         _ => Ok(false),
     }
 }
@@ -120,10 +132,17 @@ fn divides<F: FftField>(
 #[test]
 fn with_zero(rt: HostRuntime) -> Result<(), Fail> {
     let alloc = rt.alloc();
-    assert!(rt; divides::<F5>(alloc, [&[], &[]], Some([&[], &[]]))?);
-    assert!(rt; divides::<F5>(alloc, [&[], &[1, 2]], Some([&[], &[]]))?);
-    assert!(rt; divides::<F5>(alloc, [&[1], &[]], None)?);
-    assert!(rt; divides::<F5>(alloc, [&[3], &[1, 2]], Some([&[], &[3]]))?);
-    assert!(rt; divides::<F5>(alloc, [&[1, 2, 3], &[1, 2]], Some([&[4, 4], &[2]]))?);
+    assert!(rt; divides::<F5>(alloc, &[], &[], &[], &[])?);
+    assert!(rt; divides::<F5>(alloc, &[], &[1, 2], &[], &[])?);
+    assert!(rt; zero_divides_nothing::<F5>(alloc)?);
+    Ok(())
+}
+
+#[test]
+fn quotients_and_remainders(rt: HostRuntime) -> Result<(), Fail> {
+    let alloc = rt.alloc();
+    assert!(rt; divides::<F5>(alloc, &[3], &[1, 2], &[], &[3])?);
+    assert!(rt; divides::<F5>(alloc, &[1, 2, 3], &[1, 2], &[4, 4], &[2])?);
+    assert!(rt; divides::<F65537>(alloc, &[4, 8, 5, 1], &[1, 1], &[4, 4, 1], &[])?);
     Ok(())
 }
