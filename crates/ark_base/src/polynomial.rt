@@ -1,6 +1,6 @@
 //! What all forms of polynomials share.
 
-ghost use Rattle.std.specs.Prelude.{◌≡◌, ◌↔◌, ℕ, Decides, IsTrue, IfOk, OnOk, OnErr, IsOkUnless};
+ghost use Rattle.std.specs.Prelude.{◌≡◌, ◌↔◌, ℕ, max, Decides, IsTrue, IfOk, OnOk, OnErr, IsOkUnless};
 
 use crate::error::PolyError;
 use crate::field::Field;
@@ -11,8 +11,8 @@ use std::hash::Hash;
 /// A polynomial over a field, in any number of variables. Two of them are equal exactly where the polynomials that
 /// they denote are.
 ///
-/// A point fits where it has the variables that the polynomial needs. Two polynomials can be added where their
-/// forms have a sum of the same kind.
+/// A form may keep a number of variables that is no part of the polynomial; then a point fits by this number alone, and
+/// a sum keeps the greater one. Two polynomials can be added where their forms have a sum of the same kind.
 pub trait Polynomial<F: Field>: Clone + Debug + Hash + Eq + Drop {
     /// The points at which it is evaluated.
     type Point: Clone + Ord + Debug + Hash;
@@ -24,7 +24,11 @@ pub trait Polynomial<F: Field>: Clone + Debug + Hash + Eq + Drop {
 
     ghost has_degree: { Meaning → ℕ → Type 0 };
 
-    ghost fits: { Self → Self.Point → Type 0 };
+    // The number of variables that a value keeps, 0 where its form keeps none.
+    ghost variables: { Self → ℕ };
+
+    // The points that fit where so many variables are kept.
+    ghost fits: { ℕ → Self.Point → Type 0 };
 
     ghost has_value: { Meaning → Self.Point → F → Type 0 };
 
@@ -45,17 +49,18 @@ pub trait Polynomial<F: Field>: Clone + Debug + Hash + Eq + Drop {
 
     /// Whether it can be evaluated at this point.
     fn point_fits(&self, point: &Self::Point) -> bool
-        ensures { IsTrue result ↔ fits self.now point.now };
+        ensures { IsTrue result ↔ fits (variables self.now) point.now };
 
     /// The value at a point that fits.
     fn evaluate(&self, alloc: Global, point: &Self::Point) -> Result<F, PolyError>
-        requires { fits self.now point.now }
+        requires { fits (variables self.now) point.now }
         ensures value { IfOk result (λ y. has_value (meaning self.now) point.now y) }
         ensures memory { IsOkUnless result PolyError.Memory };
 
     /// The zero polynomial.
     fn zero(alloc: Global) -> Result<Self, PolyError>
         ensures zero { IfOk result (λ p. meaning p ≡ zero) }
+        ensures variables { IfOk result (λ p. variables p ≡ 0) }
         ensures memory { IsOkUnless result PolyError.Memory };
 
     /// Whether it is the zero polynomial.
@@ -70,7 +75,7 @@ pub trait Polynomial<F: Field>: Clone + Debug + Hash + Eq + Drop {
     fn add(&self, alloc: Global, other: &Self) -> Result<Self, PolyError>
         requires { addable (meaning self.now) (meaning other.now) }
         ensures sum { IfOk result (λ p. meaning p ≡ sum (meaning self.now) (meaning other.now)) }
-        ensures fits { IfOk result (λ p. (x : Self.Point) → fits self.now x → fits other.now x → fits p x) }
+        ensures variables { IfOk result (λ p. variables p ≡ max (variables self.now) (variables other.now)) }
         ensures memory { IsOkUnless result PolyError.Memory };
 
     /// The difference of two polynomials that can be added. A point that fits both fits it.
@@ -78,13 +83,13 @@ pub trait Polynomial<F: Field>: Clone + Debug + Hash + Eq + Drop {
         requires { addable (meaning self.now) (meaning other.now) }
         ensures difference { IfOk result (λ p.
             meaning p ≡ sum (meaning self.now) (negated (meaning other.now))) }
-        ensures fits { IfOk result (λ p. (x : Self.Point) → fits self.now x → fits other.now x → fits p x) }
+        ensures variables { IfOk result (λ p. variables p ≡ max (variables self.now) (variables other.now)) }
         ensures memory { IsOkUnless result PolyError.Memory };
 
     /// The opposite, which the same points fit.
     fn neg(&self, alloc: Global) -> Result<Self, PolyError>
         ensures opposite { IfOk result (λ p. meaning p ≡ negated (meaning self.now)) }
-        ensures fits { IfOk result (λ p. (x : Self.Point) → fits self.now x → fits p x) }
+        ensures variables { IfOk result (λ p. variables p ≡ variables self.now) }
         ensures memory { IsOkUnless result PolyError.Memory };
 
     /// Adds one that it can be added to, in place. After an error it has the value that it had; a point that fits both
@@ -93,7 +98,7 @@ pub trait Polynomial<F: Field>: Clone + Debug + Hash + Eq + Drop {
         requires { addable (meaning self.old) (meaning other.now) }
         ensures sum { OnOk result (meaning self.new ≡ sum (meaning self.old) (meaning other.now)) }
         ensures kept { OnErr result (self.new ≡ self.old) }
-        ensures fits { (x : Self.Point) → fits self.old x → fits other.now x → fits self.new x }
+        ensures variables { OnOk result (variables self.new ≡ max (variables self.old) (variables other.now)) }
         ensures memory { IsOkUnless result PolyError.Memory };
 
     /// Subtracts one that it can be added to, in place. After an error it has the value that it had; a point that fits
@@ -103,7 +108,7 @@ pub trait Polynomial<F: Field>: Clone + Debug + Hash + Eq + Drop {
         ensures difference { OnOk result (meaning self.new
             ≡ sum (meaning self.old) (negated (meaning other.now))) }
         ensures kept { OnErr result (self.new ≡ self.old) }
-        ensures fits { (x : Self.Point) → fits self.old x → fits other.now x → fits self.new x }
+        ensures variables { OnOk result (variables self.new ≡ max (variables self.old) (variables other.now)) }
         ensures memory { IsOkUnless result PolyError.Memory };
 
     /// Adds a multiple of one that it can be added to, in place. After an error it has the value that it had; a point
@@ -113,14 +118,16 @@ pub trait Polynomial<F: Field>: Clone + Debug + Hash + Eq + Drop {
         ensures sum { OnOk result (meaning self.new
             ≡ sum (meaning self.old) (scaled factor (meaning other.now))) }
         ensures kept { OnErr result (self.new ≡ self.old) }
-        ensures fits { (x : Self.Point) → fits self.old x → fits other.now x → fits self.new x }
+        ensures variables { OnOk result (variables self.new ≡ max (variables self.old) (variables other.now)) }
         ensures memory { IsOkUnless result PolyError.Memory };
 
     ghost equality_law: { (a b : Self) → Decides (Self.eq a b) (meaning a ≡ meaning b) };
 
     ghost clone_law: { (a b : Self) → Self.is_clone a b → meaning b ≡ meaning a };
 
-    ghost clone_fits: { (a b : Self) → Self.is_clone a b → (x : Self.Point) → fits a x → fits b x };
+    ghost clone_variables: { (a b : Self) → Self.is_clone a b → variables b ≡ variables a };
+
+    ghost fits_max: { (m n : ℕ) (x : Self.Point) → fits m x → fits n x → fits (max m n) x };
 
     ghost degree_zero: { has_degree zero 0 };
 

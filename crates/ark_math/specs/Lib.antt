@@ -4,6 +4,7 @@ pub mod Domain
 pub mod Field
 pub mod Generator
 pub mod Module
+pub mod Multivariate
 pub mod NormalForms
 pub mod Points
 pub mod Prime
@@ -11,5 +12,6 @@ pub mod Root
 pub mod Rows
 pub mod Series
 pub mod Sizes
+pub mod Term
 pub mod Transform
 pub mod Univariate

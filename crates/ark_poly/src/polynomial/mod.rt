@@ -75,7 +75,7 @@ pub trait DenseUVPolynomial<F: Field>: Polynomial<F, Point = F> {
     ghost value_coefficients: { (a : Self.Polynomial.Meaning) (x y : F) → Self.has_value a x y
         ↔ IsValue F.field (coefficients a) x y };
 
-    ghost fits_law: { (p : Self) (x : F) → Self.fits p x };
+    ghost fits_law: { (n : ℕ) (x : F) → Self.fits n x };
 
     ghost addable_law: { (a b : Self.Polynomial.Meaning) → Self.addable a b };
 }

@@ -118,6 +118,8 @@ impl<F: Field> Polynomial<F> for SparsePolynomial<F> {
 
     ghost has_degree = { IsDegree F.field };
 
+    ghost variables = { λ _. 0 };
+
     ghost fits = { λ _ _. Unit {0} };
 
     ghost has_value = { IsValue F.field };
@@ -205,7 +207,9 @@ impl<F: Field> Polynomial<F> for SparsePolynomial<F> {
 
     ghost clone_law = { λ a b e. ap (of_pairs F.field) e };
 
-    ghost clone_fits = { λ a b e x fits. fits };
+    ghost clone_variables = { λ a b e. refl };
+
+    ghost fits_max = { λ m n x left right. tt };
 
     ghost degree_zero = { trimmed_degree F.field [] (trimmed-nil F.field) };
 

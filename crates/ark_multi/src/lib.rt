@@ -1,0 +1,7 @@
+//! Polynomials in several variables.
+#![tactic(auto)]
+
+pub mod multivariate;
+mod polynomial;
+
+pub use polynomial::DenseMVPolynomial;

@@ -1,0 +1,64 @@
+//! Terms, and polynomials by the coefficients of their terms.
+
+ghost use Rattle.std.specs.Prelude.{◌≡◌, ◌↔◌, ◌⊎◌, ◌≤◌, ◌^◌, ℕ, List, [], length, map};
+ghost use Rattle.std.specs.Prelude.{Decides, IfOk, IfErr, IsOkUnless, IsTrue};
+ghost use Rattle.ark_math.specs.Term.{IsTerm, IsWithin, power_of, term_value, total_degree};
+
+mod merging;
+mod sparse;
+mod term;
+
+pub use sparse::SparsePolynomial;
+pub use term::SparseTerm;
+
+use ark_base::{Field, PolyError};
+use std::alloc::Global;
+use std::fmt::Debug;
+use std::hash::Hash;
+
+/// A term: a product of powers of variables, which are told by their numbers. Its order is total, and two terms are
+/// equal, and hash equally, exactly where their pairs are the same.
+pub trait Term: Clone + Ord + Hash + Debug + Drop {
+    // What `pairs()` shows.
+    ghost listed: { Self → List (ℕ × ℕ) };
+
+    /// The product of these powers, given by variable and power in any order: powers of one variable are added up, and
+    /// powers of 0 left out; no pairs give the constant term. `Overflow` exactly where the total of all powers is past
+    /// `usize::MAX`, judged before memory is asked for.
+    fn new(alloc: Global, powers: Vec<(usize, usize)>) -> Result<Self, PolyError>
+        ensures powers { IfOk result (λ t. (v : ℕ) → power_of (listed t) v ≡ power_of powers.items v) }
+        ensures overflow { (result ≡ Err PolyError.Overflow) ↔ (2 ^ 64 ≤ total_degree powers.items) }
+        ensures errors { IfErr result (λ e. (e ≡ PolyError.Memory) ⊎ (e ≡ PolyError.Overflow)) };
+
+    /// The variables with their powers, by rising variables, without powers of 0.
+    fn pairs(&self) -> &[(usize, usize)]
+        ensures same { result.now ≡ listed self.now }
+        ensures term { IsTerm result.now };
+
+    /// The sum of all powers.
+    fn degree(&self) -> usize
+        ensures { result ≡ total_degree (listed self.now) };
+
+    /// The variables, rising.
+    fn vars(&self, alloc: Global) -> Result<Vec<usize>, PolyError>
+        ensures variables { IfOk result (λ vars. vars.items ≡ map (λ p. p.0) (listed self.now)) }
+        ensures memory { IsOkUnless result PolyError.Memory };
+
+    /// The powers, in the order of the variables.
+    fn powers(&self, alloc: Global) -> Result<Vec<usize>, PolyError>
+        ensures powers { IfOk result (λ powers. powers.items ≡ map (λ p. p.1) (listed self.now)) }
+        ensures memory { IsOkUnless result PolyError.Memory };
+
+    /// Whether no variable stands in it.
+    fn is_constant(&self) -> bool
+        ensures { IsTrue result ↔ (listed self.now ≡ []) };
+
+    /// The product of the point's items to the powers of their variables. The point has an item for each variable.
+    fn evaluate<F: Field>(&self, point: &[F]) -> F
+        requires { IsWithin (length point.now) (listed self.now) }
+        ensures { result ≡ term_value F.field (listed self.now) point.now };
+
+    ghost equality_law: { (s t : Self) → Decides (Self.eq s t) (listed s ≡ listed t) };
+
+    ghost clone_law: { (s t : Self) → Self.is_clone s t → listed t ≡ listed s };
+}
