@@ -1,7 +1,7 @@
 //! What polynomials in several variables share.
 
 ghost use Rattle.std.specs.Prelude.{◌≡◌, ◌≢◌, ◌↔◌, ◌≤◌, ◌⊎◌, ℕ, List, [], ◌∷◌, length, map, All, AllPairs};
-ghost use Rattle.std.specs.Prelude.{IfOk, IsOkUnless};
+ghost use Rattle.std.specs.Prelude.{IfOk, IsOkUnless, Vec};
 ghost use Rattle.std.specs.declared.cmp.Ordering.{Ordering};
 ghost use Rattle.ark_math.specs.Term.{IsWithin};
 ghost use Rattle.ark_math.specs.Multivariate.{of_terms, IsTotalDegree, IsValueAt};
