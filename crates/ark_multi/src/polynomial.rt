@@ -2,6 +2,7 @@
 
 ghost use Rattle.std.specs.Prelude.{◌≡◌, ◌≢◌, ◌↔◌, ◌≤◌, ◌⊎◌, ℕ, List, [], ◌∷◌, length, map, All, AllPairs};
 ghost use Rattle.std.specs.Prelude.{IfOk, IsOkUnless, Vec};
+ghost use Rattle.std.specs.declared.alloc.Global.{Global};
 ghost use Rattle.std.specs.declared.cmp.Ordering.{Ordering};
 ghost use Rattle.ark_math.specs.Term.{IsWithin};
 ghost use Rattle.ark_math.specs.Multivariate.{of_terms, IsTotalDegree, IsValueAt};
@@ -93,10 +94,10 @@ pub trait DenseMVPolynomial<F: Field>: Polynomial<F, Point = Vec<F>> {
     ghost degree_coefficients: { (a : Self.Polynomial.Meaning) (d : ℕ) → Self.has_degree a d
         ↔ IsTotalDegree F.field (coefficients a) d };
 
-    ghost value_coefficients: { (a : Self.Polynomial.Meaning) (x : Vec F) (y : F) → Self.has_value a x y
+    ghost value_coefficients: { (a : Self.Polynomial.Meaning) (x : Vec F Global) (y : F) → Self.has_value a x y
         ↔ IsValueAt F.field (coefficients a) x.items y };
 
-    ghost fits_law: { (n : ℕ) (x : Vec F) → Self.fits n x ↔ (n ≤ length x.items) };
+    ghost fits_law: { (n : ℕ) (x : Vec F Global) → Self.fits n x ↔ (n ≤ length x.items) };
 
     ghost addable_law: { (a b : Self.Polynomial.Meaning) → Self.addable a b };
 }
