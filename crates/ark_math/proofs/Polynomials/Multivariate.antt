@@ -1,9 +1,10 @@
 -- Polynomials in several variables: what lists of terms denote, their values, and the total degree.
-use Rattle.std.proofs.Common.{◌≡◌, ◌≢◌, ℕ, zero, suc, ◌<◌, ◌≤◌, Bool, true, false, cond, if◌then◌else◌, List, [], ◌∷◌, ◌++◌, map, length, sym, ◌∙◌, ap, ap₂, refl, subst, arith, ⊎_elim}
+use Rattle.std.proofs.Common.{◌≡◌, ◌≢◌, ℕ, zero, suc, ◌<◌, ◌≤◌, Bool, true, false, cond, if◌then◌else◌, List, [], ◌∷◌, ◌++◌, map, length, get_or, All, AllPairs, Any, sym, ◌∙◌, ap, ap₂, refl, subst, arith, ⊎_elim}
 use mathlib.Core.Path.{fun_ext}
 use Rattle.std.proofs.lemmas.Bool.{cases_order, cond-true, cond-false, cond_both}
+use Rattle.std.proofs.lemmas.List.Elements.{All-head, All-tail}
 use Rattle.ark_math.specs.Field.{FieldOn, IsField}
-use Rattle.ark_math.specs.Term.{term_value}
+use Rattle.ark_math.specs.Term.{total_degree, term_value}
 use Rattle.ark_math.specs.Univariate.{nothing, added, opposite, scaled}
 use Rattle.ark_math.specs.Multivariate.{same_term, single, of_terms, sum_at, IsValueAt, IsTotalDegree}
 use Rattle.ark_math.proofs.Algebra.Groups.{itself_is_module, zero_plus, scale_zero}
@@ -131,6 +132,49 @@ module _ {F : Type 0} (K : FieldOn F) (N : IsField K) where
       (λ (f : t ≡ u). subst (λ v. of_terms K (without t cs) v ≡ K.zero) f (of_terms-without_same t cs))
       (λ (ne : t ≢ u). of_terms-without_other t cs u ne ∙ ap (λ a. a u) e)
       (cases_term t u))
+
+  -- ---- one coefficient
+
+  pub of_terms-absent : (cs : List (F × List (ℕ × ℕ))) (t : List (ℕ × ℕ)) → All (λ c. c.1 ≢ t) cs → of_terms K cs t ≡ K.zero
+  of_terms-absent [] t h = refl
+  of_terms-absent (c ∷ cs) t h =
+      ap₂ K.plus (single-other K c.1 c.0 t (All-head (λ e. e.1 ≢ t) c cs h)) (of_terms-absent cs t (All-tail (λ e. e.1 ≢ t) c cs h)) ∙ N.plus_zero K.zero
+
+  -- a term with a coefficient stands in the list
+  pub of_terms-present : (cs : List (F × List (ℕ × ℕ))) (t : List (ℕ × ℕ)) → of_terms K cs t ≢ K.zero → Any (λ c. c.1 ≡ t) cs
+  of_terms-present [] t ne = absurd (ne refl)
+  of_terms-present (c ∷ cs) t ne = ⊎_elim
+      (λ (e : c.1 ≡ t). (0, c, omega arith, refl, e))
+      (λ (o : c.1 ≢ t).
+      let r = of_terms-present cs t (λ z. ne (ap₂ K.plus (single-other K c.1 c.0 t o) z ∙ N.plus_zero K.zero)) in
+      let l = r.2 in
+      (suc r.0, r.1, omega (arith, l), r.3, r.4))
+      (cases_term c.1 t)
+
+  -- ---- lists in which no term stands twice
+
+  pub of_terms-first : (c : F × List (ℕ × ℕ)) (cs : List (F × List (ℕ × ℕ))) → All (λ e. c.1 ≢ e.1) cs → of_terms K (c ∷ cs) c.1 ≡ c.0
+  of_terms-first c cs h = ap₂ K.plus (single-same K c.1 c.0) (of_terms-absent cs c.1 (λ k d l e. h k d l (sym e))) ∙ N.plus_zero c.0
+
+  pub of_terms-at : (cs : List (F × List (ℕ × ℕ))) (k : ℕ) (d : F × List (ℕ × ℕ)) → AllPairs (λ c e. c.1 ≢ e.1) cs → k < length cs → of_terms K cs (get_or cs k d).1 ≡ (get_or cs k d).0
+  of_terms-at [] k d h l = absurd (omega arith)
+  of_terms-at (c ∷ cs) zero d h l = of_terms-first c cs (λ j e b. h 0 (suc j) e (omega arith) (omega arith))
+  of_terms-at (c ∷ cs) (suc k) d h l =
+      let e = get_or cs k d in
+      ap₂ K.plus (single-other K c.1 c.0 e.1 (h 0 (suc k) d (omega arith) (omega arith))) (of_terms-at cs k d (λ i j e b m. h (suc i) (suc j) e (omega arith) (omega arith)) (omega arith))
+      ∙ zero_plus (itself_is_module K N) e.0
+
+  -- the greatest degree of a term in it is its own
+  pub of_terms_degree : (cs : List (F × List (ℕ × ℕ))) (d : ℕ) → AllPairs (λ c e. c.1 ≢ e.1) cs → All (λ c. c.0 ≢ K.zero) cs → All (λ c. total_degree c.1 ≤ d) cs → (0 < d → Any (λ c. total_degree c.1 ≡ d) cs) → IsTotalDegree K (of_terms K cs) d
+  of_terms_degree cs d apart some bounded top = record {
+    within = λ t ne.
+        let r = of_terms-present cs t ne in
+        subst (λ s. total_degree s ≤ d) (ap (λ c. c.1) r.3 ∙ r.4) (bounded r.0 r.1 r.2);
+    reached = λ l.
+        let r = top l in
+        let here : of_terms K cs r.1.1 ≡ (get_or cs r.0 r.1).0 = ap (λ c. of_terms K cs c.1) (sym r.3) ∙ of_terms-at cs r.0 r.1 apart r.2 in
+        (r.1.1, (λ e. some r.0 r.1 r.2 (sym here ∙ e)), r.4);
+  }
 
   -- ---- sums at a point
 
