@@ -1,5 +1,5 @@
 -- Polynomials in several variables: what lists of terms denote, their values, and the total degree.
-use Rattle.std.proofs.Common.{◌≡◌, ◌≢◌, ℕ, zero, suc, ◌<◌, ◌≤◌, Bool, true, false, cond, if◌then◌else◌, List, [], ◌∷◌, ◌++◌, map, length, get_or, All, AllPairs, Any, sym, ◌∙◌, ap, ap₂, refl, subst, arith, ⊎_elim}
+use Rattle.std.proofs.Common.{◌≡◌, ◌≢◌, ℕ, zero, suc, ◌<◌, ◌≤◌, Bool, true, false, cond, if◌then◌else◌, List, [], ◌∷◌, ◌++◌, map, length, get_or, All, AllPairs, Any, IsPermutation, sym, ◌∙◌, ap, ap₂, refl, subst, arith, ⊎_elim}
 use mathlib.Core.Path.{fun_ext}
 use Rattle.std.proofs.lemmas.Bool.{cases_order, cond-true, cond-false, cond_both}
 use Rattle.std.proofs.lemmas.List.Elements.{All-head, All-tail}
@@ -8,6 +8,7 @@ use Rattle.ark_math.specs.Term.{total_degree, term_value}
 use Rattle.ark_math.specs.Univariate.{nothing, added, opposite, scaled}
 use Rattle.ark_math.specs.Multivariate.{same_term, single, of_terms, sum_at, IsValueAt, IsTotalDegree}
 use Rattle.ark_math.proofs.Algebra.Groups.{itself_is_module, zero_plus, scale_zero}
+use Rattle.ark_math.proofs.Algebra.Permuted.{total-permutation}
 use Rattle.ark_math.proofs.Algebra.Solve.{nought, negative, ◌⊕◌, ◌⊖◌, ◌⊗◌, ◌⊞◌}
 use Rattle.ark_math.proofs.Algebra.Ring.{ring1, ring2, ring2_by, ring3, ring4, ring5, module0_3}
 use Rattle.ark_math.proofs.Polynomials.Univariate.{coefficients_are_module}
@@ -97,6 +98,10 @@ module _ {F : Type 0} (K : FieldOn F) (N : IsField K) where
       of_terms-append cs (c ∷ ds)
       ∙ module0_3 N (coefficients_are_module K N) (λ p m q. (p ⊞ (m ⊞ q), m ⊞ (p ⊞ q))) refl (of_terms K cs) (single K c.1 c.0) (of_terms K ds)
       ∙ ap (added K (single K c.1 c.0)) (sym (of_terms-append cs ds))
+
+  -- in any order terms have one sum
+  pub of_terms-permutation : (cs ds : List (F × List (ℕ × ℕ))) → IsPermutation cs ds → of_terms K ds ≡ of_terms K cs
+  of_terms-permutation cs ds h = total-permutation N (coefficients_are_module K N) (λ c. single K c.1 c.0) (of_terms K) (λ c cs. refl) cs ds h
 
   pub of_terms-opposite : (cs : List (F × List (ℕ × ℕ))) → of_terms K (with_each K.negated cs) ≡ opposite K (of_terms K cs)
   of_terms-opposite [] = fun_ext (λ u. ring1 K N (λ x. (nought, negative nought)) refl K.one)

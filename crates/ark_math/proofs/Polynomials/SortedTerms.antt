@@ -1,13 +1,13 @@
 -- Terms of any kind with their coefficients, in strictly rising order: one list for each polynomial. What loops make of
 -- lists of terms.
-use Rattle.std.proofs.Common.{◌≡◌, ◌≢◌, ℕ, zero, suc, ◌<◌, ◌≤◌, ◌⊎◌, Bool, Decides, Ordering, Less, Equal, Greater, List, [], ◌∷◌, ◌++◌, map, length, get_or, All, AllPairs, Any, sym, ◌∙◌, ap, ap₂, refl, subst, arith, inl, inr, ⊎_elim}
+use Rattle.std.proofs.Common.{◌≡◌, ◌≢◌, ℕ, suc, ◌⊎◌, Decides, Ordering, Less, Equal, Greater, List, [], ◌∷◌, map, All, AllPairs, sym, ◌∙◌, ap, ap₂, refl, arith, inl, inr, ⊎_elim}
 use Rattle.std.specs.Cmp.{IsTotalOrder}
 use Rattle.std.specs.Ordering.{eq_by_cmp, ordering_reverse, is_eq}
 use Rattle.std.proofs.lemmas.Bool.{true≢false}
 use Rattle.std.proofs.lemmas.List.Elements.{All-head, All-tail, All-cons}
 use Rattle.ark_math.specs.Field.{FieldOn, IsField}
-use Rattle.ark_math.specs.Univariate.{nothing, added}
-use Rattle.ark_math.specs.Multivariate.{single, of_terms, IsTotalDegree}
+use Rattle.ark_math.specs.Univariate.{added}
+use Rattle.ark_math.specs.Multivariate.{single, of_terms}
 use Rattle.ark_math.proofs.Algebra.Groups.{cancel_left}
 use Rattle.ark_math.proofs.Polynomials.Univariate.{coefficients_are_module}
 use Rattle.ark_math.proofs.Polynomials.Multivariate.{of_terms-absent, of_terms-first}
