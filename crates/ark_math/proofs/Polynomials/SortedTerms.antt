@@ -1,15 +1,14 @@
 -- Terms of any kind with their coefficients, in strictly rising order: one list for each polynomial. What loops make of
 -- lists of terms.
-use Rattle.std.proofs.Common.{◌≡◌, ◌≢◌, ℕ, suc, ◌+◌, ◌<◌, ◌≤◌, ◌⊎◌, Bool, ◌&&◌, ◌==◌, Decides, Ordering, Less, Equal, Greater, List, [], ◌∷◌, ◌++◌, map, length, get_or, take, drop, All, AllPairs, Any, IsPermutation, sym, ◌∙◌, ap, ap₂, refl, subst, arith, inl, inr, ⊎_elim}
+use Rattle.std.proofs.Common.{◌≡◌, ◌≢◌, ℕ, suc, ◌+◌, ◌<◌, ◌≤◌, ◌⊎◌, Bool, ◌&&◌, ◌==◌, Decides, Ordering, Less, Equal, Greater, List, [], ◌∷◌, ◌++◌, map, length, get_or, take, All, AllPairs, Any, IsPermutation, sym, ◌∙◌, ap, ap₂, refl, subst, arith, inl, inr, ⊎_elim}
 use Rattle.std.specs.Cmp.{IsTotalOrder, Equal-is}
 use Rattle.std.specs.Cmp.Lexicographic.{pointwise}
 use Rattle.std.specs.Ordering.{ordering_reverse, is_eq}
 use Rattle.std.proofs.lemmas.Bool.{true≢false, cases_lt}
-use Rattle.std.proofs.lemmas.Bool.Decides.{Decides-eqb, Decides-and}
+use Rattle.std.proofs.lemmas.Bool.Decides.{Decides-eqb}
 use Rattle.std.proofs.lemmas.Cmp.{alike_right}
-use Rattle.std.proofs.lemmas.List.{length_push, get_or_push, length-map, get_or-map, map_push, take_more}
-use Rattle.std.proofs.lemmas.List.Elements.{All-head, All-tail, All-cons}
-use Rattle.std.proofs.lemmas.List.Kept.{AllPairs-cons}
+use Rattle.std.proofs.lemmas.List.{length_push, get_or_push, length-map, get_or-map, map_push, take_more, nil_from_length}
+use Rattle.std.proofs.lemmas.List.Elements.{All-tail, All-cons, All-map}
 use Rattle.std.proofs.lemmas.List.Quantifiers.{all_pairs_push}
 use Rattle.std.proofs.lemmas.List.Sorted.{IsPermutation-map}
 use Rattle.ark_math.specs.Field.{FieldOn, IsField}
@@ -17,6 +16,7 @@ use Rattle.ark_math.specs.Term.{total_degree}
 use Rattle.ark_math.specs.Univariate.{nothing, added}
 use Rattle.ark_math.specs.Multivariate.{single, of_terms, IsTotalDegree}
 use Rattle.ark_math.proofs.Algebra.Groups.{cancel_left, pair_Decides}
+use Rattle.ark_math.proofs.Lists.Lists.{AllPairs-map, pointwise-Decides_map}
 use Rattle.ark_math.proofs.Polynomials.Univariate.{coefficients_are_module}
 use Rattle.ark_math.proofs.Polynomials.Multivariate.{single-zero, single-added, of_terms-push, of_terms-permutation, of_terms-absent, of_terms-first, of_terms_degree}
 
@@ -50,30 +50,6 @@ term_order {T} {cmp} {eq} key order matches decides = record {
     tied : (s t : T) → key s ≡ key t → cmp s t ≡ Equal
     tied s t e = (Equal-is (cmp s t)).0 (sym (matches s t) ∙ (decides s t).1 e)
 
-All-map : {X Y : Type 0} (f : X → Y) (P : Y → Type 0) (xs : List X) → All (λ x. P (f x)) xs → All P (map f xs)
-All-map f P [] h = λ k d l. absurd (omega arith)
-All-map f P (x ∷ xs) h = All-cons P (f x) (map f xs) (All-head (λ x. P (f x)) x xs h) (All-map f P xs (All-tail (λ x. P (f x)) x xs h))
-
--- a test of pairs by what f gives, and of lists
-pointwise-Decides : {X M : Type 0} {E : X → X → Bool} (f : X → M) → ((x y : X) → Decides (E x y) (f x ≡ f y)) → (xs ys : List X) → Decides (pointwise E xs ys) (map f xs ≡ map f ys)
-pointwise-Decides f h [] [] = (λ _. refl, λ _. refl)
-pointwise-Decides f h [] (y ∷ ys) = (λ e. absurd (true≢false (sym e)), λ e. let l = ap length e in absurd (omega arith))
-pointwise-Decides f h (x ∷ xs) [] = (λ e. absurd (true≢false (sym e)), λ e. let l = ap length e in absurd (omega arith))
-pointwise-Decides {E = E} f h (x ∷ xs) (y ∷ ys) =
-    let both = Decides-and (E x y) (pointwise E xs ys) (h x y) (pointwise-Decides f h xs ys) in
-    (λ e. let p = both.0 e in ap₂ (λ t ts. t ∷ ts) p.0 p.1, λ e. both.1 (ap (λ ts. get_or ts 0 (f x)) e, ap (drop 1) e))
-
-no_items : {X : Type 0} (xs : List X) → length xs ≡ 0 → xs ≡ []
-no_items [] e = refl
-no_items (x ∷ xs) e = absurd (omega arith)
-
-AllPairs-map : {X Y : Type 0} (f : X → Y) (R : Y → Y → Type 0) (xs : List X) → AllPairs (λ x y. R (f x) (f y)) xs → AllPairs R (map f xs)
-AllPairs-map f R [] h = λ i j d l m. absurd (omega arith)
-AllPairs-map f R (x ∷ xs) h =
-    AllPairs-cons R (f x) (map f xs)
-    (All-map f (R (f x)) xs (λ k d l. h 0 (suc k) d (omega arith) (omega arith)))
-    (AllPairs-map f R xs (λ i j d l m. h (suc i) (suc j) d (omega arith) (omega arith)))
-
 module _ {F T : Type 0} (K : FieldOn F) (N : IsField K) (key : T → List (ℕ × ℕ)) {below : T → T → Type 0} (order : IsTermOrder key below) where
   later : (c : F × T) (cs : List (F × T)) → AllPairs (λ c d. below c.1 d.1) (c ∷ cs) → All (λ d. below c.1 d.1) cs
   later c cs h k d l = h 0 (suc k) d (omega arith) (omega arith)
@@ -82,7 +58,7 @@ module _ {F T : Type 0} (K : FieldOn F) (N : IsField K) (key : T → List (ℕ �
   tail c cs h i j d l m = h (suc i) (suc j) d (omega arith) (omega arith)
 
   all_keyed : (P : F × List (ℕ × ℕ) → Type 0) (cs : List (F × T)) → All (λ c. P (c.0, key c.1)) cs → All P (keyed key cs)
-  all_keyed P cs h = All-map (λ c. (c.0, key c.1)) P cs h
+  all_keyed P cs h = All-map P (λ c. (c.0, key c.1)) cs h
 
   first_coefficient : (c : F × T) (cs : List (F × T)) → AllPairs (λ c d. below c.1 d.1) (c ∷ cs) → of_terms K (keyed key (c ∷ cs)) (key c.1) ≡ c.0
   first_coefficient c cs h = of_terms-first K N (c.0, key c.1) (keyed key cs) (all_keyed (λ e. key c.1 ≢ e.1) cs (λ k d l. order.apart c.1 _ (later c cs h k d l)))
@@ -128,13 +104,13 @@ module _ {F T : Type 0} (K : FieldOn F) (N : IsField K) (key : T → List (ℕ �
       → (cs ds : List (F × T)) → AllPairs (λ c d. below c.1 d.1) cs → AllPairs (λ c d. below c.1 d.1) ds → All (λ c. c.0 ≢ K.zero) cs → All (λ c. c.0 ≢ K.zero) ds
       → Decides (pointwise (λ c d. eq c.0 d.0 && same c.1 d.1) cs ds) (of_terms K (keyed key cs) ≡ of_terms K (keyed key ds))
   sorted_Decides decides ties cs ds f g s t =
-      let same = pointwise-Decides (λ c. (c.0, key c.1)) (λ c d. pair_Decides (decides c.0 d.0) (ties c.1 d.1)) cs ds in
+      let same = pointwise-Decides_map (λ c. (c.0, key c.1)) (λ c d. pair_Decides (decides c.0 d.0) (ties c.1 d.1)) cs ds in
       (λ e. ap (of_terms K) (same.0 e), λ e. same.1 (same_sorted cs ds f g s t e))
 
   pub sorted_none_Decides : (cs : List (F × T)) (r : Bool) → AllPairs (λ c d. below c.1 d.1) cs → All (λ c. c.0 ≢ K.zero) cs → r ≡ (length cs == 0) → Decides r (of_terms K (keyed key cs) ≡ nothing K)
   sorted_none_Decides cs r f s e =
       let d = Decides-eqb (length cs) 0 in
-      (λ h. ap (λ ds. of_terms K (keyed key ds)) (no_items cs (d.0 (sym e ∙ h))), λ h. e ∙ d.1 (ap length (sorted_nothing cs f s h)))
+      (λ h. ap (λ ds. of_terms K (keyed key ds)) (nil_from_length cs (d.0 (sym e ∙ h))), λ h. e ∙ d.1 (ap length (sorted_nothing cs f s h)))
 
   -- ---- the total degree
 
