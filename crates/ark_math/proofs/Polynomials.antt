@@ -10,8 +10,8 @@ pub mod Quotients
 pub mod Reversed
 pub mod Series
 pub mod SortedPairs
-pub mod SortedTerms
 pub mod SparseSums
+pub mod TermLists
 pub mod Terms
 pub mod Trimmed
 pub mod Univariate

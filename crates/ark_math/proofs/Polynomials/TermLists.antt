@@ -1,5 +1,5 @@
--- Terms of any kind with their coefficients, in strictly rising order: one list for each polynomial. What loops make of
--- lists of terms.
+-- Lists of (coefficient, term), where terms are of any kind that tells its list of (variable, power): in strictly rising
+-- order there is one for each polynomial. What loops make of such lists.
 use Rattle.std.proofs.Common.{◌≡◌, ◌≢◌, ℕ, suc, ◌+◌, ◌<◌, ◌≤◌, ◌⊎◌, Bool, ◌&&◌, ◌==◌, Decides, Ordering, Less, Equal, Greater, List, [], ◌∷◌, ◌++◌, map, length, get_or, take, All, AllPairs, Any, IsPermutation, sym, ◌∙◌, ap, ap₂, refl, subst, arith, inl, inr, ⊎_elim}
 use Rattle.std.specs.Cmp.{IsTotalOrder, Equal-is}
 use Rattle.std.specs.Cmp.Lexicographic.{pointwise}
@@ -25,7 +25,7 @@ abbrev pub keyed : {F T : Type 0} → (T → List (ℕ × ℕ)) → List (F × T
 keyed key cs = map (λ c. (c.0, key c.1)) cs
 
 -- a strict order of terms, whose lists tell them apart
-pub record IsTermOrder {T : Type 0} (key : T → List (ℕ × ℕ)) (below : T → T → Type 0) : Type 0 where
+pub record IsStrictOrder {T : Type 0} (key : T → List (ℕ × ℕ)) (below : T → T → Type 0) : Type 0 where
   pub chain : (s t u : T) → below s t → below t u → below s u
   pub apart : (s t : T) → below s t → key s ≢ key t
   pub total : (s t : T) → below s t ⊎ ((key s ≡ key t) ⊎ below t s)
@@ -33,8 +33,8 @@ pub record IsTermOrder {T : Type 0} (key : T → List (ℕ × ℕ)) (below : T �
   pub right : (s t u : T) → key t ≡ key u → below s t → below s u
 
 -- that of a total order whose ties are the terms with one list
-pub term_order : {T : Type 0} {cmp : T → T → Ordering} {eq : T → T → Bool} (key : T → List (ℕ × ℕ)) → IsTotalOrder cmp → ((s t : T) → eq s t ≡ is_eq (cmp s t)) → ((s t : T) → Decides (eq s t) (key s ≡ key t)) → IsTermOrder key (λ s t. cmp s t ≡ Less)
-term_order {T} {cmp} {eq} key order matches decides = record {
+pub strict_order : {T : Type 0} {cmp : T → T → Ordering} {eq : T → T → Bool} (key : T → List (ℕ × ℕ)) → IsTotalOrder cmp → ((s t : T) → eq s t ≡ is_eq (cmp s t)) → ((s t : T) → Decides (eq s t) (key s ≡ key t)) → IsStrictOrder key (λ s t. cmp s t ≡ Less)
+strict_order {T} {cmp} {eq} key order matches decides = record {
   chain = order.trans;
   apart = λ s t l e. true≢false (sym ((decides s t).1 e) ∙ matches s t ∙ ap is_eq l);
   total = λ s t. by s t (cmp s t) refl;
@@ -50,7 +50,7 @@ term_order {T} {cmp} {eq} key order matches decides = record {
     tied : (s t : T) → key s ≡ key t → cmp s t ≡ Equal
     tied s t e = (Equal-is (cmp s t)).0 (sym (matches s t) ∙ (decides s t).1 e)
 
-module _ {F T : Type 0} (K : FieldOn F) (N : IsField K) (key : T → List (ℕ × ℕ)) {below : T → T → Type 0} (order : IsTermOrder key below) where
+module _ {F T : Type 0} (K : FieldOn F) (N : IsField K) (key : T → List (ℕ × ℕ)) {below : T → T → Type 0} (order : IsStrictOrder key below) where
   later : (c : F × T) (cs : List (F × T)) → AllPairs (λ c d. below c.1 d.1) (c ∷ cs) → All (λ d. below c.1 d.1) cs
   later c cs h k d l = h 0 (suc k) d (omega arith) (omega arith)
 
