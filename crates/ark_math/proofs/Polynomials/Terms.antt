@@ -6,9 +6,13 @@ use Rattle.std.proofs.lemmas.Slice.Eq.{slice_eq-Decides}
 use Rattle.std.proofs.lemmas.List.Elements.{All-head, All-tail, All-cons, All-append}
 use Rattle.std.proofs.lemmas.List.Sums.{sum_by-cons, sum_by-append}
 use Rattle.std.proofs.lemmas.List.Sorted.{sum_by-IsPermutation, All-permutation}
-use Rattle.ark_math.specs.Term.{power_of, total_degree, IsTerm, IsWithin}
+use Rattle.ark_math.specs.Field.{FieldOn, IsField, power}
+use Rattle.ark_math.specs.Term.{power_of, total_degree, term_value, IsTerm, IsWithin}
 use Rattle.ark_math.specs.Multivariate.{same_term}
-use Rattle.ark_math.proofs.Algebra.Groups.{pair_Decides}
+use Rattle.ark_math.proofs.Algebra.Groups.{pair_Decides, one_times}
+use Rattle.ark_math.proofs.Algebra.Powers.{power-add}
+use Rattle.ark_math.proofs.Algebra.Solve.{◌⊗◌}
+use Rattle.ark_math.proofs.Algebra.Ring.{ring3}
 
 -- ---- one term or two
 
@@ -212,3 +216,62 @@ same_powers (p ∷ ps) (q ∷ qs) s t e =
     absurd (omega (arith, b, x, y, m)))
     h)
     (cases_order p.0 q.0)
+
+-- ---- values
+
+-- the product of the first n items' powers
+powers_value : {F : Type 0} → FieldOn F → ℕ → List (ℕ × ℕ) → List F → F
+powers_value K zero ps x = K.one
+powers_value K (suc n) ps x = K.times (powers_value K n ps x) (power K (get_or x n K.zero) (power_of ps n))
+
+module _ {F : Type 0} (K : FieldOn F) (N : IsField K) (x : List F) where
+  pub term_value-append : (ps qs : List (ℕ × ℕ)) → term_value K (ps ++ qs) x ≡ K.times (term_value K ps x) (term_value K qs x)
+  term_value-append [] qs = sym (one_times K N (term_value K qs x))
+  term_value-append (p ∷ ps) qs =
+      ap (K.times (power K (get_or x p.0 K.zero) p.1)) (term_value-append ps qs)
+      ∙ sym (N.times_assoc (power K (get_or x p.0 K.zero) p.1) (term_value K ps x) (term_value K qs x))
+
+  powers_value-nil : (n : ℕ) → powers_value K n [] x ≡ K.one
+  unfolding powers_value
+  powers_value-nil zero = refl
+  powers_value-nil (suc n) = ap (λ v. K.times v K.one) (powers_value-nil n) ∙ N.times_one K.one
+
+  powers_value-past : (n : ℕ) (p : ℕ × ℕ) (ps : List (ℕ × ℕ)) → n ≤ p.0 → powers_value K n (p ∷ ps) x ≡ powers_value K n ps x
+  unfolding powers_value
+  powers_value-past zero p ps l = refl
+  powers_value-past (suc n) p ps l =
+      ap₂ (λ v m. K.times v (power K (get_or x n K.zero) m)) (powers_value-past n p ps (omega arith)) (power_of-other p ps n (λ e. omega arith))
+
+  powers_value-cons : (n : ℕ) (p : ℕ × ℕ) (ps : List (ℕ × ℕ)) → p.0 < n → powers_value K n (p ∷ ps) x ≡ K.times (power K (get_or x p.0 K.zero) p.1) (powers_value K n ps x)
+  unfolding powers_value
+  powers_value-cons zero p ps l = absurd (omega arith)
+  powers_value-cons (suc n) p ps l = ⊎_elim
+      (λ (e : p.0 ≡ n).
+      ap₂ (λ v m. K.times v (power K (get_or x n K.zero) m)) (powers_value-past n p ps (omega arith)) (power_of-same p ps n e)
+      ∙ ap (K.times (powers_value K n ps x)) (power-add K N (get_or x n K.zero) p.1 (power_of ps n) ∙ ap (λ m. K.times (power K (get_or x m K.zero) p.1) (power K (get_or x n K.zero) (power_of ps n))) (sym e))
+      ∙ ring3 K N (λ v a b. (v ⊗ (a ⊗ b), a ⊗ (v ⊗ b))) refl (powers_value K n ps x) (power K (get_or x p.0 K.zero) p.1) (power K (get_or x n K.zero) (power_of ps n)))
+      (λ (ne : p.0 ≢ n).
+      ap₂ (λ v m. K.times v (power K (get_or x n K.zero) m)) (powers_value-cons n p ps (omega arith)) (power_of-other p ps n ne)
+      ∙ N.times_assoc (power K (get_or x p.0 K.zero) p.1) (powers_value K n ps x) (power K (get_or x n K.zero) (power_of ps n)))
+      (cases_eq p.0 n)
+
+  powers_value-term : (n : ℕ) (ps : List (ℕ × ℕ)) → IsWithin n ps → powers_value K n ps x ≡ term_value K ps x
+  powers_value-term n [] h = powers_value-nil n
+  powers_value-term n (p ∷ ps) h =
+      powers_value-cons n p ps (All-head (λ q. q.0 < n) p ps h)
+      ∙ ap (K.times (power K (get_or x p.0 K.zero) p.1)) (powers_value-term n ps (All-tail (λ q. q.0 < n) p ps h))
+
+  powers_value-same : (n : ℕ) (ps qs : List (ℕ × ℕ)) → ((v : ℕ) → power_of ps v ≡ power_of qs v) → powers_value K n ps x ≡ powers_value K n qs x
+  unfolding powers_value
+  powers_value-same zero ps qs h = refl
+  powers_value-same (suc n) ps qs h = ap₂ (λ v m. K.times v (power K (get_or x n K.zero) m)) (powers_value-same n ps qs h) (h n)
+
+  -- lists with the same powers have the same value
+  pub same_term_value : (ps qs : List (ℕ × ℕ)) → ((v : ℕ) → power_of ps v ≡ power_of qs v) → term_value K ps x ≡ term_value K qs x
+  same_term_value ps qs h =
+      let a = bound_of ps in
+      let b = bound_of qs in
+      let n = a.0 + b.0 in
+      sym (powers_value-term n ps (IsWithin-more a.0 n ps (omega arith) a.1))
+      ∙ powers_value-same n ps qs h
+      ∙ powers_value-term n qs (IsWithin-more b.0 n qs (omega arith) b.1)
