@@ -74,48 +74,6 @@ power_of-le-total_degree (p ∷ ps) v =
     (λ (ne : p.0 ≢ v). let s = power_of-other p ps v ne in omega (arith, h, t, s))
     (cases_eq p.0 v)
 
--- ---- a total is the sum of the powers, however they are gathered
-
-powers_below : ℕ → List (ℕ × ℕ) → ℕ
-powers_below zero ps = 0
-powers_below (suc n) ps = powers_below n ps + power_of ps n
-
-powers_below-nil : (n : ℕ) → powers_below n [] ≡ 0
-unfolding powers_below
-powers_below-nil zero = refl
-powers_below-nil (suc n) = let h = powers_below-nil n in omega (arith, h)
-
-powers_below-past : (n : ℕ) (p : ℕ × ℕ) (ps : List (ℕ × ℕ)) → n ≤ p.0 → powers_below n (p ∷ ps) ≡ powers_below n ps
-unfolding powers_below
-powers_below-past zero p ps l = refl
-powers_below-past (suc n) p ps l = ap₂ (λ a b. a + b) (powers_below-past n p ps (omega arith)) (power_of-other p ps n (λ e. omega arith))
-
-powers_below-cons : (n : ℕ) (p : ℕ × ℕ) (ps : List (ℕ × ℕ)) → p.0 < n → powers_below n (p ∷ ps) ≡ p.1 + powers_below n ps
-unfolding powers_below
-powers_below-cons zero p ps l = absurd (omega arith)
-powers_below-cons (suc n) p ps l = ⊎_elim
-    (λ (e : p.0 ≡ n).
-    let a = powers_below-past n p ps (omega arith) in
-    let b = power_of-same p ps n e in
-    omega (arith, a, b))
-    (λ (ne : p.0 ≢ n).
-    let a = powers_below-cons n p ps (omega arith) in
-    let b = power_of-other p ps n ne in
-    omega (arith, a, b))
-    (cases_eq p.0 n)
-
-powers_below-total : (n : ℕ) (ps : List (ℕ × ℕ)) → IsWithin n ps → powers_below n ps ≡ total_degree ps
-powers_below-total n [] h = powers_below-nil n
-powers_below-total n (p ∷ ps) h =
-    powers_below-cons n p ps (All-head (λ q. q.0 < n) p ps h)
-    ∙ ap (λ t. p.1 + t) (powers_below-total n ps (All-tail (λ q. q.0 < n) p ps h))
-    ∙ sym (total_degree-cons p ps)
-
-powers_below-same : (n : ℕ) (ps qs : List (ℕ × ℕ)) → ((v : ℕ) → power_of ps v ≡ power_of qs v) → powers_below n ps ≡ powers_below n qs
-unfolding powers_below
-powers_below-same zero ps qs h = refl
-powers_below-same (suc n) ps qs h = ap₂ (λ a b. a + b) (powers_below-same n ps qs h) (h n)
-
 -- ---- variables below a bound
 
 pub IsWithin-more : (m n : ℕ) (ps : List (ℕ × ℕ)) → m ≤ n → IsWithin m ps → IsWithin n ps
@@ -138,15 +96,79 @@ bound_of (p ∷ ps) =
     let r = bound_of ps in
     (suc (p.0 + r.0), All-cons (λ q. q.0 < suc (p.0 + r.0)) p ps (omega arith) (IsWithin-more r.0 (suc (p.0 + r.0)) ps (omega arith) r.1))
 
--- lists with the same powers have the same total
+-- ---- what is made of the powers, however they are gathered
+
+-- total joins a part for each pair, and the parts of one variable join to that of the sum
+module _ {M : Type 0} (join : M → M → M) (none : M) (assoc : (a b c : M) → join (join a b) c ≡ join a (join b c)) (turn : (a b c : M) → join a (join b c) ≡ join b (join a c)) (unit : (a : M) → join none a ≡ a)
+    (part : ℕ → ℕ → M) (part_zero : (v : ℕ) → part v 0 ≡ none) (part_sum : (v m n : ℕ) → part v (m + n) ≡ join (part v m) (part v n))
+    (total : List (ℕ × ℕ) → M) (start : total [] ≡ none) (step : (p : ℕ × ℕ) (ps : List (ℕ × ℕ)) → total (p ∷ ps) ≡ join (part p.0 p.1) (total ps)) where
+  -- of the first n variables
+  total_below : ℕ → List (ℕ × ℕ) → M
+  total_below zero ps = none
+  total_below (suc n) ps = join (part n (power_of ps n)) (total_below n ps)
+
+  total_below-nil : (n : ℕ) → total_below n [] ≡ none
+  unfolding total_below
+  total_below-nil zero = refl
+  total_below-nil (suc n) = ap₂ join (part_zero n) (total_below-nil n) ∙ unit none
+
+  total_below-past : (n : ℕ) (p : ℕ × ℕ) (ps : List (ℕ × ℕ)) → n ≤ p.0 → total_below n (p ∷ ps) ≡ total_below n ps
+  unfolding total_below
+  total_below-past zero p ps l = refl
+  total_below-past (suc n) p ps l = ap₂ join (ap (part n) (power_of-other p ps n (λ e. omega arith))) (total_below-past n p ps (omega arith))
+
+  total_below-cons : (n : ℕ) (p : ℕ × ℕ) (ps : List (ℕ × ℕ)) → p.0 < n → total_below n (p ∷ ps) ≡ join (part p.0 p.1) (total_below n ps)
+  unfolding total_below
+  total_below-cons zero p ps l = absurd (omega arith)
+  total_below-cons (suc n) p ps l = ⊎_elim
+      (λ (e : p.0 ≡ n).
+      ap₂ join (ap (part n) (power_of-same p ps n e) ∙ part_sum n p.1 (power_of ps n)) (total_below-past n p ps (omega arith))
+      ∙ assoc (part n p.1) (part n (power_of ps n)) (total_below n ps)
+      ∙ ap (λ v. join (part v p.1) (join (part n (power_of ps n)) (total_below n ps))) (sym e))
+      (λ (ne : p.0 ≢ n).
+      ap₂ join (ap (part n) (power_of-other p ps n ne)) (total_below-cons n p ps (omega arith))
+      ∙ turn (part n (power_of ps n)) (part p.0 p.1) (total_below n ps))
+      (cases_eq p.0 n)
+
+  total_below-all : (n : ℕ) (ps : List (ℕ × ℕ)) → IsWithin n ps → total_below n ps ≡ total ps
+  total_below-all n [] h = total_below-nil n ∙ sym start
+  total_below-all n (p ∷ ps) h =
+      total_below-cons n p ps (All-head (λ q. q.0 < n) p ps h)
+      ∙ ap (join (part p.0 p.1)) (total_below-all n ps (All-tail (λ q. q.0 < n) p ps h))
+      ∙ sym (step p ps)
+
+  total_below-same : (n : ℕ) (ps qs : List (ℕ × ℕ)) → ((v : ℕ) → power_of ps v ≡ power_of qs v) → total_below n ps ≡ total_below n qs
+  unfolding total_below
+  total_below-same zero ps qs h = refl
+  total_below-same (suc n) ps qs h = ap₂ join (ap (part n) (h n)) (total_below-same n ps qs h)
+
+  pub same_total : (ps qs : List (ℕ × ℕ)) → ((v : ℕ) → power_of ps v ≡ power_of qs v) → total ps ≡ total qs
+  same_total ps qs h =
+      let a = bound_of ps in
+      let b = bound_of qs in
+      let n = a.0 + b.0 in
+      sym (total_below-all n ps (IsWithin-more a.0 n ps (omega arith) a.1))
+      ∙ total_below-same n ps qs h
+      ∙ total_below-all n qs (IsWithin-more b.0 n qs (omega arith) b.1)
+
 pub same_total_degree : (ps qs : List (ℕ × ℕ)) → ((v : ℕ) → power_of ps v ≡ power_of qs v) → total_degree ps ≡ total_degree qs
-same_total_degree ps qs h =
-    let a = bound_of ps in
-    let b = bound_of qs in
-    let n = a.0 + b.0 in
-    sym (powers_below-total n ps (IsWithin-more a.0 n ps (omega arith) a.1))
-    ∙ powers_below-same n ps qs h
-    ∙ powers_below-total n qs (IsWithin-more b.0 n qs (omega arith) b.1)
+same_total_degree =
+    same_total (λ a b. a + b) 0 (λ a b c. omega arith) (λ a b c. omega arith) (λ a. omega arith) (λ v n. n) (λ v. refl) (λ v m n. refl) total_degree refl total_degree-cons
+
+pub same_term_value : {F : Type 0} (K : FieldOn F) → IsField K → (x : List F) (ps qs : List (ℕ × ℕ)) → ((v : ℕ) → power_of ps v ≡ power_of qs v) → term_value K ps x ≡ term_value K qs x
+same_term_value K N x =
+    let item = λ (v : ℕ). get_or x v K.zero in
+    same_total K.times K.one N.times_assoc
+    (λ a b c. ring3 K N (λ a b c. (a ⊗ (b ⊗ c), b ⊗ (a ⊗ c))) refl a b c)
+    (one_times K N)
+    (λ v n. power K (item v) n) (λ v. refl) (λ v m n. power-add K N (item v) m n)
+    (λ ps. term_value K ps x) refl (λ p ps. refl)
+
+pub term_value-append : {F : Type 0} (K : FieldOn F) → IsField K → (x : List F) (ps qs : List (ℕ × ℕ)) → term_value K (ps ++ qs) x ≡ K.times (term_value K ps x) (term_value K qs x)
+term_value-append K N x [] qs = sym (one_times K N (term_value K qs x))
+term_value-append K N x (p ∷ ps) qs =
+    ap (K.times (power K (get_or x p.0 K.zero) p.1)) (term_value-append K N x ps qs)
+    ∙ sym (N.times_assoc (power K (get_or x p.0 K.zero) p.1) (term_value K ps x) (term_value K qs x))
 
 -- ---- the one list of a term
 
@@ -216,62 +238,3 @@ same_powers (p ∷ ps) (q ∷ qs) s t e =
     absurd (omega (arith, b, x, y, m)))
     h)
     (cases_order p.0 q.0)
-
--- ---- values
-
--- the product of the first n items' powers
-powers_value : {F : Type 0} → FieldOn F → ℕ → List (ℕ × ℕ) → List F → F
-powers_value K zero ps x = K.one
-powers_value K (suc n) ps x = K.times (powers_value K n ps x) (power K (get_or x n K.zero) (power_of ps n))
-
-module _ {F : Type 0} (K : FieldOn F) (N : IsField K) (x : List F) where
-  pub term_value-append : (ps qs : List (ℕ × ℕ)) → term_value K (ps ++ qs) x ≡ K.times (term_value K ps x) (term_value K qs x)
-  term_value-append [] qs = sym (one_times K N (term_value K qs x))
-  term_value-append (p ∷ ps) qs =
-      ap (K.times (power K (get_or x p.0 K.zero) p.1)) (term_value-append ps qs)
-      ∙ sym (N.times_assoc (power K (get_or x p.0 K.zero) p.1) (term_value K ps x) (term_value K qs x))
-
-  powers_value-nil : (n : ℕ) → powers_value K n [] x ≡ K.one
-  unfolding powers_value
-  powers_value-nil zero = refl
-  powers_value-nil (suc n) = ap (λ v. K.times v K.one) (powers_value-nil n) ∙ N.times_one K.one
-
-  powers_value-past : (n : ℕ) (p : ℕ × ℕ) (ps : List (ℕ × ℕ)) → n ≤ p.0 → powers_value K n (p ∷ ps) x ≡ powers_value K n ps x
-  unfolding powers_value
-  powers_value-past zero p ps l = refl
-  powers_value-past (suc n) p ps l =
-      ap₂ (λ v m. K.times v (power K (get_or x n K.zero) m)) (powers_value-past n p ps (omega arith)) (power_of-other p ps n (λ e. omega arith))
-
-  powers_value-cons : (n : ℕ) (p : ℕ × ℕ) (ps : List (ℕ × ℕ)) → p.0 < n → powers_value K n (p ∷ ps) x ≡ K.times (power K (get_or x p.0 K.zero) p.1) (powers_value K n ps x)
-  unfolding powers_value
-  powers_value-cons zero p ps l = absurd (omega arith)
-  powers_value-cons (suc n) p ps l = ⊎_elim
-      (λ (e : p.0 ≡ n).
-      ap₂ (λ v m. K.times v (power K (get_or x n K.zero) m)) (powers_value-past n p ps (omega arith)) (power_of-same p ps n e)
-      ∙ ap (K.times (powers_value K n ps x)) (power-add K N (get_or x n K.zero) p.1 (power_of ps n) ∙ ap (λ m. K.times (power K (get_or x m K.zero) p.1) (power K (get_or x n K.zero) (power_of ps n))) (sym e))
-      ∙ ring3 K N (λ v a b. (v ⊗ (a ⊗ b), a ⊗ (v ⊗ b))) refl (powers_value K n ps x) (power K (get_or x p.0 K.zero) p.1) (power K (get_or x n K.zero) (power_of ps n)))
-      (λ (ne : p.0 ≢ n).
-      ap₂ (λ v m. K.times v (power K (get_or x n K.zero) m)) (powers_value-cons n p ps (omega arith)) (power_of-other p ps n ne)
-      ∙ N.times_assoc (power K (get_or x p.0 K.zero) p.1) (powers_value K n ps x) (power K (get_or x n K.zero) (power_of ps n)))
-      (cases_eq p.0 n)
-
-  powers_value-term : (n : ℕ) (ps : List (ℕ × ℕ)) → IsWithin n ps → powers_value K n ps x ≡ term_value K ps x
-  powers_value-term n [] h = powers_value-nil n
-  powers_value-term n (p ∷ ps) h =
-      powers_value-cons n p ps (All-head (λ q. q.0 < n) p ps h)
-      ∙ ap (K.times (power K (get_or x p.0 K.zero) p.1)) (powers_value-term n ps (All-tail (λ q. q.0 < n) p ps h))
-
-  powers_value-same : (n : ℕ) (ps qs : List (ℕ × ℕ)) → ((v : ℕ) → power_of ps v ≡ power_of qs v) → powers_value K n ps x ≡ powers_value K n qs x
-  unfolding powers_value
-  powers_value-same zero ps qs h = refl
-  powers_value-same (suc n) ps qs h = ap₂ (λ v m. K.times v (power K (get_or x n K.zero) m)) (powers_value-same n ps qs h) (h n)
-
-  -- lists with the same powers have the same value
-  pub same_term_value : (ps qs : List (ℕ × ℕ)) → ((v : ℕ) → power_of ps v ≡ power_of qs v) → term_value K ps x ≡ term_value K qs x
-  same_term_value ps qs h =
-      let a = bound_of ps in
-      let b = bound_of qs in
-      let n = a.0 + b.0 in
-      sym (powers_value-term n ps (IsWithin-more a.0 n ps (omega arith) a.1))
-      ∙ powers_value-same n ps qs h
-      ∙ powers_value-term n qs (IsWithin-more b.0 n qs (omega arith) b.1)
