@@ -1,21 +1,20 @@
 -- Lists of (coefficient, term), where terms are of any kind that tells its list of (variable, power): in strictly rising
 -- order there is one for each polynomial. What loops make of such lists.
-use Rattle.std.proofs.Common.{◌≡◌, ◌≢◌, ℕ, suc, ◌+◌, ◌<◌, ◌≤◌, ◌⊎◌, Bool, false, ◌&&◌, ◌==◌, Decides, Ordering, Less, Equal, Greater, List, [], ◌∷◌, ◌++◌, map, filter, length, get_or, take, All, AllPairs, Any, IsPermutation, IsSortedByKey, sym, ◌∙◌, ap, ap₂, refl, subst, arith, inl, inr, ⊎_elim}
+use Rattle.std.proofs.Common.{◌≡◌, ◌≢◌, ℕ, suc, ◌+◌, ◌<◌, ◌≤◌, ◌⊎◌, Bool, ◌&&◌, ◌==◌, Decides, Ordering, Less, Equal, Greater, List, [], ◌∷◌, ◌++◌, map, length, get_or, take, All, AllPairs, Any, IsPermutation, sym, ◌∙◌, ap, ap₂, refl, arith, inl, inr, ⊎_elim}
 use Rattle.std.specs.Cmp.{IsTotalOrder, Equal-is}
 use Rattle.std.specs.Cmp.Lexicographic.{pointwise}
-use Rattle.std.specs.Ordering.{ordering_reverse, is_eq, is_lt}
-use Rattle.std.proofs.lemmas.Bool.{true≢false, cases_lt, cond_both}
+use Rattle.std.specs.Ordering.{ordering_reverse, is_eq}
+use Rattle.std.proofs.lemmas.Bool.{true≢false}
 use Rattle.std.proofs.lemmas.Bool.Decides.{Decides-eqb}
 use Rattle.std.proofs.lemmas.Cmp.{alike_right}
-use Rattle.std.proofs.lemmas.List.{length_push, get_or_push, length-map, get_or-map, map_push, take_more, take_all, get_or_read, get_or_append_left, nil_from_length}
-use Rattle.std.proofs.lemmas.List.Elements.{All-tail, All-cons, All-map, All-push}
-use Rattle.std.proofs.lemmas.List.Quantifiers.{all_pairs_push}
-use Rattle.std.proofs.lemmas.List.Sorted.{IsPermutation-map, sorted_far, ranks_by}
+use Rattle.std.proofs.lemmas.List.{length-map, get_or-map, map_push, take_more, nil_from_length}
+use Rattle.std.proofs.lemmas.List.Elements.{All-tail, All-cons, All-map}
+use Rattle.std.proofs.lemmas.List.Sorted.{IsPermutation-map}
 use Rattle.ark_math.specs.Field.{FieldOn, IsField}
 use Rattle.ark_math.specs.Term.{total_degree, term_value}
 use Rattle.ark_math.specs.Univariate.{nothing, added}
 use Rattle.ark_math.specs.Multivariate.{single, of_terms, sum_at, IsTotalDegree}
-use Rattle.ark_math.proofs.Algebra.Groups.{cancel_left, zero_plus, pair_Decides}
+use Rattle.ark_math.proofs.Algebra.Groups.{cancel_left, pair_Decides}
 use Rattle.ark_math.proofs.Lists.Lists.{AllPairs-map, pointwise-Decides_map}
 use Rattle.ark_math.proofs.Polynomials.Univariate.{coefficients_are_module}
 use Rattle.ark_math.proofs.Polynomials.Multivariate.{with_each, sum_at-push, single-zero, single-added, of_terms-push, of_terms-permutation, of_terms-absent, of_terms-first, of_terms_degree}
@@ -70,7 +69,7 @@ module _ {F T : Type 0} (K : FieldOn F) (N : IsField K) (key : T → List (ℕ �
       (all_keyed (λ e. e.1 ≢ key t) (c ∷ cs)
       (All-cons (λ e. key e.1 ≢ key t) c cs (λ e. order.apart t c.1 l (sym e)) (λ k d b e. order.apart t _ (order.chain t c.1 _ l (later c cs h k d b)) (sym e))))
 
-  -- what is told of two lists that denote one polynomial
+  -- lists that denote one polynomial tell the same
   pub same_sorted : (cs ds : List (F × T)) → AllPairs (λ c d. below c.1 d.1) cs → AllPairs (λ c d. below c.1 d.1) ds → All (λ c. c.0 ≢ K.zero) cs → All (λ c. c.0 ≢ K.zero) ds
       → of_terms K (keyed key cs) ≡ of_terms K (keyed key ds) → keyed key cs ≡ keyed key ds
   same_sorted [] [] f g s t e = refl
@@ -138,21 +137,6 @@ module _ {F T : Type 0} (K : FieldOn F) (N : IsField K) (key : T → List (ℕ �
       sym (get_or-map (λ c. key c.1) cs n d [] a) ∙ ap (λ t. get_or t n []) e ∙ get_or-map (λ c. key c.1) ds n d [] b in
       order.left _ _ _ (at i (omega arith) (omega arith)) (order.right _ _ _ (at j k m) (h i j d l k))
 
-  -- above the last one is above all of them
-  pub above_last : (cs : List (F × T)) (c : F × T) (t : T) → AllPairs (λ c d. below c.1 d.1) (cs ++ c ∷ []) → below c.1 t → All (λ d. below d.1 t) (cs ++ c ∷ [])
-  above_last cs c t h l k e b =
-      let long = length_push cs c in
-      let last : get_or (cs ++ c ∷ []) (length cs) e ≡ c = get_or_push cs c e (length cs) refl in
-      ⊎_elim
-      (λ (a : k < length cs). order.chain _ c.1 t (subst (λ d. below (get_or (cs ++ c ∷ []) k e).1 d.1) last (h k (length cs) e a (omega arith))) l)
-      (λ (a : length cs ≤ k).
-      let same : length cs ≡ k = omega arith in
-      subst (λ d. below d.1 t) (sym (get_or_push cs c e k same)) l)
-      (cases_lt k (length cs))
-
-  pub sorted_above : (cs : List (F × T)) (c d : F × T) → AllPairs (λ c d. below c.1 d.1) (cs ++ c ∷ []) → below c.1 d.1 → AllPairs (λ c d. below c.1 d.1) ((cs ++ c ∷ []) ++ d ∷ [])
-  sorted_above cs c d h l = all_pairs_push (λ c d. below c.1 d.1) (cs ++ c ∷ []) d h (above_last cs c d.1 h l)
-
 -- ---- what loops make
 
 module _ {F T : Type 0} (K : FieldOn F) (N : IsField K) (key : T → List (ℕ × ℕ)) where
@@ -181,18 +165,6 @@ module _ {F T : Type 0} (K : FieldOn F) (N : IsField K) (key : T → List (ℕ �
   pub keyed-take : (cs : List (F × T)) (i : ℕ) (c : F × T) → i < length cs → c ≡ get_or cs i c → of_terms K (keyed key (take (i + 1) cs)) ≡ added K (of_terms K (keyed key (take i cs))) (single K (key c.1) c.0)
   keyed-take cs i c l e = ap (λ ds. of_terms K (keyed key ds)) (take_more cs i c l ∙ ap (λ d. take i cs ++ d ∷ []) (sym e)) ∙ keyed-push (take i cs) c
 
-  -- without the items that have no coefficient
-  pub keyed-filter : (p : F × T → Bool) → ((c : F × T) → p c ≡ false → c.0 ≡ K.zero) → (cs : List (F × T)) → of_terms K (keyed key (filter p cs)) ≡ of_terms K (keyed key cs)
-  keyed-filter p none [] = refl
-  keyed-filter p none (c ∷ cs) =
-      let rest = keyed-filter p none cs in
-      let whole = of_terms K (keyed key (c ∷ cs)) in
-      cond_both (p c) (c ∷ filter p cs) (filter p cs) (λ ds. of_terms K (keyed key ds) ≡ whole)
-      (λ _. ap (added K (single K (key c.1) c.0)) rest)
-      (λ e.
-      rest ∙ sym (ap (λ a. added K a (of_terms K (keyed key cs))) (ap (single K (key c.1)) (none c e) ∙ single-zero K N (key c.1))
-      ∙ zero_plus (coefficients_are_module K N) (of_terms K (keyed key cs))))
-
   -- the first items at a point, and the next one
   pub sum_at-keyed_take : (cs : List (F × T)) (i : ℕ) (c : F × T) (x : List F) → i < length cs → c ≡ get_or cs i c → sum_at K (keyed key (take (i + 1) cs)) x ≡ K.plus (sum_at K (keyed key (take i cs)) x) (K.times c.0 (term_value K (key c.1) x))
   sum_at-keyed_take cs i c x l e =
@@ -203,64 +175,3 @@ module _ {F T : Type 0} (K : FieldOn F) (N : IsField K) (key : T → List (ℕ �
 pub keyed-with_each : {F T : Type 0} (key : T → List (ℕ × ℕ)) (f : F → F) (cs : List (F × T)) → map (λ c. (f c.0, key c.1)) cs ≡ with_each f (keyed key cs)
 keyed-with_each key f [] = refl
 keyed-with_each key f (c ∷ cs) = ap (λ ds. (f c.0, key c.1) ∷ ds) (keyed-with_each key f cs)
-
--- ---- like terms, of a list whose terms don't fall
-
--- no item is below an earlier one
-abbrev pub DoesNotFall : {F T : Type 0} → (T → T → Type 0) → List (F × T) → Type 0
-DoesNotFall {F} {T} below cs = (i j : ℕ) (d : F × T) → i ≤ j → j < length cs → ¬ below (get_or cs j d).1 (get_or cs i d).1
-
--- as a sort by terms leaves it
-pub does_not_fall : {F T : Type 0} {cmp : T → T → Ordering} → IsTotalOrder cmp → (cs : List (F × T)) → IsSortedByKey (λ c. c.1) cmp cs → DoesNotFall (λ s t. cmp s t ≡ Less) cs
-does_not_fall {F} {T} {cmp} order cs h i j d l m e =
-    true≢false (sym (ap is_lt e) ∙ sorted_far (λ x y. is_lt (cmp x.1 y.1)) (ranks_by order (λ c. c.1)) cs h i j d l m)
-
-module _ {F T : Type 0} (K : FieldOn F) (N : IsField K) (key : T → List (ℕ × ℕ)) {below : T → T → Type 0} (order : IsStrictOrder key below) (cs : List (F × T)) where
-  -- the first i items are summed up in ds, one for each term
-  pub record IsMerged (ds : List (F × T)) (i : ℕ) : Type 0 where
-    pub rising : AllPairs (λ c d. below c.1 d.1) ds
-    pub next : All (λ d. (k : ℕ) (e : F × T) → i ≤ k → k < length cs → ¬ below (get_or cs k e).1 d.1) ds
-    pub sum : of_terms K (keyed key ds) ≡ of_terms K (keyed key (take i cs))
-
-  before_next : (ds : List (F × T)) (i : ℕ) (last : F × T) → IsMerged (ds ++ last ∷ []) i → (k : ℕ) (e : F × T) → i ≤ k → k < length cs → ¬ below (get_or cs k e).1 last.1
-  before_next ds i last h k e a b =
-      subst (λ t. ¬ below (get_or cs k e).1 t.1) (get_or_push ds last last (length ds) refl) (h.next (length ds) last (omega (arith, length_push ds last)) k e a b)
-
-  pub nothing_merged : IsMerged [] 0
-  nothing_merged = record { rising = λ i j d l m. absurd (omega arith); next = λ k d l. absurd (omega arith); sum = refl }
-
-  pub all_merged : (ds : List (F × T)) (i : ℕ) → IsMerged ds i → length cs ≤ i → of_terms K (keyed key ds) ≡ of_terms K (keyed key cs)
-  all_merged ds i h l = h.sum ∙ ap (λ es. of_terms K (keyed key es)) (take_all i cs l)
-
-  -- the next item, above all that are summed up
-  pub merged_above : (ds : List (F × T)) (i : ℕ) (c : F × T) → DoesNotFall below cs → IsMerged ds i → i < length cs → c ≡ get_or cs i c → All (λ d. below d.1 c.1) ds → IsMerged (ds ++ c ∷ []) (i + 1)
-  merged_above ds i c falls h l e up = record {
-    rising = all_pairs_push (λ c d. below c.1 d.1) ds c h.rising up;
-    next = All-push (λ d. (k : ℕ) (x : F × T) → i + 1 ≤ k → k < length cs → ¬ below (get_or cs k x).1 d.1) ds c
-        (λ k d a j x b m. h.next k d a j x (omega arith) m)
-        (λ k d a b m. falls i k d (omega arith) b (subst (λ t. below (get_or cs k d).1 t.1) (get_or_read cs i c l e d) m));
-    sum = keyed-push K N key ds c ∙ ap (λ a. added K a (single K (key c.1) c.0)) h.sum ∙ sym (keyed-take K N key cs i c l e);
-  }
-
-  -- the next item, with another term than the last one's
-  pub merged_next : (ds : List (F × T)) (i : ℕ) (last c : F × T) → DoesNotFall below cs → IsMerged (ds ++ last ∷ []) i → i < length cs → c ≡ get_or cs i c → key last.1 ≢ key c.1 → IsMerged ((ds ++ last ∷ []) ++ c ∷ []) (i + 1)
-  merged_next ds i last c falls h l e ne =
-      let stays : ¬ below c.1 last.1 = λ m. before_next ds i last h i c (omega arith) l (subst (λ t. below t.1 last.1) e m) in
-      let up : below last.1 c.1 = ⊎_elim
-      (λ (m : below last.1 c.1). m)
-      (λ o. ⊎_elim (λ (k : key last.1 ≡ key c.1). absurd (ne k)) (λ (m : below c.1 last.1). absurd (stays m)) o)
-      (order.total last.1 c.1) in
-      merged_above (ds ++ last ∷ []) i c falls h l e (above_last K N key order ds last c.1 h.rising up)
-
-  -- the next item, with the last one's term
-  pub merged_more : (ds : List (F × T)) (i : ℕ) (last c : F × T) (s : F) → IsMerged (ds ++ last ∷ []) i → i < length cs → c ≡ get_or cs i c → key last.1 ≡ key c.1 → s ≡ K.plus last.0 c.0 → IsMerged (ds ++ (s, last.1) ∷ []) (i + 1)
-  merged_more ds i last c s h l e k f = record {
-    rising = sorted_like K N key order (ds ++ last ∷ []) (ds ++ (s, last.1) ∷ [])
-        (map_push (λ c. key c.1) ds last ∙ sym (map_push (λ c. key c.1) ds (s, last.1))) h.rising;
-    next = All-push (λ d. (j : ℕ) (x : F × T) → i + 1 ≤ j → j < length cs → ¬ below (get_or cs j x).1 d.1) ds (s, last.1)
-        (λ n d a j x b m o.
-        let long = length_push ds last in
-        h.next n d (omega (arith, long, a)) j x (omega arith) m (subst (λ t. below (get_or cs j x).1 t.1) (sym (get_or_append_left ds (last ∷ []) d n a)) o))
-        (λ j x b m. before_next ds i last h j x (omega arith) m);
-    sum = keyed-onto_last K N key ds last c s k f ∙ ap (λ a. added K a (single K (key c.1) c.0)) h.sum ∙ sym (keyed-take K N key cs i c l e);
-  }
