@@ -1,5 +1,5 @@
--- Polynomials, by coefficient functions: in one variable lists and pairs that denote them, products, quotients, values and
--- zeros; in several variables terms, lists of them, values and degrees.
+-- Polynomials, by coefficient functions: in one variable lists and pairs that denote them, products, quotients, values
+-- and zeros; in several variables terms, lists of them, values and degrees.
 pub mod Binomials
 pub mod Conversions
 pub mod Gathered

@@ -262,7 +262,8 @@ module _ {F : Type 0} (K : FieldOn F) (N : IsField K) where
   -- one term more
   pub IsValueAt-push : (cs : List (F × List (ℕ × ℕ))) (c : F × List (ℕ × ℕ)) (x : List F) (y : F) → IsValueAt K (of_terms K cs) x y → IsValueAt K (of_terms K (cs ++ c ∷ [])) x (K.plus y (K.times c.0 (term_value K c.1 x)))
   IsValueAt-push cs c x y h =
-      let v = K.times c.0 (term_value K c.1 x) in
-      (h.0 ++ c ∷ [],
-      of_terms-push h.0 c ∙ ap (λ a. added K a (single K c.1 c.0)) h.1 ∙ sym (of_terms-push cs c),
-      ap (λ s. K.plus s v) h.2 ∙ sym (sum_at-push h.0 c x))
+      let v = K.times c.0 (term_value K c.1 x) in (
+        h.0 ++ c ∷ [],
+        of_terms-push h.0 c ∙ ap (λ a. added K a (single K c.1 c.0)) h.1 ∙ sym (of_terms-push cs c),
+        ap (λ s. K.plus s v) h.2 ∙ sym (sum_at-push h.0 c x),
+      )

@@ -1,5 +1,5 @@
--- Lists of (coefficient, term), where terms are of any kind that tells its list of (variable, power): in strictly rising
--- order there is one for each polynomial. What loops make of such lists.
+-- Lists of (coefficient, term), where terms are of any kind that tells its list of (variable, power): one for each
+-- polynomial in strictly rising order. What loops make of such lists.
 use Rattle.std.proofs.Common.{◌≡◌, ◌≢◌, ℕ, suc, ◌+◌, ◌<◌, ◌≤◌, ◌⊎◌, Bool, ◌&&◌, ◌==◌, Decides, Ordering, Less, Equal, Greater, List, [], ◌∷◌, ◌++◌, map, length, get_or, take, All, AllPairs, Any, IsPermutation, sym, ◌∙◌, ap, ap₂, refl, arith, inl, inr, ⊎_elim}
 use Rattle.std.specs.Cmp.{IsTotalOrder, Equal-is}
 use Rattle.std.specs.Cmp.Lexicographic.{pointwise}

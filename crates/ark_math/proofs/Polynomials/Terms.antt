@@ -217,13 +217,13 @@ same_powers (p ∷ ps) (q ∷ qs) s t e =
     (λ (f : p.0 ≡ q.0).
     let g : p.1 ≡ q.1 = sym a ∙ e p.0 ∙ ap (power_of (q ∷ qs)) f ∙ b in
     let rest : (v : ℕ) → power_of ps v ≡ power_of qs v = λ v. ⊎_elim
-        (λ (c : p.0 ≡ v).
-        let x = power_of-same p ps v c in
-        let y = power_of-same q qs v (sym f ∙ c) in
-        let z = e v in
-        omega (arith, x, y, z, g))
-        (λ (ne : p.0 ≢ v). sym (power_of-other p ps v ne) ∙ e v ∙ power_of-other q qs v (λ c. ne (f ∙ c)))
-        (cases_eq p.0 v) in
+    (λ (c : p.0 ≡ v).
+    let x = power_of-same p ps v c in
+    let y = power_of-same q qs v (sym f ∙ c) in
+    let z = e v in
+    omega (arith, x, y, z, g))
+    (λ (ne : p.0 ≢ v). sym (power_of-other p ps v ne) ∙ e v ∙ power_of-other q qs v (λ c. ne (f ∙ c)))
+    (cases_eq p.0 v) in
     ap₂ (λ u us. u ∷ us) (ap₂ (λ x y. (x, y)) f g) (same_powers ps qs (IsTerm-tail p ps s) (IsTerm-tail q qs t) rest))
     (λ h. ⊎_elim
     (λ (l : p.0 < q.0).
