@@ -104,7 +104,7 @@ impl<F: Field> Debug for DensePolynomial<F> {
 }
 
 impl<F: Field> Polynomial<F> for DensePolynomial<F> {
-    ghost use Rattle.std.proofs.Common.{[], ap};
+    ghost use Rattle.std.proofs.Common.{[], ap, refl};
     ghost use Rattle.ark_math.proofs.Algebra.Groups.{scale_zero};
     ghost use Rattle.ark_math.proofs.Polynomials.Univariate.{coefficients_are_module, one_degree};
     ghost use Rattle.ark_math.proofs.Polynomials.Trimmed.{trim_equality};

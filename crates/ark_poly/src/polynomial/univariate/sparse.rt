@@ -102,7 +102,7 @@ impl<F: Field> Debug for SparsePolynomial<F> {
 
 impl<F: Field> Polynomial<F> for SparsePolynomial<F> {
     ghost use Rattle.std.specs.Prelude.{ℕ};
-    ghost use Rattle.std.proofs.Common.{[], ap};
+    ghost use Rattle.std.proofs.Common.{[], ap, refl};
     ghost use Rattle.ark_math.proofs.Algebra.Groups.{scale_zero};
     ghost use Rattle.ark_math.proofs.Polynomials.Univariate.{coefficients_are_module, one_degree};
     ghost use Rattle.ark_math.proofs.Polynomials.Gathered.{gather_equality};

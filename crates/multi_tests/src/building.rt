@@ -1,0 +1,84 @@
+//! Terms and polynomials from numbers, for the tests beside.
+
+ghost use Rattle.std.specs.Prelude.{All};
+ghost use Rattle.ark_math.specs.Term.{IsWithin};
+
+use ark_base::{Field, PolyError, Polynomial};
+use ark_multi::DenseMVPolynomial;
+use ark_multi::multivariate::{SparsePolynomial, Term};
+use std::alloc::{AllocError, Global};
+use std::hash::{DefaultHasher, Hash, Hasher};
+
+/// A term by its powers, as pairs of variable and power.
+pub type Powers<'a> = &'a [(usize, usize)];
+
+/// Terms with their coefficients.
+pub type Terms<'a> = &'a [(u64, Powers<'a>)];
+
+pub fn term<T: Term>(alloc: Global, powers: Powers<'_>) -> Result<T, PolyError> {
+    T::new(alloc, Vec::from_slice(alloc, powers)?)
+}
+
+/// The numbers as elements.
+pub fn elements<F: Field>(alloc: Global, numbers: &[u64]) -> Result<Vec<F>, AllocError> {
+    let mut elements = Vec::with_capacity(alloc, numbers.len())?;
+    for number in numbers {
+        elements.push(F::from(*number))?;
+    }
+    Ok(elements)
+}
+
+/// The terms with their coefficients, as far as their variables are below the number.
+pub fn listed<F: Field, T: Term>(
+    alloc: Global,
+    num_vars: usize,
+    terms: Terms<'_>,
+) -> Result<Vec<(F, T)>, PolyError>
+    ensures { IfOk result (λ list. All (λ c. IsWithin num_vars (T.listed c.1)) list.items) }
+{
+    let mut list = Vec::new(alloc);
+    for (coefficient, powers) in terms {
+        let term: T = term(alloc, *powers)?;
+        if term.is_within(num_vars) {
+            list.push((F::from(*coefficient), term))?;
+        }
+    }
+    Ok(list)
+}
+
+/// The polynomial with these terms.
+pub fn polynomial<F: Field, T: Term>(
+    alloc: Global,
+    num_vars: usize,
+    terms: Terms<'_>,
+) -> Result<SparsePolynomial<F, T>, PolyError> {
+    SparsePolynomial::from_coefficients_vec(alloc, num_vars, listed(alloc, num_vars, terms)?)
+}
+
+/// Its value at a point that fits.
+pub fn value<F: Field, T: Term>(
+    alloc: Global,
+    p: &SparsePolynomial<F, T>,
+    point: &Vec<F>,
+) -> Result<Option<F>, PolyError> {
+    if !p.point_fits(point) {
+        return Ok(None);
+    }
+    Ok(Some(p.evaluate(alloc, point)?))
+}
+
+/// Whether these are its terms, in this order.
+pub fn has_terms<F: Field, T: Term>(p: &SparsePolynomial<F, T>, terms: Terms<'_>) -> bool {
+    let mut same = p.terms().len() == terms.len();
+    for ((coefficient, term), (number, powers)) in p.terms().iter().zip(terms) {
+        same = same && *coefficient == F::from(*number) && term.pairs() == *powers;
+    }
+    same
+}
+
+/// The hash of the value.
+pub fn hash_of<T: Hash>(value: &T) -> u64 {
+    let mut hasher = DefaultHasher::new();
+    value.hash(&mut hasher);
+    hasher.finish()
+}
