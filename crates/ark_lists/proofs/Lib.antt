@@ -1,0 +1,3 @@
+-- Lemmas about lists of powers, each stated once over plain variables.
+pub mod GatheredPowers
+pub mod PowerLists
