@@ -8,8 +8,8 @@ mod merging;
 mod sparse;
 mod sparse_term;
 
-pub use sparse::SparsePolynomial;
 use ark_base::{Field, PolyError};
+pub use sparse::SparsePolynomial;
 pub use sparse_term::SparseTerm;
 use std::alloc::Global;
 use std::fmt::Debug;
