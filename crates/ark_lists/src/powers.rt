@@ -137,15 +137,19 @@ pub fn compared_powers(s: &[(usize, usize)], t: &[(usize, usize)]) -> Ordering
 fn small_power<F: Field>(base: F, exponent: usize) -> F
     ensures { result ≡ raised F.field base exponent }
 {
+    let one = F::one();
     if exponent == 0 {
-        return F::one();
+        return one;
     }
     let mut power = base;
     for bit in (0..exponent.ilog2()).rev() {
-        power = power * power;
-        if (exponent >> bit) % 2 == 1 {
-            power = power * base;
-        }
+        // A product with one is quicker than a branch that no processor foresees.
+        let factor = if (exponent >> bit) % 2 == 1 {
+            base
+        } else {
+            one
+        };
+        power = power * power * factor;
     }
     power
 }
