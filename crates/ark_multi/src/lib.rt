@@ -1,6 +1,7 @@
 //! Polynomials in several variables.
 #![tactic(auto)]
 
+pub mod laws;
 pub mod multivariate;
 mod polynomial;
 

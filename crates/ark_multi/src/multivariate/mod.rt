@@ -6,12 +6,11 @@ ghost use Rattle.ark_math.specs.Term.{IsTerm, IsWithin, power_of, term_value, to
 
 mod merging;
 mod sparse;
-mod term;
-
-pub use sparse::SparsePolynomial;
-pub use term::SparseTerm;
+mod sparse_term;
 
 use ark_base::{Field, PolyError};
+pub use sparse::SparsePolynomial;
+pub use sparse_term::SparseTerm;
 use std::alloc::Global;
 use std::fmt::Debug;
 use std::hash::Hash;

@@ -1,0 +1,2 @@
+-- Words of the lists behind polynomials of several variables.
+pub mod Graded
