@@ -10,4 +10,4 @@ pub use domain::{
     EvaluationDomain, GeneralEvaluationDomain, MixedRadixEvaluationDomain, Radix2EvaluationDomain,
 };
 pub use evaluations::univariate::Evaluations;
-pub use polynomial::{DenseUVPolynomial, Polynomial, univariate};
+pub use polynomial::{DenseMVPolynomial, DenseUVPolynomial, Polynomial, multivariate, univariate};

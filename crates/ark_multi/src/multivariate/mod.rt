@@ -52,6 +52,13 @@ pub trait Term: Clone + Ord + Hash + Debug + Drop {
     fn is_constant(&self) -> bool
         ensures { IsTrue result ↔ (listed self.now ≡ []) };
 
+    /// Whether all its variables are below this number.
+    final fn is_within(&self, num_vars: usize) -> bool
+        ensures { IsTrue result ↔ IsWithin num_vars (listed self.now) }
+    {
+        self.pairs().iter().all(|pair| pair.0 < num_vars)
+    }
+
     /// The product of the point's items to the powers of their variables. The point has an item for each variable.
     fn evaluate<F: Field>(&self, point: &[F]) -> F
         requires { IsWithin (length point.now) (listed self.now) }
