@@ -87,9 +87,9 @@ fn gathered_powers(
     Ok(gathered)
 }
 
-/// The one list of the product of these powers, given in any order: the powers of each variable summed up, without powers
-/// of 0, by rising variables. `Overflow` exactly where the sum of all powers is past `usize::MAX`, judged before memory is
-/// asked for.
+/// The one list of the product of these powers, given in any order: the powers of each variable summed up, without
+/// powers of 0, by rising variables. `Overflow` exactly where the sum of all powers is past `usize::MAX`, judged before
+/// memory is asked for.
 pub fn collected_powers(
     alloc: Global,
     powers: Vec<(usize, usize)>,
@@ -120,8 +120,8 @@ fn compared_pairs(s: &[(usize, usize)], t: &[(usize, usize)]) -> Ordering
     s.len().cmp(&t.len())
 }
 
-/// The graded order of terms: by total degree, and of equal totals by the first pairs that differ, of which the one with
-/// the lower variable is greater, or else that with the greater power.
+/// The graded order of terms: by total degree, and of equal totals by the first pairs that differ, of which the one
+/// with the lower variable is greater, or else that with the greater power.
 pub fn compared_powers(s: &[(usize, usize)], t: &[(usize, usize)]) -> Ordering
     requires left { total_degree s.now < 2 ^ 64 }
     requires right { total_degree t.now < 2 ^ 64 }
