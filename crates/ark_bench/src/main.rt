@@ -11,7 +11,7 @@ mod polynomials;
 mod transforms;
 
 use ark_base::{F433, F65537, FftField};
-use ark_poly::univariate::DensePolynomial;
+use ark_poly::univariate::{DensePolynomial, SparsePolynomial};
 use ark_poly::{
     DenseUVPolynomial, EvaluationDomain, MixedRadixEvaluationDomain, Radix2EvaluationDomain,
 };
@@ -19,7 +19,7 @@ use batches::{Number, report};
 use draws::Draws;
 use large_field::F2013265921;
 use polynomials::{
-    Division, Interpolation, Product, Quotients, SparseProduct, Value, Way, Weights,
+    Division, Interpolation, LongDivision, Product, Quotients, SparseProduct, Value, Way, Weights,
 };
 use std::alloc::{AllocGlobal, Global};
 use std::env;
@@ -40,6 +40,8 @@ fn main(rt: HostRuntime) -> anyhow::Result<()> {
     report_evaluations::<F65537>(&rt, rt.alloc(), timed, &mut draws)?;
     report_sparse::<F65537>(&rt, rt.alloc(), timed, &mut draws)?;
     report_division::<F65537>(&rt, rt.alloc(), timed, &mut draws)?;
+    report_by_passes::<F65537>(&rt, rt.alloc(), timed, &mut draws)?;
+    report_by_terms::<F65537>(&rt, rt.alloc(), timed, &mut draws)?;
     if timed {
         report_growth::<F2013265921>(&rt, rt.alloc(), &mut draws)?;
     }
@@ -175,6 +177,34 @@ fn report_division<F: FftField + Number>(
     let dividend = draws.list::<F>(alloc, 1 << 12)?;
     let divisor = draws.list(alloc, 1 << 11)?;
     let mut division = Division::new(alloc, dividend, divisor)?;
+    report(rt, alloc, timed, &mut division)
+}
+
+// Such a division without transforms.
+fn report_by_passes<F: FftField + Number>(
+    rt: &(impl Print + Clock),
+    alloc: Global,
+    timed: bool,
+    draws: &mut Draws,
+) -> anyhow::Result<()> {
+    let dividend = DensePolynomial::from_coefficients_vec(draws.list::<F>(alloc, 1 << 12)?);
+    let divisor = DensePolynomial::from_coefficients_vec(draws.list(alloc, 1 << 11)?);
+    let name = "divide_with_q_and_r_by_2048";
+    let mut division = LongDivision::new(alloc, name, dividend.into(), divisor.into())?;
+    report(rt, alloc, timed, &mut division)
+}
+
+// By a sparse divisor, of a degree between 9 * 1,024 and 10 * 1,024.
+fn report_by_terms<F: FftField + Number>(
+    rt: &(impl Print + Clock),
+    alloc: Global,
+    timed: bool,
+    draws: &mut Draws,
+) -> anyhow::Result<()> {
+    let dividend = DensePolynomial::from_coefficients_vec(draws.list::<F>(alloc, 1 << 14)?);
+    let divisor = SparsePolynomial::from_coefficients_vec(alloc, draws.terms(alloc, 10)?)?;
+    let name = "divide_with_q_and_r_by_ten_terms";
+    let mut division = LongDivision::new(alloc, name, dividend.into(), divisor.into())?;
     report(rt, alloc, timed, &mut division)
 }
 

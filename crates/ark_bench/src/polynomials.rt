@@ -2,7 +2,7 @@
 
 use crate::batches::{Benchmark, Number, mixed};
 use ark_base::{FftField, Field, PolyError};
-use ark_poly::univariate::{DensePolynomial, SparsePolynomial};
+use ark_poly::univariate::{DenseOrSparsePolynomial, DensePolynomial, SparsePolynomial};
 use ark_poly::{DenseUVPolynomial, EvaluationDomain, Evaluations, Polynomial};
 use std::alloc::Global;
 
@@ -170,6 +170,52 @@ impl<F: FftField + Number> Benchmark for Division<F> {
 
     fn call(&mut self, alloc: Global) -> Result<(), PolyError> {
         if let Some((_, remainder)) = self.dividend.divide_by_transforms(alloc, &self.divisor)? {
+            self.remainder = remainder;
+        }
+        Ok(())
+    }
+
+    fn checksum(&self) -> u64 {
+        mixed(self.remainder.coeffs())
+    }
+}
+
+/// Quotient and remainder by passes over the divisor, in either form.
+#[derive(Drop)]
+pub struct LongDivision<'a, F: Field> {
+    name: &'static str,
+    dividend: DenseOrSparsePolynomial<'a, F>,
+    divisor: DenseOrSparsePolynomial<'a, F>,
+    remainder: DensePolynomial<F>,
+}
+
+impl<'a, F: Field> LongDivision<'a, F> {
+    pub fn new(
+        alloc: Global,
+        name: &'static str,
+        dividend: DenseOrSparsePolynomial<'a, F>,
+        divisor: DenseOrSparsePolynomial<'a, F>,
+    ) -> Result<Self, PolyError> {
+        Ok(LongDivision {
+            name,
+            dividend,
+            divisor,
+            remainder: DensePolynomial::zero(alloc)?,
+        })
+    }
+}
+
+impl<'a, F: Field + Number> Benchmark for LongDivision<'a, F> {
+    fn name(&self) -> &'static str {
+        self.name
+    }
+
+    fn size(&self) -> usize {
+        self.dividend.degree().saturating_add(1)
+    }
+
+    fn call(&mut self, alloc: Global) -> Result<(), PolyError> {
+        if let Some((_, remainder)) = self.dividend.divide_with_q_and_r(alloc, &self.divisor)? {
             self.remainder = remainder;
         }
         Ok(())

@@ -83,8 +83,10 @@ fn subtract_list<F: Field>(coeffs: &mut [F], places: usize, factor: F, other: &[
     ensures { of_list F.field coeffs.new ≡ difference F.field (of_list F.field coeffs.old)
         (product F.field (monomial F.field places factor) (of_list F.field other.now)) }
 {
+    // Added, and not subtracted, since the compiler then takes two products at a time.
+    let negated = -factor;
     for i in 0..other.len() {
-        coeffs[places + i] -= factor * other[i];
+        coeffs[places + i] += negated * other[i];
     }
 }
 
@@ -94,9 +96,10 @@ fn subtract_terms<F: Field>(coeffs: &mut [F], places: usize, factor: F, terms: &
     ensures { of_list F.field coeffs.new ≡ difference F.field (of_list F.field coeffs.old)
         (product F.field (monomial F.field places factor) (of_pairs F.field terms.now)) }
 {
+    let negated = -factor;
     for i in 0..terms.len() {
         let term = terms[i];
-        coeffs[places + term.0] -= factor * term.1;
+        coeffs[places + term.0] += negated * term.1;
     }
 }
 

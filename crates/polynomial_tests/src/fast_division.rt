@@ -66,15 +66,16 @@ fn short_ones_give_back(rt: HostRuntime) -> Result<(), Fail> {
 fn long_ones_give_back(rt: HostRuntime) -> Result<(), Fail> {
     let alloc = rt.alloc();
     let mut rng = Pcg64::new(19, 23);
+    // On both sides of the bounds from which transforms pay.
     let lengths: [[usize; 2]; 12] = [
-        [63, 65],
-        [64, 64],
-        [65, 63],
-        [66, 66],
-        [127, 128],
-        [128, 128],
-        [129, 128],
-        [128, 129],
+        [128, 512],
+        [129, 511],
+        [129, 512],
+        [130, 513],
+        [255, 600],
+        [256, 600],
+        [257, 600],
+        [600, 512],
         [1, 1024],
         [1024, 1],
         [2049, 2048],
@@ -91,10 +92,10 @@ fn without_a_domain_give_back(rt: HostRuntime) -> Result<(), Fail> {
     let alloc = rt.alloc();
     let mut rng = Pcg64::new(29, 31);
     // No product of these has a domain.
-    assert!(rt; gives_back::<F5>(alloc, &mut rng, [100, 80])?);
-    assert!(rt; gives_back::<F5>(alloc, &mut rng, [80, 200])?);
+    assert!(rt; gives_back::<F5>(alloc, &mut rng, [140, 530])?);
+    assert!(rt; gives_back::<F5>(alloc, &mut rng, [600, 520])?);
     // The last product alone has none.
-    assert!(rt; gives_back::<F433>(alloc, &mut rng, [70, 400])?);
+    assert!(rt; gives_back::<F433>(alloc, &mut rng, [140, 530])?);
     Ok(())
 }
 

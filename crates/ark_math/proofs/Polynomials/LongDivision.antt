@@ -8,7 +8,7 @@ use Rattle.ark_math.specs.Field.{FieldOn, IsField, minus}
 use Rattle.ark_math.specs.Univariate.{IsBelow, IsQuotient, nothing, added, difference, monomial, product, of_list}
 use Rattle.ark_math.proofs.Algebra.Groups.{itself_is_module, zero_plus, minus_zero}
 use Rattle.ark_math.proofs.Algebra.Powers.{times_zero}
-use Rattle.ark_math.proofs.Algebra.Solve.{◌⊕◌, ◌⊖◌, ◌⊗◌, unit}
+use Rattle.ark_math.proofs.Algebra.Solve.{◌⊕◌, ◌⊖◌, ◌⊗◌, negative, unit}
 use Rattle.ark_math.proofs.Algebra.Ring.{ring3, ring3_by}
 use Rattle.ark_math.proofs.Polynomials.Quotients.{quotient_step, step-below}
 use Rattle.ark_math.proofs.Polynomials.Univariate.{IsBelow-more, coefficients_are_module, monomial-same, monomial-other}
@@ -33,6 +33,10 @@ module _ {F : Type 0} (K : FieldOn F) (N : IsField K) where
   pub subtracted-none : (a : ℕ → F) (s : ℕ) (f : F) → a ≡ difference K a (product K (monomial K s f) (nothing K))
   subtracted-none a s f =
       sym (ap (difference K a) (product-nothing K N (monomial K s f)) ∙ fun_ext (λ i. minus_zero (itself_is_module K N) (a i)))
+
+  -- as the loops write it
+  pub subtracted-as_sum : (a f c : F) → K.plus a (K.times (K.negated f) c) ≡ minus K a (K.times f c)
+  subtracted-as_sum a f c = ring3 K N (λ a f c. (a ⊕ (negative f ⊗ c), a ⊖ (f ⊗ c))) refl a f c
 
   -- e are the coefficients that were subtracted before
   pub subtracted-more : (a e : ℕ → F) (s j : ℕ) (f c x : F) (xs : List F) → s + j < length xs → x ≡ minus K (of_list K xs (s + j)) (K.times f c)

@@ -5,4 +5,4 @@ use Rattle.ark_coeffs.proofs.division.subtract_terms.Given as goal
 abbrev pub invariant-loop-i : goal.invariant-loop-i
 invariant-loop-i g l =
     let K = g.F.Field.field in
-    of_list K l.coeffs ≡ difference K (of_list K l.initial.coeffs) (product K (monomial K l.places l.factor) (of_pairs K (take l.i l.terms)))
+    of_list K l.coeffs ≡ difference K (of_list K l.initial.coeffs) (product K (monomial K l.places l.fn.factor) (of_pairs K (take l.i l.terms)))

@@ -12,8 +12,12 @@ use ark_coeffs::division::divided_list;
 use ark_coeffs::series::{corrected, part, reversed};
 use std::alloc::Global;
 
-// A divisor with fewer coefficients than this, or a quotient with at most as many, is divided by passes.
-const SHORT: usize = 64;
+// Divisors with fewer coefficients than this are divided by in passes, as measured.
+const SHORT_DIVISOR: usize = 512;
+
+// And quotients with at most as many as this are found by passes. The bound is lower, since the inverse series is only as
+// long as the quotient.
+const SHORT_QUOTIENT: usize = 128;
 
 impl<F: FftField> DensePolynomial<F> {
     /// Quotient and remainder by products through transforms, for long operands. There is no other such pair. Zero by
@@ -75,7 +79,7 @@ impl<F: FftField> DensePolynomial<F> {
     {
         let whole = self.coeffs().len();
         let parts = divisor.coeffs().len();
-        if parts < SHORT || whole < parts || whole - parts < SHORT {
+        if parts < SHORT_DIVISOR || whole < parts || whole - parts < SHORT_QUOTIENT {
             return self.divided_by_passes(alloc, divisor, leading_inverted);
         }
         match self.divided_by_series(alloc, divisor, leading_inverted) {
