@@ -19,3 +19,21 @@ returns-then-len-eq1-clause-below g t c i l =
     let past : 1 ≤ i = omega (arith, l, one) in
     ap (λ t. t i) (c.from_coefficients_vec.ensures.coefficients ∙ ap (of_list K) (c.in_ok-push.ensures.items ∙ ap (λ t. t ++ x ∷ []) c.in_ok-coeffs.ensures.items))
     ∙ of_list-past K (x ∷ []) i past
+
+pub refined_inverse-requires : goal.refined_inverse-requires
+refined_inverse-requires g t c = record {
+  some = omega arith;
+  more = omega arith;
+  most = omega arith;
+  below = c.in_ok-inverse.ensures.below;
+  inverse = c.in_ok-inverse.ensures.inverse;
+}
+
+pub returns-clause-inverse : goal.returns-clause-inverse
+returns-clause-inverse g t c = c.refined_inverse.ensures.inverse
+
+pub returns-clause-below : goal.returns-clause-below
+returns-clause-below g t c = c.refined_inverse.ensures.below
+
+pub returns-clause-errors : goal.returns-clause-errors
+returns-clause-errors g t c = c.refined_inverse.ensures.errors
