@@ -1,20 +1,63 @@
 //! Conversions between dense and sparse polynomials, and sums of the one with the other.
 
 use crate::polynomials::poly;
-use crate::products::is;
+use crate::products::{is, some};
 use crate::sparse::{Terms, sparse};
 use ark_base::{F5, F433, F65537, Field, PolyError};
 use ark_poly::laws::{dense_and_back, sparse_and_back};
 use ark_poly::univariate::{DensePolynomial, SparsePolynomial};
 use ark_poly::{DenseUVPolynomial, Polynomial};
-use ark_trials::plain::drawn;
+use ark_trials::calls::elements;
 use rand_core::Rng;
 use rand_pcg::Pcg64;
 use std::alloc::Global;
 use std::test::Fail;
 
+#[derive(Clone, Copy)]
+enum Operation {
+    Add,
+    Sub,
+}
+
+fn joined<F: Field>(
+    alloc: Global,
+    p: &DensePolynomial<F>,
+    operation: Operation,
+    q: &SparsePolynomial<F>,
+) -> Result<DensePolynomial<F>, PolyError> {
+    match operation {
+        Operation::Add => p.add_sparse(alloc, q),
+        Operation::Sub => p.sub_sparse(alloc, q),
+    }
+}
+
+fn join<F: Field>(
+    alloc: Global,
+    p: &mut DensePolynomial<F>,
+    operation: Operation,
+    q: &SparsePolynomial<F>,
+) -> Result<(), PolyError> {
+    match operation {
+        Operation::Add => p.add_assign_sparse(alloc, q),
+        Operation::Sub => p.sub_assign_sparse(alloc, q),
+    }
+}
+
+// Whether the operation gives these coefficients, and in place too.
+fn gives<F: Field>(
+    alloc: Global,
+    p: &DensePolynomial<F>,
+    operation: Operation,
+    q: &SparsePolynomial<F>,
+    answer: &[F],
+) -> Result<bool, PolyError> {
+    let mut changed = p.clone()?;
+    join(alloc, &mut changed, operation, q)?;
+    Ok(changed.coeffs() == answer && joined(alloc, p, operation, q)?.coeffs() == answer)
+}
+
 // Whether coefficients and terms have this sum and this difference.
-fn has_sums<F: Field>(
+fn have_sums<F: Field>(
     alloc: Global,
     coeffs: &[u64],
     terms: Terms<'_>,
@@ -22,23 +65,10 @@ fn has_sums<F: Field>(
 ) -> Result<bool, PolyError> {
     let p = poly::<F>(alloc, coeffs)?;
     let q = sparse(alloc, terms)?;
-    let added = is(alloc, &p.add_sparse(alloc, &q)?, sum)?;
-    Ok(added && is(alloc, &p.sub_sparse(alloc, &q)?, difference)?)
-}
-
-// Whether the coefficients become this sum and this difference in place.
-fn becomes<F: Field>(
-    alloc: Global,
-    coeffs: &[u64],
-    terms: Terms<'_>,
-    [sum, difference]: [&[u64]; 2],
-) -> Result<bool, PolyError> {
-    let mut p = poly::<F>(alloc, coeffs)?;
-    let mut q = p.clone()?;
-    let other = sparse(alloc, terms)?;
-    p.add_assign_sparse(alloc, &other)?;
-    q.sub_assign_sparse(alloc, &other)?;
-    Ok(is(alloc, &p, sum)? && is(alloc, &q, difference)?)
+    Ok(
+        gives(alloc, &p, Operation::Add, &q, &elements(alloc, sum)?)?
+            && gives(alloc, &p, Operation::Sub, &q, &elements(alloc, difference)?)?,
+    )
 }
 
 #[test]
@@ -52,10 +82,9 @@ fn sums_without_zeros_at_their_end(rt: HostRuntime) -> Result<(), Fail> {
         (&[], &[], [&[], &[]]),
     ];
     for (coeffs, terms, answers) in rows {
-        assert!(rt; has_sums::<F65537>(alloc, coeffs, terms, answers)?);
-        assert!(rt; becomes::<F65537>(alloc, coeffs, terms, answers)?);
+        assert!(rt; have_sums::<F65537>(alloc, coeffs, terms, answers)?);
     }
-    assert!(rt; has_sums::<F5>(alloc, &[1, 1], &[(1, 4)], [&[1], &[1, 2]])?);
+    assert!(rt; have_sums::<F5>(alloc, &[1, 1], &[(1, 4)], [&[1], &[1, 2]])?);
     Ok(())
 }
 
@@ -66,15 +95,27 @@ fn overflows<T: Drop>(answer: Result<T, PolyError>) -> bool {
     }
 }
 
-// Whether the degree usize::MAX is refused, and the receiver stays.
+// Whether the operation is refused for the degree of the terms, and in place leaves the coefficients as they are.
+fn is_refused<F: Field>(
+    alloc: Global,
+    p: &DensePolynomial<F>,
+    operation: Operation,
+    q: &SparsePolynomial<F>,
+) -> Result<bool, PolyError> {
+    let mut kept = p.clone()?;
+    let in_place = overflows(join(alloc, &mut kept, operation, q));
+    Ok(in_place && kept == *p && overflows(joined(alloc, p, operation, q)))
+}
+
+// Whether the degree usize::MAX is refused.
 fn refuses<F: Field>(alloc: Global, coeffs: &[u64]) -> Result<bool, PolyError> {
     let p = poly::<F>(alloc, coeffs)?;
     let q = sparse(alloc, &[(usize::MAX, 1), (0, 2)])?;
-    let mut kept = p.clone()?;
-    let in_place = overflows(kept.add_assign_sparse(alloc, &q))
-        && overflows(kept.sub_assign_sparse(alloc, &q));
-    let new = overflows(p.add_sparse(alloc, &q)) && overflows(p.sub_sparse(alloc, &q));
-    Ok(in_place && new && kept == p && overflows(DensePolynomial::from_sparse(alloc, &q)))
+    Ok(
+        is_refused(alloc, &p, Operation::Add, &q)?
+            && is_refused(alloc, &p, Operation::Sub, &q)?
+            && overflows(DensePolynomial::from_sparse(alloc, &q)),
+    )
 }
 
 #[test]
@@ -88,8 +129,10 @@ fn no_room_for_the_greatest_degree(rt: HostRuntime) -> Result<(), Fail> {
 fn converts<F: Field>(alloc: Global, coeffs: &[u64], terms: Terms<'_>) -> Result<bool, PolyError> {
     let p = poly::<F>(alloc, coeffs)?;
     let q = sparse(alloc, terms)?;
-    let dense = DensePolynomial::from_sparse(alloc, &q)?;
-    Ok(is(alloc, &dense, coeffs)? && SparsePolynomial::from_dense(alloc, &p)? == q)
+    Ok(
+        is(&DensePolynomial::from_sparse(alloc, &q)?, coeffs)
+            && SparsePolynomial::from_dense(alloc, &p)? == q,
+    )
 }
 
 #[test]
@@ -119,29 +162,38 @@ fn drawn_terms<F: Field>(
     SparsePolynomial::from_coefficients_vec(alloc, terms)
 }
 
-// Whether the sum and the difference are those with the dense form.
-fn sums_agree<F: Field>(
+fn joined_dense<F: Field>(
     alloc: Global,
     p: &DensePolynomial<F>,
+    operation: Operation,
+    q: &DensePolynomial<F>,
+) -> Result<DensePolynomial<F>, PolyError> {
+    match operation {
+        Operation::Add => p.add(alloc, q),
+        Operation::Sub => p.sub(alloc, q),
+    }
+}
+
+// Whether the operation gives what it gives with the dense form, and in place too.
+fn is_like_dense<F: Field>(
+    alloc: Global,
+    p: &DensePolynomial<F>,
+    operation: Operation,
     q: &SparsePolynomial<F>,
 ) -> Result<bool, PolyError> {
     let dense = DensePolynomial::from_sparse(alloc, q)?;
-    let sum = p.add(alloc, &dense)?;
-    let difference = p.sub(alloc, &dense)?;
-    Ok(p.add_sparse(alloc, q)? == sum && p.sub_sparse(alloc, q)? == difference)
+    let answer = joined_dense(alloc, p, operation, &dense)?;
+    gives(alloc, p, operation, q, answer.coeffs())
 }
 
-// Whether they are the same in place.
-fn in_place_agrees<F: Field>(
+// Whether forms of one polynomial have one value.
+fn have_one_value<F: Field>(
     alloc: Global,
-    p: &DensePolynomial<F>,
     q: &SparsePolynomial<F>,
+    point: F,
 ) -> Result<bool, PolyError> {
-    let mut added = p.clone()?;
-    let mut subtracted = p.clone()?;
-    added.add_assign_sparse(alloc, q)?;
-    subtracted.sub_assign_sparse(alloc, q)?;
-    Ok(added == p.add_sparse(alloc, q)? && subtracted == p.sub_sparse(alloc, q)?)
+    let dense = DensePolynomial::from_sparse(alloc, q)?;
+    Ok(dense.evaluate(alloc, &point)? == q.evaluate(alloc, &point)?)
 }
 
 // Whether both come back from the other form.
@@ -153,26 +205,36 @@ fn come_back<F: Field>(
     Ok(sparse_and_back(alloc, p)? == *p && dense_and_back(alloc, q)? == *q)
 }
 
-// Whether all this holds of drawn polynomials of many lengths, and forms of one polynomial have one value.
-fn agree<F: Field>(alloc: Global, rng: &mut Pcg64) -> Result<bool, PolyError> {
+// Whether all this holds.
+fn agree<F: Field>(
+    alloc: Global,
+    p: &DensePolynomial<F>,
+    q: &SparsePolynomial<F>,
+    point: F,
+) -> Result<bool, PolyError> {
+    Ok(
+        have_one_value(alloc, q, point)?
+            && is_like_dense(alloc, p, Operation::Add, q)?
+            && is_like_dense(alloc, p, Operation::Sub, q)?
+            && come_back(alloc, p, q)?,
+    )
+}
+
+// Whether it holds of drawn polynomials of many lengths.
+fn all_agree<F: Field>(alloc: Global, rng: &mut Pcg64) -> Result<bool, PolyError> {
+    let mut right = true;
     for i in 0..300 {
-        let p = DensePolynomial::<F>::from_coefficients_vec(drawn(alloc, rng, i % 25)?);
+        let p = some::<F>(alloc, rng, i % 25)?;
         let q = drawn_terms(alloc, rng, i / 25)?;
-        let dense = DensePolynomial::from_sparse(alloc, &q)?;
-        let point = F::from(rng.next_u64());
-        let valued = dense.evaluate(alloc, &point)? == q.evaluate(alloc, &point)?;
-        let summed = sums_agree(alloc, &p, &q)? && in_place_agrees(alloc, &p, &q)?;
-        if !(valued && summed && come_back(alloc, &p, &q)?) {
-            return Ok(false);
-        }
+        right = right && agree(alloc, &p, &q, F::from(rng.next_u64()))?;
     }
-    Ok(true)
+    Ok(right)
 }
 
 #[test]
 fn drawn_polynomials_of_both_forms(rt: HostRuntime) -> Result<(), Fail> {
     let mut rng = Pcg64::new(17, 2);
-    assert!(rt; agree::<F5>(rt.alloc(), &mut rng)?);
-    assert!(rt; agree::<F65537>(rt.alloc(), &mut rng)?);
+    assert!(rt; all_agree::<F5>(rt.alloc(), &mut rng)?);
+    assert!(rt; all_agree::<F65537>(rt.alloc(), &mut rng)?);
     Ok(())
 }

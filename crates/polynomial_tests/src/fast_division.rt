@@ -1,24 +1,39 @@
 //! Division through transforms, against multiplying back.
 
 use crate::polynomials::poly;
+use crate::products::{is, some};
 use ark_base::{F5, F433, F65537, FftField, PolyError};
+use ark_poly::Polynomial;
 use ark_poly::univariate::DensePolynomial;
-use ark_poly::{DenseUVPolynomial, Polynomial};
-use ark_trials::plain::drawn;
 use rand_pcg::Pcg64;
 use std::alloc::Global;
 use std::test::Fail;
 
-// A drawn polynomial with at most this many coefficients.
-fn some<F: FftField>(
+// Whether these are the quotient and the remainder.
+fn divides_into<F: FftField>(
     alloc: Global,
-    rng: &mut Pcg64,
-    len: usize,
-) -> Result<DensePolynomial<F>, PolyError> {
-    Ok(DensePolynomial::from_coefficients_vec(drawn(alloc, rng, len)?))
+    [dividend, divisor]: [&DensePolynomial<F>; 2],
+    [quotient, remainder]: [&DensePolynomial<F>; 2],
+) -> Result<bool, PolyError> {
+    match dividend.divide_by_transforms(alloc, divisor)? {
+        Some(found) => Ok(found.0 == *quotient && found.1 == *remainder),
+        None => Ok(false),
+    }
 }
 
-// Whether a dividend that is made of a drawn quotient, divisor and remainder gives the quotient and the remainder.
+// Whether the dividend made of a quotient, a divisor and a drawn remainder gives the quotient and the remainder.
+fn gives_both<F: FftField>(
+    alloc: Global,
+    rng: &mut Pcg64,
+    quotient: &DensePolynomial<F>,
+    divisor: &DensePolynomial<F>,
+) -> Result<bool, PolyError> {
+    let remainder = some::<F>(alloc, rng, divisor.degree())?;
+    let dividend = quotient.naive_mul(alloc, divisor)?.add(alloc, &remainder)?;
+    divides_into(alloc, [&dividend, divisor], [quotient, &remainder])
+}
+
+// The same of a drawn quotient and a drawn divisor of these lengths.
 fn gives_back<F: FftField>(
     alloc: Global,
     rng: &mut Pcg64,
@@ -26,32 +41,23 @@ fn gives_back<F: FftField>(
 ) -> Result<bool, PolyError> {
     let quotient = some::<F>(alloc, rng, quotient)?;
     let divisor = some::<F>(alloc, rng, divisor)?;
-    if divisor.is_zero() {
-        return Ok(true);
-    }
-    let remainder = some::<F>(alloc, rng, divisor.degree())?;
-    let dividend = quotient.naive_mul(alloc, &divisor)?.add(alloc, &remainder)?;
-    match dividend.divide_by_transforms(alloc, &divisor)? {
-        Some(found) => Ok(found.0 == quotient && found.1 == remainder),
-        None => Ok(false),
-    }
+    Ok(divisor.is_zero() || gives_both(alloc, rng, &quotient, &divisor)?)
 }
 
-// The same for all lengths below these two.
+// The same of all lengths below these two.
 fn all_give_back<F: FftField>(
     alloc: Global,
     rng: &mut Pcg64,
     quotients: usize,
     divisors: usize,
 ) -> Result<bool, PolyError> {
+    let mut right = true;
     for quotient in 0..quotients {
         for divisor in 0..divisors {
-            if !gives_back::<F>(alloc, rng, [quotient, divisor])? {
-                return Ok(false);
-            }
+            right = right && gives_back::<F>(alloc, rng, [quotient, divisor])?;
         }
     }
-    Ok(true)
+    Ok(right)
 }
 
 #[test]
@@ -99,7 +105,21 @@ fn without_a_domain_give_back(rt: HostRuntime) -> Result<(), Fail> {
     Ok(())
 }
 
-// Whether the quotient and the remainder are these, and `div` gives the same quotient.
+// Whether the quotient and the remainder have these coefficients.
+fn splits<F: FftField>(
+    alloc: Global,
+    dividend: &DensePolynomial<F>,
+    divisor: &DensePolynomial<F>,
+    quotient: &[u64],
+    remainder: &[u64],
+) -> Result<bool, PolyError> {
+    match dividend.divide_by_transforms(alloc, divisor)? {
+        Some(found) => Ok(is(&found.0, quotient) && is(&found.1, remainder)),
+        None => Ok(false),
+    }
+}
+
+// The same of polynomials with these coefficients, and whether `div` gives the same quotient.
 fn divides<F: FftField>(
     alloc: Global,
     dividend: &[u64],
@@ -109,12 +129,10 @@ fn divides<F: FftField>(
 ) -> Result<bool, PolyError> {
     let dividend = poly::<F>(alloc, dividend)?;
     let divisor = poly::<F>(alloc, divisor)?;
-    let expected = poly::<F>(alloc, quotient)?;
-    let Some((quotient, rest)) = dividend.divide_by_transforms(alloc, &divisor)? else {
-        return Ok(false);
-    };
-    let same = quotient == expected && rest == poly(alloc, remainder)?;
-    Ok(same && dividend.div(alloc, &divisor)? == expected)
+    Ok(
+        splits(alloc, &dividend, &divisor, quotient, remainder)?
+            && is(&dividend.div(alloc, &divisor)?, quotient),
+    )
 }
 
 // Whether one has no quotient by zero.

@@ -3,6 +3,7 @@
 ghost use Rattle.std.specs.Prelude.{◌≡◌, IfOk};
 
 use crate::evaluations::over;
+use crate::products::is;
 use ark_base::{F5, F433, FftField, PolyError};
 use ark_poly::univariate::DensePolynomial;
 use ark_poly::{DenseUVPolynomial, EvaluationDomain, Evaluations};
@@ -100,9 +101,8 @@ impl Trial for Composed<'_> {
     fn holds<F: FftField, D: EvaluationDomain<F>>(&self, alloc: Global) -> Result<bool, PolyError> {
         let domain: D = coset(4, self.offset)?;
         let values = products::<F, D>(alloc, domain, &[1, 0, 0, 1], &[0, 0, 1])?;
-        let known = elements::<F>(alloc, self.coeffs)?;
-        let same = values.interpolate_by_ref(alloc)?.coeffs() == known.as_slice();
-        Ok(same && values.interpolate(alloc)?.coeffs() == known.as_slice())
+        let same = is(&values.interpolate_by_ref(alloc)?, self.coeffs);
+        Ok(same && is(&values.interpolate(alloc)?, self.coeffs))
     }
 }
 

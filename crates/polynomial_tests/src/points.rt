@@ -1,3 +1,4 @@
+use crate::products::is;
 use ark_base::{F5, F433, F65537, FftField, Field, PolyError};
 use ark_poly::univariate::{DensePolynomial, SparsePolynomial};
 use ark_poly::{DenseUVPolynomial, EvaluationDomain, Polynomial};
@@ -96,15 +97,11 @@ impl Trial for Filter {
     fn holds<F: FftField, D: EvaluationDomain<F>>(&self, alloc: Global) -> Result<bool, PolyError> {
         let whole: D = coset(4, 1)?;
         let part = coset(2, self.offset)?;
-        let (point, value) = (F::from(self.point), F::from(self.value));
+        let point = F::from(self.point);
+        let value = F::from(self.value);
         let filter = whole.filter_polynomial(alloc, &part)?;
-        let [constant, middle, square] = filter.coeffs() else {
-            return Ok(false);
-        };
         Ok(
-            *constant == F::from(self.constant)
-                && middle.is_zero()
-                && *square == F::from(self.square)
+            is(&filter, &[self.constant, 0, self.square])
                 && whole.evaluate_filter_polynomial(&part, point) == Some(value)
                 && filter.evaluate(alloc, &point)? == value,
         )

@@ -23,6 +23,15 @@ pub fn sparse<F: Field>(alloc: Global, terms: Terms<'_>) -> Result<SparsePolynom
     SparsePolynomial::from_coefficients_vec(alloc, pairs(alloc, terms)?)
 }
 
+/// Whether these are the terms.
+pub fn has_terms<F: Field>(p: &SparsePolynomial<F>, terms: Terms<'_>) -> bool {
+    let mut right = p.coeffs().len() == terms.len();
+    for (term, known) in p.coeffs().iter().zip(terms) {
+        right = right && term.0 == known.0 && term.1 == F::from(known.1);
+    }
+    right
+}
+
 // Whether the sum of the first terms has the others.
 fn sums_to<F: Field>(
     alloc: Global,
@@ -31,8 +40,7 @@ fn sums_to<F: Field>(
 ) -> Result<bool, PolyError> {
     let p = sparse::<F>(alloc, summands)?;
     let copied = SparsePolynomial::from_coefficients_slice(alloc, p.coeffs())?;
-    let terms = pairs(alloc, terms)?;
-    Ok(p.coeffs() == terms.as_slice() && p.is_zero() == terms.is_empty() && copied == p)
+    Ok(has_terms(&p, terms) && p.is_zero() == terms.is_empty() && copied == p)
 }
 
 #[test]
