@@ -6,10 +6,10 @@ ghost use Rattle.ark_math.specs.Term.{IsTerm, IsWithin, power_of, term_value, to
 
 mod merging;
 mod sparse;
-mod term;
+// mod term;
 
 pub use sparse::SparsePolynomial;
-pub use term::SparseTerm;
+// pub use term::SparseTerm;
 
 use ark_base::{Field, PolyError};
 use std::alloc::Global;

@@ -1,0 +1,2 @@
+//! Sums of terms with coefficients.
+
