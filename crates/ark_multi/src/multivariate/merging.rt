@@ -1,2 +1,119 @@
-//! Sums of terms with coefficients.
+//! Sums of lists of terms with coefficients.
 
+ghost use Rattle.std.specs.Prelude.{◌≡◌, ◌≢◌, ℕ, [], map, All};
+ghost use Rattle.std.specs.Prelude.{IfOk, OnOk, IfSome, IsNone, IsOkUnless};
+ghost use Rattle.std.specs.declared.cmp.Ordering.TheVariants.{Less};
+ghost use Rattle.ark_math.specs.Multivariate.{single};
+ghost use Rattle.ark_math.specs.SortedTerms.{of_listed, AreRising, IsLeast};
+ghost use Rattle.ark_math.specs.Univariate.{added, scaled};
+
+use crate::multivariate::Term;
+use ark_base::{Field, PolyError};
+use std::alloc::Global;
+use std::cmp::Ordering;
+
+/// Adds a term above the others, unless its coefficient is zero.
+fn push_term<F: Field, T: Term>(
+    terms: &mut Vec<(F, T)>,
+    coefficient: F,
+    term: T,
+) -> Result<(), PolyError>
+    requires rising { AreRising F.field T.cmp terms.old.items }
+    requires below { All (λ c. T.cmp c.1 term ≡ Less) terms.old.items }
+    ensures rising { OnOk result (AreRising F.field T.cmp terms.new.items) }
+    ensures sum { OnOk result (of_listed F.field T.listed terms.new.items
+        ≡ added F.field (of_listed F.field T.listed terms.old.items)
+        (single F.field (T.listed term) coefficient)) }
+    ensures below { OnOk result ((next : T) → T.cmp term next ≡ Less
+        → All (λ c. T.cmp c.1 next ≡ Less) terms.new.items) }
+    ensures memory { IsOkUnless result PolyError.Memory }
+{
+    if !coefficient.is_zero() {
+        terms.push((coefficient, term))?;
+    }
+    Ok(())
+}
+
+/// The least term of two lists, with its coefficient in their sum, and what is left of them.
+#[derive(Drop)]
+struct Least<'a, F, T> {
+    coefficient: F,
+    term: &'a T,
+    left: &'a [(F, T)],
+    right: &'a [(F, T)],
+}
+
+/// The least term of the sum of one list and a multiple of another; `None` where both are empty.
+fn least_term<'a, F: Field, T: Term>(
+    left: &'a [(F, T)],
+    factor: F,
+    right: &'a [(F, T)],
+) -> Option<Least<'a, F, T>>
+    requires left { AreRising F.field T.cmp left.now }
+    requires right { AreRising F.field T.cmp right.now }
+    ensures least { IfSome result (λ l. IsLeast F.field T.cmp T.listed left.now factor right.now
+        l.coefficient l.term.now l.left.now l.right.now) }
+    ensures none { IsNone result → (left.now ≡ []) × (right.now ≡ []) }
+{
+    match (left.split_first(), right.split_first()) {
+        (Some((term, rest)), Some((other, others))) => match term.1.cmp(&other.1) {
+            Ordering::Less => Some(Least {
+                coefficient: term.0,
+                term: &term.1,
+                left: rest,
+                right,
+            }),
+            Ordering::Equal => Some(Least {
+                coefficient: term.0 + factor * other.0,
+                term: &term.1,
+                left: rest,
+                right: others,
+            }),
+            Ordering::Greater => Some(Least {
+                coefficient: factor * other.0,
+                term: &other.1,
+                left,
+                right: others,
+            }),
+        },
+        (Some((term, rest)), None) => Some(Least {
+            coefficient: term.0,
+            term: &term.1,
+            left: rest,
+            right,
+        }),
+        (None, Some((other, others))) => Some(Least {
+            coefficient: factor * other.0,
+            term: &other.1,
+            left,
+            right: others,
+        }),
+        (None, None) => None,
+    }
+}
+
+/// The sum of terms and a multiple of others, without zeros. One pass over both lists, and room for both at once.
+pub(crate) fn sum_of_terms<F: Field, T: Term>(
+    alloc: Global,
+    left: &[(F, T)],
+    factor: F,
+    right: &[(F, T)],
+) -> Result<Vec<(F, T)>, PolyError>
+    requires left { AreRising F.field T.cmp left.now }
+    requires right { AreRising F.field T.cmp right.now }
+    ensures rising { IfOk result (λ s. AreRising F.field T.cmp s.items) }
+    ensures sum { IfOk result (λ s. of_listed F.field T.listed s.items
+        ≡ added F.field (of_listed F.field T.listed left.now)
+        (scaled F.field factor (of_listed F.field T.listed right.now))) }
+    ensures memory { IsOkUnless result PolyError.Memory }
+{
+    let mut sum = Vec::with_capacity(alloc, left.len().saturating_add(right.len()))?;
+    let mut left = left;
+    let mut right = right;
+    while let Some(least) = least_term(left, factor, right) {
+        push_term(&mut sum, least.coefficient, least.term.clone()?)?;
+        left = least.left;
+        right = least.right;
+    }
+    Ok(sum)
+}
