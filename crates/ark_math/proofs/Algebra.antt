@@ -1,6 +1,7 @@
 -- Rings and modules: equations by computation, sums, powers, inverses of many values.
 pub mod Groups
 pub mod Inversions
+pub mod Permuted
 pub mod Powers
 pub mod Regrouped
 pub mod Ring

@@ -1,14 +1,18 @@
--- Polynomials in one variable: coefficient functions, lists and pairs that denote them, products, quotients, values, zeros.
+-- Polynomials, by coefficient functions: in one variable lists and pairs that denote them, products, quotients, values and
+-- zeros; in several variables terms, lists of them, values and degrees.
 pub mod Binomials
 pub mod Conversions
 pub mod Gathered
 pub mod PairProducts
 pub mod LongDivision
+pub mod Multivariate
 pub mod Quotients
 pub mod Reversed
 pub mod Series
 pub mod SortedPairs
 pub mod SparseSums
+pub mod TermLists
+pub mod Terms
 pub mod Trimmed
 pub mod Univariate
 pub mod UnivariateLists

@@ -8,6 +8,8 @@ use Rattle.ark_math.specs.Sizes.{size_of_kind, general_size}
 use Rattle.ark_math.specs.Transform.{transform}
 use Rattle.ark_math.specs.Cost.{forward, inverse, counted_items}
 use Rattle.ark_math.specs.Univariate.{added, product, of_list, of_pairs, value_below}
+use Rattle.ark_math.specs.Term.{power_of, total_degree}
+use Rattle.ark_math.specs.Multivariate.{of_terms, sum_at}
 use Rattle.ark_math.specs.Points.{vanishing, reindexed}
 use Rattle.ark_math.specs.NormalForms.{trim, gather}
 
@@ -104,3 +106,22 @@ mixed_13 = refl
 
 mixed_without_base : size_of_kind (record { two = 16; odd = None }) mixed_radix 1 ≡ None
 mixed_without_base = refl
+
+-- ---- several variables
+
+-- 2x0^3 + x0x2 + x1x2 + 5 at (2, 3, 6)
+value_at_three_items : sum_at (modulo 65537) ((2, (0, 3) ∷ []) ∷ (1, (0, 1) ∷ (2, 1) ∷ []) ∷ (1, (1, 1) ∷ (2, 1) ∷ []) ∷ (5, []) ∷ []) (2 ∷ 3 ∷ 6 ∷ []) ≡ 51
+value_at_three_items = refl
+
+-- x0 - x0
+difference_that_cancels : of_terms (modulo 5) ((1, (0, 1) ∷ []) ∷ (4, (0, 1) ∷ []) ∷ []) ((0, 1) ∷ []) ≡ 0
+difference_that_cancels = refl
+
+like_terms_add_up : of_terms (modulo 5) ((1, (0, 1) ∷ []) ∷ (4, (1, 1) ∷ []) ∷ (2, (0, 1) ∷ []) ∷ []) ((0, 1) ∷ []) ≡ 3
+like_terms_add_up = refl
+
+powers_of_one_variable : tabulate 4 (power_of ((2, 1) ∷ (0, 2) ∷ (2, 3) ∷ (1, 0) ∷ [])) ≡ 2 ∷ 0 ∷ 4 ∷ 0 ∷ []
+powers_of_one_variable = refl
+
+sum_of_powers : total_degree ((2, 1) ∷ (0, 2) ∷ (2, 3) ∷ (1, 0) ∷ []) ≡ 6
+sum_of_powers = refl

@@ -1,7 +1,11 @@
 -- Reads and writes of a list through a meaning of its items.
-use Rattle.std.proofs.Common.{◌≡◌, ◌≢◌, ℕ, zero, suc, refl, ◌+◌, ◌<◌, ◌≤◌, List, [], ◌∷◌, ◌++◌, length, get_or, set, take, replicate, map, sym, ◌∙◌, ap, ap₂, subst, ⊎_elim, arith, get_or-set_same, get_or-set_other}
+use Rattle.std.proofs.Common.{◌≡◌, ◌≢◌, ℕ, zero, suc, Bool, Decides, AllPairs, drop, refl, ◌+◌, ◌<◌, ◌≤◌, List, [], ◌∷◌, ◌++◌, length, get_or, set, take, replicate, map, sym, ◌∙◌, ap, ap₂, subst, ⊎_elim, arith, get_or-set_same, get_or-set_other}
 use Rattle.std.proofs.lemmas.List.{map-set, map-append, get_or-map, get_or_append_left, get_or-append-add, length-map}
-use Rattle.std.proofs.lemmas.Bool.{cases_eq}
+use Rattle.std.specs.Cmp.Lexicographic.{pointwise}
+use Rattle.std.proofs.lemmas.Bool.{cases_eq, true≢false}
+use Rattle.std.proofs.lemmas.Bool.Decides.{Decides-and}
+use Rattle.std.proofs.lemmas.List.Elements.{All-map}
+use Rattle.std.proofs.lemmas.List.Kept.{AllPairs-cons}
 use Rattle.std.proofs.Math.Seq.{take-append_seam}
 
 module _ {X M : Type 0} (m : X → M) (z : M) where
@@ -76,3 +80,19 @@ same_from_map f h (x ∷ xs) (y ∷ ys) e =
     let first : f x ≡ f y = cc in
     let rest : map f xs ≡ map f ys = cc in
     ap₂ (λ t ts. t ∷ ts) (h x y first) (same_from_map f h xs ys rest)
+
+pub AllPairs-map : {X Y : Type 0} (f : X → Y) (R : Y → Y → Type 0) (xs : List X) → AllPairs (λ x y. R (f x) (f y)) xs → AllPairs R (map f xs)
+AllPairs-map f R [] h = λ i j d l m. absurd (omega arith)
+AllPairs-map f R (x ∷ xs) h =
+    AllPairs-cons R (f x) (map f xs)
+    (All-map (R (f x)) f xs (λ k d l. h 0 (suc k) d (omega arith) (omega arith)))
+    (AllPairs-map f R xs (λ i j d l m. h (suc i) (suc j) d (omega arith) (omega arith)))
+
+-- a test of items by what f gives, and so of lists
+pub pointwise-Decides_map : {X Y : Type 0} {E : X → X → Bool} (f : X → Y) → ((x y : X) → Decides (E x y) (f x ≡ f y)) → (xs ys : List X) → Decides (pointwise E xs ys) (map f xs ≡ map f ys)
+pointwise-Decides_map f h [] [] = (λ _. refl, λ _. refl)
+pointwise-Decides_map f h [] (y ∷ ys) = (λ e. absurd (true≢false (sym e)), λ e. let l = ap length e in absurd (omega arith))
+pointwise-Decides_map f h (x ∷ xs) [] = (λ e. absurd (true≢false (sym e)), λ e. let l = ap length e in absurd (omega arith))
+pointwise-Decides_map {E = E} f h (x ∷ xs) (y ∷ ys) =
+    let both = Decides-and (E x y) (pointwise E xs ys) (h x y) (pointwise-Decides_map f h xs ys) in
+    (λ e. let p = both.0 e in ap₂ (λ t ts. t ∷ ts) p.0 p.1, λ e. both.1 (ap (λ ts. get_or ts 0 (f x)) e, ap (drop 1) e))

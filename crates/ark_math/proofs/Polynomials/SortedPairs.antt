@@ -1,70 +1,18 @@
 -- Pairs of exponent and coefficient in rising order: that an order changes no sum, and the sums of like terms one by one.
-use Rattle.std.proofs.Common.{◌≡◌, ◌≢◌, ℕ, zero, suc, ◌+◌, ◌<◌, ◌≤◌, List, [], ◌∷◌, length, get_or, set, take, sym, ◌∙◌, ap, ap₂, refl, subst, arith, get_or-set_same, get_or-set_other, length-set, ⊎_elim}
-use Rattle.std.specs.List.{All, swap}
-use Rattle.std.specs.List.Sorted.{IsPermutation, IsNonDecreasingBy, apply_swaps, SwapsInRange}
-use Rattle.std.proofs.lemmas.Bool.{cases_eq}
+use Rattle.std.proofs.Common.{◌≡◌, ◌≢◌, ℕ, ◌+◌, ◌<◌, ◌≤◌, List, [], length, get_or, take, sym, ◌∙◌, ap, ap₂, refl, subst, arith}
+use Rattle.std.specs.List.{All}
+use Rattle.std.specs.List.Sorted.{IsPermutation, IsNonDecreasingBy}
 use Rattle.std.proofs.lemmas.List.{get_or_read, take_all}
 use Rattle.ark_math.specs.Field.{FieldOn, IsField}
 use Rattle.ark_math.specs.Univariate.{nothing, added, monomial, of_pairs, IsSparse}
-use Rattle.ark_math.proofs.Algebra.Groups.{cancel_left}
-use Rattle.ark_math.proofs.Algebra.Solve.{◌⊞◌}
-use Rattle.ark_math.proofs.Algebra.Ring.{module0_3}
+use Rattle.ark_math.proofs.Algebra.Permuted.{total-permutation}
 use Rattle.ark_math.proofs.Polynomials.Univariate.{coefficients_are_module}
 use Rattle.ark_math.proofs.Polynomials.UnivariatePairs.{of_pairs-push, take_next, monomial-added, monomial-zero, sparse-nil}
 
 module _ {F : Type 0} (K : FieldOn F) (N : IsField K) where
-  abbrev mono : ℕ × F → ℕ → F
-  mono x = monomial K x.0 x.1
-
-  -- a pair in place of another
-  of_pairs-set : (p : List (ℕ × F)) (k : ℕ) (x d : ℕ × F) → k < length p → added K (mono (get_or p k d)) (of_pairs K (set p k x)) ≡ added K (mono x) (of_pairs K p)
-  of_pairs-set [] k x d l = absurd (omega arith)
-  of_pairs-set (y ∷ p) zero x d l =
-      let M = coefficients_are_module {I = ℕ} K N in
-      module0_3 N M (λ y x p. (y ⊞ (x ⊞ p), x ⊞ (y ⊞ p))) refl (mono y) (mono x) (of_pairs K p)
-  of_pairs-set (y ∷ p) (suc k) x d l =
-      let M = coefficients_are_module {I = ℕ} K N in
-      module0_3 N M (λ y z q. (z ⊞ (y ⊞ q), y ⊞ (z ⊞ q))) refl (mono y) (mono (get_or p k d)) (of_pairs K (set p k x))
-      ∙ ap (added K (mono y)) (of_pairs-set p k x d (omega arith))
-      ∙ module0_3 N M (λ y x p. (y ⊞ (x ⊞ p), x ⊞ (y ⊞ p))) refl (mono y) (mono x) (of_pairs K p)
-
-  swap_both : (p : List (ℕ × F)) (i j : ℕ) (d : ℕ × F) → i < length p → j < length p → of_pairs K (set (set p i (get_or p j d)) j (get_or p i d)) ≡ of_pairs K p
-  swap_both p i j d a b =
-      let M = coefficients_are_module {I = ℕ} K N in
-      let x = get_or p i d in
-      let y = get_or p j d in
-      let q = set p i y in
-      let inside : j < length q = omega (arith, length-set p i y) in
-      let there : get_or q j d ≡ y = ⊎_elim
-      (λ (e : j ≡ i). subst (λ t. get_or q t d ≡ y) (sym e) (get_or-set_same p i y d a))
-      (λ (ne : j ≢ i). get_or-set_other p i j y d ne)
-      (cases_eq j i) in
-      cancel_left M (mono y) (of_pairs K (set q j x)) (of_pairs K p)
-      (ap (λ t. added K (mono t) (of_pairs K (set q j x))) (sym there) ∙ of_pairs-set q j x d inside ∙ of_pairs-set p i y d a)
-
-  of_pairs-swap : (p : List (ℕ × F)) (i j : ℕ) → i < length p → j < length p → of_pairs K (swap p i j) ≡ of_pairs K p
-  of_pairs-swap [] i j a b = refl
-  of_pairs-swap (x ∷ p) i j a b = swap_both (x ∷ p) i j x a b
-
-  length-swap : (p : List (ℕ × F)) (i j : ℕ) → length (swap p i j) ≡ length p
-  length-swap [] i j = refl
-  length-swap (x ∷ p) i j = length-set (set (x ∷ p) i (get_or (x ∷ p) j x)) j (get_or (x ∷ p) i x) ∙ length-set (x ∷ p) i (get_or (x ∷ p) j x)
-
-  length-swaps : (p : List (ℕ × F)) (m : List (ℕ × ℕ)) → length (apply_swaps p m) ≡ length p
-  length-swaps p [] = refl
-  length-swaps p (s ∷ m) = length-swap (apply_swaps p m) s.0 s.1 ∙ length-swaps p m
-
-  of_pairs-swaps : (p : List (ℕ × F)) (m : List (ℕ × ℕ)) → SwapsInRange (length p) m → of_pairs K (apply_swaps p m) ≡ of_pairs K p
-  of_pairs-swaps p [] h = refl
-  of_pairs-swaps p (s ∷ m) h =
-      let e = length-swaps p m in
-      let a : s.0 < length (apply_swaps p m) = omega (arith, h.0) in
-      let b : s.1 < length (apply_swaps p m) = omega (arith, h.1) in
-      of_pairs-swap (apply_swaps p m) s.0 s.1 a b ∙ of_pairs-swaps p m h.2
-
   -- in any order pairs have one sum
   pub of_pairs-permutation : (p q : List (ℕ × F)) → IsPermutation p q → of_pairs K q ≡ of_pairs K p
-  of_pairs-permutation p q h = ap (of_pairs K) h.is ∙ of_pairs-swaps p h.moves h.below
+  of_pairs-permutation p q h = total-permutation N (coefficients_are_module K N) (λ x. monomial K x.0 x.1) (of_pairs K) (λ x p. refl) p q h
 
   -- ---- like terms, of pairs whose exponents don't fall
 
