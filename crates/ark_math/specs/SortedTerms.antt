@@ -1,5 +1,5 @@
 -- Lists of (coefficient, term), where a term is of any type that tells its list of (variable, power).
-use Rattle.std.specs.Prelude.{◌≡◌, ◌≢◌, ℕ, ◌+◌, ◌<◌, List, [], ◌∷◌, map, length, All, AllPairs}
+use Rattle.std.specs.Prelude.{◌≡◌, ◌≢◌, ℕ, ◌+◌, ◌<◌, ◌≤◌, ◌⊎◌, List, [], ◌∷◌, map, length, All, AllPairs}
 use Rattle.std.specs.declared.cmp.Ordering.{Ordering}
 use Rattle.std.specs.declared.cmp.Ordering.TheVariants.{Less}
 use Rattle.ark_math.specs.Field.{FieldOn}
@@ -24,3 +24,7 @@ pub record IsLeast {F T : Type 0} (K : FieldOn F) (cmp : T → T → Ordering) (
   pub least : (r : T) → All (λ d. cmp r d.1 ≡ Less) p → All (λ d. cmp r d.1 ≡ Less) q → cmp r t ≡ Less
   pub sum : added K (of_listed K listed p) (scaled K s (of_listed K listed q)) ≡ added K (single K (listed t) c) (added K (of_listed K listed u) (scaled K s (of_listed K listed v)))
   pub fewer : length u + length v < length p + length q
+
+-- the constant term, or a power of one variable up to d
+abbrev pub IsOnePower : ℕ → List (ℕ × ℕ) → Type 0
+IsOnePower d t = (t ≡ []) ⊎ ((v : ℕ) × (e : ℕ) × (t ≡ (v, e) ∷ []) × (e ≤ d))

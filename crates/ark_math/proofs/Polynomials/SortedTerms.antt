@@ -1,26 +1,68 @@
 -- Lists of coefficients and terms whose terms rise strictly: what they denote, the least of two lists, and their sums.
-use Rattle.std.proofs.Common.{◌≡◌, ◌≢◌, ℕ, zero, suc, ◌+◌, ◌<◌, ◌≤◌, ◌-◌, ◌⊎◌, true, false, List, [], ◌∷◌, ◌++◌, length, get_or, Some, None, Decides, sym, ◌∙◌, ap, ap₂, refl, subst, arith, ⊎_elim, inl, inr}
-use Rattle.std.specs.List.{All, AllPairs, slice_get}
+use Rattle.std.proofs.Common.{◌≡◌, ◌≢◌, ℕ, zero, suc, map, take, ◌+◌, ◌<◌, ◌≤◌, ◌-◌, ◌^◌, ◌⊎◌, Bool, true, false, List, [], ◌∷◌, ◌++◌, length, get_or, Some, None, Decides, sym, ◌∙◌, ap, ap₂, refl, subst, arith, ⊎_elim, inl, inr}
+use Rattle.std.specs.List.{All, AllPairs, AllZip, Any, slice_get}
+use Rattle.std.specs.Fn.{Called, ComparesAs}
 use Rattle.std.specs.Option.{option_to_list}
 use Rattle.std.specs.List.Sorted.{IsSortedBy}
 use Rattle.std.proofs.lemmas.List.Sorted.{sorted_far, ranks_by, IsStrictWeakOrder-flip}
 use Rattle.std.specs.declared.cmp.Ordering.{Ordering}
 use Rattle.std.specs.declared.cmp.Ordering.TheVariants.{Less, Equal, Greater}
 use Rattle.std.specs.Ordering.{is_eq, is_lt, ordering_reverse}
-use Rattle.std.specs.Cmp.{IsTotalOrder, Equal-is, alike_right}
+use Rattle.std.specs.Cmp.{IsTotalOrder, IsStrictWeakOrder, Equal-is, alike_right}
 use Rattle.std.proofs.lemmas.Bool.{cases_lt}
 use Rattle.std.proofs.lemmas.Option.{get_or_from_slice_get}
-use Rattle.std.proofs.lemmas.List.{get_or_append_left, get_or_push, length_push}
-use Rattle.std.proofs.lemmas.List.Elements.{All-cons, All-tail, All-push}
-use Rattle.std.proofs.lemmas.List.Quantifiers.{all_pairs_push}
+use Rattle.std.proofs.lemmas.Fn.{always_returns_same}
+use Rattle.std.proofs.lemmas.List.{get_or_append_left, get_or_push, length_push, length-map, get_or-map, map_push, take_more}
+use Rattle.std.proofs.lemmas.List.Elements.{All-nil, All-cons, All-tail, All-push, All-more, All-weaker}
+use Rattle.std.proofs.lemmas.List.Quantifiers.{all_pairs_push, Any-push}
+use denote.Param.Members.{Mut}
+use denote.Ref.{Bor}
 use Rattle.ark_math.specs.Field.{FieldOn, IsField}
 use Rattle.ark_math.specs.Univariate.{nothing, added, scaled}
-use Rattle.ark_math.specs.Multivariate.{single}
-use Rattle.ark_math.specs.SortedTerms.{of_listed, AreRising, IsLeast}
+use Rattle.ark_math.specs.Multivariate.{single, sum_at}
+use Rattle.ark_math.specs.Term.{IsTerm, IsWithin, term_value, total_degree}
+use Rattle.ark_math.specs.SortedTerms.{of_listed, AreRising, IsLeast, IsOnePower}
 use Rattle.ark_math.proofs.Algebra.Groups.{itself_is_module, zero_plus, plus_swap, scale_zero}
 use Rattle.ark_math.proofs.Polynomials.Univariate.{coefficients_are_module}
-use Rattle.ark_math.proofs.Polynomials.Multivariate.{single-same, single-other, single-zero, single-added, single-scaled}
-use Rattle.ark_math.proofs.Polynomials.TermLists.{keyed-push}
+use Rattle.ark_math.proofs.Polynomials.Multivariate.{single-same, single-other, single-zero, single-added, single-scaled, sum_at-push}
+use Rattle.ark_math.proofs.Polynomials.Terms.{IsWithin-more, total_degree-cons}
+use Rattle.ark_math.proofs.Polynomials.TermLists.{keyed, keyed-push}
+
+-- ---- tests of a term's list
+
+pub cases_within : (n : ℕ) (t : List (ℕ × ℕ)) → IsWithin n t ⊎ (¬ IsWithin n t)
+cases_within n [] = inl (All-nil (λ p. p.0 < n))
+cases_within n (p ∷ t) = ⊎_elim
+    (λ (l : p.0 < n). ⊎_elim
+    (λ h. inl (All-cons (λ p. p.0 < n) p t l h))
+    (λ h. inr (λ a. h (All-tail (λ p. p.0 < n) p t a)))
+    (cases_within n t))
+    (λ (l : n ≤ p.0). inr (λ a. let b : p.0 < n = a 0 p (omega arith) in omega arith))
+    (cases_lt p.0 n)
+
+pub cases_one_power : (d : ℕ) (t : List (ℕ × ℕ)) → IsOnePower d t ⊎ (¬ IsOnePower d t)
+cases_one_power d [] = inl (inl refl)
+cases_one_power d (p ∷ []) = ⊎_elim
+    (λ (l : d < p.1). inr (⊎_elim
+    (λ (e : p ∷ [] ≡ []). let f : 1 ≡ 0 = ap length e in omega arith)
+    (λ h. let f : p.1 ≡ h.1 = ap (λ t. (get_or t 0 p).1) h.2 in let b : h.1 ≤ d = h.3 in omega arith)))
+    (λ (l : p.1 ≤ d). inl (inr (p.0, p.1, refl, l)))
+    (cases_lt d p.1)
+cases_one_power d (p ∷ (q ∷ t)) = inr (⊎_elim
+    (λ (e : p ∷ (q ∷ t) ≡ []). let f : suc (suc (length t)) ≡ 0 = ap length e in omega arith)
+    (λ h. let f : suc (suc (length t)) ≡ 1 = ap length h.2 in omega arith))
+
+pub one_power-IsTerm : (v e : ℕ) → 0 < e → e < 2 ^ 64 → IsTerm ((v, e) ∷ [])
+one_power-IsTerm v e pos fits = record {
+  rising = λ i j d l m. absurd (omega arith);
+  some = All-cons (λ p. 0 < p.1) (v, e) [] pos (All-nil (λ p. 0 < p.1));
+  fits = let t : total_degree ((v, e) ∷ []) ≡ e + 0 = total_degree-cons (v, e) [] in omega (arith, t, fits);
+}
+
+pub one_power-within : (n v e : ℕ) (t : List (ℕ × ℕ)) → t ≡ (v, e) ∷ [] → v < n → IsWithin n t
+one_power-within n v e t same l = subst (IsWithin n) (sym same) (All-cons (λ p. p.0 < n) (v, e) [] l (All-nil (λ p. p.0 < n)))
+
+-- ---- orders
 
 -- an order that is Equal exactly for terms of one list
 pub record IsTermOrder {T : Type 0} (cmp : T → T → Ordering) (listed : T → List (ℕ × ℕ)) : Type 0 where
@@ -374,3 +416,85 @@ module _ {F T : Type 0} (K : FieldOn F) (N : IsField K) {cmp : T → T → Order
 
   pub unlike_sum : (cs : List (F × T)) (t : T) (f : F) → f ≡ K.zero → sum_of cs ≡ added K (sum_of cs) (single K (listed t) f)
   unlike_sum cs t f e = sym (ap (added K (sum_of cs)) (ap (single K (listed t)) e ∙ single-zero K N (listed t)) ∙ (coefficients_are_module {I = List (ℕ × ℕ)} K N).plus_zero (sum_of cs))
+
+  -- after a sort by the terms, the greatest first
+  pub falling_from_sort_by : {C : Type 0} {g : Mut C (Bor (F × T) × (Bor (F × T) × Unit {0})) Ordering} {f : C} (cs : List (F × T))
+      → ((lt : F × T → F × T → Bool) → IsStrictWeakOrder lt → ComparesAs g lt f → IsSortedBy lt cs)
+      → ((a : Bor (F × T) × (Bor (F × T) × Unit {0})) (r : Ordering) (f' : C) → Called g f a r f' → (r ≡ cmp a.1.0.now.1 a.0.now.1) × (f' ≡ f)) → IsFalling cs
+  falling_from_sort_by {g = g} {f = f} cs up h =
+      falling_sorted cs (up (λ x y. is_lt (cmp y.1 x.1)) (IsStrictWeakOrder-flip (λ x y. is_lt (cmp x.1 y.1)) (ranks_by o.total (λ x. x.1)))
+      (always_returns_same g (λ a r. is_lt r ≡ is_lt (cmp a.1.0.now.1 a.0.now.1)) f (λ a r f' k. (ap is_lt (h a r f' k).0, (h a r f' k).1))))
+
+  -- ---- lists of which the same is told
+
+  same_length : (cs ds : List (F × T)) → keyed listed ds ≡ keyed listed cs → length ds ≡ length cs
+  same_length cs ds e = sym (length-map ds (λ c. (c.0, listed c.1))) ∙ ap length e ∙ length-map cs (λ c. (c.0, listed c.1))
+
+  same_at : (cs ds : List (F × T)) (k : ℕ) (d : F × T) → keyed listed ds ≡ keyed listed cs → k < length ds → ◌≡◌ {A = F × List (ℕ × ℕ)} ((get_or ds k d).0, listed (get_or ds k d).1) ((get_or cs k d).0, listed (get_or cs k d).1)
+  same_at cs ds k d e l =
+      sym (get_or-map (λ c. (c.0, listed c.1)) ds k d (d.0, listed d.1) l)
+      ∙ ap (λ t. get_or t k (d.0, listed d.1)) e
+      ∙ get_or-map (λ c. (c.0, listed c.1)) cs k d (d.0, listed d.1) (omega (arith, same_length cs ds e))
+
+  pub All_like : (P : F × List (ℕ × ℕ) → Type 0) (cs ds : List (F × T)) → keyed listed ds ≡ keyed listed cs → All (λ c. P (c.0, listed c.1)) cs → All (λ c. P (c.0, listed c.1)) ds
+  All_like P cs ds e h k d l = subst P (sym (same_at cs ds k d e l)) (h k d (omega (arith, same_length cs ds e)))
+
+  pub rising_like : (cs ds : List (F × T)) → keyed listed ds ≡ keyed listed cs → AreRising K cmp cs → AreRising K cmp ds
+  rising_like cs ds e h =
+      let long = same_length cs ds e in
+      record {
+        rising = λ i j d l m.
+            less_from (get_or cs i d).1 (get_or ds i d).1 (get_or ds j d).1 (sym (ap (λ p. p.1) (same_at cs ds i d e (omega arith))))
+            (less_to (get_or cs j d).1 (get_or ds j d).1 (get_or cs i d).1 (sym (ap (λ p. p.1) (same_at cs ds j d e m))) (h.rising i j d l (omega arith)));
+        some = All_like (λ p. p.0 ≢ K.zero) cs ds e h.some;
+      }
+
+  pub keyed_clones : (R : F × T → F × T → Type 0) → ((c d : F × T) → R c d → (d.0 ≡ c.0) × (listed d.1 ≡ listed c.1)) → (cs ds : List (F × T)) → AllZip R cs ds → keyed listed ds ≡ keyed listed cs
+  keyed_clones R is [] [] h = refl
+  keyed_clones R is [] (d ∷ ds) h = absurd h
+  keyed_clones R is (c ∷ cs) [] h = absurd h
+  keyed_clones R is (c ∷ cs) (d ∷ ds) h = ap₂ (λ u us. u ∷ us) (λ i. ((is c d h.0).0 i, (is c d h.0).1 i)) (keyed_clones R is cs ds h.1)
+
+  -- ---- variables
+
+  pub same_sum_All : (P : List (ℕ × ℕ) → Type 0) → ((t : List (ℕ × ℕ)) → P t ⊎ (¬ P t)) → (cs es : List (F × T)) → All (λ c. P (listed c.1)) cs → AreRising K cmp es → sum_of es ≡ sum_of cs → All (λ c. P (listed c.1)) es
+  same_sum_All P cases cs es h rising e = All-from_sum P cases es rising (λ t no. ap (λ a. a t) e ∙ none_from_All P cs h t no)
+
+  pub sum_within : (m n k : ℕ) (s : F) (cs ds es : List (F × T)) → m ≤ k → n ≤ k → All (λ c. IsWithin m (listed c.1)) cs → All (λ c. IsWithin n (listed c.1)) ds → AreRising K cmp es
+      → sum_of es ≡ added K (sum_of cs) (scaled K s (sum_of ds)) → All (λ c. IsWithin k (listed c.1)) es
+  sum_within m n k s cs ds es l r f g rising e =
+      All-from_sum (IsWithin k) (cases_within k) es rising (λ t no.
+      ap (λ a. a t) e
+      ∙ ap₂ (λ x y. K.plus x (K.times s y))
+      (none_from_All (IsWithin m) cs f t (λ w. no (IsWithin-more m k t l w)))
+      (none_from_All (IsWithin n) ds g t (λ w. no (IsWithin-more n k t r w)))
+      ∙ ap (K.plus K.zero) (scale_zero (itself_is_module K N) s)
+      ∙ N.plus_zero K.zero)
+
+  -- ---- the degree and the value, term by term
+
+  pub bounded_next : (cs : List (F × T)) (i d e : ℕ) (c : F × T) → i < length cs → c ≡ get_or cs i c → All (λ c. total_degree (listed c.1) ≤ d) (take i cs) → d ≤ e → total_degree (listed c.1) ≤ e → All (λ c. total_degree (listed c.1) ≤ e) (take (i + 1) cs)
+  bounded_next cs i d e c l is h up top =
+      All-more (λ c. total_degree (listed c.1) ≤ e) cs i c l
+      (All-weaker (λ c. total_degree (listed c.1) ≤ d) (λ c. total_degree (listed c.1) ≤ e) (λ c b. omega arith) (take i cs) h)
+      (subst (λ x. total_degree (listed x.1) ≤ e) is top)
+
+  pub reached_next : (cs : List (F × T)) (i d e : ℕ) (c : F × T) → i < length cs → c ≡ get_or cs i c → (0 < d → Any (λ c. total_degree (listed c.1) ≡ d) (take i cs)) → (e ≡ d) ⊎ (e ≡ total_degree (listed c.1)) → 0 < e → Any (λ c. total_degree (listed c.1) ≡ e) (take (i + 1) cs)
+  reached_next cs i d e c l is h either pos =
+      let next : take i cs ++ c ∷ [] ≡ take (i + 1) cs = ap (λ x. take i cs ++ x ∷ []) is ∙ sym (take_more cs i c l) in
+      ⊎_elim
+      (λ (f : e ≡ d).
+      let r = h (omega arith) in
+      let b : r.0 < length (take i cs) = r.2 in
+      subst (Any (λ c. total_degree (listed c.1) ≡ e)) next
+      (r.0, r.1, omega (arith, b, length_push (take i cs) c), get_or_append_left (take i cs) (c ∷ []) r.1 r.0 b ∙ r.3, r.4 ∙ sym f))
+      (λ (f : e ≡ total_degree (listed c.1)). subst (Any (λ c. total_degree (listed c.1) ≡ e)) next (Any-push (λ c. total_degree (listed c.1) ≡ e) (take i cs) c (sym f)))
+      either
+
+  pub value_next : (cs : List (F × T)) (i : ℕ) (c : F × T) (x : List F) (y z : F) → i < length cs → c ≡ get_or cs i c → y ≡ sum_at K (keyed listed (take i cs)) x → z ≡ K.plus y (K.times c.0 (term_value K (listed c.1) x)) → z ≡ sum_at K (keyed listed (take (i + 1) cs)) x
+  value_next cs i c x y z l is e f =
+      f
+      ∙ ap (λ v. K.plus v (K.times c.0 (term_value K (listed c.1) x))) e
+      ∙ sym (sum_at-push K N (keyed listed (take i cs)) (c.0, listed c.1) x)
+      ∙ ap (λ ds. sum_at K ds x) (sym (map_push (λ c. (c.0, listed c.1)) (take i cs) c))
+      ∙ ap (λ ds. sum_at K (keyed listed ds) x) (ap (λ d. take i cs ++ d ∷ []) is ∙ sym (take_more cs i c l))

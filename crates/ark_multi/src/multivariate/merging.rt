@@ -1,16 +1,40 @@
-//! Sums of lists of terms with coefficients.
+//! Lists of terms with coefficients: their degrees and values, and sums in rising order.
 
-ghost use Rattle.std.specs.Prelude.{◌≡◌, ◌≢◌, ℕ, [], map, All};
-ghost use Rattle.std.specs.Prelude.{IfOk, OnOk, IfSome, IsNone, IsOkUnless};
-ghost use Rattle.std.specs.declared.cmp.Ordering.TheVariants.{Less};
-ghost use Rattle.ark_math.specs.Multivariate.{single};
+ghost use Rattle.std.specs.Prelude.{◌≡◌, ◌≢◌, [], length, All, IfOk, OnOk, IfSome, IsNone, IsOkUnless};
+ghost use Rattle.std.specs.declared.cmp.Ordering.TheVariants.{Less, Greater};
+ghost use Rattle.ark_math.specs.Multivariate.{single, IsTotalDegree, IsValueAt};
 ghost use Rattle.ark_math.specs.SortedTerms.{of_listed, AreRising, IsLeast};
+ghost use Rattle.ark_math.specs.Term.{IsWithin};
 ghost use Rattle.ark_math.specs.Univariate.{added, scaled};
 
 use crate::multivariate::Term;
 use ark_base::{Field, PolyError};
 use std::alloc::Global;
 use std::cmp::Ordering;
+
+/// The greatest total degree of the terms, 0 where there are none.
+pub(crate) fn degree_of_terms<F: Field, T: Term>(terms: &[(F, T)]) -> usize
+    requires { AreRising F.field T.cmp terms.now }
+    ensures { IsTotalDegree F.field (of_listed F.field T.listed terms.now) result }
+{
+    let mut degree = 0;
+    for term in terms {
+        degree = degree.max(term.1.degree());
+    }
+    degree
+}
+
+/// The value at a point that has an item for each variable.
+pub(crate) fn value_of_terms<F: Field, T: Term>(terms: &[(F, T)], point: &[F]) -> F
+    requires { All (λ c. IsWithin (length point.now) (T.listed c.1)) terms.now }
+    ensures { IsValueAt F.field (of_listed F.field T.listed terms.now) point.now result }
+{
+    let mut value = F::zero();
+    for term in terms {
+        value += term.0 * term.1.evaluate(point);
+    }
+    value
+}
 
 /// Adds a term above the others, unless its coefficient is zero.
 fn push_term<F: Field, T: Term>(
@@ -24,8 +48,7 @@ fn push_term<F: Field, T: Term>(
     ensures sum { OnOk result (of_listed F.field T.listed terms.new.items
         ≡ added F.field (of_listed F.field T.listed terms.old.items)
         (single F.field (T.listed term) coefficient)) }
-    ensures below { OnOk result ((next : T) → T.cmp term next ≡ Less
-        → All (λ c. T.cmp c.1 next ≡ Less) terms.new.items) }
+    ensures upto { OnOk result (All (λ c. T.cmp c.1 term ≢ Greater) terms.new.items) }
     ensures memory { IsOkUnless result PolyError.Memory }
 {
     if !coefficient.is_zero() {
@@ -116,4 +139,45 @@ pub(crate) fn sum_of_terms<F: Field, T: Term>(
         right = least.right;
     }
     Ok(sum)
+}
+
+/// Takes the last term off if it is this one, and gives its coefficient; zero otherwise.
+fn take_like<F: Field, T: Term>(terms: &mut Vec<(F, T)>, term: &T) -> F
+    requires rising { AreRising F.field T.cmp terms.old.items }
+    requires upto { All (λ c. T.cmp c.1 term.now ≢ Greater) terms.old.items }
+    ensures rising { AreRising F.field T.cmp terms.new.items }
+    ensures below { All (λ c. T.cmp c.1 term.now ≡ Less) terms.new.items }
+    ensures sum { of_listed F.field T.listed terms.old.items
+        ≡ added F.field (of_listed F.field T.listed terms.new.items)
+        (single F.field (T.listed term.now) result) }
+{
+    match terms.last() {
+        Some(last) if last.1 == *term => {}
+        _ => return F::zero(),
+    }
+    match terms.pop() {
+        Some(last) => last.0,
+        None => F::zero(),
+    }
+}
+
+/// The sums of like terms that aren't zero, of terms in any order. One sort, and then one pass.
+pub(crate) fn gathered_terms<F: Field, T: Term>(
+    alloc: Global,
+    terms: Vec<(F, T)>,
+) -> Result<Vec<(F, T)>, PolyError>
+    ensures rising { IfOk result (λ m. AreRising F.field T.cmp m.items) }
+    ensures sum { IfOk result (λ m. of_listed F.field T.listed m.items
+        ≡ of_listed F.field T.listed terms.items) }
+    ensures memory { IsOkUnless result PolyError.Memory }
+{
+    // The greatest stands first, since the terms are taken from the back.
+    let mut rest = terms;
+    rest.sort_by(|a, b| b.1.cmp(&a.1))?;
+    let mut gathered = Vec::new(alloc);
+    while let Some((coefficient, term)) = rest.pop() {
+        let like = take_like(&mut gathered, &term);
+        push_term(&mut gathered, like + coefficient, term)?;
+    }
+    Ok(gathered)
 }
