@@ -10,7 +10,7 @@ use Rattle.std.specs.declared.cmp.Ordering.TheVariants.{Less, Equal, Greater}
 use Rattle.std.specs.Ordering.{is_eq, is_lt, ordering_reverse}
 use Rattle.std.specs.Cmp.{IsTotalOrder, IsStrictWeakOrder, Equal-is, alike_right}
 use Rattle.std.proofs.lemmas.Bool.{cases_lt}
-use Rattle.std.proofs.lemmas.Option.{get_or_from_slice_get}
+use Rattle.std.proofs.lemmas.Option.{get_or_from_slice_get, slice_get_cases}
 use Rattle.std.proofs.lemmas.Fn.{always_returns_same}
 use Rattle.std.proofs.lemmas.List.{get_or_append_left, get_or_push, length_push, length-map, get_or-map, map_push, take_more}
 use Rattle.std.proofs.lemmas.List.Elements.{All-nil, All-cons, All-tail, All-push, All-more, All-weaker}
@@ -367,7 +367,7 @@ module _ {F T : Type 0} (K : FieldOn F) (N : IsField K) {cmp : T → T → Order
 
   -- ---- the last term, where it's like the next
 
-  last_is : (cs ds : List (F × T)) (c d : F × T) → slice_get cs (length cs - 1) ≡ Some c → cs ≡ ds ++ d ∷ [] → c ≡ d
+  pub last_is : (cs ds : List (F × T)) (c d : F × T) → slice_get cs (length cs - 1) ≡ Some c → cs ≡ ds ++ d ∷ [] → c ≡ d
   last_is cs ds c d e f =
       let n : length cs - 1 ≡ length ds = omega (arith, length_push ds d, ap length f) in
       let found : get_or cs (length cs - 1) d ≡ c = get_or_from_slice_get cs (length cs - 1) c d e in
@@ -392,6 +392,12 @@ module _ {F T : Type 0} (K : FieldOn F) (N : IsField K) {cmp : T → T → Order
 
   pub like_sum : (cs ds : List (F × T)) (c : F × T) (t : T) → cs ≡ ds ++ c ∷ [] → listed c.1 ≡ listed t → sum_of cs ≡ added K (sum_of ds) (single K (listed t) c.0)
   like_sum cs ds c t e same = ap sum_of e ∙ keyed-push K N listed ds c ∙ ap (λ n. added K (sum_of ds) (single K n c.0)) same
+
+  pub none_last : (cs : List (F × T)) (t : T) → slice_get cs (length cs - 1) ≡ None → All (λ x. cmp x.1 t ≡ Less) cs
+  none_last cs t e k d l = ⊎_elim
+      (λ found. let same : None ≡ Some found.0 = sym e ∙ found.2 in cc)
+      (λ none. let past = none.0 in absurd (omega arith))
+      (slice_get_cases cs (length cs - 1)).1
 
   -- the last isn't like it, so none is
   pub unlike_below : (cs : List (F × T)) (c : F × T) (t : T) → AreRising K cmp cs → All (λ x. cmp x.1 t ≢ Greater) cs → slice_get cs (length cs - 1) ≡ Some c → listed c.1 ≢ listed t → All (λ x. cmp x.1 t ≡ Less) cs

@@ -175,9 +175,9 @@ pub(crate) fn gathered_terms<F: Field, T: Term>(
     let mut rest = terms;
     rest.sort_by(|a, b| b.1.cmp(&a.1))?;
     let mut gathered = Vec::new(alloc);
-    while let Some((coefficient, term)) = rest.pop() {
-        let like = take_like(&mut gathered, &term);
-        push_term(&mut gathered, like + coefficient, term)?;
+    while let Some(next) = rest.pop() {
+        let like = take_like(&mut gathered, &next.1);
+        push_term(&mut gathered, like + next.0, next.1)?;
     }
     Ok(gathered)
 }
