@@ -10,6 +10,7 @@ pub mod Quotients
 pub mod Reversed
 pub mod Series
 pub mod SortedPairs
+pub mod SortedTerms
 pub mod SparseSums
 pub mod TermLists
 pub mod Terms
