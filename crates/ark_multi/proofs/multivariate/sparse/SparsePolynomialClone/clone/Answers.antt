@@ -20,4 +20,4 @@ invariant_of-result g c =
 pub returns : goal.returns
 returns g c =
     let o = term_order g.met.T.Ord.total g.met.T.Ord.matches_eq g.met.T.Term.equality_law in
-    (refl, keyed_clones g.F.Field.field g.met.F.Field.field_laws o (λ x y. g.F.Clone.is_clone x.0 y.0 × g.T.Clone.is_clone x.1 y.1) (λ x y made. (g.met.F.Field.clone_law x.0 y.0 made.0, g.met.T.Term.clone_law x.1 y.1 made.1)) c.args.self.now.terms.items c.in_ok-clone.field-0.items c.in_ok-clone.ensures.cases.0)
+    record { cases = (refl, keyed_clones g.F.Field.field g.met.F.Field.field_laws o (λ x y. g.F.Clone.is_clone x.0 y.0 × g.T.Clone.is_clone x.1 y.1) (λ x y made. (g.met.F.Field.clone_law x.0 y.0 made.0, g.met.T.Term.clone_law x.1 y.1 made.1)) c.args.self.now.terms.items c.in_ok-clone.field-0.items c.in_ok-clone.ensures.cases.0) }
