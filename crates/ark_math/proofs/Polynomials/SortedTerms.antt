@@ -1,8 +1,7 @@
 -- Lists of coefficients and terms whose terms rise strictly: what they denote, the least of two lists, and their sums.
-use Rattle.std.proofs.Common.{◌≡◌, ◌≢◌, ℕ, zero, suc, map, take, ◌+◌, ◌<◌, ◌≤◌, ◌-◌, ◌^◌, ◌⊎◌, Bool, true, false, List, [], ◌∷◌, ◌++◌, length, get_or, Some, None, Decides, sym, ◌∙◌, ap, ap₂, refl, subst, arith, ⊎_elim, inl, inr}
+use Rattle.std.proofs.Common.{◌≡◌, ◌≢◌, ℕ, zero, suc, take, ◌+◌, ◌<◌, ◌≤◌, ◌-◌, ◌^◌, ◌⊎◌, Bool, true, false, List, [], ◌∷◌, ◌++◌, length, get_or, Some, None, Decides, sym, ◌∙◌, ap, ap₂, refl, subst, arith, ⊎_elim, inl, inr}
 use Rattle.std.specs.List.{All, AllPairs, AllZip, Any, slice_get}
 use Rattle.std.specs.Fn.{Called, ComparesAs}
-use Rattle.std.specs.Option.{option_to_list}
 use Rattle.std.specs.List.Sorted.{IsSortedBy}
 use Rattle.std.proofs.lemmas.List.Sorted.{sorted_far, ranks_by, IsStrictWeakOrder-flip}
 use Rattle.std.specs.declared.cmp.Ordering.{Ordering}

@@ -9,9 +9,7 @@ ghost use Rattle.ark_math.specs.SortedTerms.{of_listed, IsOnePower};
 ghost use Rattle.ark_math.specs.Univariate.{nothing, added, opposite, scaled as multiple};
 
 use crate::multivariate::Term;
-use crate::multivariate::merging::{
-    degree_of_terms, gathered_terms, sum_of_terms, value_of_terms,
-};
+use crate::multivariate::merging::{degree_of_terms, gathered_terms, sum_of_terms, value_of_terms};
 use crate::polynomial::DenseMVPolynomial;
 use ark_base::{Field, PolyError, Polynomial};
 use rand::Rng;

@@ -27,10 +27,10 @@ loop-term-preserved g c =
     record {
       bounded = bounded_next K N o terms i d e term c.loop-term-test.true c.term-item.is h.bounded left (subst (λ k. k ≤ e) total right);
       reached = reached_next K N o terms i d e term c.loop-term-test.true c.term-item.is h.reached
-      (⊎_elim
-      (λ (l : d < t). inr (let upper : e ≤ t = subst (λ k. k ≤ t) (sym greater) (max-le (omega arith) (omega arith)) in let same : e ≡ t = omega arith in same ∙ total))
-      (λ (l : t ≤ d). inl (let upper : e ≤ d = subst (λ k. k ≤ d) (sym greater) (max-le (omega arith) (omega arith)) in omega arith))
-      (cases_lt d t));
+          (⊎_elim
+          (λ (l : d < t). inr (let upper : e ≤ t = subst (λ k. k ≤ t) (sym greater) (max-le (omega arith) (omega arith)) in let same : e ≡ t = omega arith in same ∙ total))
+          (λ (l : t ≤ d). inl (let upper : e ≤ d = subst (λ k. k ≤ d) (sym greater) (max-le (omega arith) (omega arith)) in omega arith))
+          (cases_lt d t));
     }
 
 pub returns : goal.returns

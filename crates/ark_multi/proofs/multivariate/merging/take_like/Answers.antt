@@ -14,9 +14,9 @@ returns-in_default-clause-below g c =
     let at = ap (λ t. slice_get t (length t - 1)) (sym c.deref.ensures.value) in
     elim c.in_default.branch [
       | in_default-via-in-Some+else-eq w ↦
-        let last = w.in-Some.last.now in
-        unlike_below K N o terms last term c.requires.rising c.requires.upto (at ∙ sym w.in-Some.ensures.value)
-        (λ e. let same : true ≡ false = sym ((g.met.T.Term.equality_law last.1 term).1 e) ∙ sym w.eq.ensures ∙ w.if-eq.false in cc)
+          let last = w.in-Some.last.now in
+          unlike_below K N o terms last term c.requires.rising c.requires.upto (at ∙ sym w.in-Some.ensures.value)
+          (λ e. let same : true ≡ false = sym ((g.met.T.Term.equality_law last.1 term).1 e) ∙ sym w.eq.ensures ∙ w.if-eq.false in cc)
       | in_default-via-in_default w ↦ none_last K N o terms term (at ∙ sym w.in_default.ensures.value)
     ]
 
