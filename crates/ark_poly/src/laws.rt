@@ -1,11 +1,12 @@
 //! Laws of calls together, as contracts that callers may cite.
 
 ghost use Rattle.std.specs.Prelude.{◌≡◌, ◌≢◌, ◌↔◌, ℕ, ◌+◌, List, IsTrue, IfOk, IfErr, IsOkUnless, ◌⊎◌};
-ghost use Rattle.std.specs.Prelude.{IsOk};
+ghost use Rattle.std.specs.Prelude.{IfSome, IsOk};
 ghost use Rattle.ark_math.specs.Module.{itself, sum_below};
 ghost use Rattle.ark_math.specs.Points.{AreValues, AreWeights};
 ghost use Rattle.ark_poly.specs.DenseOrSparse.{denoted};
-ghost use Rattle.ark_math.specs.Univariate.{IsBelow, IsDegree, IsValue, nothing, of_list, of_pairs, product};
+ghost use Rattle.ark_math.specs.Univariate.{IsBelow, IsDegree, IsTrimmed, IsValue, nothing, of_list};
+ghost use Rattle.ark_math.specs.Univariate.{of_pairs, product};
 
 use crate::domain::EvaluationDomain;
 use crate::evaluations::univariate::Evaluations;
@@ -160,4 +161,42 @@ pub fn values_of_all_forms<F: FftField, D: EvaluationDomain<F>>(
         sparse.evaluate_over_domain_by_ref(alloc, domain)?,
         DenseOrSparsePolynomial::evaluate_over_domain(either, alloc, domain)?,
     ))
+}
+
+/// What a division answers: quotient and remainder, and `None` where there are none.
+pub type Division<F> = Option<(DensePolynomial<F>, DensePolynomial<F>)>;
+
+/// The division of one polynomial by another, and the same with both in other forms: the answers are the same. So
+/// what is denoted alone decides quotient and remainder, and whether there are any.
+///
+/// It takes as long as both.
+pub fn divisions_of_all_forms<F: Field>(
+    alloc: Global,
+    dividend: &DenseOrSparsePolynomial<'_, F>,
+    divisor: &DenseOrSparsePolynomial<'_, F>,
+    other_dividend: &DenseOrSparsePolynomial<'_, F>,
+    other_divisor: &DenseOrSparsePolynomial<'_, F>,
+) -> Result<(Division<F>, Division<F>), PolyError>
+    requires dividends { denoted F.field other_dividend.now ≡ denoted F.field dividend.now }
+    requires divisors { denoted F.field other_divisor.now ≡ denoted F.field divisor.now }
+    ensures same { IfOk result (λ p. p.1 ≡ p.0) }
+    ensures overflow { (result ≡ Err PolyError.Overflow) ↔ (denoted F.field divisor.now ≢ nothing F.field)
+        × IsDegree F.field (denoted F.field dividend.now) usize.MAX }
+    ensures errors { IfErr result (λ e. (e ≡ PolyError.Memory) ⊎ (e ≡ PolyError.Overflow)) }
+{
+    let answer = dividend.divide_with_q_and_r(alloc, divisor)?;
+    let other = other_dividend.divide_with_q_and_r(alloc, other_divisor)?;
+    see_trimmed(&answer);
+    see_trimmed(&other);
+    Ok((answer, other))
+}
+
+// What a division gives is trimmed, and so no other lists denote it.
+fn see_trimmed<F: Field>(answer: &Division<F>)
+    ensures { IfSome answer.now (λ p. IsTrimmed F.field p.0 × IsTrimmed F.field p.1) }
+{
+    if let Some((quotient, remainder)) = answer {
+        quotient.coeffs();
+        remainder.coeffs();
+    }
 }

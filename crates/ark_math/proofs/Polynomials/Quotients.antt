@@ -1,14 +1,17 @@
 -- Quotient and remainder: that there are some, that they are the only ones, and what a step of a division does.
-use Rattle.std.proofs.Common.{◌≡◌, ◌≢◌, ℕ, zero, suc, ◌+◌, ◌-◌, ◌<◌, ◌≤◌, sym, ◌∙◌, ap, ap₂, refl, subst, arith, ⊎_elim}
+use Rattle.std.proofs.Common.{◌≡◌, ◌≢◌, ◌↔◌, ℕ, zero, suc, ◌+◌, ◌-◌, ◌<◌, ◌≤◌, List, Bool, Option, None, Some, IfSome, IsNone, Decides, ◌⊎◌, inl, inr, sym, ◌∙◌, ap, ap₂, refl, subst, arith, ⊎_elim, true≢false}
 use mathlib.Core.Path.{fun_ext}
 use Rattle.std.proofs.lemmas.Bool.{cases_lt, cases_eq, cases_order}
 use Rattle.ark_math.specs.Field.{FieldOn, IsField, minus}
-use Rattle.ark_math.specs.Univariate.{nothing, added, difference, monomial, product, IsBelow, IsQuotient}
+use Rattle.ark_math.specs.Univariate.{nothing, added, difference, monomial, product, of_list, IsBelow, IsQuotient, IsTrimmed}
 use Rattle.ark_math.proofs.Algebra.Groups.{zero_plus}
 use Rattle.ark_math.proofs.Algebra.Powers.{zero_factor, times_zero}
 use Rattle.ark_math.proofs.Algebra.Solve.{◌⊖◌, ◌⊗◌, ◌⊞◌, ◌⊟◌, nought, unit}
 use Rattle.ark_math.proofs.Algebra.Ring.{ring2_by, ring3_by, module0_3, module0_4_by}
 use Rattle.ark_math.proofs.Polynomials.Univariate.{coefficients_are_module, IsBelow-more, IsBelow-less, monomial-below, added-below, difference-below, nothing_from_below, nothing-below}
+use Rattle.ark_math.proofs.Outcomes.Tests.{decided}
+use Rattle.ark_math.proofs.Polynomials.Trimmed.{trim_equality}
+use Rattle.ark_math.proofs.Polynomials.UnivariateLists.{same_trimmed}
 use Rattle.ark_math.proofs.Polynomials.UnivariateProducts.{product_leading, monomial-product_past, added-product, difference-product, nothing-product}
 
 module _ {F : Type 0} (K : FieldOn F) (N : IsField K) where
@@ -110,3 +113,38 @@ module _ {F : Type 0} (K : FieldOn F) (N : IsField K) where
     whole = sym (ap (λ t. added K t a) (nothing-product K N d) ∙ zero_plus (coefficients_are_module K N) a);
     degree = (n, ne, f, h);
   }
+
+  -- with any divisor: two answers can't differ, where a zero dividend gives zeros, and no other is divided by zero
+  one_answer : (a d q r p s : ℕ → F) → (d ≢ nothing K → IsQuotient K a d q r) → (d ≢ nothing K → IsQuotient K a d p s)
+      → (a ≡ nothing K → (q ≡ nothing K) × (r ≡ nothing K)) → (a ≡ nothing K → (p ≡ nothing K) × (s ≡ nothing K))
+      → ((a ≢ nothing K) × (d ≡ nothing K) → ⊥) → ((q ≡ p) × (r ≡ s) → ⊥) → ⊥
+  one_answer a d q r p s quotient other zeros others some differ =
+      let none : d ≢ nothing K → ⊥ = λ ne. differ (one_quotient a d q r p s (quotient ne) (other ne)) in
+      let more : a ≢ nothing K = λ z. differ ((zeros z).0 ∙ sym (others z).0, (zeros z).1 ∙ sym (others z).1) in
+      none (λ z. some (more, z))
+
+-- what a division answers: quotient and remainder, of lists without zeros at their end, or that there are none
+pub record IsDivision {F : Type 0} (K : FieldOn F) (a d : ℕ → F) (o : Option (List F × List F)) : Type 0 where
+  pub quotient : IfSome o (λ p. d ≢ nothing K → IsQuotient K a d (of_list K p.0) (of_list K p.1))
+  pub zeros : IfSome o (λ p. a ≡ nothing K → (of_list K p.0 ≡ nothing K) × (of_list K p.1 ≡ nothing K))
+  pub none : IsNone o ↔ (a ≢ nothing K) × (d ≡ nothing K)
+  pub trimmed : IfSome o (λ p. IsTrimmed K p.0 × IsTrimmed K p.1)
+
+module _ {F : Type 0} (K : FieldOn F) (N : IsField K) (eq : F → F → Bool) (o : F) (same : (a b : F) → Decides (eq a b) (a ≡ b)) (e : o ≡ K.zero) where
+  same_list : (c d : List F) → IsTrimmed K c → IsTrimmed K d → (c ≡ d) ⊎ (of_list K c ≢ of_list K d)
+  same_list c d s t = ⊎_elim (λ h. inl (same_trimmed K c d s t h)) inr (decided _ (trim_equality K eq o same e c d))
+
+  -- there is one answer
+  pub same_division : (a d : ℕ → F) (x y : Option (List F × List F)) → IsDivision K a d x → IsDivision K a d y → x ≡ y
+  same_division a d None None A B = refl
+  same_division a d None (Some p) A B = absurd (true≢false (B.none.1 (A.none.0 refl)))
+  same_division a d (Some p) None A B = absurd (true≢false (A.none.1 (B.none.0 refl)))
+  same_division a d (Some p) (Some q) A B = by_cases (same_list p.0 q.0 A.trimmed.0 B.trimmed.0) (same_list p.1 q.1 A.trimmed.1 B.trimmed.1)
+    where
+      differ : ((of_list K p.0 ≡ of_list K q.0) × (of_list K p.1 ≡ of_list K q.1) → ⊥) → ⊥
+      differ = one_answer K N a d (of_list K p.0) (of_list K p.1) (of_list K q.0) (of_list K q.1) A.quotient B.quotient A.zeros B.zeros (λ z. true≢false (A.none.1 z))
+
+      by_cases : (p.0 ≡ q.0) ⊎ (of_list K p.0 ≢ of_list K q.0) → (p.1 ≡ q.1) ⊎ (of_list K p.1 ≢ of_list K q.1) → Some p ≡ Some q
+      by_cases (inl h) (inl k) = ap₂ (λ x y. Some (x, y)) h k
+      by_cases (inr h) k = absurd (differ (λ both. h both.0))
+      by_cases (inl h) (inr k) = absurd (differ (λ both. k both.1))
