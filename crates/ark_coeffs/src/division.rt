@@ -83,7 +83,7 @@ fn subtract_list<F: Field>(coeffs: &mut [F], places: usize, factor: F, other: &[
     ensures { of_list F.field coeffs.new ≡ difference F.field (of_list F.field coeffs.old)
         (product F.field (monomial F.field places factor) (of_list F.field other.now)) }
 {
-    // Added, and not subtracted, since the compiler then takes two products at a time.
+    // Added and not subtracted, which is quicker.
     let negated = -factor;
     for i in 0..other.len() {
         coeffs[places + i] += negated * other[i];
