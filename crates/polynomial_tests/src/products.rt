@@ -4,12 +4,12 @@ use crate::polynomials::poly;
 use ark_base::{F5, F433, F65537, FftField, Field, PolyError};
 use ark_poly::laws::{both_products, degree_of_product, weighted_sum};
 use ark_poly::univariate::DensePolynomial;
-use ark_poly::{DenseUVPolynomial, EvaluationDomain, Evaluations, Polynomial};
-use ark_trials::calls::coset;
+use ark_poly::{DenseUVPolynomial, EvaluationDomain, Polynomial};
+use ark_trials::calls::{coset, elements};
 use ark_trials::plain::drawn;
 use ark_trials::trials::{Trial, over_mixed, over_radix2};
 use rand_pcg::Pcg64;
-use std::alloc::Global;
+use std::alloc::{AllocError, Global};
 use std::test::Fail;
 
 /// Whether these are the coefficients.
@@ -19,6 +19,15 @@ pub fn is<F: Field>(p: &DensePolynomial<F>, coeffs: &[u64]) -> bool {
         right = right && *coefficient == F::from(*known);
     }
     right
+}
+
+// The same, told by a list of them.
+fn lists<F: Field>(
+    alloc: Global,
+    p: &DensePolynomial<F>,
+    coeffs: &[u64],
+) -> Result<bool, AllocError> {
+    Ok(p.coeffs() == elements::<F>(alloc, coeffs)?.as_slice())
 }
 
 /// A drawn polynomial with at most this many coefficients.
@@ -36,7 +45,7 @@ fn has_product<F: FftField>(
     [left, right, product]: [&[u64]; 3],
 ) -> Result<bool, PolyError> {
     let product_of_both = poly::<F>(alloc, left)?.mul(alloc, &poly(alloc, right)?)?;
-    Ok(is(&product_of_both, product))
+    Ok(lists(alloc, &product_of_both, product)?)
 }
 
 // Whether there is no domain for the product.
@@ -69,36 +78,28 @@ fn products_through_domains(rt: HostRuntime) -> Result<(), Fail> {
     Ok(())
 }
 
-// Whether the product through a domain is the product by all pairs of coefficients, and has the sum of the degrees.
-fn is_naive<F: FftField>(
-    alloc: Global,
-    left: &DensePolynomial<F>,
-    right: &DensePolynomial<F>,
-) -> Result<bool, PolyError> {
-    let products = both_products(alloc, left, right)?;
-    if products.0 != products.1 {
-        return Ok(false);
-    }
-    if left.is_zero() || right.is_zero() {
-        return Ok(true);
-    }
-    let degree = degree_of_product(alloc, left, right)?;
-    Ok(degree == left.degree().saturating_add(right.degree()))
-}
-
-// Whether that holds of products of drawn polynomials.
+// Whether products of drawn polynomials through domains are the products by all pairs of coefficients, and have the
+// sums of the degrees.
 fn are_naive<F: FftField>(
     alloc: Global,
     rng: &mut Pcg64,
     products: usize,
 ) -> Result<bool, PolyError> {
-    let mut naive = true;
     for i in 0..products {
-        let left = some::<F>(alloc, rng, i % 38)?;
-        let right = some(alloc, rng, i / 38)?;
-        naive = naive && is_naive(alloc, &left, &right)?;
+        let left = DensePolynomial::<F>::from_coefficients_vec(drawn(alloc, rng, i % 38)?);
+        let right = DensePolynomial::from_coefficients_vec(drawn(alloc, rng, i / 38)?);
+        let (product, plain) = both_products(alloc, &left, &right)?;
+        if product != plain {
+            return Ok(false);
+        }
+        if !left.is_zero() && !right.is_zero() {
+            let degree = degree_of_product(alloc, &left, &right)?;
+            if degree != left.degree().saturating_add(right.degree()) {
+                return Ok(false);
+            }
+        }
     }
-    Ok(naive)
+    Ok(true)
 }
 
 #[test]
@@ -126,9 +127,9 @@ impl Trial for Vanishing<'_> {
         let product = p.mul_by_vanishing_poly(alloc, domain)?;
         let (quotient, remainder) = p.divide_by_vanishing_poly(alloc, domain)?;
         Ok(
-            is(&product, self.product)
-                && is(&quotient, self.quotient)
-                && is(&remainder, self.remainder),
+            lists(alloc, &product, self.product)?
+                && lists(alloc, &quotient, self.quotient)?
+                && lists(alloc, &remainder, self.remainder)?,
         )
     }
 }
@@ -172,44 +173,8 @@ fn by_vanishing_polynomials(rt: HostRuntime) -> Result<(), Fail> {
     Ok(())
 }
 
-// Whether the values are those at the elements of their domain.
-fn are_at_elements<F: FftField, D: EvaluationDomain<F>>(
-    alloc: Global,
-    p: &DensePolynomial<F>,
-    values: &Evaluations<F, D>,
-) -> Result<bool, PolyError> {
-    for (value, element) in values.evals().iter().zip(values.domain().elements()) {
-        if *value != p.evaluate(alloc, &element)? {
-            return Ok(false);
-        }
-    }
-    Ok(true)
-}
-
-// Whether the products by places of the values with themselves are the values of the square.
-fn are_squared<F: FftField, D: EvaluationDomain<F>>(
-    alloc: Global,
-    p: &DensePolynomial<F>,
-    values: &Evaluations<F, D>,
-) -> Result<bool, PolyError> {
-    let domain = values.domain();
-    let square = p.naive_mul(alloc, p)?.evaluate_over_domain(alloc, domain)?;
-    let evals = values.evals();
-    let squares = domain.mul_polynomials_in_evaluation_domain(alloc, evals, evals)?;
-    Ok(square.evals() == squares.as_slice())
-}
-
-// Whether the values with weights give that of the polynomial through them.
-fn are_weighted<F: FftField, D: EvaluationDomain<F>>(
-    alloc: Global,
-    values: &Evaluations<F, D>,
-    tau: F,
-) -> Result<bool, PolyError> {
-    let interpolated = values.interpolate_by_ref(alloc)?.evaluate(alloc, &tau)?;
-    Ok(weighted_sum(alloc, values, tau)? == interpolated)
-}
-
-/// That all this holds of the values over a domain of drawn polynomials of several lengths.
+/// That values over a domain are those at its elements, for drawn polynomials of several lengths, that products by places
+/// are those of products, and that the values with weights give that of the polynomial through them.
 #[derive(Clone, Copy)]
 struct Valued {
     size: usize,
@@ -220,16 +185,30 @@ impl Trial for Valued {
     fn holds<F: FftField, D: EvaluationDomain<F>>(&self, alloc: Global) -> Result<bool, PolyError> {
         let domain: D = coset(self.size, self.offset)?;
         let mut rng = Pcg64::new(13, 1);
-        let mut right = true;
         for len in [0, 1, 6, 28, 70] {
-            let p = some::<F>(alloc, &mut rng, len)?;
+            let p = DensePolynomial::<F>::from_coefficients_vec(drawn(alloc, &mut rng, len)?);
             let values = p.evaluate_over_domain_by_ref(alloc, domain)?;
-            right = right
-                && are_at_elements(alloc, &p, &values)?
-                && are_squared(alloc, &p, &values)?
-                && are_weighted(alloc, &values, F::from(len as u64))?;
+            for (value, element) in values.evals().iter().zip(domain.elements()) {
+                if *value != p.evaluate(alloc, &element)? {
+                    return Ok(false);
+                }
+            }
+            let squares = domain.mul_polynomials_in_evaluation_domain(
+                alloc,
+                values.evals(),
+                values.evals(),
+            )?;
+            let square = p.naive_mul(alloc, &p)?.evaluate_over_domain(alloc, domain)?;
+            if square.evals() != squares.as_slice() {
+                return Ok(false);
+            }
+            let tau = F::from(len as u64);
+            let interpolated = values.interpolate_by_ref(alloc)?.evaluate(alloc, &tau)?;
+            if weighted_sum(alloc, &values, tau)? != interpolated {
+                return Ok(false);
+            }
         }
-        Ok(right)
+        Ok(true)
     }
 }
 
@@ -244,54 +223,24 @@ fn values_of_long_polynomials(rt: HostRuntime) -> Result<(), Fail> {
     Ok(())
 }
 
-/// What a list becomes in place.
-#[derive(Clone, Copy)]
-pub enum Change<F> {
-    Add,
-    Sub,
-    AddMultiple(F),
-}
-
-/// Changes it.
-pub fn make_change<F: Field>(
-    alloc: Global,
-    p: &mut DensePolynomial<F>,
-    by: Change<F>,
-    other: &DensePolynomial<F>,
-) -> Result<(), PolyError> {
-    match by {
-        Change::Add => p.add_assign(alloc, other),
-        Change::Sub => p.sub_assign(alloc, other),
-        Change::AddMultiple(factor) => p.add_assign_scaled(alloc, factor, other),
-    }
-}
-
-// Whether a list becomes this one.
-fn becomes<F: Field>(
-    alloc: Global,
-    coeffs: &[u64],
-    by: Change<F>,
-    other: &DensePolynomial<F>,
-    answer: &[u64],
-) -> Result<bool, PolyError> {
-    let mut p = poly(alloc, coeffs)?;
-    make_change(alloc, &mut p, by, other)?;
-    Ok(is(&p, answer))
-}
-
 // Whether a list becomes these sums with another one, with its negative and with a multiple of it.
-fn have_sums<F: Field>(
+fn becomes<F: Field>(
     alloc: Global,
     [left, right]: [&[u64]; 2],
     factor: u64,
     [sum, difference, scaled]: [&[u64]; 3],
 ) -> Result<bool, PolyError> {
     let other = poly::<F>(alloc, right)?;
-    let multiple = Change::AddMultiple(F::from(factor));
+    let mut added = poly::<F>(alloc, left)?;
+    let mut subtracted = poly::<F>(alloc, left)?;
+    let mut with_multiple = poly::<F>(alloc, left)?;
+    added.add_assign(alloc, &other)?;
+    subtracted.sub_assign(alloc, &other)?;
+    with_multiple.add_assign_scaled(alloc, F::from(factor), &other)?;
     Ok(
-        becomes(alloc, left, Change::Add, &other, sum)?
-            && becomes(alloc, left, Change::Sub, &other, difference)?
-            && becomes(alloc, left, multiple, &other, scaled)?,
+        lists(alloc, &added, sum)?
+            && lists(alloc, &subtracted, difference)?
+            && lists(alloc, &with_multiple, scaled)?,
     )
 }
 
@@ -304,7 +253,7 @@ fn sums_in_place(rt: HostRuntime) -> Result<(), Fail> {
         ([&[3], &[1, 0, 2]], 1, [&[4, 0, 2], &[2, 0, 3], &[4, 0, 2]]),
     ];
     for (lists, factor, answers) in rows {
-        assert!(rt; have_sums::<F5>(rt.alloc(), lists, factor, answers)?);
+        assert!(rt; becomes::<F5>(rt.alloc(), lists, factor, answers)?);
     }
     Ok(())
 }
@@ -317,7 +266,7 @@ fn has_multiple<F: Field>(
     multiple: &[u64],
 ) -> Result<bool, PolyError> {
     let p = poly::<F>(alloc, coeffs)?;
-    Ok(is(&p.mul_scalar(alloc, F::from(factor))?, multiple))
+    Ok(lists(alloc, &p.mul_scalar(alloc, F::from(factor))?, multiple)?)
 }
 
 #[test]

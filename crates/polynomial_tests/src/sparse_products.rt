@@ -1,6 +1,6 @@
 //! Products of sparse polynomials, and their values over domains.
 
-use crate::sparse::{Terms, has_terms, sparse};
+use crate::sparse::{Terms, pairs, sparse};
 use ark_base::{F5, F433, F65537, FftField, Field, PolyError};
 use ark_poly::univariate::{DensePolynomial, SparsePolynomial};
 use ark_poly::{DenseUVPolynomial, EvaluationDomain, Polynomial};
@@ -21,7 +21,7 @@ fn has_product<F: Field>(
     [left, right, product]: [Terms<'_>; 3],
 ) -> Result<bool, PolyError> {
     let product_of_both = sparse::<F>(alloc, left)?.mul(alloc, &sparse(alloc, right)?)?;
-    Ok(has_terms(&product_of_both, product))
+    Ok(product_of_both.coeffs() == pairs(alloc, product)?.as_slice())
 }
 
 // Whether the product's degree is too great.
@@ -85,54 +85,25 @@ fn sparse_of<F: Field>(alloc: Global, coeffs: &[F]) -> Result<SparsePolynomial<F
     SparsePolynomial::from_coefficients_vec(alloc, terms)
 }
 
-// The product of the dense polynomials with these coefficients.
-fn dense_product<F: Field>(
-    alloc: Global,
-    left: &[F],
-    right: &[F],
-) -> Result<DensePolynomial<F>, PolyError> {
-    let left = DensePolynomial::from_coefficients_slice(alloc, left)?;
-    left.naive_mul(
-        alloc,
-        &DensePolynomial::from_coefficients_slice(alloc, right)?,
-    )
-}
-
-// Whether the product of the sparse ones is that product.
+// Whether the product is that of the dense polynomials with these coefficients.
 fn is_naive<F: Field>(alloc: Global, left: &[F], right: &[F]) -> Result<bool, PolyError> {
     let product = sparse_of(alloc, left)?.mul(alloc, &sparse_of(alloc, right)?)?;
-    Ok(product == sparse_of(alloc, dense_product(alloc, left, right)?.coeffs())?)
+    let left = DensePolynomial::from_coefficients_slice(alloc, left)?;
+    let right = DensePolynomial::from_coefficients_slice(alloc, right)?;
+    Ok(product == sparse_of(alloc, left.naive_mul(alloc, &right)?.coeffs())?)
 }
 
-// Whether that holds of drawn polynomials with so many coefficients.
-fn is_drawn_naive<F: Field>(
-    alloc: Global,
-    rng: &mut Pcg64,
-    left: usize,
-    right: usize,
-) -> Result<bool, PolyError> {
-    let left = drawn_with_zeros::<F>(alloc, rng, left)?;
-    is_naive(alloc, &left, &drawn_with_zeros(alloc, rng, right)?)
-}
-
-// The same with a constant.
-fn is_drawn_naive_by_constant<F: Field>(
-    alloc: Global,
-    rng: &mut Pcg64,
-    left: usize,
-) -> Result<bool, PolyError> {
-    let left = drawn_with_zeros::<F>(alloc, rng, left)?;
-    is_naive(alloc, &left, &drawn(alloc, rng, 1)?)
-}
-
-// Whether both hold for many lengths.
+// Whether products of drawn polynomials are the dense ones: some with few terms, and some with a constant.
 fn are_naive<F: Field>(alloc: Global, rng: &mut Pcg64) -> Result<bool, PolyError> {
     let mut right = true;
     for i in 0..13 {
         for j in 0..12 {
-            right = right && is_drawn_naive::<F>(alloc, rng, i, j)?;
+            let factor = drawn_with_zeros::<F>(alloc, rng, i)?;
+            let other = drawn_with_zeros(alloc, rng, j)?;
+            right = right && is_naive(alloc, &factor, &other)?;
         }
-        right = right && is_drawn_naive_by_constant::<F>(alloc, rng, i)?;
+        let factor = drawn_with_zeros::<F>(alloc, rng, i)?;
+        right = right && is_naive(alloc, &factor, &drawn(alloc, rng, 1)?)?;
     }
     Ok(right)
 }
@@ -182,20 +153,6 @@ fn values_of_high_terms(rt: HostRuntime) -> Result<(), Fail> {
     Ok(())
 }
 
-// Whether the polynomial has these values at these points.
-fn has_values<F: Field>(
-    alloc: Global,
-    p: &SparsePolynomial<F>,
-    points: &[F],
-    values: &[F],
-) -> Result<bool, PolyError> {
-    let mut right = points.len() == values.len();
-    for (point, value) in points.iter().zip(values) {
-        right = right && p.evaluate(alloc, point)? == *value;
-    }
-    Ok(right)
-}
-
 // Whether the values over the domain are those at each of its elements.
 fn has_values_at_elements<F: FftField, D: EvaluationDomain<F>>(
     alloc: Global,
@@ -203,11 +160,11 @@ fn has_values_at_elements<F: FftField, D: EvaluationDomain<F>>(
     p: SparsePolynomial<F>,
 ) -> Result<bool, PolyError> {
     let values = p.evaluate_over_domain_by_ref(alloc, domain)?;
-    Ok(
-        values.evals().len() == domain.size()
-            && has_values(alloc, &p, &listed(alloc, &domain)?, values.evals())?
-            && p.evaluate_over_domain(alloc, domain)? == values,
-    )
+    let mut right = values.evals().len() == domain.size();
+    for (point, value) in listed(alloc, &domain)?.iter().zip(values.evals()) {
+        right = right && p.evaluate(alloc, point)? == *value;
+    }
+    Ok(right && p.evaluate_over_domain(alloc, domain)? == values)
 }
 
 // The sum of some terms of low degrees, and of some of the highest.
@@ -273,32 +230,6 @@ fn values_at_elements(rt: HostRuntime) -> Result<(), Fail> {
     Ok(())
 }
 
-// Whether the values are those of the dense polynomial, and interpolate to it.
-fn has_values_like_dense<F: FftField, D: EvaluationDomain<F>>(
-    alloc: Global,
-    domain: D,
-    p: &SparsePolynomial<F>,
-    dense: &DensePolynomial<F>,
-) -> Result<bool, PolyError> {
-    let values = p.evaluate_over_domain_by_ref(alloc, domain)?;
-    Ok(
-        values == dense.evaluate_over_domain_by_ref(alloc, domain)?
-            && values.interpolate_by_ref(alloc)? == *dense,
-    )
-}
-
-// Whether the products of the values are those of the product.
-fn has_products_of_values<F: FftField, D: EvaluationDomain<F>>(
-    alloc: Global,
-    domain: D,
-    left: &SparsePolynomial<F>,
-    right: &SparsePolynomial<F>,
-) -> Result<bool, PolyError> {
-    let values = left.evaluate_over_domain_by_ref(alloc, domain)?;
-    let products = values.mul(alloc, &right.evaluate_over_domain_by_ref(alloc, domain)?)?;
-    Ok(left.mul(alloc, right)?.evaluate_over_domain(alloc, domain)? == products)
-}
-
 /// Two lengths and an offset: drawn polynomials of these lengths have over the coset with room for their product the
 /// values of the dense ones, which interpolate to them, and the products of the values are those of the product.
 #[derive(Clone, Copy)]
@@ -316,9 +247,13 @@ impl Trial for LikeDense {
         let left = sparse_of(alloc, &coeffs)?;
         let right = sparse_of(alloc, &drawn_with_zeros::<F>(alloc, &mut rng, self.right)?)?;
         let dense = DensePolynomial::from_coefficients_vec(coeffs);
+        let values = left.evaluate_over_domain_by_ref(alloc, domain)?;
+        let products = values.mul(alloc, &right.evaluate_over_domain_by_ref(alloc, domain)?)?;
+        let product = left.mul(alloc, &right)?;
         Ok(
-            has_values_like_dense(alloc, domain, &left, &dense)?
-                && has_products_of_values(alloc, domain, &left, &right)?,
+            values == dense.evaluate_over_domain_by_ref(alloc, domain)?
+                && values.interpolate_by_ref(alloc)? == dense
+                && product.evaluate_over_domain(alloc, domain)? == products,
         )
     }
 }

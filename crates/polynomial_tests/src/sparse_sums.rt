@@ -1,5 +1,4 @@
-use crate::products::{Change, make_change};
-use crate::sparse::{Terms, has_terms, sparse};
+use crate::sparse::{Terms, pairs, sparse};
 use ark_base::{F5, F65537, Field, PolyError, Zero};
 use ark_poly::univariate::{DensePolynomial, SparsePolynomial};
 use ark_poly::{DenseUVPolynomial, Polynomial};
@@ -8,46 +7,32 @@ use rand_pcg::Pcg64;
 use std::alloc::{AllocError, Global};
 use std::test::Fail;
 
-// Changes terms in place.
-fn change_terms<F: Field>(
+fn is<F: Field>(
     alloc: Global,
-    p: &mut SparsePolynomial<F>,
-    by: Change<F>,
-    other: &SparsePolynomial<F>,
-) -> Result<(), PolyError> {
-    match by {
-        Change::Add => p.add_assign(alloc, other),
-        Change::Sub => p.sub_assign(alloc, other),
-        Change::AddMultiple(factor) => p.add_assign_scaled(alloc, factor, other),
-    }
-}
-
-// Whether terms become these others.
-fn becomes<F: Field>(
-    alloc: Global,
+    p: &SparsePolynomial<F>,
     terms: Terms<'_>,
-    by: Change<F>,
-    other: &SparsePolynomial<F>,
-    answer: Terms<'_>,
-) -> Result<bool, PolyError> {
-    let mut p = sparse(alloc, terms)?;
-    change_terms(alloc, &mut p, by, other)?;
-    Ok(has_terms(&p, answer))
+) -> Result<bool, AllocError> {
+    Ok(p.coeffs() == pairs::<F>(alloc, terms)?.as_slice())
 }
 
 // Whether terms become these sums with others, with their negatives and with a multiple of them.
-fn have_sums<F: Field>(
+fn becomes<F: Field>(
     alloc: Global,
     [left, right]: [Terms<'_>; 2],
     factor: u64,
     [sum, difference, scaled]: [Terms<'_>; 3],
 ) -> Result<bool, PolyError> {
     let other = sparse::<F>(alloc, right)?;
-    let multiple = Change::AddMultiple(F::from(factor));
+    let mut added = sparse::<F>(alloc, left)?;
+    let mut subtracted = sparse::<F>(alloc, left)?;
+    let mut with_multiple = sparse::<F>(alloc, left)?;
+    added.add_assign(alloc, &other)?;
+    subtracted.sub_assign(alloc, &other)?;
+    with_multiple.add_assign_scaled(alloc, F::from(factor), &other)?;
     Ok(
-        becomes(alloc, left, Change::Add, &other, sum)?
-            && becomes(alloc, left, Change::Sub, &other, difference)?
-            && becomes(alloc, left, multiple, &other, scaled)?,
+        is(alloc, &added, sum)?
+            && is(alloc, &subtracted, difference)?
+            && is(alloc, &with_multiple, scaled)?,
     )
 }
 
@@ -77,11 +62,11 @@ fn sums_in_place(rt: HostRuntime) -> Result<(), Fail> {
         ([&[], &[(3, 1)]], 0, [&[(3, 1)], &[(3, 4)], &[]]),
     ];
     for (terms, factor, answers) in rows {
-        assert!(rt; have_sums::<F5>(rt.alloc(), terms, factor, answers)?);
+        assert!(rt; becomes::<F5>(rt.alloc(), terms, factor, answers)?);
     }
     let terms: [Terms<'_>; 2] = [&[(0, 3), (1, 1)], &[(0, 1), (1, 1)]];
     let answers: [Terms<'_>; 3] = [&[(0, 4), (1, 2)], &[(0, 2)], &[(0, 5), (1, 3)]];
-    assert!(rt; have_sums::<F65537>(rt.alloc(), terms, 2, answers)?);
+    assert!(rt; becomes::<F65537>(rt.alloc(), terms, 2, answers)?);
     Ok(())
 }
 
@@ -108,45 +93,47 @@ fn is_same<F: Field>(
     Ok(p.coeffs() == terms_of(alloc, dense.coeffs())?.as_slice() && p.degree() == dense.degree())
 }
 
-// What all coefficients become.
-fn dense_changed<F: Field>(
-    alloc: Global,
-    left: &[F],
-    by: Change<F>,
-    right: &[F],
-) -> Result<DensePolynomial<F>, PolyError> {
-    let other = DensePolynomial::from_coefficients_slice(alloc, right)?;
-    let mut p = DensePolynomial::from_coefficients_slice(alloc, left)?;
-    make_change(alloc, &mut p, by, &other)?;
-    Ok(p)
+// Whether the sum of terms, and in place, is that of all coefficients.
+fn has_sum<F: Field>(alloc: Global, left: &[F], right: &[F]) -> Result<bool, PolyError> {
+    let mut dense = DensePolynomial::from_coefficients_slice(alloc, left)?;
+    dense.add_assign(
+        alloc,
+        &DensePolynomial::from_coefficients_slice(alloc, right)?,
+    )?;
+    let mut p = by_terms(alloc, left)?;
+    let other = by_terms(alloc, right)?;
+    let sum = p.add(alloc, &other)?;
+    p.add_assign(alloc, &other)?;
+    Ok(p == sum && is_same(alloc, &sum, &dense)?)
 }
 
-// The sum or the difference of terms, not in place.
-fn joined<F: Field>(
-    alloc: Global,
-    p: &SparsePolynomial<F>,
-    by: Change<F>,
-    other: &SparsePolynomial<F>,
-) -> Result<SparsePolynomial<F>, PolyError> {
-    match by {
-        Change::Add => p.add(alloc, other),
-        Change::Sub => p.sub(alloc, other),
-        Change::AddMultiple(factor) => p.add(alloc, &other.mul_scalar(alloc, factor)?),
-    }
+// The same of the difference.
+fn has_difference<F: Field>(alloc: Global, left: &[F], right: &[F]) -> Result<bool, PolyError> {
+    let mut dense = DensePolynomial::from_coefficients_slice(alloc, left)?;
+    dense.sub_assign(
+        alloc,
+        &DensePolynomial::from_coefficients_slice(alloc, right)?,
+    )?;
+    let mut p = by_terms(alloc, left)?;
+    let other = by_terms(alloc, right)?;
+    let difference = p.sub(alloc, &other)?;
+    p.sub_assign(alloc, &other)?;
+    Ok(p == difference && is_same(alloc, &difference, &dense)?)
 }
 
-// Whether terms become in place what they give otherwise, and what all coefficients become.
-fn changes_alike<F: Field>(
+// The same of the sum with a multiple.
+fn has_scaled_sum<F: Field>(
     alloc: Global,
     left: &[F],
-    by: Change<F>,
+    factor: F,
     right: &[F],
 ) -> Result<bool, PolyError> {
-    let other = by_terms(alloc, right)?;
+    let mut dense = DensePolynomial::from_coefficients_slice(alloc, left)?;
+    let other = DensePolynomial::from_coefficients_slice(alloc, right)?;
+    dense.add_assign_scaled(alloc, factor, &other)?;
     let mut p = by_terms(alloc, left)?;
-    let answer = joined(alloc, &p, by, &other)?;
-    change_terms(alloc, &mut p, by, &other)?;
-    Ok(p == answer && is_same(alloc, &p, &dense_changed(alloc, left, by, right)?)?)
+    p.add_assign_scaled(alloc, factor, &by_terms(alloc, right)?)?;
+    is_same(alloc, &p, &dense)
 }
 
 // Drawn coefficients, of which about four in five are zero.
@@ -174,9 +161,9 @@ fn agrees<F: Field>(
     let left = drawn_with_zeros::<F>(alloc, rng, left)?;
     let right = drawn_with_zeros::<F>(alloc, rng, right)?;
     Ok(
-        changes_alike(alloc, &left, Change::Add, &right)?
-            && changes_alike(alloc, &left, Change::Sub, &right)?
-            && changes_alike(alloc, &left, Change::AddMultiple(F::rand(rng)), &right)?,
+        has_sum(alloc, &left, &right)?
+            && has_difference(alloc, &left, &right)?
+            && has_scaled_sum(alloc, &left, F::rand(rng), &right)?,
     )
 }
 
@@ -192,19 +179,13 @@ fn sums_of_drawn_polynomials(rt: HostRuntime) -> Result<(), Fail> {
     Ok(())
 }
 
-fn sum_with_negative<F: Field>(
-    alloc: Global,
-    p: &SparsePolynomial<F>,
-) -> Result<SparsePolynomial<F>, PolyError> {
-    p.add(alloc, &p.neg(alloc)?)
-}
-
 // Whether a drawn polynomial with its negative, and less itself, is zero.
 fn cancels<F: Field>(alloc: Global, rng: &mut Pcg64, len: usize) -> Result<bool, PolyError> {
-    let same = by_terms(alloc, &drawn_with_zeros::<F>(alloc, rng, len)?)?;
-    let mut p = same.clone()?;
+    let mut p = by_terms(alloc, &drawn_with_zeros::<F>(alloc, rng, len)?)?;
+    let sum = p.add(alloc, &p.neg(alloc)?)?;
+    let same = p.clone()?;
     p.sub_assign(alloc, &same)?;
-    Ok(p.is_zero() && p.degree() == 0 && sum_with_negative(alloc, &same)?.is_zero())
+    Ok(sum.is_zero() && p.is_zero() && p.degree() == 0)
 }
 
 #[test]
@@ -216,29 +197,16 @@ fn negatives_cancel(rt: HostRuntime) -> Result<(), Fail> {
     Ok(())
 }
 
-// Whether the multiple is that of all coefficients, and both forms have the same value.
-fn multiples_alike<F: Field>(
-    alloc: Global,
-    p: &SparsePolynomial<F>,
-    dense: &DensePolynomial<F>,
-    factor: F,
-) -> Result<bool, PolyError> {
-    if p.evaluate(alloc, &factor)? != dense.evaluate(alloc, &factor)? {
-        return Ok(false);
-    }
-    let multiple = p.mul_scalar(alloc, factor)?;
-    is_same(alloc, &multiple, &dense.mul_scalar(alloc, factor)?)
-}
-
-// Whether that holds of a drawn polynomial, and its multiple by zero is zero.
+// Whether the multiple of a drawn polynomial is that of all coefficients, and both forms have the same value.
 fn has_multiple<F: Field>(alloc: Global, rng: &mut Pcg64, len: usize) -> Result<bool, PolyError> {
     let coeffs = drawn_with_zeros::<F>(alloc, rng, len)?;
     let p = by_terms(alloc, &coeffs)?;
     let dense = DensePolynomial::from_coefficients_vec(coeffs);
-    Ok(
-        multiples_alike(alloc, &p, &dense, F::rand(rng))?
-            && p.mul_scalar(alloc, F::zero())?.is_zero(),
-    )
+    let factor = F::rand(rng);
+    let valued = p.evaluate(alloc, &factor)? == dense.evaluate(alloc, &factor)?;
+    let multiple = dense.mul_scalar(alloc, factor)?;
+    let none = p.mul_scalar(alloc, F::zero())?;
+    Ok(valued && none.is_zero() && is_same(alloc, &p.mul_scalar(alloc, factor)?, &multiple)?)
 }
 
 #[test]
