@@ -444,8 +444,9 @@ impl<F: FftField> DensePolynomial<F> {
     /// domain. `NoDomain` exactly where neither factor is zero and the field has no domain for that length,
     /// judged before memory is asked for.
     ///
-    /// Over `n` elements it takes three transforms and `n` products more, and memory for `n` values of each
-    /// factor beside what a transform takes. Both factors are transformed side by side, as one list.
+    /// Both factors are transformed side by side, as one list. Over `n` elements it takes three transforms and
+    /// `n` products more, and memory for `n` values of each factor and of the product beside what a transform
+    /// takes.
     pub fn mul(&self, alloc: Global, other: &Self) -> Result<Self, PolyError>
         ensures product { IfOk result (λ p. of_list F.field p
             ≡ product F.field (of_list F.field self.now) (of_list F.field other.now)) }

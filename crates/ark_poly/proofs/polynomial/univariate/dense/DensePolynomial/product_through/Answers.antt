@@ -1,4 +1,4 @@
-use Rattle.std.proofs.Common.{◌≡◌, ◌<◌, ◌≤◌, ◌+◌, ◌-◌, length, subst, sym, ap, ap₂, ◌∙◌, arith, map}
+use Rattle.std.proofs.Common.{◌≤◌, ◌+◌, ◌-◌, length, subst, sym, ap, ap₂, ◌∙◌, arith, map}
 use Rattle.std.proofs.lemmas.List.{length-map}
 use Rattle.ark_math.specs.Points.{AreValues}
 use Rattle.ark_math.specs.Transform.{transform}
