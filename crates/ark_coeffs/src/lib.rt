@@ -5,6 +5,7 @@ pub mod conversions;
 pub mod dense;
 pub mod division;
 pub mod draws;
+pub mod lanes;
 pub mod products;
 pub mod rows;
 pub mod series;

@@ -8,7 +8,7 @@ use ark_base::Field;
 use std::alloc::{AllocError, Global};
 
 /// The coefficient at an exponent, zero past the end of the list.
-fn coefficient_at<F: Field>(coeffs: &[F], exponent: usize) -> F
+pub fn coefficient_at<F: Field>(coeffs: &[F], exponent: usize) -> F
     ensures { result ≡ of_list F.field coeffs.now exponent }
 {
     if exponent < coeffs.len() {

@@ -1,3 +1,4 @@
 -- What a caller of the domains can use: from the clauses of a call to the fact that is wanted.
+pub mod Lanes
 pub mod Sizes
 pub mod Transforms

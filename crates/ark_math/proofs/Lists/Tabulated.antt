@@ -1,5 +1,5 @@
 -- Lists made of a function of the index.
-use Rattle.std.proofs.Common.{◌≡◌, ℕ, zero, suc, ◌+◌, ◌<◌, List, ◌∷◌, length, get_or, sym, ◌∙◌, ap, refl, arith, zero-add}
+use Rattle.std.proofs.Common.{◌≡◌, ℕ, zero, suc, ◌+◌, ◌<◌, List, [], ◌∷◌, ◌++◌, length, get_or, sym, ◌∙◌, ap, refl, arith, zero-add}
 use Rattle.ark_math.specs.Module.{ModuleOn, tabulate, tabulate_from, item}
 use Rattle.std.proofs.lemmas.List.{ext_get_or}
 
@@ -42,3 +42,18 @@ tabulate_from-suc i (suc n) f = ap (λ t. f (suc i) ∷ t) (tabulate_from-suc (s
 -- the first, and then the others
 pub tabulate-suc : {M : Type 0} (n : ℕ) (f : ℕ → M) → tabulate (suc n) f ≡ f 0 ∷ tabulate n (λ k. f (suc k))
 tabulate-suc n f = ap (λ t. f 0 ∷ t) (tabulate_from-suc 0 n f)
+
+-- the first m, and then n more
+pub tabulate_from-add : {M : Type 0} (i m n : ℕ) (f : ℕ → M) → tabulate_from i (m + n) f ≡ tabulate_from i m f ++ tabulate_from (i + m) n f
+tabulate_from-add i zero n f =
+    let e : 0 + n ≡ n = omega arith in
+    let g : i ≡ i + 0 = omega arith in
+    ap (λ t. tabulate_from i t f) e ∙ ap (λ t. tabulate_from t n f) g
+tabulate_from-add i (suc m) n f =
+    let e : suc m + n ≡ suc (m + n) = omega arith in
+    let g : suc i + m ≡ i + suc m = omega arith in
+    ap (λ t. tabulate_from i t f) e ∙ ap (λ t. f i ∷ t) (tabulate_from-add (suc i) m n f ∙ ap (λ t. tabulate_from (suc i) m f ++ tabulate_from t n f) g)
+
+-- the others, and then the last
+pub tabulate-push : {M : Type 0} (n : ℕ) (f : ℕ → M) → tabulate (n + 1) f ≡ tabulate n f ++ f n ∷ []
+tabulate-push n f = tabulate_from-add 0 n 1 f ∙ ap (λ k. tabulate n f ++ f k ∷ []) (zero-add n)

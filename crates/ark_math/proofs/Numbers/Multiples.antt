@@ -5,18 +5,9 @@ use Rattle.std.proofs.lemmas.Nat.{div-mul-add, mod-mul-add}
 use Rattle.std.proofs.lemmas.Bool.{cond-true, cond-false, eq-eqb, ne_eqb}
 use Rattle.std.proofs.lemmas.List.Elements.{filter-append}
 use Rattle.ark_math.specs.Module.{tabulate, tabulate_from}
+use Rattle.ark_math.proofs.Lists.Tabulated.{tabulate_from-add}
 
 -- ---- listings
-
-tabulate_from-add : {M : Type 0} (i m n : ℕ) (f : ℕ → M) → tabulate_from i (m + n) f ≡ tabulate_from i m f ++ tabulate_from (i + m) n f
-tabulate_from-add i zero n f =
-    let e : 0 + n ≡ n = omega arith in
-    let g : i ≡ i + 0 = omega arith in
-    ap (λ t. tabulate_from i t f) e ∙ ap (λ t. tabulate_from t n f) g
-tabulate_from-add i (suc m) n f =
-    let e : suc m + n ≡ suc (m + n) = omega arith in
-    let g : suc i + m ≡ i + suc m = omega arith in
-    ap (λ t. tabulate_from i t f) e ∙ ap (λ t. f i ∷ t) (tabulate_from-add (suc i) m n f ∙ ap (λ t. tabulate_from (suc i) m f ++ tabulate_from t n f) g)
 
 tabulate_from-same : {M : Type 0} (i j n : ℕ) (f g : ℕ → M) → ((r : ℕ) → r < n → f (i + r) ≡ g (j + r)) → tabulate_from i n f ≡ tabulate_from j n g
 tabulate_from-same i j zero f g h = refl

@@ -29,6 +29,7 @@ use ark_coeffs::dense::{
 };
 use ark_coeffs::division::{Coefficients, divided};
 use ark_coeffs::draws::drawn;
+use ark_coeffs::lanes::{products_of_lanes, side_by_side};
 use rand::Rng;
 use std::alloc::{AllocError, Global};
 use std::fmt::{self, Debug, Formatter, Write};
@@ -447,8 +448,9 @@ impl<F: FftField> DensePolynomial<F> {
     /// domain. `NoDomain` exactly where neither factor is zero and the field has no domain for that length,
     /// judged before memory is asked for.
     ///
-    /// Over `n` elements it takes three transforms and `n` products more, and memory for `n` values of each
-    /// factor beside what a transform takes.
+    /// Both factors are transformed side by side, as one list. Over `n` elements it takes three transforms and
+    /// `n` products more, and memory for `n` values of each factor and of the product beside what a transform
+    /// takes.
     pub fn mul(&self, alloc: Global, other: &Self) -> Result<Self, PolyError>
         ensures product { IfOk result (λ p. of_list F.field p
             ≡ product F.field (of_list F.field self.now) (of_list F.field other.now)) }
@@ -462,7 +464,27 @@ impl<F: FftField> DensePolynomial<F> {
         let Some(domain) = domain_of_product(self.coeffs.len(), other.coeffs.len()) else {
             return Err(PolyError::NoDomain);
         };
-        self.mul_over_domain(alloc, other, domain)
+        self.product_through(alloc, other, domain)
+    }
+
+    // The product, by the values of both factors over a domain that has as many elements as it has coefficients.
+    fn product_through<D: EvaluationDomain<F>>(
+        &self,
+        alloc: Global,
+        other: &Self,
+        domain: D,
+    ) -> Result<Self, PolyError>
+        requires some { 0 < length self.now }
+        requires others { 0 < length other.now }
+        requires room { length self.now + length other.now - 1 ≤ (D.domain domain).size }
+        ensures product { IfOk result (λ p. of_list F.field p
+            ≡ product F.field (of_list F.field self.now) (of_list F.field other.now)) }
+        ensures memory { IsOkUnless result PolyError.Memory }
+    {
+        let mut lanes = side_by_side(alloc, &self.coeffs, &other.coeffs, domain.size())?;
+        domain.fft_in_place(alloc, &mut lanes)?;
+        let values = products_of_lanes(alloc, &lanes)?;
+        Evaluations::from_vec_and_domain(values, domain).interpolate(alloc)
     }
 
     /// The only polynomial below the domain's size with the products of both values at the elements: the

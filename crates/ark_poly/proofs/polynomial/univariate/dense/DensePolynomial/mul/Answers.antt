@@ -1,8 +1,7 @@
-use Rattle.std.proofs.Common.{◌≡◌, ◌+◌, ◌-◌, length, sym, ap, rules, refl, ◌∙◌, ◌==◌}
+use Rattle.std.proofs.Common.{◌≡◌, sym, ap, rules, refl, ◌∙◌, ◌==◌}
 use Rattle.ark_math.specs.Univariate.{of_list, nothing, product}
-use Rattle.ark_math.proofs.Polynomials.Univariate.{IsBelow-more}
-use Rattle.ark_math.proofs.Polynomials.UnivariateLists.{of_list-below, trimmed_none_Decides}
-use Rattle.ark_math.proofs.Polynomials.UnivariateProducts.{nothing-product, product-nothing, product-below}
+use Rattle.ark_math.proofs.Polynomials.UnivariateLists.{trimmed_none_Decides}
+use Rattle.ark_math.proofs.Polynomials.UnivariateProducts.{nothing-product, product-nothing}
 use Rattle.ark_math.proofs.Outcomes.Results.{IfOk_more}
 use Rattle.ark_poly.proofs.polynomial.univariate.dense.DensePolynomial.mul.Goals.{then-is_empty-via-then-is_empty, then-is_empty-via-else-is_empty+then-is_empty-2}
 use Rattle.ark_poly.proofs.polynomial.univariate.dense.DensePolynomial.mul.Goals as goal
@@ -27,15 +26,7 @@ returns-then-is_empty-clause-product g c =
     rw (← c.self.view_is, ← c.other.view_is) (IfOk_more c.zero.result (λ p e. e ∙ sym none) c.zero.ensures.zero)
 
 pub returns-clause-product : goal.returns-clause-product
-returns-clause-product g c =
-    let K = g.F.Field.field in
-    let left = c.args.self.now in
-    let right = c.args.other.now in
-    let below = product-below K g.met.F.Field.field_laws (length left) (length right) (of_list K left) (of_list K right) (of_list-below K left) (of_list-below K right) in
-    let mine : c.len.result ≡ length left = c.len.ensures ∙ c.self.inside.coeffs.ok.0 ∙ ap length c.self.view_is in
-    let others : c.len-2.result ≡ length right = c.len-2.ensures ∙ c.other.inside.coeffs.ok.0 ∙ ap length c.other.view_is in
-    let room = rw (mine, others) at c.in-Some.ensures.room in
-    IfOk_more c.mul_over_domain.result (λ p h. h (IsBelow-more K (length left + length right - 1) _ _ room below)) c.mul_over_domain.ensures.product
+returns-clause-product g c = c.product_through.ensures.product
 
 pub returns-in_default-clause-none : goal.returns-in_default-clause-none
 returns-in_default-clause-none g c = (λ e. search rules, λ h. refl)
