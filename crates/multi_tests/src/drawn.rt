@@ -18,7 +18,11 @@ const MOST_TERMS: u64 = 60;
 const GREATEST_POWER: u64 = 10;
 
 // About half of the variables, each with a power from 1 on.
-fn drawn_powers(alloc: Global, rng: &mut Pcg64, num_vars: usize) -> Result<Vec<(usize, usize)>, AllocError> {
+fn drawn_powers(
+    alloc: Global,
+    rng: &mut Pcg64,
+    num_vars: usize,
+) -> Result<Vec<(usize, usize)>, AllocError> {
     let mut powers = Vec::new(alloc);
     for variable in 0..num_vars {
         let bits = rng.next_u64();
@@ -70,9 +74,11 @@ fn sums_agree<F: Field, T: Term>(
     b: &SparsePolynomial<F, T>,
 ) -> Result<bool, PolyError> {
     let difference = a.sub(alloc, b)?;
-    Ok(a.add(alloc, b)? == b.add(alloc, a)?
-        && difference == b.sub(alloc, a)?.neg(alloc)?
-        && difference.add(alloc, b)? == *a)
+    Ok(
+        a.add(alloc, b)? == b.add(alloc, a)?
+            && difference == b.sub(alloc, a)?.neg(alloc)?
+            && difference.add(alloc, b)? == *a,
+    )
 }
 
 // Whether the value of the sum is the sum of the values.
@@ -102,13 +108,20 @@ fn term_by_term<F: Field, T: Term>(p: &SparsePolynomial<F, T>, point: &[F]) -> F
     sum
 }
 
-fn holds<F: Field, T: Term>(alloc: Global, rng: &mut Pcg64, left: usize, right: usize) -> Result<bool, PolyError> {
+fn holds<F: Field, T: Term>(
+    alloc: Global,
+    rng: &mut Pcg64,
+    left: usize,
+    right: usize,
+) -> Result<bool, PolyError> {
     let a: SparsePolynomial<F, T> = drawn(alloc, rng, left)?;
     let b: SparsePolynomial<F, T> = drawn(alloc, rng, right)?;
     let point = drawn_point(alloc, rng, left.max(right))?;
-    Ok(sums_agree(alloc, &a, &b)?
-        && values_add_up(alloc, &a, &b, &point)?
-        && value(alloc, &a, &point)? == Some(term_by_term(&a, &point)))
+    Ok(
+        sums_agree(alloc, &a, &b)?
+            && values_add_up(alloc, &a, &b, &point)?
+            && value(alloc, &a, &point)? == Some(term_by_term(&a, &point)),
+    )
 }
 
 #[test]
@@ -151,7 +164,12 @@ fn product<F: Field, T: Term>(
 
 #[test]
 fn product_of_all_terms(rt: HostRuntime) -> Result<(), Fail> {
-    let left: Terms<'_> = &[(2, &[]), (4, &[(0, 1), (1, 2)]), (8, &[(0, 1), (0, 1)]), (1, &[(3, 0)])];
+    let left: Terms<'_> = &[
+        (2, &[]),
+        (4, &[(0, 1), (1, 2)]),
+        (8, &[(0, 1), (0, 1)]),
+        (1, &[(3, 0)]),
+    ];
     let right: Terms<'_> = &[(1, &[(0, 1), (1, 2)]), (2, &[(2, 1)]), (1, &[(3, 1)])];
     let answer: Terms<'_> = &[
         (3, &[(0, 1), (1, 2)]),
@@ -172,7 +190,9 @@ fn product_of_all_terms(rt: HostRuntime) -> Result<(), Fail> {
 
 // Whether a drawn polynomial has a constant and powers of single variables alone, at most the d-th.
 fn has_shape<F: Field, T: Term>(p: &SparsePolynomial<F, T>, d: usize, num_vars: usize) -> bool {
-    let mut right = p.num_vars() == num_vars && p.degree() <= d && p.terms().len() <= 1 + d * num_vars;
+    let mut right = p.num_vars() == num_vars
+        && p.degree() <= d
+        && p.terms().len() <= 1 + d * num_vars;
     for (_, term) in p.terms() {
         right = right && term.pairs().len() <= 1;
     }
@@ -184,7 +204,12 @@ fn drawn_by_the_polynomial(rt: HostRuntime) -> Result<(), Fail> {
     let mut rng = Pcg64::seed_from_u64(32);
     for (d, num_vars) in [(0, 0), (3, 0), (0, 4), (1, 1), (7, 2), (4, 5)] {
         let p = SparsePolynomial::<F65537, SparseTerm>::rand(rt.alloc(), d, num_vars, &mut rng)?;
-        let other = SparsePolynomial::<F65537, SparseTerm>::rand(rt.alloc(), d, num_vars, &mut rng)?;
+        let other = SparsePolynomial::<F65537, SparseTerm>::rand(
+            rt.alloc(),
+            d,
+            num_vars,
+            &mut rng,
+        )?;
         assert!(rt; has_shape(&p, d, num_vars) && p != other);
         assert!(rt; num_vars == 0 || p.degree() == d);
     }

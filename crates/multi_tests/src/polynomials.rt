@@ -23,18 +23,34 @@ const RISING: [(u64, &[(usize, usize)]); 4] = [
 ];
 
 // Whether the polynomial has these terms, in this order, this degree and this value at the point.
-fn is_as_listed<T: Term>(alloc: Global, num_vars: usize, rising: Terms<'_>, point: &[u64]) -> Result<bool, PolyError> {
+fn is_as_listed<T: Term>(
+    alloc: Global,
+    num_vars: usize,
+    rising: Terms<'_>,
+    point: &[u64],
+) -> Result<bool, PolyError> {
     let p: SparsePolynomial<F65537, T> = polynomial(alloc, num_vars, &TERMS)?;
     let point = elements(alloc, point)?;
-    Ok(has_terms(&p, rising) && p.degree() == 3 && p.num_vars() == num_vars
-        && value(alloc, &p, &point)? == Some(F65537::from(51)))
+    Ok(
+        has_terms(&p, rising)
+            && p.degree() == 3
+            && p.num_vars() == num_vars
+            && value(alloc, &p, &point)? == Some(F65537::from(51)),
+    )
 }
 
 #[test]
 fn terms_values_and_degree(rt: HostRuntime) -> Result<(), Fail> {
     assert!(rt; is_as_listed::<SparseTerm>(rt.alloc(), 3, &RISING, &[2, 3, 6])?);
     assert!(rt; is_as_listed::<SparseTerm>(rt.alloc(), 3, &RISING, &[2, 3, 6, 9])?);
-    assert!(rt; is_as_listed::<LexicographicTerm>(rt.alloc(), 3, &[RISING[0], RISING[1], RISING[2], RISING[3]], &[2, 3, 6])?);
+    assert!(rt;
+        is_as_listed::<LexicographicTerm>(
+            rt.alloc(),
+            3,
+            &[RISING[0], RISING[1], RISING[2], RISING[3]],
+            &[2, 3, 6]
+        )?
+    );
     Ok(())
 }
 
@@ -55,14 +71,21 @@ fn equality_and_hash_ignore_the_number_of_variables(rt: HostRuntime) -> Result<(
     assert!(rt; three == five && hash_of(&three) == hash_of(&five));
     assert_eq!(rt; five.num_vars(), 5);
     let fewer: SparsePolynomial<F65537, SparseTerm> = polynomial(rt.alloc(), 3, &TERMS[..3])?;
-    let other: SparsePolynomial<F65537, SparseTerm> =
-        polynomial(rt.alloc(), 3, &[TERMS[0], TERMS[1], TERMS[2], (6, &[])])?;
+    let other: SparsePolynomial<F65537, SparseTerm> = polynomial(
+        rt.alloc(),
+        3,
+        &[TERMS[0], TERMS[1], TERMS[2], (6, &[])],
+    )?;
     assert!(rt; three != fewer && three != other);
     Ok(())
 }
 
 // Whether these terms gather to those.
-fn gathers<T: Term>(alloc: Global, terms: Terms<'_>, gathered: Terms<'_>) -> Result<bool, PolyError> {
+fn gathers<T: Term>(
+    alloc: Global,
+    terms: Terms<'_>,
+    gathered: Terms<'_>,
+) -> Result<bool, PolyError> {
     let p: SparsePolynomial<F5, T> = polynomial(alloc, 4, terms)?;
     Ok(has_terms(&p, gathered) && p.is_zero() == gathered.is_empty())
 }
@@ -73,7 +96,10 @@ fn like_terms_are_summed_and_zeros_left_out(rt: HostRuntime) -> Result<(), Fail>
         (&[], &[]),
         (&[(0, &[(1, 2)]), (5, &[])], &[]),
         (&[(1, &[(0, 1)]), (4, &[(0, 1)])], &[]),
-        (&[(2, &[(3, 1)]), (1, &[]), (2, &[(3, 1)])], &[(1, &[]), (4, &[(3, 1)])]),
+        (
+            &[(2, &[(3, 1)]), (1, &[]), (2, &[(3, 1)])],
+            &[(1, &[]), (4, &[(3, 1)])],
+        ),
         (&[(3, &[(1, 1), (1, 1)]), (3, &[(1, 2)])], &[(1, &[(1, 2)])]),
     ];
     for (terms, gathered) in rows {
@@ -85,7 +111,11 @@ fn like_terms_are_summed_and_zeros_left_out(rt: HostRuntime) -> Result<(), Fail>
 
 #[test]
 fn debug_texts(rt: HostRuntime) -> Result<(), Fail> {
-    let p: SparsePolynomial<F5, SparseTerm> = polynomial(rt.alloc(), 2, &[(3, &[]), (2, &[(1, 2)])])?;
+    let p: SparsePolynomial<F5, SparseTerm> = polynomial(
+        rt.alloc(),
+        2,
+        &[(3, &[]), (2, &[(1, 2)])],
+    )?;
     let text = format!(in rt.alloc(); "{p:?}")?;
     assert!(rt; text.as_str().contains(" * x_1^2"));
     Ok(())

@@ -21,8 +21,12 @@ fn has_sums<T: Term>(alloc: Global, row: Row<'_>) -> Result<bool, PolyError> {
     let right: SparsePolynomial<F5, T> = polynomial(alloc, 4, row.right)?;
     let sum = left.add(alloc, &right)?;
     let difference = left.sub(alloc, &right)?;
-    Ok(has_terms(&sum, row.sum) && sum.num_vars() == 4
-        && has_terms(&difference, row.difference) && difference.num_vars() == 4)
+    Ok(
+        has_terms(&sum, row.sum)
+            && sum.num_vars() == 4
+            && has_terms(&difference, row.difference)
+            && difference.num_vars() == 4,
+    )
 }
 
 fn has_sums_in_place<T: Term>(alloc: Global, row: Row<'_>) -> Result<bool, PolyError> {
@@ -79,8 +83,11 @@ fn sums_of_rows(rt: HostRuntime) -> Result<(), Fail> {
 
 #[test]
 fn opposites(rt: HostRuntime) -> Result<(), Fail> {
-    let p: SparsePolynomial<F5, LexicographicTerm> =
-        polynomial(rt.alloc(), 3, &[(1, &[]), (2, &[(0, 1)]), (3, &[(2, 2)])])?;
+    let p: SparsePolynomial<F5, LexicographicTerm> = polynomial(
+        rt.alloc(),
+        3,
+        &[(1, &[]), (2, &[(0, 1)]), (3, &[(2, 2)])],
+    )?;
     let opposite = p.neg(rt.alloc())?;
     assert!(rt; has_terms(&opposite, &[(4, &[]), (2, &[(2, 2)]), (3, &[(0, 1)])]));
     assert_eq!(rt; opposite.num_vars(), 3);
@@ -91,7 +98,9 @@ fn opposites(rt: HostRuntime) -> Result<(), Fail> {
 #[test]
 fn zero_has_no_terms_and_no_variables(rt: HostRuntime) -> Result<(), Fail> {
     let zero = SparsePolynomial::<F5, SparseTerm>::zero(rt.alloc())?;
-    assert!(rt; zero.is_zero() && zero.terms().is_empty() && zero.num_vars() == 0 && zero.degree() == 0);
+    assert!(rt;
+        zero.is_zero() && zero.terms().is_empty() && zero.num_vars() == 0 && zero.degree() == 0
+    );
     let kept: SparsePolynomial<F5, SparseTerm> = polynomial(rt.alloc(), 3, &[])?;
     assert!(rt; kept == zero && kept.num_vars() == 3 && kept.clone()?.num_vars() == 3);
     Ok(())

@@ -7,16 +7,29 @@ use std::cmp::Ordering;
 use std::test::Fail;
 
 // Whether the term of the powers has these pairs, and these vars, powers and degree.
-fn is_collected<T: Term>(alloc: Global, powers: Powers<'_>, pairs: Powers<'_>) -> Result<bool, PolyError> {
+fn is_collected<T: Term>(
+    alloc: Global,
+    powers: Powers<'_>,
+    pairs: Powers<'_>,
+) -> Result<bool, PolyError> {
     let term: T = term(alloc, powers)?;
     let mut degree = 0;
     for pair in pairs {
         degree += pair.1 as u128;
     }
-    Ok(term.pairs() == pairs && term.degree() as u128 == degree && term.is_constant() == pairs.is_empty())
+    Ok(
+        term.pairs() == pairs
+            && term.degree() as u128 == degree
+            && term.is_constant() == pairs.is_empty(),
+    )
 }
 
-fn shows<T: Term>(alloc: Global, pairs: Powers<'_>, vars: &[usize], powers: &[usize]) -> Result<bool, PolyError> {
+fn shows<T: Term>(
+    alloc: Global,
+    pairs: Powers<'_>,
+    vars: &[usize],
+    powers: &[usize],
+) -> Result<bool, PolyError> {
     let term: T = term(alloc, pairs)?;
     Ok(term.vars(alloc)?.as_slice() == vars && term.powers(alloc)?.as_slice() == powers)
 }
@@ -120,7 +133,11 @@ fn great_powers_are_compared(rt: HostRuntime) -> Result<(), Fail> {
 }
 
 // The value of the term at a point with an item for each variable.
-fn value<F: Field, T: Term>(alloc: Global, powers: Powers<'_>, point: &[u64]) -> Result<Option<F>, PolyError> {
+fn value<F: Field, T: Term>(
+    alloc: Global,
+    powers: Powers<'_>,
+    point: &[u64],
+) -> Result<Option<F>, PolyError> {
     let term: T = term(alloc, powers)?;
     let point = elements::<F>(alloc, point)?;
     if !term.is_within(point.len()) {
@@ -140,7 +157,9 @@ fn values_of_terms(rt: HostRuntime) -> Result<(), Fail> {
         (&[(0, 2), (1, 1)], &[0, 5], 0),
     ];
     for (powers, point, answer) in rows {
-        assert!(rt; value::<F65537, SparseTerm>(rt.alloc(), powers, point)? == Some(F65537::from(answer)));
+        assert!(rt;
+            value::<F65537, SparseTerm>(rt.alloc(), powers, point)? == Some(F65537::from(answer))
+        );
     }
     assert!(rt; value::<F5, SparseTerm>(rt.alloc(), &[(1, 1)], &[3])? == None);
     Ok(())

@@ -25,6 +25,7 @@ pub trait Term: Clone + Ord + Hash + Debug + Drop {
     /// powers of 0 left out; no pairs give the constant term. `Overflow` exactly where the total of all powers is past
     /// `usize::MAX`, judged before memory is asked for.
     fn new(alloc: Global, powers: Vec<(usize, usize)>) -> Result<Self, PolyError>
+        ensures term { IfOk result (λ t. IsTerm (listed t)) }
         ensures powers { IfOk result (λ t. (v : ℕ) → power_of (listed t) v ≡ power_of powers.items v) }
         ensures overflow { (result ≡ Err PolyError.Overflow) ↔ (2 ^ 64 ≤ total_degree powers.items) }
         ensures errors { IfErr result (λ e. (e ≡ PolyError.Memory) ⊎ (e ≡ PolyError.Overflow)) };
