@@ -20,8 +20,12 @@ use Rattle.ark_lists.specs.Graded.{pair_cmp, graded_cmp}
 pair_total : IsTotalOrder pair_cmp
 pair_total = then_total (back_total (on_total (λ p. p.0) nat_cmp_total)) (on_total (λ p. p.1) nat_cmp_total)
 
+-- of lists, by the first pairs that differ
+pub pairs_total : IsTotalOrder (slice_cmp pair_cmp)
+pairs_total = lists_total pair_total
+
 pub graded_total : IsTotalOrder graded_cmp
-graded_total = then_total (on_total total_degree nat_cmp_total) (lists_total pair_total)
+graded_total = then_total (on_total total_degree nat_cmp_total) pairs_total
 
 abbrev same_pair : ℕ × ℕ → ℕ × ℕ → Bool
 same_pair p q = (p.0 == q.0) && (p.1 == q.1)
@@ -46,17 +50,17 @@ then_tied Greater Less h = refl
 then_tied Greater Equal h = sym (ap is_eq (h refl))
 then_tied Greater Greater h = refl
 
-list_ties : (s t : List (ℕ × ℕ)) → same_term s t ≡ is_eq (slice_cmp pair_cmp s t)
-list_ties s t = lists_ties pair_cmp pair_ties s t
+pub pairs_ties : (s t : List (ℕ × ℕ)) → same_term s t ≡ eq_by_cmp (slice_cmp pair_cmp) s t
+pairs_ties s t = lists_ties pair_cmp pair_ties s t
 
 same_totals : (s t : List (ℕ × ℕ)) → s ≡ t → nat_cmp (total_degree s) (total_degree t) ≡ Equal
 same_totals s t e = ap (λ u. nat_cmp (total_degree s) (total_degree u)) (sym e) ∙ tied_itself nat_cmp_total (total_degree s)
 
 pub graded_ties : (s t : List (ℕ × ℕ)) → same_term s t ≡ eq_by_cmp graded_cmp s t
 graded_ties s t =
-    list_ties s t
+    pairs_ties s t
     ∙ then_tied (nat_cmp (total_degree s) (total_degree t)) (slice_cmp pair_cmp s t)
-    (λ e. same_totals s t ((same_term_Decides s t).0 (list_ties s t ∙ ap is_eq e)))
+    (λ e. same_totals s t ((same_term_Decides s t).0 (pairs_ties s t ∙ ap is_eq e)))
 
 pub graded_partial : IsPartialOrder same_term (as_partial_cmp graded_cmp)
 graded_partial = po graded_total graded_ties

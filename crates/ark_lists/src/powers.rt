@@ -107,8 +107,9 @@ pub fn collected_powers(
     gathered_powers(alloc, &powers)
 }
 
-/// By the first pairs that differ: the lower variable is greater, and of one variable the greater power is.
-fn compared_pairs(s: &[(usize, usize)], t: &[(usize, usize)]) -> Ordering
+/// The lexicographic order of terms, by the first pairs that differ: the lower variable is greater, and of one variable
+/// the greater power is.
+pub fn compared_pairs(s: &[(usize, usize)], t: &[(usize, usize)]) -> Ordering
     ensures { result ≡ slice_cmp pair_cmp s.now t.now }
 {
     for i in 0..s.len().min(t.len()) {

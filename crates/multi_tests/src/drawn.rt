@@ -126,7 +126,7 @@ fn holds<F: Field, T: Term>(
 
 #[test]
 fn sums_and_values_of_drawn_polynomials(rt: HostRuntime) -> Result<(), Fail> {
-    let mut rng = Pcg64::seed_from_u64(31);
+    let mut rng = Pcg64::new(31, 1);
     for left in 1..20 {
         for right in 1..20 {
             assert!(rt; holds::<F65537, SparseTerm>(rt.alloc(), &mut rng, left, right)?);
@@ -201,7 +201,7 @@ fn has_shape<F: Field, T: Term>(p: &SparsePolynomial<F, T>, d: usize, num_vars: 
 
 #[test]
 fn drawn_by_the_polynomial(rt: HostRuntime) -> Result<(), Fail> {
-    let mut rng = Pcg64::seed_from_u64(32);
+    let mut rng = Pcg64::new(32, 1);
     for (d, num_vars) in [(0, 0), (3, 0), (0, 4), (1, 1), (7, 2), (4, 5)] {
         let p = SparsePolynomial::<F65537, SparseTerm>::rand(rt.alloc(), d, num_vars, &mut rng)?;
         let other = SparsePolynomial::<F65537, SparseTerm>::rand(

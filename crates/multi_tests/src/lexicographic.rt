@@ -8,6 +8,7 @@ ghost use Rattle.ark_lists.proofs.GradedOrder.{pairs_ties, pairs_total, same_ter
 ghost use Rattle.std.proofs.Common.{refl};
 
 use ark_base::{Field, PolyError};
+use ark_lists::powers::compared_pairs;
 use ark_multi::multivariate::{SparseTerm, Term};
 use std::alloc::{AllocError, Global};
 use std::cmp::Ordering;

@@ -168,6 +168,6 @@ fn values_of_terms(rt: HostRuntime) -> Result<(), Fail> {
 #[test]
 fn debug_texts(rt: HostRuntime) -> Result<(), Fail> {
     let term: SparseTerm = term(rt.alloc(), &[(2, 1), (0, 3)])?;
-    assert_eq!(rt; format!(rt.alloc(); "{term:?}")?, " * x_0^3 * x_2");
+    assert_eq!(rt; format!(in rt.alloc(); "{term:?}")?.as_str(), " * x_0^3 * x_2");
     Ok(())
 }

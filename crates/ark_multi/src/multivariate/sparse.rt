@@ -100,9 +100,9 @@ impl<F: Field, T: Term> Polynomial<F> for SparsePolynomial<F, T> {
     }
 
     fn evaluate(&self, _alloc: Global, point: &Vec<F>) -> Result<F, PolyError>
-        requires { self.now.num_vars ≤ length point.now.items }
-        ensures value { IfOk result
-            (IsValueAt F.field (of_listed F.field T.listed self.now.terms.items) point.now.items) }
+        requires { ⟦<SparsePolynomial<F, T> as Polynomial<F>>⟧.variables self.now ≤ length point.now.items }
+        ensures value { IfOk result (IsValueAt F.field
+            (⟦<SparsePolynomial<F, T> as Polynomial<F>>⟧.meaning self.now) point.now.items) }
         ensures succeeds { IsOk result }
     {
         Ok(value_of_terms(&self.terms, point))
@@ -240,9 +240,10 @@ impl<F: Field, T: Term> DenseMVPolynomial<F> for SparsePolynomial<F, T> {
         terms: Vec<(F, T)>,
     ) -> Result<Self, PolyError>
         requires { All (λ c. IsWithin num_vars (T.listed c.1)) terms.items }
-        ensures sum { IfOk result (λ p. of_listed F.field T.listed p.terms.items
+        ensures sum { IfOk result (λ p. ⟦<SparsePolynomial<F, T> as Polynomial<F>>⟧.meaning p
             ≡ of_listed F.field T.listed terms.items) }
-        ensures variables { IfOk result (λ p. p.num_vars ≡ num_vars) }
+        ensures variables { IfOk result (λ p.
+            ⟦<SparsePolynomial<F, T> as Polynomial<F>>⟧.variables p ≡ num_vars) }
         ensures memory { IsOkUnless result PolyError.Memory }
     {
         Ok(SparsePolynomial {
