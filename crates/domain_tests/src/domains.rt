@@ -1,9 +1,9 @@
-use ark_base::{FftField, PolyError};
+use ark_base::{F5, F433, F65537, FftField, PolyError};
 use ark_poly::{
     EvaluationDomain, GeneralEvaluationDomain, MixedRadixEvaluationDomain, Radix2EvaluationDomain,
 };
 use ark_trials::calls::{coset, listed};
-use ark_trials::trials::{FieldTrial, Kind, Prime, Trial, over, over_field};
+use ark_trials::trials::{Trial, over_general, over_mixed, over_radix2};
 use rand_pcg::Pcg64;
 use std::alloc::{AllocError, Global};
 use std::fmt::Debug;
@@ -29,73 +29,71 @@ impl Trial for Sizes<'_> {
     }
 }
 
-const ROWS_OF_SIZES: [(Prime, Kind, &[(usize, Option<usize>)]); 8] = [
-    (
-        Prime::P5,
-        Kind::Radix2,
-        &[
+#[test]
+fn radix2_sizes(rt: HostRuntime) -> Result<(), Fail> {
+    let five = Sizes {
+        rows: &[
             (0, Some(1)),
             (1, Some(1)),
             (3, Some(4)),
             (4, Some(4)),
             (5, None),
         ],
-    ),
-    (
-        Prime::P433,
-        Kind::Radix2,
-        &[
+    };
+    assert!(rt; over_radix2::<F5, _>(rt.alloc(), &five)?);
+    let some = Sizes {
+        rows: &[
             (0, Some(1)),
             (9, Some(16)),
             (16, Some(16)),
             (17, None),
             (usize::MAX, None),
         ],
-    ),
-    (
-        Prime::P65537,
-        Kind::Radix2,
-        &[(65536, Some(65536)), (65537, None)],
-    ),
-    (
-        Prime::P433,
-        Kind::Mixed,
-        &[
-            (0, Some(1)),
-            (5, Some(6)),
-            (7, Some(8)),
-            (10, Some(12)),
-            (25, Some(27)),
-            (217, Some(432)),
-            (433, None),
-            (usize::MAX, None),
-        ],
-    ),
-    (Prime::P5, Kind::Mixed, &[(0, None), (1, None)]),
-    (Prime::P65537, Kind::Mixed, &[(0, None), (1, None)]),
-    (
-        Prime::P433,
-        Kind::General,
-        &[
-            (0, Some(1)),
-            (5, Some(8)),
-            (17, Some(18)),
-            (432, Some(432)),
-            (433, None),
-            (usize::MAX, None),
-        ],
-    ),
-    (Prime::P5, Kind::General, &[(3, Some(4)), (5, None)]),
-];
+    };
+    assert!(rt; over_radix2::<F433, _>(rt.alloc(), &some)?);
+    let many = Sizes {
+        rows: &[(65536, Some(65536)), (65537, None)],
+    };
+    assert!(rt; over_radix2::<F65537, _>(rt.alloc(), &many)?);
+    Ok(())
+}
 
 #[test]
-fn sizes_of_domains(rt: HostRuntime) -> Result<(), Fail> {
-    for (prime, kind, rows) in ROWS_OF_SIZES {
-        assert!(rt;
-            over(rt.alloc(), prime, kind, &Sizes { rows })?,
-            "{kind:?} {prime:?}"
-        );
-    }
+fn mixed_sizes(rt: HostRuntime) -> Result<(), Fail> {
+    let rows = [
+        (0, Some(1)),
+        (5, Some(6)),
+        (7, Some(8)),
+        (10, Some(12)),
+        (25, Some(27)),
+        (217, Some(432)),
+        (433, None),
+        (usize::MAX, None),
+    ];
+    assert!(rt; over_mixed::<F433, _>(rt.alloc(), &Sizes { rows: &rows })?);
+    let without = Sizes {
+        rows: &[(0, None), (1, None)],
+    };
+    assert!(rt; over_mixed::<F5, _>(rt.alloc(), &without)?);
+    assert!(rt; over_mixed::<F65537, _>(rt.alloc(), &without)?);
+    Ok(())
+}
+
+#[test]
+fn general_sizes(rt: HostRuntime) -> Result<(), Fail> {
+    let rows = [
+        (0, Some(1)),
+        (5, Some(8)),
+        (17, Some(18)),
+        (432, Some(432)),
+        (433, None),
+        (usize::MAX, None),
+    ];
+    assert!(rt; over_general::<F433, _>(rt.alloc(), &Sizes { rows: &rows })?);
+    let few = Sizes {
+        rows: &[(3, Some(4)), (5, None)],
+    };
+    assert!(rt; over_general::<F5, _>(rt.alloc(), &few)?);
     Ok(())
 }
 
@@ -120,18 +118,17 @@ impl Trial for Subgroup {
 
 #[test]
 fn subgroups(rt: HostRuntime) -> Result<(), Fail> {
-    for (kind, size, twos, root) in [
-        (Kind::Radix2, 16, 4, 238),
-        (Kind::Mixed, 16, 4, 238),
-        (Kind::Mixed, 12, 2, 64),
-        (Kind::Mixed, 27, 0, 17),
-        (Kind::Mixed, 432, 4, 5),
-    ] {
-        let subgroup = Subgroup { size, twos, root };
-        assert!(rt;
-            over(rt.alloc(), Prime::P433, kind, &subgroup)?,
-            "{kind:?} {size}"
-        );
+    let alloc = rt.alloc();
+    let even = Subgroup {
+        size: 16,
+        twos: 4,
+        root: 238,
+    };
+    assert!(rt; over_radix2::<F433, _>(alloc, &even)?);
+    assert!(rt; over_mixed::<F433, _>(alloc, &even)?);
+    for (size, twos, root) in [(12, 2, 64), (27, 0, 17), (432, 4, 5)] {
+        let mixed = Subgroup { size, twos, root };
+        assert!(rt; over_mixed::<F433, _>(alloc, &mixed)?, "size {size}");
     }
     Ok(())
 }
@@ -153,19 +150,10 @@ fn is_mixed<F: FftField>(num_coeffs: usize) -> bool {
     matches!(domain, Some(GeneralEvaluationDomain::MixedRadix(_)))
 }
 
-/// The kinds of the general domains of 16 and of 18 elements.
-#[derive(Clone, Copy)]
-struct GeneralKinds;
-
-impl FieldTrial for GeneralKinds {
-    fn holds_in<F: FftField>(&self, _: Global) -> Result<bool, PolyError> {
-        Ok(kinds_differ::<F>(16)? && is_mixed::<F>(17))
-    }
-}
-
 #[test]
 fn general_kinds(rt: HostRuntime) -> Result<(), Fail> {
-    assert!(rt; over_field(rt.alloc(), Prime::P433, &GeneralKinds)?);
+    assert!(rt; kinds_differ::<F433>(16)?);
+    assert!(rt; is_mixed::<F433>(17));
     Ok(())
 }
 
@@ -241,8 +229,8 @@ impl Trial for Getters {
 }
 
 #[test]
-fn getters_of_cosets(rt: HostRuntime) -> Result<(), Fail> {
-    let of_two = Getters {
+fn radix2_getters(rt: HostRuntime) -> Result<(), Fail> {
+    let getters = Getters {
         size: 2,
         offset: 2,
         twos: 1,
@@ -253,7 +241,13 @@ fn getters_of_cosets(rt: HostRuntime) -> Result<(), Fail> {
         offset_power: 4,
         elements: [2, 3, 3],
     };
-    let of_eighteen = Getters {
+    assert!(rt; over_radix2::<F5, _>(rt.alloc(), &getters)?);
+    Ok(())
+}
+
+#[test]
+fn general_getters(rt: HostRuntime) -> Result<(), Fail> {
+    let getters = Getters {
         size: 18,
         offset: 2,
         twos: 1,
@@ -264,8 +258,7 @@ fn getters_of_cosets(rt: HostRuntime) -> Result<(), Fail> {
         offset_power: 179,
         elements: [2, 274, 37],
     };
-    assert!(rt; over(rt.alloc(), Prime::P5, Kind::Radix2, &of_two)?);
-    assert!(rt; over(rt.alloc(), Prime::P433, Kind::General, &of_eighteen)?);
+    assert!(rt; over_general::<F433, _>(rt.alloc(), &getters)?);
     Ok(())
 }
 
@@ -301,7 +294,7 @@ fn containment(rt: HostRuntime) -> Result<(), Fail> {
             contained,
         };
         assert!(rt;
-            over(rt.alloc(), Prime::P433, Kind::Radix2, &row)?,
+            over_radix2::<F433, _>(rt.alloc(), &row)?,
             "{part:?} in {whole:?}"
         );
     }
@@ -324,17 +317,12 @@ impl Trial for Copied {
 
 #[test]
 fn clones(rt: HostRuntime) -> Result<(), Fail> {
-    for (kind, size) in [
-        (Kind::Radix2, 16),
-        (Kind::Mixed, 18),
-        (Kind::General, 16),
-        (Kind::General, 18),
-    ] {
-        assert!(rt;
-            over(rt.alloc(), Prime::P433, kind, &Copied { size })?,
-            "{kind:?} {size}"
-        );
-    }
+    let alloc = rt.alloc();
+    let (even, mixed) = (Copied { size: 16 }, Copied { size: 18 });
+    assert!(rt; over_radix2::<F433, _>(alloc, &even)?);
+    assert!(rt; over_mixed::<F433, _>(alloc, &mixed)?);
+    assert!(rt; over_general::<F433, _>(alloc, &even)?);
+    assert!(rt; over_general::<F433, _>(alloc, &mixed)?);
     Ok(())
 }
 
@@ -355,31 +343,47 @@ impl Trial for Text<'_> {
 
 #[test]
 fn texts(rt: HostRuntime) -> Result<(), Fail> {
-    for (kind, num_coeffs, text) in [
-        (
-            Kind::Radix2,
-            9,
-            "Radix-2 multiplicative subgroup of size 16",
-        ),
-        (
-            Kind::Mixed,
-            9,
-            "Mixed-radix multiplicative subgroup of size 9",
-        ),
-        (
-            Kind::General,
-            9,
-            "Radix2(Radix-2 multiplicative subgroup of size 16)",
-        ),
-        (
-            Kind::General,
-            17,
-            "MixedRadix(Mixed-radix multiplicative subgroup of size 18)",
-        ),
-    ] {
-        let row = Text { num_coeffs, text };
-        assert!(rt; over(rt.alloc(), Prime::P433, kind, &row)?, "{text}");
-    }
+    let alloc = rt.alloc();
+    let text = "Radix-2 multiplicative subgroup of size 16";
+    assert!(rt;
+        over_radix2::<F433, _>(
+            alloc,
+            &Text {
+                num_coeffs: 9,
+                text
+            }
+        )?
+    );
+    let text = "Mixed-radix multiplicative subgroup of size 9";
+    assert!(rt;
+        over_mixed::<F433, _>(
+            alloc,
+            &Text {
+                num_coeffs: 9,
+                text
+            }
+        )?
+    );
+    let text = "Radix2(Radix-2 multiplicative subgroup of size 16)";
+    assert!(rt;
+        over_general::<F433, _>(
+            alloc,
+            &Text {
+                num_coeffs: 9,
+                text
+            }
+        )?
+    );
+    let text = "MixedRadix(Mixed-radix multiplicative subgroup of size 18)";
+    assert!(rt;
+        over_general::<F433, _>(
+            alloc,
+            &Text {
+                num_coeffs: 17,
+                text
+            }
+        )?
+    );
     Ok(())
 }
 
@@ -418,7 +422,7 @@ fn samples_outside(rt: HostRuntime) -> Result<(), Fail> {
         offset: 5,
         count: 100,
     };
-    assert!(rt; over(rt.alloc(), Prime::P65537, Kind::Radix2, &samples)?);
+    assert!(rt; over_radix2::<F65537, _>(rt.alloc(), &samples)?);
     Ok(())
 }
 
@@ -444,7 +448,7 @@ impl Trial for ZeroSample {
 fn samples_after_draws_inside(rt: HostRuntime) -> Result<(), Fail> {
     for seed in 0..64 {
         assert!(rt;
-            over(rt.alloc(), Prime::P5, Kind::Radix2, &ZeroSample { seed })?,
+            over_radix2::<F5, _>(rt.alloc(), &ZeroSample { seed })?,
             "seed {seed}"
         );
     }
@@ -471,13 +475,6 @@ impl Trial for SameSeed {
 
 #[test]
 fn samples_of_one_seed(rt: HostRuntime) -> Result<(), Fail> {
-    assert!(rt;
-        over(
-            rt.alloc(),
-            Prime::P65537,
-            Kind::Radix2,
-            &SameSeed { seed: 3 }
-        )?
-    );
+    assert!(rt; over_radix2::<F65537, _>(rt.alloc(), &SameSeed { seed: 3 })?);
     Ok(())
 }

@@ -1,11 +1,11 @@
 // Transforms of every kind and at every size that a field with a base has.
 
-use ark_base::{FftField, Field, One, PolyError, Zero};
+use ark_base::{F433, FftField, Field, One, PolyError, Zero};
 use ark_poly::{EvaluationDomain, GeneralEvaluationDomain, MixedRadixEvaluationDomain};
 use ark_test_types::four::Four;
 use ark_trials::calls::{coset, elements, fft};
 use ark_trials::plain::agrees;
-use ark_trials::trials::{FieldTrial, Kind, Prime, Trial, over, over_field, over_mixed};
+use ark_trials::trials::{Trial, over_general, over_mixed};
 use rand_core::Rng;
 use rand_pcg::Pcg64;
 use std::alloc::Global;
@@ -39,7 +39,7 @@ fn six_elements(rt: HostRuntime) -> Result<(), Fail> {
         root: 199,
         powers: &[1, 199, 198, 432, 234, 235],
     };
-    assert!(rt; over(rt.alloc(), Prime::P433, Kind::Mixed, &six)?);
+    assert!(rt; over_mixed::<F433, _>(rt.alloc(), &six)?);
     Ok(())
 }
 
@@ -77,27 +77,14 @@ fn mixed_agrees<F: FftField>(
     Ok(mixed.size() == size && both_agree(alloc, rng, GeneralEvaluationDomain::MixedRadix(mixed))?)
 }
 
-/// Plain sums over the mixed domain of every size, and over it as a general one.
-#[derive(Clone, Copy)]
-struct EverySize;
-
-impl FieldTrial for EverySize {
-    fn holds_in<F: FftField>(&self, alloc: Global) -> Result<bool, PolyError> {
-        let mut rng = Pcg64::new(2, 3);
-        let mut right = true;
-        for num_coeffs in SIZES {
-            let seed = rng.next_u64();
-            right = right
-                && over_mixed::<F, _>(alloc, &PlainSums { num_coeffs, seed })?
-                && mixed_agrees::<F>(alloc, &mut rng, num_coeffs)?;
-        }
-        Ok(right)
-    }
-}
-
 #[test]
 fn plain_sums_at_every_size(rt: HostRuntime) -> Result<(), Fail> {
-    assert!(rt; over_field(rt.alloc(), Prime::P433, &EverySize)?);
+    let mut rng = Pcg64::new(2, 3);
+    for num_coeffs in SIZES {
+        let seed = rng.next_u64();
+        assert!(rt; over_mixed::<F433, _>(rt.alloc(), &PlainSums { num_coeffs, seed })?);
+        assert!(rt; mixed_agrees::<F433>(rt.alloc(), &mut rng, num_coeffs)?);
+    }
     Ok(())
 }
 
@@ -106,11 +93,7 @@ fn plain_sums_over_general_domains(rt: HostRuntime) -> Result<(), Fail> {
     let mut rng = Pcg64::new(5, 3);
     for num_coeffs in SIZES {
         let seed = rng.next_u64();
-        let row = PlainSums { num_coeffs, seed };
-        assert!(rt;
-            over(rt.alloc(), Prime::P433, Kind::General, &row)?,
-            "{num_coeffs}"
-        );
+        assert!(rt; over_general::<F433, _>(rt.alloc(), &PlainSums { num_coeffs, seed })?);
     }
     Ok(())
 }
