@@ -1,8 +1,5 @@
 //! Terms and polynomials from numbers, for the tests beside.
 
-ghost use Rattle.std.specs.Prelude.{All};
-ghost use Rattle.ark_math.specs.Term.{IsWithin};
-
 use ark_base::{Field, PolyError, Polynomial};
 use ark_multi::DenseMVPolynomial;
 use ark_multi::multivariate::{SparsePolynomial, Term};
@@ -28,22 +25,16 @@ pub fn elements<F: Field>(alloc: Global, numbers: &[u64]) -> Result<Vec<F>, Allo
     Ok(elements)
 }
 
-/// The terms with their coefficients, as far as their variables are below the number.
-pub fn listed<F: Field, T: Term>(
+/// The polynomial with these terms, whose variables are below the number; zero where one isn't.
+pub fn from_terms<F: Field, T: Term>(
     alloc: Global,
     num_vars: usize,
-    terms: Terms<'_>,
-) -> Result<Vec<(F, T)>, PolyError>
-    ensures { IfOk result (λ list. All (λ c. IsWithin num_vars (T.listed c.1)) list.items) }
-{
-    let mut list = Vec::new(alloc);
-    for (coefficient, powers) in terms {
-        let term: T = term(alloc, *powers)?;
-        if term.is_within(num_vars) {
-            list.push((F::from(*coefficient), term))?;
-        }
+    terms: Vec<(F, T)>,
+) -> Result<SparsePolynomial<F, T>, PolyError> {
+    if !terms.iter().all(|term| term.1.is_within(num_vars)) {
+        return SparsePolynomial::zero(alloc);
     }
-    Ok(list)
+    SparsePolynomial::from_coefficients_vec(alloc, num_vars, terms)
 }
 
 /// The polynomial with these terms.
@@ -52,7 +43,11 @@ pub fn polynomial<F: Field, T: Term>(
     num_vars: usize,
     terms: Terms<'_>,
 ) -> Result<SparsePolynomial<F, T>, PolyError> {
-    SparsePolynomial::from_coefficients_vec(alloc, num_vars, listed(alloc, num_vars, terms)?)
+    let mut list: Vec<(F, T)> = Vec::new(alloc);
+    for (coefficient, powers) in terms {
+        list.push((F::from(*coefficient), term(alloc, *powers)?))?;
+    }
+    from_terms(alloc, num_vars, list)
 }
 
 /// Its value at a point that fits.

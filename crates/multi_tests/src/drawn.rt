@@ -1,9 +1,6 @@
 //! Drawn polynomials, of up to nineteen variables.
 
-ghost use Rattle.std.specs.Prelude.{All, IfOk};
-ghost use Rattle.ark_math.specs.Term.{IsWithin};
-
-use crate::building::{Terms, polynomial, value};
+use crate::building::{Terms, from_terms, polynomial, value};
 use crate::lexicographic::LexicographicTerm;
 use ark_base::{F65537, Field, PolyError, Polynomial};
 use ark_multi::DenseMVPolynomial;
@@ -38,15 +35,11 @@ fn drawn_terms<F: Field, T: Term>(
     alloc: Global,
     rng: &mut Pcg64,
     num_vars: usize,
-) -> Result<Vec<(F, T)>, PolyError>
-    ensures { IfOk result (λ list. All (λ c. IsWithin num_vars (T.listed c.1)) list.items) }
-{
+) -> Result<Vec<(F, T)>, PolyError> {
     let mut list = Vec::new(alloc);
     for _ in 0..rng.next_u64() % MOST_TERMS {
         let term = T::new(alloc, drawn_powers(alloc, rng, num_vars)?)?;
-        if term.is_within(num_vars) {
-            list.push((F::from(rng.next_u64()), term))?;
-        }
+        list.push((F::from(rng.next_u64()), term))?;
     }
     Ok(list)
 }
@@ -56,7 +49,7 @@ fn drawn<F: Field, T: Term>(
     rng: &mut Pcg64,
     num_vars: usize,
 ) -> Result<SparsePolynomial<F, T>, PolyError> {
-    SparsePolynomial::from_coefficients_vec(alloc, num_vars, drawn_terms(alloc, rng, num_vars)?)
+    from_terms(alloc, num_vars, drawn_terms(alloc, rng, num_vars)?)
 }
 
 fn drawn_point<F: Field>(alloc: Global, rng: &mut Pcg64, len: usize) -> Result<Vec<F>, AllocError> {
@@ -149,17 +142,13 @@ fn product<F: Field, T: Term>(
     a: &SparsePolynomial<F, T>,
     b: &SparsePolynomial<F, T>,
 ) -> Result<SparsePolynomial<F, T>, PolyError> {
-    let num_vars = a.num_vars();
     let mut terms = Vec::new(alloc);
     for (left, term) in a.terms() {
         for (right, other) in b.terms() {
-            let product = product_of_terms(alloc, term, other)?;
-            if product.is_within(num_vars) {
-                terms.push((*left * *right, product))?;
-            }
+            terms.push((*left * *right, product_of_terms(alloc, term, other)?))?;
         }
     }
-    SparsePolynomial::from_coefficients_vec(alloc, num_vars, terms)
+    from_terms(alloc, a.num_vars(), terms)
 }
 
 #[test]
@@ -192,7 +181,7 @@ fn product_of_all_terms(rt: HostRuntime) -> Result<(), Fail> {
 fn has_shape<F: Field, T: Term>(p: &SparsePolynomial<F, T>, d: usize, num_vars: usize) -> bool {
     let mut right = p.num_vars() == num_vars
         && p.degree() <= d
-        && p.terms().len() <= 1 + d * num_vars;
+        && p.terms().len() <= d.saturating_mul(num_vars).saturating_add(1);
     for (_, term) in p.terms() {
         right = right && term.pairs().len() <= 1;
     }

@@ -1,5 +1,6 @@
 //! Terms in another order: the lexicographic one, in which lower variables weigh more, whatever the total degrees.
 
+ghost use Rattle.std.specs.Prelude.{◌≡◌};
 ghost use Rattle.std.specs.Cmp.{on_total, po};
 ghost use Rattle.std.specs.Cmp.Lexicographic.{slice_cmp};
 ghost use Rattle.std.specs.Ordering.{as_partial_cmp, on};

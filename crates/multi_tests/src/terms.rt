@@ -13,15 +13,11 @@ fn is_collected<T: Term>(
     pairs: Powers<'_>,
 ) -> Result<bool, PolyError> {
     let term: T = term(alloc, powers)?;
-    let mut degree = 0;
+    let mut degree: usize = 0;
     for pair in pairs {
-        degree += pair.1 as u128;
+        degree = degree.saturating_add(pair.1);
     }
-    Ok(
-        term.pairs() == pairs
-            && term.degree() as u128 == degree
-            && term.is_constant() == pairs.is_empty(),
-    )
+    Ok(term.pairs() == pairs && term.degree() == degree && term.is_constant() == pairs.is_empty())
 }
 
 fn shows<T: Term>(
@@ -168,6 +164,9 @@ fn values_of_terms(rt: HostRuntime) -> Result<(), Fail> {
 #[test]
 fn debug_texts(rt: HostRuntime) -> Result<(), Fail> {
     let term: SparseTerm = term(rt.alloc(), &[(2, 1), (0, 3)])?;
-    assert_eq!(rt; format!(in rt.alloc(); "{term:?}")?.as_str(), " * x_0^3 * x_2");
+    assert_eq!(rt;
+        format!(in rt.alloc(); "{term:?}")?.as_str(),
+        " * x_0^3 * x_2"
+    );
     Ok(())
 }
