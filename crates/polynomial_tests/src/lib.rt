@@ -4,6 +4,10 @@
 #[cfg(test)]
 mod conversions;
 #[cfg(test)]
+mod dense_sums;
+#[cfg(test)]
+mod division;
+#[cfg(test)]
 mod evaluations;
 #[cfg(test)]
 mod fast_division;
