@@ -1,12 +1,11 @@
 //! Quotients and remainders of polynomials in either form, and what a form becomes.
 
+use crate::conversions::drawn_terms;
 use crate::polynomials::poly;
-use crate::products::is;
 use crate::sparse::{Terms, sparse};
 use ark_base::{F5, F433, F65537, Field, PolyError};
 use ark_poly::univariate::{DenseOrSparsePolynomial, DensePolynomial, SparsePolynomial};
 use ark_poly::{DenseUVPolynomial, Polynomial};
-use rand_core::Rng;
 use rand_pcg::Pcg64;
 use std::alloc::Global;
 use std::test::Fail;
@@ -18,10 +17,9 @@ fn in_form<'a, F: Field>(
     dense: bool,
 ) -> Result<DenseOrSparsePolynomial<'a, F>, PolyError> {
     if dense {
-        Ok(p.into())
-    } else {
-        Ok(SparsePolynomial::from_dense(alloc, p)?.into())
+        return Ok(p.into());
     }
+    Ok(SparsePolynomial::from_dense(alloc, p)?.into())
 }
 
 // The quotient and the remainder, from the two forms with this number.
@@ -32,25 +30,7 @@ fn divided<F: Field>(
     forms: usize,
 ) -> Result<Option<(DensePolynomial<F>, DensePolynomial<F>)>, PolyError> {
     let dividend = in_form(alloc, dividend, forms % 2 == 0)?;
-    let divisor = in_form(alloc, divisor, forms < 2)?;
-    dividend.divide_with_q_and_r(alloc, &divisor)
-}
-
-// The sum of drawn terms of degrees below 25.
-fn drawn_terms<F: Field>(
-    alloc: Global,
-    rng: &mut Pcg64,
-    len: usize,
-) -> Result<DensePolynomial<F>, PolyError> {
-    let mut terms = Vec::with_capacity(alloc, len)?;
-    for _ in 0..len {
-        let degree = (rng.next_u64() % 25) as usize;
-        terms.push((degree, F::from(rng.next_u64())))?;
-    }
-    DensePolynomial::from_sparse(
-        alloc,
-        &SparsePolynomial::from_coefficients_vec(alloc, terms)?,
-    )
+    dividend.divide_with_q_and_r(alloc, &in_form(alloc, divisor, forms < 2)?)
 }
 
 // Whether the product of quotient and divisor with the remainder added is the dividend, and the remainder is below the
@@ -69,11 +49,20 @@ fn multiplies_back<F: Field>(
     Ok(below && product.add(alloc, &remainder)? == *dividend)
 }
 
+// A drawn polynomial of a degree below 25.
+fn some<F: Field>(
+    alloc: Global,
+    rng: &mut Pcg64,
+    len: usize,
+) -> Result<DensePolynomial<F>, PolyError> {
+    DensePolynomial::from_sparse(alloc, &drawn_terms(alloc, rng, len)?)
+}
+
 // Whether this holds of drawn polynomials in each pair of forms.
 fn multiply_back<F: Field>(alloc: Global, rng: &mut Pcg64) -> Result<bool, PolyError> {
     for i in 0..1000 {
-        let dividend = drawn_terms::<F>(alloc, rng, i % 29)?;
-        let divisor = drawn_terms::<F>(alloc, rng, i % 13)?;
+        let dividend = some::<F>(alloc, rng, i % 29)?;
+        let divisor = some(alloc, rng, i % 13)?;
         if !multiplies_back(alloc, &dividend, &divisor, i % 4)? {
             return Ok(false);
         }
@@ -90,31 +79,33 @@ fn drawn_ones_multiply_back(rt: HostRuntime) -> Result<(), Fail> {
     Ok(())
 }
 
-// Whether the quotient and the remainder are these in each pair of forms.
+// Whether the quotient and the remainder in these forms have these coefficients.
 fn divides<F: Field>(
     alloc: Global,
     [dividend, divisor]: [&[u64]; 2],
     [quotient, remainder]: [&[u64]; 2],
+    forms: usize,
 ) -> Result<bool, PolyError> {
-    let dividend = poly::<F>(alloc, dividend)?;
-    let divisor = poly(alloc, divisor)?;
-    for forms in 0..4 {
-        let Some((first, second)) = divided(alloc, &dividend, &divisor, forms)? else {
-            return Ok(false);
-        };
-        if !(is(alloc, &first, quotient)? && is(alloc, &second, remainder)?) {
-            return Ok(false);
-        }
-    }
-    Ok(true)
+    let found = divided::<F>(
+        alloc,
+        &poly(alloc, dividend)?,
+        &poly(alloc, divisor)?,
+        forms,
+    )?;
+    let Some(found) = found else {
+        return Ok(false);
+    };
+    Ok(found.0 == poly(alloc, quotient)? && found.1 == poly(alloc, remainder)?)
 }
 
-// Whether one has no quotient by zero, in any of the forms.
-fn zero_divides_nothing<F: Field>(alloc: Global) -> Result<bool, PolyError> {
-    let one = poly::<F>(alloc, &[1])?;
-    let zero = poly(alloc, &[])?;
+// Whether it is so in all forms.
+fn divides_in_all_forms<F: Field>(
+    alloc: Global,
+    operands: [&[u64]; 2],
+    answer: [&[u64]; 2],
+) -> Result<bool, PolyError> {
     for forms in 0..4 {
-        if divided(alloc, &one, &zero, forms)?.is_some() {
+        if !divides::<F>(alloc, operands, answer, forms)? {
             return Ok(false);
         }
     }
@@ -130,81 +121,116 @@ fn quotients_and_remainders(rt: HostRuntime) -> Result<(), Fail> {
         ([&[3, 0, 0, 0, 1], &[1, 0, 0, 1]], [&[0, 1], &[3, 4]]),
     ];
     for (operands, answer) in rows {
-        assert!(rt; divides::<F5>(rt.alloc(), operands, answer)?);
+        assert!(rt; divides_in_all_forms::<F5>(rt.alloc(), operands, answer)?);
     }
-    let answer: [&[u64]; 2] = [&[4, 4, 1], &[]];
-    assert!(rt; divides::<F65537>(rt.alloc(), [&[4, 8, 5, 1], &[1, 1]], answer)?);
-    assert!(rt; zero_divides_nothing::<F5>(rt.alloc())?);
+    let operands: [&[u64]; 2] = [&[4, 8, 5, 1], &[1, 1]];
+    assert!(rt; divides_in_all_forms::<F65537>(rt.alloc(), operands, [&[4, 4, 1], &[]])?);
     Ok(())
 }
 
-// Whether the degree usize::MAX is refused by a divisor, but not by zero, and has no dense form.
-fn refuses<F: Field>(alloc: Global) -> Result<bool, PolyError> {
-    let high = DenseOrSparsePolynomial::<F>::from(sparse(alloc, &[(usize::MAX, 1)])?);
-    let one = DenseOrSparsePolynomial::from(sparse(alloc, &[(1, 1)])?);
-    let zero = DenseOrSparsePolynomial::from(SparsePolynomial::zero(alloc)?);
-    let none = high.divide_with_q_and_r(alloc, &zero)?.is_none();
-    Ok(
-        none && overflows(high.divide_with_q_and_r(alloc, &one))
-            && overflows(high.into_dense(alloc)),
-    )
+// Whether one has no quotient by zero, in any of the forms.
+fn zero_divides_nothing<F: Field>(alloc: Global) -> Result<bool, PolyError> {
+    let one = poly::<F>(alloc, &[1])?;
+    let zero = poly(alloc, &[])?;
+    for forms in 0..4 {
+        if divided(alloc, &one, &zero, forms)?.is_some() {
+            return Ok(false);
+        }
+    }
+    Ok(true)
 }
 
-fn overflows<T: Drop>(answer: Result<T, PolyError>) -> bool {
-    match answer {
-        Ok(_) => false,
-        Err(error) => error == PolyError::Overflow,
+// What a sum of terms by another one gives.
+fn divided_terms<F: Field>(
+    alloc: Global,
+    dividend: Terms<'_>,
+    divisor: Terms<'_>,
+) -> Result<Option<(DensePolynomial<F>, DensePolynomial<F>)>, PolyError> {
+    let dividend = DenseOrSparsePolynomial::from(sparse(alloc, dividend)?);
+    dividend.divide_with_q_and_r(alloc, &sparse(alloc, divisor)?.into())
+}
+
+// Whether the degree usize::MAX is refused by a divisor, but not by zero.
+fn refuses<F: Field>(alloc: Global) -> Result<bool, PolyError> {
+    let high: Terms<'_> = &[(usize::MAX, 1)];
+    let none = divided_terms::<F>(alloc, high, &[])?.is_none();
+    match divided_terms::<F>(alloc, high, &[(1, 1)]) {
+        Err(PolyError::Overflow) => Ok(none),
+        _ => Ok(false),
+    }
+}
+
+// Whether this degree has no dense form.
+fn has_no_dense_form<F: Field>(alloc: Global) -> Result<bool, PolyError> {
+    let high = DenseOrSparsePolynomial::<F>::from(sparse(alloc, &[(usize::MAX, 1)])?);
+    match high.into_dense(alloc) {
+        Err(PolyError::Overflow) => Ok(true),
+        _ => Ok(false),
     }
 }
 
 #[test]
-fn no_room_for_the_greatest_degree(rt: HostRuntime) -> Result<(), Fail> {
+fn no_quotient(rt: HostRuntime) -> Result<(), Fail> {
+    assert!(rt; zero_divides_nothing::<F5>(rt.alloc())?);
     assert!(rt; refuses::<F5>(rt.alloc())?);
+    assert!(rt; has_no_dense_form::<F5>(rt.alloc())?);
     Ok(())
 }
 
 // Whether it denotes this polynomial.
-fn has_dense_form<F: Field>(
+fn denotes<F: Field>(
     alloc: Global,
-    held: &DenseOrSparsePolynomial<'_, F>,
-    dense: &DensePolynomial<F>,
+    held: DenseOrSparsePolynomial<'_, F>,
+    p: &DensePolynomial<F>,
 ) -> Result<bool, PolyError> {
-    let same = held.is_zero() == dense.is_zero() && held.degree() == dense.degree();
-    Ok(same && held.clone()?.into_dense(alloc)? == *dense)
+    let same = held.is_zero() == p.is_zero() && held.degree() == p.degree();
+    Ok(same && held.into_dense(alloc)? == *p)
 }
 
+// Whether it is refused as dense.
 fn is_not_sparse<F: Field>(alloc: Global, held: DenseOrSparsePolynomial<'_, F>) -> bool {
     match held.into_sparse(alloc) {
-        Ok(_) => false,
-        Err(error) => error == PolyError::NotSparse,
+        Err(PolyError::NotSparse) => true,
+        _ => false,
     }
 }
 
 // Whether a dense polynomial, borrowed and not, stays what it is, and isn't made sparse.
 fn dense_stays<F: Field>(alloc: Global, p: &DensePolynomial<F>) -> Result<bool, PolyError> {
     let own = DenseOrSparsePolynomial::from(p.clone()?);
-    let borrowed = DenseOrSparsePolynomial::from(p);
-    let same = has_dense_form(alloc, &own, p)? && has_dense_form(alloc, &borrowed, p)?;
-    Ok(same && is_not_sparse(alloc, own) && is_not_sparse(alloc, borrowed))
+    let same = denotes(alloc, own.clone()?, p)? && denotes(alloc, p.into(), p)?;
+    Ok(same && is_not_sparse(alloc, own) && is_not_sparse(alloc, p.into()))
 }
 
-// Whether a sparse polynomial, borrowed and not, stays what it is, and is made dense.
-fn sparse_stays<F: Field>(
+// Whether a sparse polynomial, borrowed and not, is made dense.
+fn is_made_dense<F: Field>(
     alloc: Global,
     p: &SparsePolynomial<F>,
     dense: &DensePolynomial<F>,
 ) -> Result<bool, PolyError> {
-    let own = DenseOrSparsePolynomial::from(p.clone()?);
-    let borrowed = DenseOrSparsePolynomial::from(p);
-    let same = has_dense_form(alloc, &own, dense)? && has_dense_form(alloc, &borrowed, dense)?;
-    Ok(same && own.into_sparse(alloc)? == *p && borrowed.into_sparse(alloc)? == *p)
+    Ok(denotes(alloc, p.into(), dense)? && denotes(alloc, p.clone()?.into(), dense)?)
+}
+
+// Whether it is held in sparse form.
+fn becomes<F: Field>(
+    alloc: Global,
+    held: DenseOrSparsePolynomial<'_, F>,
+    p: &SparsePolynomial<F>,
+) -> Result<bool, PolyError> {
+    Ok(held.into_sparse(alloc)? == *p)
+}
+
+// Whether a sparse polynomial, borrowed and not, stays what it is.
+fn sparse_stays<F: Field>(alloc: Global, p: &SparsePolynomial<F>) -> Result<bool, PolyError> {
+    Ok(becomes(alloc, p.into(), p)? && becomes(alloc, p.clone()?.into(), p)?)
 }
 
 // Whether both forms of the polynomial with these terms do.
 fn stay<F: Field>(alloc: Global, terms: Terms<'_>) -> Result<bool, PolyError> {
     let p = sparse::<F>(alloc, terms)?;
     let dense = DensePolynomial::from_sparse(alloc, &p)?;
-    Ok(dense_stays(alloc, &dense)? && sparse_stays(alloc, &p, &dense)?)
+    let stays = dense_stays(alloc, &dense)? && sparse_stays(alloc, &p)?;
+    Ok(stays && is_made_dense(alloc, &p, &dense)?)
 }
 
 #[test]
