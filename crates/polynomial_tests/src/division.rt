@@ -33,20 +33,28 @@ fn divided<F: Field>(
     dividend.divide_with_q_and_r(alloc, &in_form(alloc, divisor, forms < 2)?)
 }
 
-// Whether the product of quotient and divisor with the remainder added is the dividend, and the remainder is below the
-// divisor; there are none exactly where zero divides something else.
+// Whether the product of quotient and divisor with the remainder added is the dividend.
+fn is_sum<F: Field>(
+    alloc: Global,
+    dividend: &DensePolynomial<F>,
+    divisor: &DensePolynomial<F>,
+    (quotient, remainder): &(DensePolynomial<F>, DensePolynomial<F>),
+) -> Result<bool, PolyError> {
+    Ok(quotient.naive_mul(alloc, divisor)?.add(alloc, remainder)? == *dividend)
+}
+
+// Whether that is so, and the remainder is below the divisor; there are none exactly where zero divides something else.
 fn multiplies_back<F: Field>(
     alloc: Global,
     dividend: &DensePolynomial<F>,
     divisor: &DensePolynomial<F>,
     forms: usize,
 ) -> Result<bool, PolyError> {
-    let Some((quotient, remainder)) = divided(alloc, dividend, divisor, forms)? else {
+    let Some(pair) = divided(alloc, dividend, divisor, forms)? else {
         return Ok(divisor.is_zero() && !dividend.is_zero());
     };
-    let below = remainder.is_zero() || remainder.degree() < divisor.degree();
-    let product = quotient.naive_mul(alloc, divisor)?;
-    Ok(below && product.add(alloc, &remainder)? == *dividend)
+    let below = pair.1.is_zero() || pair.1.degree() < divisor.degree();
+    Ok(below && is_sum(alloc, dividend, divisor, &pair)?)
 }
 
 // A drawn polynomial of a degree below 25.
@@ -79,20 +87,28 @@ fn drawn_ones_multiply_back(rt: HostRuntime) -> Result<(), Fail> {
     Ok(())
 }
 
-// Whether the quotient and the remainder in these forms have these coefficients.
-fn divides<F: Field>(
+// The same of lists of coefficients.
+fn divided_lists<F: Field>(
     alloc: Global,
     [dividend, divisor]: [&[u64]; 2],
-    [quotient, remainder]: [&[u64]; 2],
     forms: usize,
-) -> Result<bool, PolyError> {
-    let found = divided::<F>(
+) -> Result<Option<(DensePolynomial<F>, DensePolynomial<F>)>, PolyError> {
+    divided(
         alloc,
         &poly(alloc, dividend)?,
         &poly(alloc, divisor)?,
         forms,
-    )?;
-    let Some(found) = found else {
+    )
+}
+
+// Whether the quotient and the remainder in these forms have these coefficients.
+fn divides<F: Field>(
+    alloc: Global,
+    operands: [&[u64]; 2],
+    [quotient, remainder]: [&[u64]; 2],
+    forms: usize,
+) -> Result<bool, PolyError> {
+    let Some(found) = divided_lists::<F>(alloc, operands, forms)? else {
         return Ok(false);
     };
     Ok(found.0 == poly(alloc, quotient)? && found.1 == poly(alloc, remainder)?)
@@ -130,10 +146,8 @@ fn quotients_and_remainders(rt: HostRuntime) -> Result<(), Fail> {
 
 // Whether one has no quotient by zero, in any of the forms.
 fn zero_divides_nothing<F: Field>(alloc: Global) -> Result<bool, PolyError> {
-    let one = poly::<F>(alloc, &[1])?;
-    let zero = poly(alloc, &[])?;
     for forms in 0..4 {
-        if divided(alloc, &one, &zero, forms)?.is_some() {
+        if divided_lists::<F>(alloc, [&[1], &[]], forms)?.is_some() {
             return Ok(false);
         }
     }
@@ -169,11 +183,15 @@ fn has_no_dense_form<F: Field>(alloc: Global) -> Result<bool, PolyError> {
     }
 }
 
+// Whether all this is so.
+fn is_refused<F: Field>(alloc: Global) -> Result<bool, PolyError> {
+    let refused = zero_divides_nothing::<F>(alloc)? && refuses::<F>(alloc)?;
+    Ok(refused && has_no_dense_form::<F>(alloc)?)
+}
+
 #[test]
 fn no_quotient(rt: HostRuntime) -> Result<(), Fail> {
-    assert!(rt; zero_divides_nothing::<F5>(rt.alloc())?);
-    assert!(rt; refuses::<F5>(rt.alloc())?);
-    assert!(rt; has_no_dense_form::<F5>(rt.alloc())?);
+    assert!(rt; is_refused::<F5>(rt.alloc())?);
     Ok(())
 }
 
@@ -190,8 +208,8 @@ fn denotes<F: Field>(
 // Whether it is refused as dense.
 fn is_not_sparse<F: Field>(alloc: Global, held: DenseOrSparsePolynomial<'_, F>) -> bool {
     match held.into_sparse(alloc) {
-        Err(PolyError::NotSparse) => true,
-        _ => false,
+        Ok(_) => false,
+        Err(error) => error == PolyError::NotSparse,
     }
 }
 
@@ -225,12 +243,20 @@ fn sparse_stays<F: Field>(alloc: Global, p: &SparsePolynomial<F>) -> Result<bool
     Ok(becomes(alloc, p.into(), p)? && becomes(alloc, p.clone()?.into(), p)?)
 }
 
+// Whether both forms do.
+fn both_stay<F: Field>(
+    alloc: Global,
+    p: &SparsePolynomial<F>,
+    dense: &DensePolynomial<F>,
+) -> Result<bool, PolyError> {
+    let stay = dense_stays(alloc, dense)? && sparse_stays(alloc, p)?;
+    Ok(stay && is_made_dense(alloc, p, dense)?)
+}
+
 // Whether both forms of the polynomial with these terms do.
 fn stay<F: Field>(alloc: Global, terms: Terms<'_>) -> Result<bool, PolyError> {
     let p = sparse::<F>(alloc, terms)?;
-    let dense = DensePolynomial::from_sparse(alloc, &p)?;
-    let stays = dense_stays(alloc, &dense)? && sparse_stays(alloc, &p)?;
-    Ok(stays && is_made_dense(alloc, &p, &dense)?)
+    both_stay(alloc, &p, &DensePolynomial::from_sparse(alloc, &p)?)
 }
 
 #[test]
