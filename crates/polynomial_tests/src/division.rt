@@ -195,14 +195,19 @@ fn no_quotient(rt: HostRuntime) -> Result<(), Fail> {
     Ok(())
 }
 
+// Whether it is zero where this polynomial is, and has its degree.
+fn has_degree_of<F: Field>(held: &DenseOrSparsePolynomial<'_, F>, p: &DensePolynomial<F>) -> bool {
+    held.is_zero() == p.is_zero() && held.degree() == p.degree()
+}
+
 // Whether it denotes this polynomial.
 fn denotes<F: Field>(
     alloc: Global,
     held: DenseOrSparsePolynomial<'_, F>,
     p: &DensePolynomial<F>,
 ) -> Result<bool, PolyError> {
-    let same = held.is_zero() == p.is_zero() && held.degree() == p.degree();
-    Ok(same && held.into_dense(alloc)? == *p)
+    let same = has_degree_of(&held, p);
+    Ok(held.into_dense(alloc)? == *p && same)
 }
 
 // Whether it is refused as dense.
