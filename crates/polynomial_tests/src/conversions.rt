@@ -148,8 +148,8 @@ fn both_forms(rt: HostRuntime) -> Result<(), Fail> {
     Ok(())
 }
 
-// The sum of drawn terms of low degrees.
-fn drawn_terms<F: Field>(
+/// The sum of drawn terms of low degrees.
+pub fn drawn_terms<F: Field>(
     alloc: Global,
     rng: &mut Pcg64,
     len: usize,

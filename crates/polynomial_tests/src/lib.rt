@@ -4,8 +4,6 @@
 #[cfg(test)]
 mod conversions;
 #[cfg(test)]
-mod dense_sums;
-#[cfg(test)]
 mod division;
 #[cfg(test)]
 mod evaluations;
