@@ -7,10 +7,11 @@
 mod batches;
 mod draws;
 mod large_field;
+mod multivariate;
 mod polynomials;
 mod transforms;
 
-use ark_base::{F433, F65537, FftField};
+use ark_base::{F433, F65537, FftField, Field};
 use ark_poly::univariate::{DensePolynomial, SparsePolynomial};
 use ark_poly::{
     DenseUVPolynomial, EvaluationDomain, MixedRadixEvaluationDomain, Radix2EvaluationDomain,
@@ -18,6 +19,7 @@ use ark_poly::{
 use batches::{Number, report};
 use draws::Draws;
 use large_field::F2013265921;
+use multivariate::ValueOfTerms;
 use polynomials::{
     Division, Interpolation, LongDivision, Product, Quotients, SparseProduct, Value, Way, Weights,
 };
@@ -42,6 +44,7 @@ fn main(rt: HostRuntime) -> anyhow::Result<()> {
     report_division::<F65537>(&rt, rt.alloc(), timed, &mut draws)?;
     report_by_passes::<F65537>(&rt, rt.alloc(), timed, &mut draws)?;
     report_by_terms::<F65537>(&rt, rt.alloc(), timed, &mut draws)?;
+    report_multivariate::<F65537>(&rt, rt.alloc(), timed, &mut draws)?;
     if timed {
         report_growth::<F2013265921>(&rt, rt.alloc(), &mut draws)?;
     }
@@ -178,6 +181,16 @@ fn report_division<F: FftField + Number>(
     let divisor = draws.list(alloc, 1 << 11)?;
     let mut division = Division::new(alloc, dividend, divisor)?;
     report(rt, alloc, timed, &mut division)
+}
+
+fn report_multivariate<F: Field + Number>(
+    rt: &(impl Print + Clock),
+    alloc: Global,
+    timed: bool,
+    draws: &mut Draws,
+) -> anyhow::Result<()> {
+    let mut value = ValueOfTerms::<F>::new(alloc, draws, 1000)?;
+    report(rt, alloc, timed, &mut value)
 }
 
 // Such a division without transforms.

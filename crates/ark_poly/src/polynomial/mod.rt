@@ -8,8 +8,8 @@ ghost use Rattle.ark_math.specs.Univariate.{IsTrimmed, IsDegree, IsValue};
 pub mod univariate;
 
 pub use ark_base::Polynomial;
-pub use ark_multi::{DenseMVPolynomial, multivariate};
 use ark_base::{Field, PolyError};
+pub use ark_multi::{DenseMVPolynomial, multivariate};
 use rand::Rng;
 use std::alloc::Global;
 
