@@ -4,6 +4,7 @@ pub mod Domain
 pub mod Field
 pub mod Generator
 pub mod Module
+pub mod Multilinear
 pub mod Multivariate
 pub mod NormalForms
 pub mod Points
