@@ -7,10 +7,6 @@ use std::time::{Clock, Instant};
 
 /// A call to be timed, whose results all go into the checksum.
 pub trait Benchmark {
-    fn name(&self) -> &'static str;
-
-    fn size(&self) -> usize;
-
     /// One call, on an input that the last one changed.
     fn call(&mut self, alloc: Global) -> Result<(), PolyError>;
 
@@ -38,25 +34,22 @@ pub fn mixed<F: Number>(values: &[F]) -> u64 {
     sum
 }
 
-/// Prints a benchmark's line: its checksum after one call or, timed, the nanoseconds of a call.
+/// Prints a benchmark's line: its name, its size, and its checksum after one call or, timed, the nanoseconds of a call.
 pub fn report<B: Benchmark>(
     rt: &(impl Print + Clock),
     alloc: Global,
     timed: bool,
+    name: &str,
+    size: usize,
     benchmark: &mut B,
 ) -> anyhow::Result<()> {
     if timed {
         let nanos = least(rt, alloc, benchmark)?;
         println!(rt; "# checksum {}", benchmark.checksum())?;
-        println!(rt; "{}\t{}\t{nanos}", benchmark.name(), benchmark.size())?;
+        println!(rt; "{name}\t{size}\t{nanos}")?;
     } else {
         benchmark.call(alloc)?;
-        println!(rt;
-            "{}\t{}\t{}",
-            benchmark.name(),
-            benchmark.size(),
-            benchmark.checksum()
-        )?;
+        println!(rt; "{name}\t{size}\t{}", benchmark.checksum())?;
     }
     Ok(())
 }

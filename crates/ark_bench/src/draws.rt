@@ -1,6 +1,8 @@
 //! Inputs, the same at each run.
 
 use ark_base::Field;
+use ark_poly::DenseUVPolynomial;
+use ark_poly::univariate::DensePolynomial;
 use rand_core::Rng;
 use rand_pcg::Pcg64;
 use std::alloc::{AllocError, Global};
@@ -28,6 +30,16 @@ impl Draws {
         }
         Ok(list)
     }
+
+    /// A polynomial with so many coefficients, or fewer where the last ones are drawn as zero.
+    pub fn dense<F: Field>(
+        &mut self,
+        alloc: Global,
+        len: usize,
+    ) -> Result<DensePolynomial<F>, AllocError> {
+        Ok(DensePolynomial::from_coefficients_vec(self.list(alloc, len)?))
+    }
+
     /// Terms of rising degrees, one in each block of 1,024.
     pub fn terms<F: Field>(
         &mut self,

@@ -11,7 +11,7 @@ mod multivariate;
 mod polynomials;
 mod transforms;
 
-use ark_base::{F433, F65537, FftField, Field};
+use ark_base::{F433, F65537, FftField, Field, Polynomial};
 use ark_poly::univariate::{DensePolynomial, SparsePolynomial};
 use ark_poly::{
     DenseUVPolynomial, EvaluationDomain, MixedRadixEvaluationDomain, Radix2EvaluationDomain,
@@ -37,14 +37,7 @@ fn main(rt: HostRuntime) -> anyhow::Result<()> {
     let mut draws = Draws::new();
     report_radix2::<F65537>(&rt, rt.alloc(), timed, &mut draws)?;
     report_mixed_radix::<F433>(&rt, rt.alloc(), timed, &mut draws)?;
-    report_largest::<F65537>(&rt, rt.alloc(), timed, &mut draws)?;
-    report_dense::<F65537>(&rt, rt.alloc(), timed, &mut draws)?;
-    report_evaluations::<F65537>(&rt, rt.alloc(), timed, &mut draws)?;
-    report_sparse::<F65537>(&rt, rt.alloc(), timed, &mut draws)?;
-    report_division::<F65537>(&rt, rt.alloc(), timed, &mut draws)?;
-    report_by_passes::<F65537>(&rt, rt.alloc(), timed, &mut draws)?;
-    report_by_terms::<F65537>(&rt, rt.alloc(), timed, &mut draws)?;
-    report_multivariate::<F65537>(&rt, rt.alloc(), timed, &mut draws)?;
+    report_polynomials::<F65537>(&rt, rt.alloc(), timed, &mut draws)?;
     if timed {
         report_growth::<F2013265921>(&rt, rt.alloc(), &mut draws)?;
     }
@@ -105,26 +98,38 @@ fn report_both_ways<F: FftField + Number, D: EvaluationDomain<F>>(
     names: [&'static str; 2],
     domain: D,
 ) -> anyhow::Result<()> {
-    let [forward, inverse] = names;
-    let items = draws.list(alloc, domain.size())?;
-    let mut forward = InPlace::forward(forward, domain, items);
-    report(rt, alloc, timed, &mut forward)?;
-    let items = draws.list(alloc, domain.size())?;
-    let mut inverse = InPlace::inverse(inverse, domain, items);
-    report(rt, alloc, timed, &mut inverse)
+    let mut inverse = false;
+    for name in names {
+        let items = draws.list(alloc, domain.size())?;
+        let mut transforms = InPlace {
+            domain,
+            inverse,
+            items,
+        };
+        report(rt, alloc, timed, name, domain.size(), &mut transforms)?;
+        inverse = true;
+    }
+    Ok(())
 }
 
-// Over 2^16 elements, which are all but zero of the field that it is called with.
-fn report_largest<F: FftField + Number>(
+fn report_polynomials<F: FftField + Number>(
     rt: &(impl Print + Clock),
     alloc: Global,
     timed: bool,
     draws: &mut Draws,
 ) -> anyhow::Result<()> {
-    match Radix2EvaluationDomain::<F>::new(1 << 16) {
-        Some(domain) => report_over_domain(rt, alloc, timed, draws, domain),
-        None => Ok(()),
-    }
+    // Over 2^16 elements, which are all but zero of the field that it is called with.
+    let Some(domain) = Radix2EvaluationDomain::<F>::new(1 << 16) else {
+        return Ok(());
+    };
+    report_over_domain(rt, alloc, timed, draws, domain)?;
+    report_dense::<F>(rt, alloc, timed, draws)?;
+    report_values(rt, alloc, timed, draws, domain)?;
+    report_sparse::<F>(rt, alloc, timed, draws)?;
+    report_division::<F>(rt, alloc, timed, draws)?;
+    report_by_passes::<F>(rt, alloc, timed, draws)?;
+    report_by_terms::<F>(rt, alloc, timed, draws)?;
+    report_multivariate::<F>(rt, alloc, timed, draws)
 }
 
 fn report_over_domain<F: FftField + Number, D: EvaluationDomain<F>>(
@@ -135,18 +140,59 @@ fn report_over_domain<F: FftField + Number, D: EvaluationDomain<F>>(
     domain: D,
 ) -> anyhow::Result<()> {
     if let Some(coset) = domain.get_coset(F::GENERATOR) {
-        let items = draws.list(alloc, domain.size())?;
-        let mut forward = InPlace::forward("coset_fft_in_place", coset, items);
-        report(rt, alloc, timed, &mut forward)?;
+        let mut forward = InPlace {
+            domain: coset,
+            inverse: false,
+            items: draws.list(alloc, domain.size())?,
+        };
+        report(
+            rt,
+            alloc,
+            timed,
+            "coset_fft_in_place",
+            domain.size(),
+            &mut forward,
+        )?;
     }
-    let items = draws.list(alloc, 1 << 10)?;
-    let mut short = OfShortList::new(alloc, "degree_aware_fft_1024_over", domain, items);
-    report(rt, alloc, timed, &mut short)?;
-    let mut far = Weights::new(alloc, "lagrange_all", domain, F::from(0));
-    report(rt, alloc, timed, &mut far)?;
+    let mut short = OfShortList {
+        domain,
+        items: draws.list(alloc, 1 << 10)?,
+        values: Vec::new(alloc),
+    };
+    report(
+        rt,
+        alloc,
+        timed,
+        "degree_aware_fft_1024_over",
+        domain.size(),
+        &mut short,
+    )?;
+    report_weights(rt, alloc, timed, "lagrange_all", domain, F::from(0))?;
     let last = domain.element((1 << 16) - 1);
-    let mut near = Weights::new(alloc, "lagrange_all_at_last_element", domain, last);
-    report(rt, alloc, timed, &mut near)
+    report_weights(
+        rt,
+        alloc,
+        timed,
+        "lagrange_all_at_last_element",
+        domain,
+        last,
+    )
+}
+
+fn report_weights<F: FftField + Number, D: EvaluationDomain<F>>(
+    rt: &(impl Print + Clock),
+    alloc: Global,
+    timed: bool,
+    name: &str,
+    domain: D,
+    point: F,
+) -> anyhow::Result<()> {
+    let mut weights = Weights {
+        domain,
+        point,
+        weights: Vec::new(alloc),
+    };
+    report(rt, alloc, timed, name, domain.size(), &mut weights)
 }
 
 fn report_dense<F: FftField + Number>(
@@ -155,83 +201,24 @@ fn report_dense<F: FftField + Number>(
     timed: bool,
     draws: &mut Draws,
 ) -> anyhow::Result<()> {
-    for (way, len) in [
-        (Way::Naive, 1 << 10),
-        (Way::Transforms, 1 << 13),
-        (Way::Transforms, (1 << 15) - 1),
+    for (way, name, len) in [
+        (Way::Naive, "naive_mul", 1 << 10),
+        (Way::Transforms, "dense_mul", 1 << 13),
+        (Way::Transforms, "dense_mul", (1 << 15) - 1),
     ] {
-        let left = draws.list::<F>(alloc, len)?;
-        let right = draws.list(alloc, len)?;
-        let mut product = Product::new(alloc, way, left, right)?;
-        report(rt, alloc, timed, &mut product)?;
+        let mut product = Product::<F> {
+            way,
+            left: draws.dense(alloc, len)?,
+            right: draws.dense(alloc, len)?,
+            product: DensePolynomial::zero(alloc)?,
+        };
+        report(rt, alloc, timed, name, len, &mut product)?;
     }
-    let coeffs = draws.list::<F>(alloc, 1 << 16)?;
-    let mut value = Value::new(coeffs, draws.element());
-    report(rt, alloc, timed, &mut value)
-}
-
-// A dividend of twice the divisor's length.
-fn report_division<F: FftField + Number>(
-    rt: &(impl Print + Clock),
-    alloc: Global,
-    timed: bool,
-    draws: &mut Draws,
-) -> anyhow::Result<()> {
-    let dividend = draws.list::<F>(alloc, 1 << 12)?;
-    let divisor = draws.list(alloc, 1 << 11)?;
-    let mut division = Division::new(alloc, dividend, divisor)?;
-    report(rt, alloc, timed, &mut division)
-}
-
-fn report_multivariate<F: Field + Number>(
-    rt: &(impl Print + Clock),
-    alloc: Global,
-    timed: bool,
-    draws: &mut Draws,
-) -> anyhow::Result<()> {
-    let mut value = ValueOfTerms::<F>::new(alloc, draws, 1000)?;
-    report(rt, alloc, timed, &mut value)
-}
-
-// Such a division without transforms.
-fn report_by_passes<F: FftField + Number>(
-    rt: &(impl Print + Clock),
-    alloc: Global,
-    timed: bool,
-    draws: &mut Draws,
-) -> anyhow::Result<()> {
-    let dividend = DensePolynomial::from_coefficients_vec(draws.list::<F>(alloc, 1 << 12)?);
-    let divisor = DensePolynomial::from_coefficients_vec(draws.list(alloc, 1 << 11)?);
-    let name = "divide_with_q_and_r_by_2048";
-    let mut division = LongDivision::new(alloc, name, dividend.into(), divisor.into())?;
-    report(rt, alloc, timed, &mut division)
-}
-
-// By a sparse divisor, of a degree between 9 * 1,024 and 10 * 1,024.
-fn report_by_terms<F: FftField + Number>(
-    rt: &(impl Print + Clock),
-    alloc: Global,
-    timed: bool,
-    draws: &mut Draws,
-) -> anyhow::Result<()> {
-    let dividend = DensePolynomial::from_coefficients_vec(draws.list::<F>(alloc, 1 << 14)?);
-    let divisor = SparsePolynomial::from_coefficients_vec(alloc, draws.terms(alloc, 10)?)?;
-    let name = "divide_with_q_and_r_by_ten_terms";
-    let mut division = LongDivision::new(alloc, name, dividend.into(), divisor.into())?;
-    report(rt, alloc, timed, &mut division)
-}
-
-// Over the same elements.
-fn report_evaluations<F: FftField + Number>(
-    rt: &(impl Print + Clock),
-    alloc: Global,
-    timed: bool,
-    draws: &mut Draws,
-) -> anyhow::Result<()> {
-    match Radix2EvaluationDomain::<F>::new(1 << 16) {
-        Some(domain) => report_values(rt, alloc, timed, draws, domain),
-        None => Ok(()),
-    }
+    let mut value = Value::<F> {
+        polynomial: draws.dense(alloc, 1 << 16)?,
+        point: draws.element(),
+    };
+    report(rt, alloc, timed, "dense_evaluate", 1 << 16, &mut value)
 }
 
 fn report_values<F: FftField + Number, D: EvaluationDomain<F>>(
@@ -241,14 +228,32 @@ fn report_values<F: FftField + Number, D: EvaluationDomain<F>>(
     draws: &mut Draws,
     domain: D,
 ) -> anyhow::Result<()> {
-    let coeffs = draws.list(alloc, domain.size())?;
-    let polynomial = DensePolynomial::from_coefficients_vec(coeffs);
+    let polynomial = draws.dense::<F>(alloc, domain.size())?;
     let values = polynomial.evaluate_over_domain(alloc, domain)?;
-    let mut interpolation = Interpolation::new(alloc, values.clone()?)?;
-    report(rt, alloc, timed, &mut interpolation)?;
-    let divisors = values.mul(alloc, &values)?;
-    let mut quotients = Quotients::new(values, divisors);
-    report(rt, alloc, timed, &mut quotients)
+    let mut interpolation = Interpolation {
+        values: values.clone()?,
+        polynomial: DensePolynomial::zero(alloc)?,
+    };
+    report(
+        rt,
+        alloc,
+        timed,
+        "interpolate",
+        domain.size(),
+        &mut interpolation,
+    )?;
+    let mut quotients = Quotients {
+        divisors: values.mul(alloc, &values)?,
+        quotients: values,
+    };
+    report(
+        rt,
+        alloc,
+        timed,
+        "evaluations_div",
+        domain.size(),
+        &mut quotients,
+    )
 }
 
 fn report_sparse<F: FftField + Number>(
@@ -257,8 +262,81 @@ fn report_sparse<F: FftField + Number>(
     timed: bool,
     draws: &mut Draws,
 ) -> anyhow::Result<()> {
-    let left = draws.terms::<F>(alloc, 1 << 10)?;
-    let right = draws.terms(alloc, 1 << 10)?;
-    let mut product = SparseProduct::new(alloc, left, right)?;
-    report(rt, alloc, timed, &mut product)
+    let mut product = SparseProduct::<F> {
+        left: SparsePolynomial::from_coefficients_vec(alloc, draws.terms(alloc, 1 << 10)?)?,
+        right: SparsePolynomial::from_coefficients_vec(alloc, draws.terms(alloc, 1 << 10)?)?,
+        product: SparsePolynomial::zero(alloc)?,
+    };
+    report(rt, alloc, timed, "sparse_mul", 1 << 10, &mut product)
+}
+
+// A dividend of twice the divisor's length, through transforms.
+fn report_division<F: FftField + Number>(
+    rt: &(impl Print + Clock),
+    alloc: Global,
+    timed: bool,
+    draws: &mut Draws,
+) -> anyhow::Result<()> {
+    let mut division = Division::<F> {
+        dividend: draws.dense(alloc, 1 << 12)?,
+        divisor: draws.dense(alloc, 1 << 11)?,
+        remainder: DensePolynomial::zero(alloc)?,
+    };
+    report(
+        rt,
+        alloc,
+        timed,
+        "divide_by_transforms",
+        1 << 12,
+        &mut division,
+    )
+}
+
+// Such a division without transforms.
+fn report_by_passes<F: FftField + Number>(
+    rt: &(impl Print + Clock),
+    alloc: Global,
+    timed: bool,
+    draws: &mut Draws,
+) -> anyhow::Result<()> {
+    let mut division = LongDivision::<F> {
+        dividend: draws.dense(alloc, 1 << 12)?.into(),
+        divisor: draws.dense(alloc, 1 << 11)?.into(),
+        remainder: DensePolynomial::zero(alloc)?,
+    };
+    let name = "divide_with_q_and_r_by_2048";
+    report(rt, alloc, timed, name, 1 << 12, &mut division)
+}
+
+// By a sparse divisor, of a degree between 9 * 1,024 and 10 * 1,024.
+fn report_by_terms<F: FftField + Number>(
+    rt: &(impl Print + Clock),
+    alloc: Global,
+    timed: bool,
+    draws: &mut Draws,
+) -> anyhow::Result<()> {
+    let mut division = LongDivision::<F> {
+        dividend: draws.dense(alloc, 1 << 14)?.into(),
+        divisor: SparsePolynomial::from_coefficients_vec(alloc, draws.terms(alloc, 10)?)?.into(),
+        remainder: DensePolynomial::zero(alloc)?,
+    };
+    let name = "divide_with_q_and_r_by_ten_terms";
+    report(rt, alloc, timed, name, 1 << 14, &mut division)
+}
+
+fn report_multivariate<F: Field + Number>(
+    rt: &(impl Print + Clock),
+    alloc: Global,
+    timed: bool,
+    draws: &mut Draws,
+) -> anyhow::Result<()> {
+    let mut value = ValueOfTerms::<F>::new(alloc, draws, 1000)?;
+    report(
+        rt,
+        alloc,
+        timed,
+        "multivariate_evaluate_5_vars",
+        1000,
+        &mut value,
+    )
 }

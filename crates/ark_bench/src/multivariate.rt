@@ -65,14 +65,6 @@ fn with_terms<F: Field>(
 }
 
 impl<F: Field + Number> Benchmark for ValueOfTerms<F> {
-    fn name(&self) -> &'static str {
-        "multivariate_evaluate_5_vars"
-    }
-
-    fn size(&self) -> usize {
-        self.polynomial.terms().len()
-    }
-
     fn call(&mut self, alloc: Global) -> Result<(), PolyError> {
         if self.polynomial.point_fits(&self.point) {
             let value = self.polynomial.evaluate(alloc, &self.point)?;

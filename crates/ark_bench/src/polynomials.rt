@@ -9,28 +9,11 @@ use std::alloc::Global;
 /// The value at a point, which is the next point.
 #[derive(Drop)]
 pub struct Value<F: FftField> {
-    polynomial: DensePolynomial<F>,
-    point: F,
-}
-
-impl<F: FftField> Value<F> {
-    pub fn new(coeffs: Vec<F>, point: F) -> Self {
-        Value {
-            polynomial: DensePolynomial::from_coefficients_vec(coeffs),
-            point,
-        }
-    }
+    pub polynomial: DensePolynomial<F>,
+    pub point: F,
 }
 
 impl<F: FftField + Number> Benchmark for Value<F> {
-    fn name(&self) -> &'static str {
-        "dense_evaluate"
-    }
-
-    fn size(&self) -> usize {
-        self.polynomial.coeffs().len()
-    }
-
     fn call(&mut self, alloc: Global) -> Result<(), PolyError> {
         self.point = self.polynomial.evaluate(alloc, &self.point)?;
         Ok(())
@@ -53,35 +36,13 @@ pub enum Way {
 /// The product of two polynomials of one length.
 #[derive(Drop)]
 pub struct Product<F: FftField> {
-    way: Way,
-    left: DensePolynomial<F>,
-    right: DensePolynomial<F>,
-    product: DensePolynomial<F>,
-}
-
-impl<F: FftField> Product<F> {
-    pub fn new(alloc: Global, way: Way, left: Vec<F>, right: Vec<F>) -> Result<Self, PolyError> {
-        Ok(Product {
-            way,
-            left: DensePolynomial::from_coefficients_vec(left),
-            right: DensePolynomial::from_coefficients_vec(right),
-            product: DensePolynomial::zero(alloc)?,
-        })
-    }
+    pub way: Way,
+    pub left: DensePolynomial<F>,
+    pub right: DensePolynomial<F>,
+    pub product: DensePolynomial<F>,
 }
 
 impl<F: FftField + Number> Benchmark for Product<F> {
-    fn name(&self) -> &'static str {
-        match self.way {
-            Way::Naive => "naive_mul",
-            Way::Transforms => "dense_mul",
-        }
-    }
-
-    fn size(&self) -> usize {
-        self.left.coeffs().len()
-    }
-
     fn call(&mut self, alloc: Global) -> Result<(), PolyError> {
         self.product = match self.way {
             Way::Naive => self.left.naive_mul(alloc, &self.right)?,
@@ -98,34 +59,12 @@ impl<F: FftField + Number> Benchmark for Product<F> {
 /// The product of two sparse polynomials.
 #[derive(Drop)]
 pub struct SparseProduct<F: Field> {
-    left: SparsePolynomial<F>,
-    right: SparsePolynomial<F>,
-    product: SparsePolynomial<F>,
-}
-
-impl<F: Field> SparseProduct<F> {
-    pub fn new(
-        alloc: Global,
-        left: Vec<(usize, F)>,
-        right: Vec<(usize, F)>,
-    ) -> Result<Self, PolyError> {
-        Ok(SparseProduct {
-            left: SparsePolynomial::from_coefficients_vec(alloc, left)?,
-            right: SparsePolynomial::from_coefficients_vec(alloc, right)?,
-            product: SparsePolynomial::zero(alloc)?,
-        })
-    }
+    pub left: SparsePolynomial<F>,
+    pub right: SparsePolynomial<F>,
+    pub product: SparsePolynomial<F>,
 }
 
 impl<F: Field + Number> Benchmark for SparseProduct<F> {
-    fn name(&self) -> &'static str {
-        "sparse_mul"
-    }
-
-    fn size(&self) -> usize {
-        self.left.coeffs().len()
-    }
-
     fn call(&mut self, alloc: Global) -> Result<(), PolyError> {
         self.product = self.left.mul(alloc, &self.right)?;
         Ok(())
@@ -144,30 +83,12 @@ impl<F: Field + Number> Benchmark for SparseProduct<F> {
 /// Quotient and remainder through transforms.
 #[derive(Drop)]
 pub struct Division<F: FftField> {
-    dividend: DensePolynomial<F>,
-    divisor: DensePolynomial<F>,
-    remainder: DensePolynomial<F>,
-}
-
-impl<F: FftField> Division<F> {
-    pub fn new(alloc: Global, dividend: Vec<F>, divisor: Vec<F>) -> Result<Self, PolyError> {
-        Ok(Division {
-            dividend: DensePolynomial::from_coefficients_vec(dividend),
-            divisor: DensePolynomial::from_coefficients_vec(divisor),
-            remainder: DensePolynomial::zero(alloc)?,
-        })
-    }
+    pub dividend: DensePolynomial<F>,
+    pub divisor: DensePolynomial<F>,
+    pub remainder: DensePolynomial<F>,
 }
 
 impl<F: FftField + Number> Benchmark for Division<F> {
-    fn name(&self) -> &'static str {
-        "divide_by_transforms"
-    }
-
-    fn size(&self) -> usize {
-        self.dividend.coeffs().len()
-    }
-
     fn call(&mut self, alloc: Global) -> Result<(), PolyError> {
         if let Some((_, remainder)) = self.dividend.divide_by_transforms(alloc, &self.divisor)? {
             self.remainder = remainder;
@@ -183,37 +104,12 @@ impl<F: FftField + Number> Benchmark for Division<F> {
 /// Quotient and remainder by passes over the divisor, in either form.
 #[derive(Drop)]
 pub struct LongDivision<'a, F: Field> {
-    name: &'static str,
-    dividend: DenseOrSparsePolynomial<'a, F>,
-    divisor: DenseOrSparsePolynomial<'a, F>,
-    remainder: DensePolynomial<F>,
-}
-
-impl<'a, F: Field> LongDivision<'a, F> {
-    pub fn new(
-        alloc: Global,
-        name: &'static str,
-        dividend: DenseOrSparsePolynomial<'a, F>,
-        divisor: DenseOrSparsePolynomial<'a, F>,
-    ) -> Result<Self, PolyError> {
-        Ok(LongDivision {
-            name,
-            dividend,
-            divisor,
-            remainder: DensePolynomial::zero(alloc)?,
-        })
-    }
+    pub dividend: DenseOrSparsePolynomial<'a, F>,
+    pub divisor: DenseOrSparsePolynomial<'a, F>,
+    pub remainder: DensePolynomial<F>,
 }
 
 impl<'a, F: Field + Number> Benchmark for LongDivision<'a, F> {
-    fn name(&self) -> &'static str {
-        self.name
-    }
-
-    fn size(&self) -> usize {
-        self.dividend.degree().saturating_add(1)
-    }
-
     fn call(&mut self, alloc: Global) -> Result<(), PolyError> {
         if let Some((_, remainder)) = self.dividend.divide_with_q_and_r(alloc, &self.divisor)? {
             self.remainder = remainder;
@@ -229,28 +125,11 @@ impl<'a, F: Field + Number> Benchmark for LongDivision<'a, F> {
 /// The polynomial with given values over a domain.
 #[derive(Drop)]
 pub struct Interpolation<F: FftField, D: EvaluationDomain<F>> {
-    values: Evaluations<F, D>,
-    polynomial: DensePolynomial<F>,
-}
-
-impl<F: FftField, D: EvaluationDomain<F>> Interpolation<F, D> {
-    pub fn new(alloc: Global, values: Evaluations<F, D>) -> Result<Self, PolyError> {
-        Ok(Interpolation {
-            values,
-            polynomial: DensePolynomial::zero(alloc)?,
-        })
-    }
+    pub values: Evaluations<F, D>,
+    pub polynomial: DensePolynomial<F>,
 }
 
 impl<F: FftField + Number, D: EvaluationDomain<F>> Benchmark for Interpolation<F, D> {
-    fn name(&self) -> &'static str {
-        "interpolate"
-    }
-
-    fn size(&self) -> usize {
-        self.values.evals().len()
-    }
-
     fn call(&mut self, alloc: Global) -> Result<(), PolyError> {
         self.polynomial = self.values.interpolate_by_ref(alloc)?;
         Ok(())
@@ -264,28 +143,11 @@ impl<F: FftField + Number, D: EvaluationDomain<F>> Benchmark for Interpolation<F
 /// The quotients of the last ones by the divisors, place by place.
 #[derive(Drop)]
 pub struct Quotients<F: FftField, D: EvaluationDomain<F>> {
-    quotients: Evaluations<F, D>,
-    divisors: Evaluations<F, D>,
-}
-
-impl<F: FftField, D: EvaluationDomain<F>> Quotients<F, D> {
-    pub fn new(dividends: Evaluations<F, D>, divisors: Evaluations<F, D>) -> Self {
-        Quotients {
-            quotients: dividends,
-            divisors,
-        }
-    }
+    pub quotients: Evaluations<F, D>,
+    pub divisors: Evaluations<F, D>,
 }
 
 impl<F: FftField + Number, D: EvaluationDomain<F>> Benchmark for Quotients<F, D> {
-    fn name(&self) -> &'static str {
-        "evaluations_div"
-    }
-
-    fn size(&self) -> usize {
-        self.quotients.evals().len()
-    }
-
     fn call(&mut self, alloc: Global) -> Result<(), PolyError> {
         // Never so, and quick to see: values over two domains have no quotients.
         if self.quotients.domain() != self.divisors.domain() {
@@ -303,32 +165,12 @@ impl<F: FftField + Number, D: EvaluationDomain<F>> Benchmark for Quotients<F, D>
 /// The weights of the values at a domain's elements.
 #[derive(Drop)]
 pub struct Weights<F: FftField, D: EvaluationDomain<F>> {
-    name: &'static str,
-    domain: D,
-    point: F,
-    weights: Vec<F>,
-}
-
-impl<F: FftField, D: EvaluationDomain<F>> Weights<F, D> {
-    pub fn new(alloc: Global, name: &'static str, domain: D, point: F) -> Self {
-        Weights {
-            name,
-            domain,
-            point,
-            weights: Vec::new(alloc),
-        }
-    }
+    pub domain: D,
+    pub point: F,
+    pub weights: Vec<F>,
 }
 
 impl<F: FftField + Number, D: EvaluationDomain<F>> Benchmark for Weights<F, D> {
-    fn name(&self) -> &'static str {
-        self.name
-    }
-
-    fn size(&self) -> usize {
-        self.domain.size()
-    }
-
     fn call(&mut self, alloc: Global) -> Result<(), PolyError> {
         self.weights = self
             .domain
