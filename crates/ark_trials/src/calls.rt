@@ -14,6 +14,15 @@ pub fn elements<F: Field>(alloc: Global, numbers: &[u64]) -> Result<Vec<F>, Allo
     Ok(elements)
 }
 
+/// Whether the elements are those of these numbers.
+pub fn has_numbers<F: Field>(elements: &[F], numbers: &[u64]) -> bool {
+    let mut same = elements.len() == numbers.len();
+    for (element, number) in elements.iter().zip(numbers) {
+        same = same && *element == F::from(*number);
+    }
+    same
+}
+
 /// The domain for so many coefficients with this offset.
 pub fn coset<F: FftField, D: EvaluationDomain<F>>(
     num_coeffs: usize,

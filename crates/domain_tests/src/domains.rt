@@ -1,24 +1,22 @@
-use ark_base::{F5, F433, F65537, FftField, PolyError};
+use ark_base::{FftField, PolyError};
 use ark_poly::{
     EvaluationDomain, GeneralEvaluationDomain, MixedRadixEvaluationDomain, Radix2EvaluationDomain,
 };
 use ark_trials::calls::{coset, listed};
-use ark_trials::trials::{Trial, over_general, over_mixed, over_radix2};
+use ark_trials::trials::{FieldTrial, Kind, Prime, Trial, first_wrong, over, over_field};
 use rand_pcg::Pcg64;
 use std::alloc::{AllocError, Global};
 use std::fmt::Debug;
 use std::test::Fail;
 
-// Numbers of coefficients, and the sizes of their domains.
+/// Numbers of coefficients, and the sizes of their domains.
 #[derive(Clone, Copy)]
-struct Sizes<'a> {
-    rows: &'a [(usize, Option<usize>)],
-}
+struct Sizes<'a>(&'a [(usize, Option<usize>)]);
 
 impl Trial for Sizes<'_> {
     fn holds<F: FftField, D: EvaluationDomain<F>>(&self, _: Global) -> Result<bool, PolyError> {
         let mut right = true;
-        for (asked, size) in self.rows {
+        for (asked, size) in self.0 {
             let found = match D::new(*asked) {
                 Some(domain) => Some(domain.size()),
                 None => None,
@@ -29,107 +27,99 @@ impl Trial for Sizes<'_> {
     }
 }
 
-#[test]
-fn radix2_sizes(rt: HostRuntime) -> Result<(), Fail> {
-    let five = Sizes {
-        rows: &[
+const SIZES: [(Prime, Kind, Sizes<'static>); 8] = [
+    (
+        Prime::P5,
+        Kind::Radix2,
+        Sizes(&[
             (0, Some(1)),
             (1, Some(1)),
             (3, Some(4)),
             (4, Some(4)),
             (5, None),
-        ],
-    };
-    assert!(rt; over_radix2::<F5, _>(rt.alloc(), &five)?);
-    let some = Sizes {
-        rows: &[
+        ]),
+    ),
+    (
+        Prime::P433,
+        Kind::Radix2,
+        Sizes(&[
             (0, Some(1)),
             (9, Some(16)),
             (16, Some(16)),
             (17, None),
             (usize::MAX, None),
-        ],
-    };
-    assert!(rt; over_radix2::<F433, _>(rt.alloc(), &some)?);
-    let many = Sizes {
-        rows: &[(65536, Some(65536)), (65537, None)],
-    };
-    assert!(rt; over_radix2::<F65537, _>(rt.alloc(), &many)?);
-    Ok(())
-}
+        ]),
+    ),
+    (
+        Prime::P65537,
+        Kind::Radix2,
+        Sizes(&[(65536, Some(65536)), (65537, None)]),
+    ),
+    (
+        Prime::P433,
+        Kind::Mixed,
+        Sizes(&[
+            (0, Some(1)),
+            (5, Some(6)),
+            (7, Some(8)),
+            (10, Some(12)),
+            (25, Some(27)),
+            (217, Some(432)),
+            (433, None),
+            (usize::MAX, None),
+        ]),
+    ),
+    (Prime::P5, Kind::Mixed, Sizes(&[(0, None), (1, None)])),
+    (Prime::P65537, Kind::Mixed, Sizes(&[(0, None), (1, None)])),
+    (
+        Prime::P433,
+        Kind::General,
+        Sizes(&[
+            (0, Some(1)),
+            (5, Some(8)),
+            (17, Some(18)),
+            (432, Some(432)),
+            (433, None),
+            (usize::MAX, None),
+        ]),
+    ),
+    (Prime::P5, Kind::General, Sizes(&[(3, Some(4)), (5, None)])),
+];
 
 #[test]
-fn mixed_sizes(rt: HostRuntime) -> Result<(), Fail> {
-    let rows = [
-        (0, Some(1)),
-        (5, Some(6)),
-        (7, Some(8)),
-        (10, Some(12)),
-        (25, Some(27)),
-        (217, Some(432)),
-        (433, None),
-        (usize::MAX, None),
-    ];
-    assert!(rt; over_mixed::<F433, _>(rt.alloc(), &Sizes { rows: &rows })?);
-    let without = Sizes {
-        rows: &[(0, None), (1, None)],
-    };
-    assert!(rt; over_mixed::<F5, _>(rt.alloc(), &without)?);
-    assert!(rt; over_mixed::<F65537, _>(rt.alloc(), &without)?);
+fn sizes_of_domains(rt: HostRuntime) -> Result<(), Fail> {
+    assert!(rt; first_wrong(rt.alloc(), &SIZES)? == None);
     Ok(())
 }
 
-#[test]
-fn general_sizes(rt: HostRuntime) -> Result<(), Fail> {
-    let rows = [
-        (0, Some(1)),
-        (5, Some(8)),
-        (17, Some(18)),
-        (432, Some(432)),
-        (433, None),
-        (usize::MAX, None),
-    ];
-    assert!(rt; over_general::<F433, _>(rt.alloc(), &Sizes { rows: &rows })?);
-    let few = Sizes {
-        rows: &[(3, Some(4)), (5, None)],
-    };
-    assert!(rt; over_general::<F5, _>(rt.alloc(), &few)?);
-    Ok(())
-}
-
-// The exponent of two in a size, and its root.
+/// A size, the exponent of two in it, and the root of that order.
 #[derive(Clone, Copy)]
-struct Subgroup {
-    size: usize,
-    twos: u64,
-    root: u64,
-}
+struct Subgroup(usize, u64, u64);
 
 impl Trial for Subgroup {
     fn holds<F: FftField, D: EvaluationDomain<F>>(&self, _: Global) -> Result<bool, PolyError> {
-        let domain: D = coset(self.size, 1)?;
+        let Subgroup(size, twos, root) = *self;
+        let domain: D = coset(size, 1)?;
         Ok(
-            domain.size() == self.size
-                && domain.log_size_of_group() == self.twos
-                && domain.group_gen() == F::from(self.root),
+            domain.size() == size
+                && domain.log_size_of_group() == twos
+                && domain.group_gen() == F::from(root),
         )
     }
 }
 
+const SUBGROUPS: [(Prime, Kind, Subgroup); 6] = [
+    (Prime::P433, Kind::Radix2, Subgroup(16, 4, 238)),
+    (Prime::P433, Kind::Mixed, Subgroup(16, 4, 238)),
+    (Prime::P433, Kind::Mixed, Subgroup(6, 1, 199)),
+    (Prime::P433, Kind::Mixed, Subgroup(12, 2, 64)),
+    (Prime::P433, Kind::Mixed, Subgroup(27, 0, 17)),
+    (Prime::P433, Kind::Mixed, Subgroup(432, 4, 5)),
+];
+
 #[test]
 fn subgroups(rt: HostRuntime) -> Result<(), Fail> {
-    let alloc = rt.alloc();
-    let even = Subgroup {
-        size: 16,
-        twos: 4,
-        root: 238,
-    };
-    assert!(rt; over_radix2::<F433, _>(alloc, &even)?);
-    assert!(rt; over_mixed::<F433, _>(alloc, &even)?);
-    for (size, twos, root) in [(12, 2, 64), (27, 0, 17), (432, 4, 5)] {
-        let mixed = Subgroup { size, twos, root };
-        assert!(rt; over_mixed::<F433, _>(alloc, &mixed)?, "size {size}");
-    }
+    assert!(rt; first_wrong(rt.alloc(), &SUBGROUPS)? == None);
     Ok(())
 }
 
@@ -150,10 +140,19 @@ fn is_mixed<F: FftField>(num_coeffs: usize) -> bool {
     matches!(domain, Some(GeneralEvaluationDomain::MixedRadix(_)))
 }
 
+/// The kinds of the general domains of 16 and of 18 elements.
+#[derive(Clone, Copy)]
+struct GeneralKinds;
+
+impl FieldTrial for GeneralKinds {
+    fn holds_in<F: FftField>(&self, _: Global) -> Result<bool, PolyError> {
+        Ok(kinds_differ::<F>(16)? && is_mixed::<F>(17))
+    }
+}
+
 #[test]
 fn general_kinds(rt: HostRuntime) -> Result<(), Fail> {
-    assert!(rt; kinds_differ::<F433>(16)?);
-    assert!(rt; is_mixed::<F433>(17));
+    assert!(rt; over_field(rt.alloc(), Prime::P433, &GeneralKinds)?);
     Ok(())
 }
 
@@ -228,187 +227,162 @@ impl Trial for Getters {
     }
 }
 
+const GETTERS: [(Prime, Kind, Getters); 2] = [
+    (
+        Prime::P5,
+        Kind::Radix2,
+        Getters {
+            size: 2,
+            offset: 2,
+            twos: 1,
+            size_inv: 3,
+            root: 4,
+            root_inv: 4,
+            offset_inv: 3,
+            offset_power: 4,
+            elements: [2, 3, 3],
+        },
+    ),
+    (
+        Prime::P433,
+        Kind::General,
+        Getters {
+            size: 18,
+            offset: 2,
+            twos: 1,
+            size_inv: 409,
+            root: 137,
+            root_inv: 177,
+            offset_inv: 217,
+            offset_power: 179,
+            elements: [2, 274, 37],
+        },
+    ),
+];
+
 #[test]
-fn radix2_getters(rt: HostRuntime) -> Result<(), Fail> {
-    let getters = Getters {
-        size: 2,
-        offset: 2,
-        twos: 1,
-        size_inv: 3,
-        root: 4,
-        root_inv: 4,
-        offset_inv: 3,
-        offset_power: 4,
-        elements: [2, 3, 3],
-    };
-    assert!(rt; over_radix2::<F5, _>(rt.alloc(), &getters)?);
+fn getters_of_cosets(rt: HostRuntime) -> Result<(), Fail> {
+    assert!(rt; first_wrong(rt.alloc(), &GETTERS)? == None);
     Ok(())
 }
 
-#[test]
-fn general_getters(rt: HostRuntime) -> Result<(), Fail> {
-    let getters = Getters {
-        size: 18,
-        offset: 2,
-        twos: 1,
-        size_inv: 409,
-        root: 137,
-        root_inv: 177,
-        offset_inv: 217,
-        offset_power: 179,
-        elements: [2, 274, 37],
-    };
-    assert!(rt; over_general::<F433, _>(rt.alloc(), &getters)?);
-    Ok(())
-}
-
-// Whether a coset of the first size and offset has each element of one of the second.
+/// A size and an offset, another size and offset, and whether the first coset has each element of the second.
 #[derive(Clone, Copy)]
-struct Part {
-    whole: (usize, u64),
-    part: (usize, u64),
-    contained: bool,
-}
+struct Part((usize, u64), (usize, u64), bool);
 
 impl Trial for Part {
     fn holds<F: FftField, D: EvaluationDomain<F>>(&self, _: Global) -> Result<bool, PolyError> {
-        let whole: D = coset(self.whole.0, self.whole.1)?;
-        let part = coset(self.part.0, self.part.1)?;
-        Ok(whole.contains_subdomain(&part) == self.contained)
+        let Part(whole, part, contained) = *self;
+        let whole: D = coset(whole.0, whole.1)?;
+        let part = coset(part.0, part.1)?;
+        Ok(whole.contains_subdomain(&part) == contained)
     }
 }
+
+const PARTS: [(Prime, Kind, Part); 6] = [
+    (Prime::P433, Kind::Radix2, Part((4, 1), (4, 1), true)),
+    (Prime::P433, Kind::Radix2, Part((4, 1), (2, 1), true)),
+    (Prime::P433, Kind::Radix2, Part((4, 1), (2, 179), true)),
+    (Prime::P433, Kind::Radix2, Part((4, 1), (2, 5), false)),
+    (Prime::P433, Kind::Radix2, Part((2, 1), (4, 1), false)),
+    (Prime::P433, Kind::Radix2, Part((2, 1), (2, 179), false)),
+];
 
 #[test]
 fn containment(rt: HostRuntime) -> Result<(), Fail> {
-    for (whole, part, contained) in [
-        ((4, 1), (4, 1), true),
-        ((4, 1), (2, 1), true),
-        ((4, 1), (2, 179), true),
-        ((4, 1), (2, 5), false),
-        ((2, 1), (4, 1), false),
-        ((2, 1), (2, 179), false),
-    ] {
-        let row = Part {
-            whole,
-            part,
-            contained,
-        };
-        assert!(rt;
-            over_radix2::<F433, _>(rt.alloc(), &row)?,
-            "{part:?} in {whole:?}"
-        );
-    }
+    assert!(rt; first_wrong(rt.alloc(), &PARTS)? == None);
     Ok(())
 }
 
-// A clone of a coset is the coset and has its elements.
+/// A clone of a coset of this size is the coset and has its elements.
 #[derive(Clone, Copy)]
-struct Copied {
-    size: usize,
-}
+struct Copied(usize);
 
 impl Trial for Copied {
     fn holds<F: FftField, D: EvaluationDomain<F>>(&self, alloc: Global) -> Result<bool, PolyError> {
-        let domain: D = coset(self.size, 2)?;
+        let domain: D = coset(self.0, 2)?;
         let copy = domain.clone()?;
         Ok(copy == domain && listed(alloc, &copy)? == listed(alloc, &domain)?)
     }
 }
 
+const COPIED: [(Prime, Kind, Copied); 4] = [
+    (Prime::P433, Kind::Radix2, Copied(16)),
+    (Prime::P433, Kind::Mixed, Copied(18)),
+    (Prime::P433, Kind::General, Copied(16)),
+    (Prime::P433, Kind::General, Copied(18)),
+];
+
 #[test]
 fn clones(rt: HostRuntime) -> Result<(), Fail> {
-    let alloc = rt.alloc();
-    let (even, mixed) = (Copied { size: 16 }, Copied { size: 18 });
-    assert!(rt; over_radix2::<F433, _>(alloc, &even)?);
-    assert!(rt; over_mixed::<F433, _>(alloc, &mixed)?);
-    assert!(rt; over_general::<F433, _>(alloc, &even)?);
-    assert!(rt; over_general::<F433, _>(alloc, &mixed)?);
+    assert!(rt; first_wrong(rt.alloc(), &COPIED)? == None);
     Ok(())
 }
 
-// How `Debug` writes the coset with the offset five of the domain for so many coefficients.
+/// How `Debug` writes the coset with the offset five of the domain for so many coefficients.
 #[derive(Clone, Copy)]
-struct Text<'a> {
-    num_coeffs: usize,
-    text: &'a str,
-}
+struct Text<'a>(usize, &'a str);
 
 impl Trial for Text<'_> {
     fn holds<F: FftField, D: EvaluationDomain<F>>(&self, alloc: Global) -> Result<bool, PolyError> {
-        let domain: D = coset(self.num_coeffs, 5)?;
+        let domain: D = coset(self.0, 5)?;
         let text = format!(in alloc; "{domain:?}")?;
-        Ok(text.as_str() == self.text)
+        Ok(text.as_str() == self.1)
     }
 }
 
+const TEXTS: [(Prime, Kind, Text<'static>); 4] = [
+    (
+        Prime::P433,
+        Kind::Radix2,
+        Text(9, "Radix-2 multiplicative subgroup of size 16"),
+    ),
+    (
+        Prime::P433,
+        Kind::Mixed,
+        Text(9, "Mixed-radix multiplicative subgroup of size 9"),
+    ),
+    (
+        Prime::P433,
+        Kind::General,
+        Text(9, "Radix2(Radix-2 multiplicative subgroup of size 16)"),
+    ),
+    (
+        Prime::P433,
+        Kind::General,
+        Text(
+            17,
+            "MixedRadix(Mixed-radix multiplicative subgroup of size 18)",
+        ),
+    ),
+];
+
 #[test]
 fn texts(rt: HostRuntime) -> Result<(), Fail> {
-    let alloc = rt.alloc();
-    let text = "Radix-2 multiplicative subgroup of size 16";
-    assert!(rt;
-        over_radix2::<F433, _>(
-            alloc,
-            &Text {
-                num_coeffs: 9,
-                text
-            }
-        )?
-    );
-    let text = "Mixed-radix multiplicative subgroup of size 9";
-    assert!(rt;
-        over_mixed::<F433, _>(
-            alloc,
-            &Text {
-                num_coeffs: 9,
-                text
-            }
-        )?
-    );
-    let text = "Radix2(Radix-2 multiplicative subgroup of size 16)";
-    assert!(rt;
-        over_general::<F433, _>(
-            alloc,
-            &Text {
-                num_coeffs: 9,
-                text
-            }
-        )?
-    );
-    let text = "MixedRadix(Mixed-radix multiplicative subgroup of size 18)";
-    assert!(rt;
-        over_general::<F433, _>(
-            alloc,
-            &Text {
-                num_coeffs: 17,
-                text
-            }
-        )?
-    );
+    assert!(rt; first_wrong(rt.alloc(), &TEXTS)? == None);
     Ok(())
 }
 
-// No draw gives none; with draws each sample is outside the coset, and another than the last one.
-#[derive(Clone, Copy)]
-struct Samples {
-    size: usize,
-    offset: u64,
-    count: usize,
+// Whether the point is no element of the coset, by its polynomial and by the list of its elements.
+fn is_outside<F: FftField, D: EvaluationDomain<F>>(domain: &D, elements: &[F], point: F) -> bool {
+    !domain.evaluate_vanishing_polynomial(point).is_zero() && !elements.contains(&point)
 }
+
+/// No draw gives none; with draws each of a hundred samples is outside the coset, and another than the last one.
+#[derive(Clone, Copy)]
+struct Samples;
 
 impl Trial for Samples {
     fn holds<F: FftField, D: EvaluationDomain<F>>(&self, alloc: Global) -> Result<bool, PolyError> {
         let mut rng = Pcg64::new(7, 11);
-        let domain: D = coset(self.size, self.offset)?;
+        let domain: D = coset(1024, 5)?;
         let elements = listed(alloc, &domain)?;
         let mut last = domain.sample_element_outside_domain(&mut rng, 0);
         let mut right = last == None;
-        for _ in 0..self.count {
+        for _ in 0..100 {
             let sample = domain.sample_element_outside_domain(&mut rng, 64);
             let point = sample.ok_or(PolyError::NoDomain)?;
-            right = right
-                && !domain.evaluate_vanishing_polynomial(point).is_zero()
-                && !elements.contains(&point)
-                && sample != last;
+            right = right && is_outside(&domain, &elements, point) && sample != last;
             last = sample;
         }
         Ok(right)
@@ -417,64 +391,49 @@ impl Trial for Samples {
 
 #[test]
 fn samples_outside(rt: HostRuntime) -> Result<(), Fail> {
-    let samples = Samples {
-        size: 1024,
-        offset: 5,
-        count: 100,
-    };
-    assert!(rt; over_radix2::<F65537, _>(rt.alloc(), &samples)?);
+    assert!(rt; over(rt.alloc(), Prime::P65537, Kind::Radix2, &Samples)?);
     Ok(())
 }
 
-// Whether the sample with this seed outside the subgroup of four is zero.
+/// Samples outside the subgroup of four, with several seeds, are zero where that alone is outside.
 #[derive(Clone, Copy)]
-struct ZeroSample {
-    seed: u64,
-}
+struct ZeroSamples;
 
-impl Trial for ZeroSample {
+impl Trial for ZeroSamples {
     fn holds<F: FftField, D: EvaluationDomain<F>>(&self, _: Global) -> Result<bool, PolyError> {
         let domain: D = coset(4, 1)?;
-        let sample = domain.sample_element_outside_domain(
-            &mut Pcg64::new(self.seed as u128, 5),
-            1000,
-        );
-        Ok(sample == Some(F::zero()))
+        let mut right = true;
+        for seed in 0..64_u64 {
+            let mut rng = Pcg64::new(seed as u128, 5);
+            let sample = domain.sample_element_outside_domain(&mut rng, 1000);
+            right = right && sample == Some(F::zero());
+        }
+        Ok(right)
     }
 }
 
 // Four of the five elements are in the domain, so many first draws are.
 #[test]
 fn samples_after_draws_inside(rt: HostRuntime) -> Result<(), Fail> {
-    for seed in 0..64 {
-        assert!(rt;
-            over_radix2::<F5, _>(rt.alloc(), &ZeroSample { seed })?,
-            "seed {seed}"
-        );
-    }
+    assert!(rt; over(rt.alloc(), Prime::P5, Kind::Radix2, &ZeroSamples)?);
     Ok(())
 }
 
-// A generator that is drawn from again with the same seed gives the same point.
+/// A generator that is drawn from again with the same seed gives the same point.
 #[derive(Clone, Copy)]
-struct SameSeed {
-    seed: u64,
-}
+struct SameSeed;
 
 impl Trial for SameSeed {
     fn holds<F: FftField, D: EvaluationDomain<F>>(&self, _: Global) -> Result<bool, PolyError> {
         let domain: D = coset(1024, 5)?;
-        let first = domain.sample_element_outside_domain(&mut Pcg64::new(self.seed as u128, 5), 64);
-        let second = domain.sample_element_outside_domain(
-            &mut Pcg64::new(self.seed as u128, 5),
-            64,
-        );
+        let first = domain.sample_element_outside_domain(&mut Pcg64::new(3, 5), 64);
+        let second = domain.sample_element_outside_domain(&mut Pcg64::new(3, 5), 64);
         Ok(first == second)
     }
 }
 
 #[test]
 fn samples_of_one_seed(rt: HostRuntime) -> Result<(), Fail> {
-    assert!(rt; over_radix2::<F65537, _>(rt.alloc(), &SameSeed { seed: 3 })?);
+    assert!(rt; over(rt.alloc(), Prime::P65537, Kind::Radix2, &SameSeed)?);
     Ok(())
 }

@@ -1,12 +1,11 @@
 // Transforms of every kind and at every size that a field with a base has.
 
-use ark_base::{F433, FftField, Field, One, PolyError, Zero};
+use ark_base::{FftField, Field, One, PolyError, Zero};
 use ark_poly::{EvaluationDomain, GeneralEvaluationDomain, MixedRadixEvaluationDomain};
 use ark_test_types::four::Four;
-use ark_trials::calls::{coset, elements, fft};
+use ark_trials::calls::coset;
 use ark_trials::plain::agrees;
-use ark_trials::trials::{Trial, over_general, over_mixed};
-use rand_core::Rng;
+use ark_trials::trials::{FieldTrial, Kind, Prime, Trial, over, over_field};
 use rand_pcg::Pcg64;
 use std::alloc::Global;
 use std::test::Fail;
@@ -14,34 +13,6 @@ use std::test::Fail;
 const SIZES: [usize; 20] = [
     1, 2, 3, 4, 6, 8, 9, 12, 16, 18, 24, 27, 36, 48, 54, 72, 108, 144, 216, 432,
 ];
-
-/// Six elements for five coefficients, as powers of this root.
-#[derive(Clone, Copy)]
-struct Six<'a> {
-    root: u64,
-    powers: &'a [u64],
-}
-
-impl Trial for Six<'_> {
-    fn holds<F: FftField, D: EvaluationDomain<F>>(&self, alloc: Global) -> Result<bool, PolyError> {
-        let domain: D = coset(5, 1)?;
-        Ok(
-            domain.size() == 6
-                && domain.group_gen() == F::from(self.root)
-                && fft(alloc, &domain, &[0, 1])? == elements(alloc, self.powers)?,
-        )
-    }
-}
-
-#[test]
-fn six_elements(rt: HostRuntime) -> Result<(), Fail> {
-    let six = Six {
-        root: 199,
-        powers: &[1, 199, 198, 432, 234, 235],
-    };
-    assert!(rt; over_mixed::<F433, _>(rt.alloc(), &six)?);
-    Ok(())
-}
 
 // Whether the transforms over a subgroup and one coset of it are the plain sums.
 fn both_agree<F: FftField, D: EvaluationDomain<F>>(
@@ -53,48 +24,54 @@ fn both_agree<F: FftField, D: EvaluationDomain<F>>(
     Ok(agrees(alloc, rng, &subgroup)? && agrees(alloc, rng, &coset)?)
 }
 
-/// Plain sums over the domain for so many coefficients, for lists drawn by this seed.
+/// Plain sums over the domain of each size, for lists drawn by this seed.
 #[derive(Clone, Copy)]
-struct PlainSums {
-    num_coeffs: usize,
-    seed: u64,
-}
+struct PlainSums(u128);
 
 impl Trial for PlainSums {
     fn holds<F: FftField, D: EvaluationDomain<F>>(&self, alloc: Global) -> Result<bool, PolyError> {
-        let domain: D = coset(self.num_coeffs, 1)?;
-        both_agree(alloc, &mut Pcg64::new(u128::from(self.seed), 3), domain)
+        let mut rng = Pcg64::new(self.0, 3);
+        let mut right = true;
+        for size in SIZES {
+            let domain: D = coset(size, 1)?;
+            right = right && domain.size() == size && both_agree(alloc, &mut rng, domain)?;
+        }
+        Ok(right)
     }
-}
-
-// Whether the sums are plain over the mixed domain of exactly this size as a general one.
-fn mixed_agrees<F: FftField>(
-    alloc: Global,
-    rng: &mut Pcg64,
-    size: usize,
-) -> Result<bool, PolyError> {
-    let mixed: MixedRadixEvaluationDomain<F> = coset(size, 1)?;
-    Ok(mixed.size() == size && both_agree(alloc, rng, GeneralEvaluationDomain::MixedRadix(mixed))?)
 }
 
 #[test]
-fn plain_sums_at_every_size(rt: HostRuntime) -> Result<(), Fail> {
-    let mut rng = Pcg64::new(2, 3);
-    for num_coeffs in SIZES {
-        let seed = rng.next_u64();
-        assert!(rt; over_mixed::<F433, _>(rt.alloc(), &PlainSums { num_coeffs, seed })?);
-        assert!(rt; mixed_agrees::<F433>(rt.alloc(), &mut rng, num_coeffs)?);
-    }
+fn plain_sums_over_mixed_domains(rt: HostRuntime) -> Result<(), Fail> {
+    assert!(rt; over(rt.alloc(), Prime::P433, Kind::Mixed, &PlainSums(2))?);
     Ok(())
 }
 
 #[test]
 fn plain_sums_over_general_domains(rt: HostRuntime) -> Result<(), Fail> {
-    let mut rng = Pcg64::new(5, 3);
-    for num_coeffs in SIZES {
-        let seed = rng.next_u64();
-        assert!(rt; over_general::<F433, _>(rt.alloc(), &PlainSums { num_coeffs, seed })?);
+    assert!(rt; over(rt.alloc(), Prime::P433, Kind::General, &PlainSums(5))?);
+    Ok(())
+}
+
+/// Plain sums over the mixed domain of each size as a general one.
+#[derive(Clone, Copy)]
+struct MixedAsGeneral;
+
+impl FieldTrial for MixedAsGeneral {
+    fn holds_in<F: FftField>(&self, alloc: Global) -> Result<bool, PolyError> {
+        let mut rng = Pcg64::new(2, 3);
+        let mut right = true;
+        for size in SIZES {
+            let mixed: MixedRadixEvaluationDomain<F> = coset(size, 1)?;
+            let general = GeneralEvaluationDomain::MixedRadix(mixed);
+            right = right && both_agree(alloc, &mut rng, general)?;
+        }
+        Ok(right)
     }
+}
+
+#[test]
+fn mixed_domains_as_general_ones(rt: HostRuntime) -> Result<(), Fail> {
+    assert!(rt; over_field(rt.alloc(), Prime::P433, &MixedAsGeneral)?);
     Ok(())
 }
 

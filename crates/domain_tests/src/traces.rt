@@ -35,26 +35,18 @@ fn has_at_most<F: Numbered>(most: usize, answers: &[Traced<F>]) -> bool {
     }
 }
 
-// Whether that is so of a transform of this many items.
-fn forward_takes<F: FftField + Numbered, D: EvaluationDomain<F>>(
+// Whether that is so of the values of this many items over the coset, and of the coefficients of as many values.
+fn takes_at_most<F: FftField + Numbered, D: EvaluationDomain<F>>(
     alloc: Global,
     domain: &D,
     count: u64,
-    most: usize,
+    most: (usize, usize),
 ) -> Result<bool, PolyError> {
     let items = items::<F>(alloc, count)?;
-    Ok(has_at_most(most, &domain.fft(alloc, &items)?))
-}
-
-// Whether it is of the inverse.
-fn inverse_takes<F: FftField + Numbered, D: EvaluationDomain<F>>(
-    alloc: Global,
-    domain: &D,
-    count: u64,
-    most: usize,
-) -> Result<bool, PolyError> {
-    let items = items::<F>(alloc, count)?;
-    Ok(has_at_most(most, &domain.ifft(alloc, &items)?))
+    Ok(
+        has_at_most(most.0, &domain.fft(alloc, &items)?)
+            && has_at_most(most.1, &domain.ifft(alloc, &items)?),
+    )
 }
 
 // Whether plain sums give the transform's values by more products than a set can hold.
@@ -69,47 +61,39 @@ fn plain_sums_take_more<F: FftField + Numbered, D: EvaluationDomain<F>>(
     Ok(values == list && behind(&list).is_none())
 }
 
-// Whether a domain of 64 elements takes so few products.
-fn sixty_four_take<F: FftField + Numbered, D: EvaluationDomain<F>>(
-    alloc: Global,
-    domain: &D,
-) -> Result<bool, PolyError> {
-    Ok(
-        forward_takes(alloc, domain, 64, 256)?
-            && inverse_takes(alloc, domain, 64, 256)?
-            && forward_takes(alloc, domain, 16, 192)?,
-    )
+// So few products are taken over 64 elements, by the subgroup and by a coset.
+fn radix2_takes<F: FftField + Numbered>(alloc: Global) -> Result<bool, PolyError> {
+    let mut right = true;
+    for offset in [1, 3] {
+        let domain: Radix2EvaluationDomain<F> = coset(64, offset)?;
+        right = right
+            && takes_at_most(alloc, &domain, 64, (256, 256))?
+            && takes_at_most(alloc, &domain, 16, (192, 256))?;
+    }
+    Ok(right)
 }
 
-// Whether the subgroup and a coset do. So many as plain sums take do not go unseen.
-fn radix2_takes<F: FftField + Numbered>(alloc: Global) -> Result<bool, PolyError> {
-    let subgroup: Radix2EvaluationDomain<F> = coset(64, 1)?;
-    let coset = subgroup.get_coset(F::GENERATOR).ok_or(PolyError::NoDomain)?;
-    Ok(
-        sixty_four_take(alloc, &subgroup)?
-            && sixty_four_take(alloc, &coset)?
-            && plain_sums_take_more(alloc, &subgroup, 64)?,
-    )
+// So many as plain sums take do not go unseen.
+fn plain_sums_are_seen<F: FftField + Numbered>(alloc: Global) -> Result<bool, PolyError> {
+    let domain: Radix2EvaluationDomain<F> = coset(64, 1)?;
+    plain_sums_take_more(alloc, &domain, 64)
 }
 
 #[test]
 fn products_behind_the_answers(rt: HostRuntime) -> Result<(), Fail> {
     assert!(rt; radix2_takes::<F65537>(rt.alloc())?);
+    assert!(rt; plain_sums_are_seen::<F65537>(rt.alloc())?);
     Ok(())
 }
 
-// Whether a domain of 27 elements does.
-fn twenty_seven_take<F: FftField + Numbered, D: EvaluationDomain<F>>(
-    alloc: Global,
-    domain: &D,
-) -> Result<bool, PolyError> {
-    Ok(forward_takes(alloc, domain, 27, 243)? && inverse_takes(alloc, domain, 27, 243)?)
-}
-
+// And over 27 elements.
 fn mixed_takes<F: FftField + Numbered>(alloc: Global) -> Result<bool, PolyError> {
-    let subgroup: MixedRadixEvaluationDomain<F> = coset(27, 1)?;
-    let coset = subgroup.get_coset(F::GENERATOR).ok_or(PolyError::NoDomain)?;
-    Ok(twenty_seven_take(alloc, &subgroup)? && twenty_seven_take(alloc, &coset)?)
+    let mut right = true;
+    for offset in [1, 5] {
+        let domain: MixedRadixEvaluationDomain<F> = coset(27, offset)?;
+        right = right && takes_at_most(alloc, &domain, 27, (243, 243))?;
+    }
+    Ok(right)
 }
 
 #[test]

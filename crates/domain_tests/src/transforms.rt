@@ -1,131 +1,101 @@
-use ark_base::{DomainCoeff, F5, F433, F65537, FftField, Field, Lanes, PolyError, Work};
+use ark_base::{DomainCoeff, FftField, Field, Lanes, PolyError, Work};
 use ark_fft::domain::radix2::fft::powers;
 use ark_poly::{EvaluationDomain, Radix2EvaluationDomain};
 use ark_test_types::nothing::Nothing;
-use ark_trials::calls::{coset, elements, fft, ifft};
+use ark_trials::calls::{coset, elements, fft, has_numbers, ifft};
 use ark_trials::plain::{agrees, drawn, forward, has_plain_sums, inverse};
-use ark_trials::trials::{Trial, over_radix2};
+use ark_trials::trials::{FieldTrial, Kind, Prime, Trial, first_wrong, over, over_field};
 use rand_core::Rng;
 use rand_pcg::Pcg64;
-use std::alloc::Global;
+use std::alloc::{AllocError, Global};
 use std::test::Fail;
 
-// A size, an offset, coefficients and their values.
-const FORWARD: [(usize, u64, &[u64], &[u64]); 6] = [
-    (4, 1, &[1, 2, 3, 4], &[0, 4, 3, 2]),
-    (2, 2, &[1, 1], &[3, 4]),
-    (4, 1, &[1, 0, 0, 0, 1], &[1, 1, 1, 1]),
-    (3, 1, &[1], &[1, 1, 1, 1]),
-    (1, 1, &[3, 1], &[3]),
-    (4, 1, &[], &[0, 0, 0, 0]),
-];
-
-// A size, an offset, values and their coefficients.
-const BACK: [(usize, u64, &[u64], &[u64]); 3] = [
-    (4, 1, &[1, 2, 3, 4], &[0, 3, 2, 1]),
-    (2, 2, &[3, 4], &[1, 1]),
-    (1, 1, &[3], &[3]),
-];
-
-/// Coefficients that have these values over a coset.
+/// A size, an offset, coefficients and their values over that coset.
 #[derive(Clone, Copy)]
-struct Forward<'a> {
-    size: usize,
-    offset: u64,
-    coeffs: &'a [u64],
-    values: &'a [u64],
-}
+struct Forward<'a>(usize, u64, &'a [u64], &'a [u64]);
 
 impl Trial for Forward<'_> {
     fn holds<F: FftField, D: EvaluationDomain<F>>(&self, alloc: Global) -> Result<bool, PolyError> {
-        let domain: D = coset(self.size, self.offset)?;
-        Ok(fft(alloc, &domain, self.coeffs)? == elements(alloc, self.values)?)
+        let Forward(size, offset, coeffs, values) = *self;
+        let domain: D = coset(size, offset)?;
+        Ok(has_numbers(&fft(alloc, &domain, coeffs)?, values))
     }
 }
 
-/// Values that have these coefficients.
-#[derive(Clone, Copy)]
-struct Back<'a> {
-    size: usize,
-    offset: u64,
-    values: &'a [u64],
-    coeffs: &'a [u64],
-}
-
-impl Trial for Back<'_> {
-    fn holds<F: FftField, D: EvaluationDomain<F>>(&self, alloc: Global) -> Result<bool, PolyError> {
-        let domain: D = coset(self.size, self.offset)?;
-        Ok(ifft(alloc, &domain, self.values)? == elements(alloc, self.coeffs)?)
-    }
-}
+const FORWARD: [(Prime, Kind, Forward<'static>); 8] = [
+    (
+        Prime::P5,
+        Kind::Radix2,
+        Forward(4, 1, &[1, 2, 3, 4], &[0, 4, 3, 2]),
+    ),
+    (Prime::P5, Kind::Radix2, Forward(2, 2, &[1, 1], &[3, 4])),
+    (
+        Prime::P5,
+        Kind::Radix2,
+        Forward(4, 1, &[1, 0, 0, 0, 1], &[1, 1, 1, 1]),
+    ),
+    (Prime::P5, Kind::Radix2, Forward(3, 1, &[1], &[1, 1, 1, 1])),
+    (Prime::P5, Kind::Radix2, Forward(1, 1, &[3, 1], &[3])),
+    (Prime::P5, Kind::Radix2, Forward(4, 1, &[], &[0, 0, 0, 0])),
+    (
+        Prime::P433,
+        Kind::Radix2,
+        Forward(4, 1, &[1, 2, 3, 4], &[10, 73, 431, 356]),
+    ),
+    // Six elements for five coefficients.
+    (
+        Prime::P433,
+        Kind::Mixed,
+        Forward(5, 1, &[0, 1], &[1, 199, 198, 432, 234, 235]),
+    ),
+];
 
 #[test]
 fn forward_rows(rt: HostRuntime) -> Result<(), Fail> {
-    for (size, offset, coeffs, values) in FORWARD {
-        let row = Forward {
-            size,
-            offset,
-            coeffs,
-            values,
-        };
-        assert!(rt; over_radix2::<F5, _>(rt.alloc(), &row)?);
-    }
+    assert!(rt; first_wrong(rt.alloc(), &FORWARD)? == None);
     Ok(())
 }
+
+/// A size, an offset, values over that coset and their coefficients.
+#[derive(Clone, Copy)]
+struct Back<'a>(usize, u64, &'a [u64], &'a [u64]);
+
+impl Trial for Back<'_> {
+    fn holds<F: FftField, D: EvaluationDomain<F>>(&self, alloc: Global) -> Result<bool, PolyError> {
+        let Back(size, offset, values, coeffs) = *self;
+        let domain: D = coset(size, offset)?;
+        Ok(has_numbers(&ifft(alloc, &domain, values)?, coeffs))
+    }
+}
+
+const BACK: [(Prime, Kind, Back<'static>); 4] = [
+    (
+        Prime::P5,
+        Kind::Radix2,
+        Back(4, 1, &[1, 2, 3, 4], &[0, 3, 2, 1]),
+    ),
+    (Prime::P5, Kind::Radix2, Back(2, 2, &[3, 4], &[1, 1])),
+    (Prime::P5, Kind::Radix2, Back(1, 1, &[3], &[3])),
+    (
+        Prime::P433,
+        Kind::Radix2,
+        Back(4, 1, &[10, 73, 431, 356], &[1, 2, 3, 4]),
+    ),
+];
 
 #[test]
 fn inverse_rows(rt: HostRuntime) -> Result<(), Fail> {
-    for (size, offset, values, coeffs) in BACK {
-        let row = Back {
-            size,
-            offset,
-            values,
-            coeffs,
-        };
-        assert!(rt; over_radix2::<F5, _>(rt.alloc(), &row)?);
-    }
+    assert!(rt; first_wrong(rt.alloc(), &BACK)? == None);
     Ok(())
 }
 
-#[test]
-fn rows_of_the_mixed_field(rt: HostRuntime) -> Result<(), Fail> {
-    let (coeffs, values): (&[u64], &[u64]) = (&[1, 2, 3, 4], &[10, 73, 431, 356]);
-    let (size, offset) = (4, 1);
-    assert!(rt;
-        over_radix2::<F433, _>(
-            rt.alloc(),
-            &Forward {
-                size,
-                offset,
-                coeffs,
-                values
-            }
-        )?
-    );
-    assert!(rt;
-        over_radix2::<F433, _>(
-            rt.alloc(),
-            &Back {
-                size,
-                offset,
-                values,
-                coeffs
-            }
-        )?
-    );
-    Ok(())
-}
-
-/// Plain sums of lists shorter and longer than a coset's size.
+/// A size and an offset: plain sums over that coset of lists shorter and longer than the size.
 #[derive(Clone, Copy)]
-struct EveryLength {
-    size: usize,
-    offset: u64,
-}
+struct EveryLength(usize, u64);
 
 impl Trial for EveryLength {
     fn holds<F: FftField, D: EvaluationDomain<F>>(&self, alloc: Global) -> Result<bool, PolyError> {
-        let domain: D = coset(self.size, self.offset)?;
+        let domain: D = coset(self.0, self.1)?;
         let mut right = true;
         let mut coeffs = Vec::new(alloc);
         for i in 0..20 {
@@ -137,13 +107,22 @@ impl Trial for EveryLength {
 }
 
 // Every size of the field, and two offsets.
+const EVERY_LENGTH: [(Prime, Kind, EveryLength); 10] = [
+    (Prime::P433, Kind::Radix2, EveryLength(1, 1)),
+    (Prime::P433, Kind::Radix2, EveryLength(1, 5)),
+    (Prime::P433, Kind::Radix2, EveryLength(2, 1)),
+    (Prime::P433, Kind::Radix2, EveryLength(2, 5)),
+    (Prime::P433, Kind::Radix2, EveryLength(4, 1)),
+    (Prime::P433, Kind::Radix2, EveryLength(4, 5)),
+    (Prime::P433, Kind::Radix2, EveryLength(8, 1)),
+    (Prime::P433, Kind::Radix2, EveryLength(8, 5)),
+    (Prime::P433, Kind::Radix2, EveryLength(16, 1)),
+    (Prime::P433, Kind::Radix2, EveryLength(16, 5)),
+];
+
 #[test]
 fn plain_sums_at_every_length(rt: HostRuntime) -> Result<(), Fail> {
-    for size in [1, 2, 4, 8, 16] {
-        for offset in [1, 5] {
-            assert!(rt; over_radix2::<F433, _>(rt.alloc(), &EveryLength { size, offset })?);
-        }
-    }
+    assert!(rt; first_wrong(rt.alloc(), &EVERY_LENGTH)? == None);
     Ok(())
 }
 
@@ -162,54 +141,64 @@ fn has_passes<F: FftField, D: EvaluationDomain<F>>(
     Ok(same && passed == coeffs)
 }
 
-/// Both plain bodies over a coset, for lists drawn by this seed.
-#[derive(Clone, Copy)]
-struct PlainBodies {
+// Whether both plain bodies agree over the coset.
+fn has_bodies<F: FftField, D: EvaluationDomain<F>>(
+    alloc: Global,
+    rng: &mut Pcg64,
     size: usize,
     offset: u64,
-    seed: u64,
+) -> Result<bool, PolyError> {
+    let domain: D = coset(size, offset)?;
+    Ok(has_passes(alloc, rng, &domain)? && agrees(alloc, rng, &domain)?)
 }
+
+/// Both plain bodies at each size up to 1024, over the subgroup and a drawn coset.
+#[derive(Clone, Copy)]
+struct PlainBodies;
 
 impl Trial for PlainBodies {
     fn holds<F: FftField, D: EvaluationDomain<F>>(&self, alloc: Global) -> Result<bool, PolyError> {
-        let domain: D = coset(self.size, self.offset)?;
-        let mut rng = Pcg64::new(u128::from(self.seed), 11);
-        Ok(has_passes(alloc, &mut rng, &domain)? && agrees(alloc, &mut rng, &domain)?)
+        let mut rng = Pcg64::new(7, 11);
+        let mut right = true;
+        for size in [1, 2, 4, 8, 16, 32, 64, 128, 256, 512, 1024] {
+            let offset = rng.next_u64() % 65536 + 1;
+            right = right
+                && has_bodies::<F, D>(alloc, &mut rng, size, 1)?
+                && has_bodies::<F, D>(alloc, &mut rng, size, offset)?;
+        }
+        Ok(right)
     }
 }
 
 #[test]
 fn plain_bodies_agree(rt: HostRuntime) -> Result<(), Fail> {
-    let mut rng = Pcg64::new(7, 11);
-    for size in [1, 2, 4, 8, 16, 32, 64, 128, 256, 512, 1024] {
-        for offset in [1, rng.next_u64() % 65536 + 1] {
-            let seed = rng.next_u64();
-            assert!(rt; over_radix2::<F65537, _>(rt.alloc(), &PlainBodies { size, offset, seed })?);
-        }
-    }
+    assert!(rt; over(rt.alloc(), Prime::P65537, Kind::Radix2, &PlainBodies)?);
     Ok(())
 }
 
 /// A list of so many items of no size.
 #[derive(Clone, Copy)]
-struct Nothings {
-    len: usize,
-}
+struct Nothings(usize);
 
 impl Trial for Nothings {
     fn holds<F: FftField, D: EvaluationDomain<F>>(&self, alloc: Global) -> Result<bool, PolyError> {
         let domain: D = coset(4, 1)?;
         let mut items = Vec::new(alloc);
-        items.resize(self.len, Nothing)?;
+        items.resize(self.0, Nothing)?;
         Ok(domain.fft(alloc, &items)?.len() == 4 && domain.ifft(alloc, &items)?.len() == 4)
     }
 }
 
+const NOTHINGS: [(Prime, Kind, Nothings); 4] = [
+    (Prime::P5, Kind::Radix2, Nothings(0)),
+    (Prime::P5, Kind::Radix2, Nothings(1)),
+    (Prime::P5, Kind::Radix2, Nothings(4)),
+    (Prime::P5, Kind::Radix2, Nothings(70000)),
+];
+
 #[test]
 fn lists_of_no_size(rt: HostRuntime) -> Result<(), Fail> {
-    for len in [0, 1, 4, 70000] {
-        assert!(rt; over_radix2::<F5, _>(rt.alloc(), &Nothings { len })?);
-    }
+    assert!(rt; first_wrong(rt.alloc(), &NOTHINGS)? == None);
     Ok(())
 }
 
@@ -255,49 +244,97 @@ pub fn radix2_goes<F: FftField, T: DomainCoeff<F>>(
     )
 }
 
+/// All calls of these coefficients and values.
+#[derive(Clone, Copy)]
+struct Calls<'a>(&'a [u64], &'a [u64]);
+
+impl FieldTrial for Calls<'_> {
+    fn holds_in<F: FftField>(&self, alloc: Global) -> Result<bool, PolyError> {
+        let coeffs = elements::<F>(alloc, self.0)?;
+        let values = elements::<F>(alloc, self.1)?;
+        radix2_goes::<F, F>(alloc, &coeffs, &values)
+    }
+}
+
 #[test]
 fn calls_in_place(rt: HostRuntime) -> Result<(), Fail> {
-    let coeffs = [1, 2, 3, 4].map(F5::from);
-    let values = [0, 4, 3, 2].map(F5::from);
-    assert!(rt; radix2_goes::<F5, F5>(rt.alloc(), &coeffs, &values)?);
+    let calls = Calls(&[1, 2, 3, 4], &[0, 4, 3, 2]);
+    assert!(rt; over_field(rt.alloc(), Prime::P5, &calls)?);
     Ok(())
 }
 
-fn lanes(first: u64, second: u64) -> Lanes<F5> {
-    Lanes::new(F5::from(first), F5::from(second))
+fn lanes<F: Field>(first: u64, second: u64) -> Lanes<F> {
+    Lanes::new(F::from(first), F::from(second))
 }
 
-// A module of pairs transforms lane by lane.
+// The pairs of these numbers.
+fn listed_lanes<F: Field>(
+    alloc: Global,
+    numbers: &[(u64, u64)],
+) -> Result<Vec<Lanes<F>>, AllocError> {
+    let mut list = Vec::with_capacity(alloc, numbers.len())?;
+    for (first, second) in numbers {
+        list.push(lanes(*first, *second))?;
+    }
+    Ok(list)
+}
+
+/// A module of pairs transforms lane by lane.
+#[derive(Clone, Copy)]
+struct LaneByLane;
+
+impl FieldTrial for LaneByLane {
+    fn holds_in<F: FftField>(&self, alloc: Global) -> Result<bool, PolyError> {
+        let coeffs = listed_lanes::<F>(alloc, &[(1, 2), (3, 4)])?;
+        let values = listed_lanes::<F>(alloc, &[(4, 1), (3, 3)])?;
+        radix2_goes::<F, Lanes<F>>(alloc, &coeffs, &values)
+    }
+}
+
 #[test]
 fn transforms_of_lanes(rt: HostRuntime) -> Result<(), Fail> {
-    let (coeffs, values) = ([lanes(1, 2), lanes(3, 4)], [lanes(4, 1), lanes(3, 3)]);
-    assert!(rt; radix2_goes::<F5, Lanes<F5>>(rt.alloc(), &coeffs, &values)?);
+    assert!(rt; over_field(rt.alloc(), Prime::P5, &LaneByLane)?);
     Ok(())
 }
 
-// Whether drawn items come back from their transform over a coset, and from its inverse.
-fn composes<F: FftField, T: DomainCoeff<F>>(
+// So many pairs of a generator.
+fn drawn_lanes<F: Field>(
     alloc: Global,
-    coeffs: &[T],
-    offset: u64,
-) -> Result<bool, PolyError> {
-    let domain: Radix2EvaluationDomain<F> = coset(coeffs.len(), offset)?;
-    let values = domain.fft(alloc, coeffs)?;
-    goes_both_ways(alloc, &domain, coeffs, &values)
+    rng: &mut Pcg64,
+    len: usize,
+) -> Result<Vec<Lanes<F>>, AllocError> {
+    let mut list = Vec::with_capacity(alloc, len)?;
+    for _ in 0..len {
+        list.push(lanes(rng.next_u64(), rng.next_u64()))?;
+    }
+    Ok(list)
 }
+
+/// A size and an offset: drawn pairs come back from their transform over that coset, and from its inverse.
+#[derive(Clone, Copy)]
+struct DrawnLanes(usize, u64);
+
+impl Trial for DrawnLanes {
+    fn holds<F: FftField, D: EvaluationDomain<F>>(&self, alloc: Global) -> Result<bool, PolyError> {
+        let domain: D = coset(self.0, self.1)?;
+        let coeffs = drawn_lanes::<F>(alloc, &mut Pcg64::new(17, 5), self.0)?;
+        let values = domain.fft(alloc, &coeffs)?;
+        goes_both_ways(alloc, &domain, &coeffs, &values)
+    }
+}
+
+const DRAWN_LANES: [(Prime, Kind, DrawnLanes); 6] = [
+    (Prime::P65537, Kind::Radix2, DrawnLanes(1, 1)),
+    (Prime::P65537, Kind::Radix2, DrawnLanes(1, 3)),
+    (Prime::P65537, Kind::Radix2, DrawnLanes(2, 1)),
+    (Prime::P65537, Kind::Radix2, DrawnLanes(2, 3)),
+    (Prime::P65537, Kind::Radix2, DrawnLanes(64, 1)),
+    (Prime::P65537, Kind::Radix2, DrawnLanes(64, 3)),
+];
 
 #[test]
 fn drawn_lanes_come_back(rt: HostRuntime) -> Result<(), Fail> {
-    let mut rng = Pcg64::new(17, 5);
-    for len in [1, 2, 64] {
-        let mut items = Vec::with_capacity(rt.alloc(), len)?;
-        for _ in 0..len {
-            items.push(Lanes::new(F65537::rand(&mut rng), F65537::rand(&mut rng)))?;
-        }
-        for offset in [1, 3] {
-            assert!(rt; composes::<F65537, Lanes<F65537>>(rt.alloc(), &items, offset)?);
-        }
-    }
+    assert!(rt; first_wrong(rt.alloc(), &DRAWN_LANES)? == None);
     Ok(())
 }
 
@@ -313,10 +350,22 @@ fn has_powers<F: FftField>(alloc: Global, n: u64) -> Result<bool, PolyError> {
     Ok(table.len() == n as usize / 2)
 }
 
+/// Tables of twiddles of several orders.
+#[derive(Clone, Copy)]
+struct Twiddles;
+
+impl FieldTrial for Twiddles {
+    fn holds_in<F: FftField>(&self, alloc: Global) -> Result<bool, PolyError> {
+        let mut right = true;
+        for n in [1, 2, 4, 8, 32, 256, 1024] {
+            right = right && has_powers::<F>(alloc, n)?;
+        }
+        Ok(right)
+    }
+}
+
 #[test]
 fn tables_of_twiddles(rt: HostRuntime) -> Result<(), Fail> {
-    for n in [1, 2, 4, 8, 32, 256, 1024] {
-        assert!(rt; has_powers::<F65537>(rt.alloc(), n)?);
-    }
+    assert!(rt; over_field(rt.alloc(), Prime::P65537, &Twiddles)?);
     Ok(())
 }
