@@ -1,15 +1,15 @@
 //! The rows of each field.
 
-ghost use Rattle.std.specs.Prelude.{◌≡◌, ℕ, List, map, take, IfOk, IfSome, IfNone, string_bytes, decimal};
+ghost use Rattle.std.specs.Prelude.{◌≡◌, ℕ, List, map, IfOk, IfSome, IfNone, string_bytes, decimal};
 ghost use Rattle.polyrun_lib.specs.Vectors.{Row};
 ghost use Rattle.polyrun_lib.specs.Check.{row_of, shown_row, AsksVectors};
 
 use std::alloc::{AllocError, Global};
 
 /// The words after the field, and what the program writes for them but for the newline at its end.
-type Vector = (&'static [&'static str], &'static str);
+pub type Vector = (&'static [&'static str], &'static str);
 
-const MODULO_5: [(&[&str], &str); 5] = [
+const MODULO_5: [Vector; 5] = [
     (&["fft", "4", "1", "1,2,3,4"], "0,4,3,2"),
     (&["ifft", "4", "1", "1,2,3,4"], "0,3,2,1"),
     (&["fft", "2", "2", "1,1"], "3,4"),
@@ -17,7 +17,7 @@ const MODULO_5: [(&[&str], &str); 5] = [
     (&["div", "1,2,3", "1,2"], "4,4\n2"),
 ];
 
-const MODULO_433: [(&[&str], &str); 6] = [
+const MODULO_433: [Vector; 6] = [
     (&["size", "5"], "8"),
     (&["size", "17"], "18"),
     (&["size", "432"], "432"),
@@ -32,7 +32,7 @@ const MODULO_433: [(&[&str], &str); 6] = [
     ),
 ];
 
-const MODULO_65537: [(&[&str], &str); 3] = [
+const MODULO_65537: [Vector; 3] = [
     (
         &["fft", "8", "1", "1,2"],
         "3,8193,65026,33,65536,57346,513,65506",
@@ -42,9 +42,7 @@ const MODULO_65537: [(&[&str], &str); 3] = [
 ];
 
 /// The field of the words and its rows, where the words are a field and `vectors`.
-pub fn vectors_of(
-    words: &[String],
-) -> Option<(u64, &'static [(&'static [&'static str], &'static str)])>
+pub fn vectors_of(words: &[String]) -> Option<(u64, &'static [Vector])>
     ensures some { IfSome result (λ asked.
         AsksVectors (map string_bytes words.now) (decimal asked.0) (map shown_row asked.1.now)) }
     ensures none { IfNone result ((field : List ℕ) (rows : List Row)
@@ -72,8 +70,8 @@ pub fn owned_rows(
     ensures { IfOk result (λ owned. map row_of owned.items ≡ map shown_row rows.now) }
 {
     let mut owned = Vec::new(alloc);
-    for (i, (words, text)) in rows.iter().enumerate() {
-        owned.push((owned_words(alloc, words)?, text.to_string(alloc)?))?;
+    for row in rows {
+        owned.push((owned_words(alloc, row.0)?, row.1.to_string(alloc)?))?;
     }
     Ok(owned)
 }
@@ -83,7 +81,7 @@ fn owned_words(alloc: Global, words: &[&str]) -> Result<Vec<String>, AllocError>
     ensures { IfOk result (λ owned. map string_bytes owned.items ≡ map (λ word. word.now) words.now) }
 {
     let mut owned = Vec::new(alloc);
-    for (i, word) in words.iter().enumerate() {
+    for word in words {
         owned.push(word.to_string(alloc)?)?;
     }
     Ok(owned)
