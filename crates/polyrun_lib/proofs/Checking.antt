@@ -267,14 +267,6 @@ verdict_of field item words text good e f verdict =
 
 -- ---- the status after a row, as the branches set it
 
-pub after_bad : (good : Bool) (status next : ℕ) → not good ≡ true → next ≡ 1 → next ≡ status_after good status
-after_bad true status next e is = absurd (true≢false (sym e))
-after_bad false status next e is = is
-
-pub after_good : (good : Bool) (status next : ℕ) → not good ≡ false → next ≡ status → next ≡ status_after good status
-after_good true status next e is = is
-after_good false status next e is = absurd (true≢false e)
-
 pub after_false : (good : Bool) (status next : ℕ) → good ≡ false → next ≡ 1 → next ≡ status_after good status
 after_false true status next e is = absurd (true≢false e)
 after_false false status next e is = is

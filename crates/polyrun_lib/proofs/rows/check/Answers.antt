@@ -1,6 +1,6 @@
 use Rattle.std.proofs.Common.{◌∙◌, arith, rules, tests}
 use Rattle.polyrun_lib.specs.Check.{row_of}
-use Rattle.polyrun_lib.proofs.Checking.{row_at, rows_below, verdict_of, under_way-more, done-failed, done-cut_short, after_bad, after_good, after_false, after_true}
+use Rattle.polyrun_lib.proofs.Checking.{row_at, rows_below, verdict_of, under_way-more, done-failed, done-cut_short, after_false, after_true}
 use Rattle.polyrun_lib.proofs.rows.check.Goals as goal
 use Rattle.polyrun_lib.proofs.rows.check.Goals.{then-not-is_good, else-not-is_good}
 
@@ -28,6 +28,6 @@ loop-i-preserved g c =
     (verdict_of _ c.index-rows-i.result c.deref.result.now c.as_str.result.now c.in-Ok.is_good c.deref.ensures.value c.as_str.ensures.value c.in-Ok.ensures)
     (c.as_str-in-loop-i.ensures.value ∙ c.in-Ok-row_line.ensures) c.write-in-loop-i.ensures (λ e. omega (arith, e)) c.if-not-is_good.status
     (elim c.if-not-is_good.branch [
-      | then-not-is_good w ↦ search (rules, tests, after_bad, after_false)
-      | else-not-is_good w ↦ search (rules, tests, after_good, after_true)
+      | then-not-is_good w ↦ search (rules, tests, after_false)
+      | else-not-is_good w ↦ search (rules, tests, after_true)
     ])
