@@ -1,17 +1,35 @@
 use ark_base::IoSink;
-use polyrun_lib::run;
+use polyrun_lib::{check, run};
 use std::alloc::Global;
+use std::io;
+use std::io::Write;
 use std::string::String;
 use std::test::Fail;
 
-// What the program writes for these words, and its status.
-fn ran(alloc: Global, words: &[&str]) -> Result<(String, u8), Fail> {
+// The words with memory of their own.
+fn owned(alloc: Global, words: &[&str]) -> Result<Vec<String>, Fail> {
     let mut owned = Vec::with_capacity(alloc, words.len())?;
     for word in words {
         owned.push(word.to_string(alloc)?)?;
     }
+    Ok(owned)
+}
+
+// What the program writes for these words, and its status.
+fn ran(alloc: Global, words: &[&str]) -> Result<(String, u8), Fail> {
     let mut out = IoSink::new(Vec::new(alloc));
-    let status = run(alloc, &owned, &mut out);
+    let status = run(alloc, &owned(alloc, words)?, &mut out);
+    Ok((String::from_utf8(out.into_inner())?, status))
+}
+
+// What `check` writes for these rows, and its status.
+fn checked(alloc: Global, field: u64, rows: &[(&[&str], &str)]) -> Result<(String, u8), Fail> {
+    let mut all = Vec::with_capacity(alloc, rows.len())?;
+    for (words, text) in rows {
+        all.push((owned(alloc, words)?, text.to_string(alloc)?))?;
+    }
+    let mut out = IoSink::new(Vec::new(alloc));
+    let status = check(alloc, field, &all, &mut out);
     Ok((String::from_utf8(out.into_inner())?, status))
 }
 
@@ -174,7 +192,141 @@ fn without_a_domain(rt: HostRuntime) -> Result<(), Fail> {
     Ok(())
 }
 
-const NO_COMMANDS: [(&[&str], &str); 14] = [
+// The rows of each field, with their field's word first, by status.
+const VECTORS: [(&[&str], &str); 12] = [
+    (&["5", "fft", "4", "1", "1,2,3,4"], "0,4,3,2"),
+    (&["5", "ifft", "4", "1", "1,2,3,4"], "0,3,2,1"),
+    (&["5", "fft", "2", "2", "1,1"], "3,4"),
+    (&["5", "div", "1,2,3", "1,2"], "4,4\n2"),
+    (&["433", "size", "5"], "8"),
+    (&["433", "size", "17"], "18"),
+    (&["433", "size", "432"], "432"),
+    (
+        &["433", "mul", "1,1,1,1,1,1,1,1,1", "1,1,1,1,1,1,1,1,1"],
+        "1,2,3,4,5,6,7,8,9,8,7,6,5,4,3,2,1",
+    ),
+    (
+        &["433", "fft", "17", "1", "0,1"],
+        "1,137,150,199,417,406,198,280,256,432,296,283,234,16,27,235,153,177",
+    ),
+    (
+        &["65537", "fft", "8", "1", "1,2"],
+        "3,8193,65026,33,65536,57346,513,65506",
+    ),
+    (&["65537", "div", "4,8,5,1", "1,1"], "4,4,1\n"),
+    (&["65537", "eval", "1,2", "65538"], "3"),
+];
+
+const VECTORS_WITHOUT_DOMAIN: [(&[&str], &str); 2] = [
+    (&["5", "mul", "1,0,1", "1,0,1"], "error 2: NoDomain"),
+    (&["433", "size", "433"], "error 2: NoDomain"),
+];
+
+#[test]
+fn rows_of_the_fields(rt: HostRuntime) -> Result<(), Fail> {
+    assert!(rt; answers(rt.alloc(), &VECTORS, 0)?);
+    assert!(rt; answers(rt.alloc(), &VECTORS_WITHOUT_DOMAIN, 1)?);
+    Ok(())
+}
+
+const VECTORS_COMMANDS: [(&[&str], &str); 3] = [
+    (&["5", "vectors"], "1 ok\n2 ok\n3 ok\n4 ok\n5 ok"),
+    (&["433", "vectors"], "1 ok\n2 ok\n3 ok\n4 ok\n5 ok\n6 ok"),
+    (&["65537", "vectors"], "1 ok\n2 ok\n3 ok"),
+];
+
+#[test]
+fn rows_of_the_fields_are_good(rt: HostRuntime) -> Result<(), Fail> {
+    assert!(rt; answers(rt.alloc(), &VECTORS_COMMANDS, 0)?);
+    Ok(())
+}
+
+#[test]
+fn a_row_with_another_text_is_bad(rt: HostRuntime) -> Result<(), Fail> {
+    let rows: [(&[&str], &str); 2] = [(&["size", "3"], "4"), (&["size", "3"], "5")];
+    let (text, status) = checked(rt.alloc(), 65537, &rows)?;
+    assert_eq!(rt; text.as_str(), "1 ok\n2 bad\n");
+    assert_eq!(rt; status, 1);
+    Ok(())
+}
+
+#[test]
+fn no_rows_have_no_lines(rt: HostRuntime) -> Result<(), Fail> {
+    let (text, status) = checked(rt.alloc(), 5, &[])?;
+    assert_eq!(rt; text.as_str(), "");
+    assert_eq!(rt; status, 0);
+    Ok(())
+}
+
+// A row's newline isn't a part of its text.
+const GOOD_AND_BAD: [(&[&str], &str); 8] = [
+    (&["vectors"], "1 ok\n2 ok\n3 ok\n4 ok\n5 ok"),
+    (&["vectors", "1"], "usage"),
+    (&["eval", "1,2", "3"], "2\n"),
+    (&["eval", "1,2", "3"], ""),
+    (&["eval", "1,2", "3"], "2"),
+    (&["div", "1", ""], "error 5: ZeroDivisor"),
+    (&[], "usage"),
+    (&["size", "x"], "usage"),
+];
+
+#[test]
+fn rows_are_good_where_their_answer_is_their_text(rt: HostRuntime) -> Result<(), Fail> {
+    let (text, status) = checked(rt.alloc(), 5, &GOOD_AND_BAD)?;
+    assert_eq!(rt;
+        text.as_str(),
+        "1 bad\n2 bad\n3 bad\n4 bad\n5 ok\n6 ok\n7 ok\n8 ok\n"
+    );
+    assert_eq!(rt; status, 1);
+    Ok(())
+}
+
+#[test]
+fn every_answer_of_an_unknown_field_is_usage(rt: HostRuntime) -> Result<(), Fail> {
+    let rows: [(&[&str], &str); 2] = [(&["size", "1"], "usage"), (&["size", "1"], "1")];
+    let (text, status) = checked(rt.alloc(), 7, &rows)?;
+    assert_eq!(rt; text.as_str(), "1 ok\n2 bad\n");
+    assert_eq!(rt; status, 1);
+    Ok(())
+}
+
+// Takes so many bytes, and then fails.
+#[derive(Drop)]
+struct Filled {
+    room: usize,
+    taken: Vec<u8>,
+}
+
+impl Write for Filled {
+    fn write(&mut self, buf: &[u8]) -> io::Result<usize> {
+        let count = buf.len().min(self.room);
+        self.taken.extend_from_slice(&buf[..count])?;
+        self.room -= count;
+        Ok(count)
+    }
+
+    fn flush(&mut self) -> io::Result<()> {
+        Ok(())
+    }
+}
+
+#[test]
+fn lines_before_a_failure_stand(rt: HostRuntime) -> Result<(), Fail> {
+    let words = owned(rt.alloc(), &["5", "vectors"])?;
+    let mut out = IoSink::new(Filled {
+        room: 12,
+        taken: Vec::new(rt.alloc()),
+    });
+    let status = run(rt.alloc(), &words, &mut out);
+    assert_eq!(rt; status, 3);
+    assert_eq!(rt;
+        String::from_utf8(out.into_inner().taken)?.as_str(),
+        "1 ok\n2 ok\n3 "
+    );
+    Ok(())
+}
+
+const NO_COMMANDS: [(&[&str], &str); 16] = [
     (&[], "usage"),
     (&["5"], "usage"),
     (&["7", "fft", "4", "1", "1"], "usage"),
@@ -189,6 +341,8 @@ const NO_COMMANDS: [(&[&str], &str); 14] = [
     (&["5", "eval", "1"], "usage"),
     (&["5", "size"], "usage"),
     (&["5", "size", "1", "1"], "usage"),
+    (&["7", "vectors"], "usage"),
+    (&["5", "vectors", "1"], "usage"),
 ];
 
 #[test]

@@ -7,7 +7,7 @@ use Rattle.polyrun_lib.specs.declared.command.Direction.{Direction}
 use Rattle.polyrun_lib.specs.declared.command.Direction.TheVariants.{Forward, Inverse}
 use Rattle.ark_base.specs.declared.error.PolyError.{PolyError}
 use Rattle.polyrun_lib.specs.Lines.{refusal_line_of, usage_text}
-use Rattle.polyrun_lib.specs.Answer.{Known, IsCommand, MayWrite}
+use Rattle.polyrun_lib.specs.Answer.{Known, IsCommand, MayAnswer}
 use Rattle.polyrun_lib.specs.Outcome.{MayRefuse}
 use Rattle.polyrun_lib.specs.Commands.{Command, transform_of, product_of, division_of, value_of, size_for, transform_name, command_name, IsNoTransform, AreTwoLists, AreEvaluated, Takes, Reads, IsNoCommand}
 
@@ -98,9 +98,9 @@ no_field words word rest e none f c h =
 
 -- ---- what may be written
 
-pub may_write_error : (words : List (List ℕ)) (f : Known) (c : Command) (error : PolyError) → IsCommand words f c → MayRefuse f c error → MayWrite words (refusal_line_of error) 1
-may_write_error words f c error h (inl refuses) = inl (inl (f, c, h, inr (error, refuses, refl, refl)))
-may_write_error words f c error h (inr memory) = inr ((f, c, h, memory.0), ap refusal_line_of memory.1, refl)
+pub may_answer_error : (words : List (List ℕ)) (f : Known) (c : Command) (error : PolyError) → IsCommand words f c → MayRefuse f c error → MayAnswer words (refusal_line_of error) 1
+may_answer_error words f c error h (inl refuses) = inl (inl (f, c, h, inr (error, refuses, refl, refl)))
+may_answer_error words f c error h (inr memory) = inr ((f, c, h, memory.0), ap refusal_line_of memory.1, refl)
 
-pub may_write_usage : (words : List (List ℕ)) → ((f : Known) (c : Command) → IsCommand words f c → ⊥) → MayWrite words usage_text 2
-may_write_usage words none = inl (inr (none, refl, refl))
+pub may_answer_usage : (words : List (List ℕ)) → ((f : Known) (c : Command) → IsCommand words f c → ⊥) → MayAnswer words usage_text 2
+may_answer_usage words none = inl (inr (none, refl, refl))

@@ -1,4 +1,4 @@
--- What the program writes for some words, and its status.
+-- What the program answers to the words of one command, and how an answer is written.
 use Rattle.std.specs.Prelude.{◌≡◌, ◌≢◌, ℕ, ◌+◌, ◌-◌, ◌*◌, ◌/◌, ◌%◌, ◌<◌, ◌==◌, ◌⊎◌, Option, List, [], ◌∷◌, ◌++◌, Some, None, length, map, codes}
 use Rattle.std.specs.Io.KnownBytes.{Appends}
 use Rattle.ark_math.specs.Field.{FieldOn, power}
@@ -133,16 +133,16 @@ Writes f c text status = (Gives f c text × (status ≡ 0)) ⊎ ((error : PolyEr
 abbrev pub IsCommand : List (List ℕ) → Known → Command → Type 0
 IsCommand words f c = (word : List ℕ) × (rest : List (List ℕ)) × (words ≡ word ∷ rest) × Names word f × Reads rest c
 
--- usage where they are none
-abbrev pub IsAnswer : List (List ℕ) → List ℕ → ℕ → Type 0
-IsAnswer words text status =
+-- the answer to words that don't ask for `vectors`: usage where they are no command
+abbrev pub IsPlainAnswer : List (List ℕ) → List ℕ → ℕ → Type 0
+IsPlainAnswer words text status =
     ((f : Known) × (c : Command) × IsCommand words f c × Writes f c text status)
     ⊎ (((f : Known) (c : Command) → IsCommand words f c → ⊥) × (text ≡ usage_text) × (status ≡ 2))
 
 -- the answer, or want of memory in its place
-abbrev pub MayWrite : List (List ℕ) → List ℕ → ℕ → Type 0
-MayWrite words text status =
-    IsAnswer words text status
+abbrev pub MayAnswer : List (List ℕ) → List ℕ → ℕ → Type 0
+MayAnswer words text status =
+    IsPlainAnswer words text status
     ⊎ (((f : Known) × (c : Command) × IsCommand words f c × TakesMemory f c) × (text ≡ refusal_line_of Memory) × (status ≡ 1))
 
 -- all of the text was written, and its status is the result; or the writer failed, in this call, after a beginning of

@@ -1,7 +1,9 @@
--- What a word spells, which words are a command, what a line says, what the program answers, and examples of each.
+-- What a word spells, which words are a command, what a line says, what the program answers, what is said of rows, and examples of each.
 pub mod Words
 pub mod Commands
 pub mod Lines
 pub mod Answer
 pub mod Outcome
+pub mod Vectors
+pub mod Check
 pub mod Rows

@@ -4,7 +4,10 @@
 mod command;
 mod lines;
 mod program;
+mod rows;
+mod vectors;
 mod words;
 
 pub use lines::{refusal_line, usage_line};
 pub use program::{run, write};
+pub use rows::check;

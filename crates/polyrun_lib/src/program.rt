@@ -1,8 +1,8 @@
 //! The answer to the words of a command line.
 
-ghost use Rattle.std.specs.Prelude.{◌≡◌, ◌≢◌, ◌⊎◌, ◌%◌, ◌++◌, ℕ, List, map, IfOk, IfErr, IfSome, IfNone};
+ghost use Rattle.std.specs.Prelude.{◌≡◌, ◌≢◌, ◌⊎◌, ◌%◌, ◌<◌, ◌∷◌, ◌++◌, ℕ, List, length, map, IfOk, IfErr, IfSome, IfNone};
 ghost use Rattle.std.specs.Prelude.{IsOkUnless};
-ghost use Rattle.std.specs.Prelude.{string_bytes};
+ghost use Rattle.std.specs.Prelude.{string_bytes, decimal};
 ghost use Rattle.ark_math.specs.Domain.{HasNoSize, IsDomain};
 ghost use Rattle.ark_math.specs.Univariate.{of_list, nothing, IsQuotient};
 ghost use Rattle.ark_base.specs.Element.{number};
@@ -10,11 +10,14 @@ ghost use Rattle.polyrun_lib.specs.Words.{IsList, SpellsList};
 ghost use Rattle.polyrun_lib.specs.Commands.{Command as Asked, Spells, IsSpelled};
 ghost use Rattle.polyrun_lib.specs.Commands.{transform_of, product_of, division_of, value_of, size_for};
 ghost use Rattle.polyrun_lib.specs.Lines.{line_of};
-ghost use Rattle.polyrun_lib.specs.Answer.{Known, known_by, coefficients, IsCommand, MayWrite, IsWritten};
+ghost use Rattle.polyrun_lib.specs.Answer.{Known, known_by, coefficients, IsCommand, MayAnswer, IsWritten};
+ghost use Rattle.polyrun_lib.specs.Check.{shown_row, MayCheck, MayWrite};
 ghost use Rattle.polyrun_lib.specs.Outcome.{IsOutcome, IsOutcomeOf};
 
 use crate::command::{Command, Direction, parse};
 use crate::lines::{line, refusal_line, usage_line};
+use crate::rows::check;
+use crate::vectors::{owned_rows, vectors_of};
 use crate::words::list;
 use ark_base::{
     FftField, Field, Modulus5, Modulus433, Modulus65537, PolyError, PrimeField, PrimeModulus, Sink,
@@ -28,8 +31,8 @@ use std::alloc::{AllocError, Global};
 type Domain<M> = GeneralEvaluationDomain<PrimeField<M>>;
 
 /// Writes the answer to the words, and gives its status: 0; 1 where the line reports an error; 2 where the words are no
-/// command; and 3 where the writer failed, after a beginning of the text. All memory is taken before the first byte is
-/// written.
+/// command; and 3 where the writer failed, after a beginning of the text. An answer's memory is taken before its first
+/// byte is written, and that of `vectors` before each line.
 ///
 /// The words are a field, which is `5`, `433` or `65537`, and a command:
 ///
@@ -38,9 +41,22 @@ type Domain<M> = GeneralEvaluationDomain<PrimeField<M>>;
 /// - `mul LIST LIST`, the product of the polynomials with these coefficients, by transforms over that domain for the
 ///   product's length,
 /// - `eval LIST X`, the value at `X` of the polynomial with these coefficients,
-/// - `size K`, the size of that domain.
+/// - `size K`, the size of that domain,
+/// - `vectors`, what `check` writes for the field's own rows, with its status.
 pub fn run<W: Sink>(alloc: Global, words: &[String], out: &mut W) -> u8
     ensures { (text : List ℕ) × (status : ℕ) × MayWrite (map string_bytes words.now) text status
+        × IsWritten (W.contents out.old) (W.contents out.new) (W.failures out.old) (W.failures out.new)
+        text status result }
+{
+    match vectors_of(words) {
+        Some((field, rows)) => run_vectors(alloc, field, rows, out),
+        None => run_command(alloc, words, out),
+    }
+}
+
+/// Writes the answer to words that don't ask for `vectors`, and gives its status.
+fn run_command<W: Sink>(alloc: Global, words: &[String], out: &mut W) -> u8
+    ensures { (text : List ℕ) × (status : ℕ) × MayAnswer (map string_bytes words.now) text status
         × IsWritten (W.contents out.old) (W.contents out.new) (W.failures out.old) (W.failures out.new)
         text status result }
 {
@@ -48,6 +64,19 @@ pub fn run<W: Sink>(alloc: Global, words: &[String], out: &mut W) -> u8
         Some(Ok(text)) => write(out, text.as_str(), 0),
         Some(Err(error)) => write(out, refusal_line(error), 1),
         None => write(out, usage_line(), 2),
+    }
+}
+
+/// Writes what `check` writes for these rows of a field, and gives its status.
+fn run_vectors<W: Sink>(alloc: Global, field: u64, rows: &[(&[&str], &str)], out: &mut W) -> u8
+    requires { 0 < length rows.now }
+    ensures { (text : List ℕ) × (status : ℕ) × MayCheck (decimal field) (map shown_row rows.now) text status
+        × IsWritten (W.contents out.old) (W.contents out.new) (W.failures out.old) (W.failures out.new)
+        text status result }
+{
+    match owned_rows(alloc, rows) {
+        Ok(rows) => check(alloc, field, &rows, out),
+        Err(_) => write(out, refusal_line(PolyError::Memory), 1),
     }
 }
 
@@ -70,8 +99,17 @@ fn answer(alloc: Global, words: &[String]) -> Option<Result<String, PolyError>>
     let [field, words @ ..] = words else {
         return None;
     };
+    answer_in(alloc, field.as_str(), words)
+}
+
+/// The same for a field and the words after it.
+pub fn answer_in(alloc: Global, field: &str, words: &[String]) -> Option<Result<String, PolyError>>
+    ensures some { IfSome result (IsOutcomeOf (field.now ∷ map string_bytes words.now)) }
+    ensures none { IfNone result ((f : Known) (c : Asked)
+        → ¬ IsCommand (field.now ∷ map string_bytes words.now) f c) }
+{
     let command = parse(words)?;
-    match field.as_str() {
+    match field {
         "5" => Some(answer_over::<Modulus5>(alloc, command)),
         "433" => Some(answer_over::<Modulus433>(alloc, command)),
         "65537" => Some(answer_over::<Modulus65537>(alloc, command)),

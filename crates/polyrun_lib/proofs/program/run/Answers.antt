@@ -1,25 +1,18 @@
-use Rattle.std.proofs.Common.{map, sym, subst}
-use Rattle.std.specs.Prelude.{string_bytes}
-use Rattle.polyrun_lib.specs.Answer.{MayWrite}
-use Rattle.polyrun_lib.specs.Outcome.{IsOutcome}
-use Rattle.polyrun_lib.proofs.Commands.{may_write_error, may_write_usage}
+use Rattle.std.proofs.Common.{◌<◌, inl, inr, subst}
+use Rattle.std.proofs.lemmas.List.{length-map}
+use Rattle.polyrun_lib.specs.Check.{shown_row}
+use Rattle.polyrun_lib.proofs.Checking.{some_row}
 use Rattle.polyrun_lib.proofs.program.run.Goals as goal
 
-pub returns-in-Some-Err : goal.returns-in-Some-Err
-returns-in-Some-Err g c =
-    let words = map string_bytes c.args.words.now in
-    let of = c.in-Some-Err.ensures.some in (
-      c.refusal_line.result.now,
-      1,
-      subst (λ text. MayWrite words text 1) (sym c.refusal_line.ensures) (may_write_error words of.0 of.1 c.in-Some-Err.error of.2 (subst (IsOutcome of.0 of.1) c.in-Some-Err.field-0-is of.3)),
-      c.write-in-Some-Err.ensures,
-    )
+pub run_vectors-requires : goal.run_vectors-requires
+run_vectors-requires g c = subst (λ n. 0 < n) (length-map c.in-Some.rows.now shown_row) (some_row _ _ c.in-Some.ensures.some.1)
+
+pub returns-in-Some : goal.returns-in-Some
+returns-in-Some g c =
+    let done = c.run_vectors.ensures in
+    (done.0, done.1, inl (_, _, c.in-Some.ensures.some, done.2), done.3)
 
 pub returns-in-None : goal.returns-in-None
 returns-in-None g c =
-    let words = map string_bytes c.args.words.now in (
-      c.usage_line.result.now,
-      2,
-      subst (λ text. MayWrite words text 2) (sym c.usage_line.ensures) (may_write_usage words c.in-None.ensures.none),
-      c.write-in-None.ensures,
-    )
+    let done = c.run_command.ensures in
+    (done.0, done.1, inr (c.in-None.ensures.none, done.2), done.3)

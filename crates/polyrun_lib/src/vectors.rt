@@ -1,0 +1,88 @@
+//! The rows of each field.
+
+ghost use Rattle.std.specs.Prelude.{◌≡◌, ℕ, List, map, IfOk, IfSome, IfNone, string_bytes, decimal};
+ghost use Rattle.polyrun_lib.specs.Vectors.{Row};
+ghost use Rattle.polyrun_lib.specs.Check.{row_of, shown_row, AsksVectors};
+
+use std::alloc::{AllocError, Global};
+
+/// The words after the field, and what the program writes for them but for the newline at its end.
+pub type Vector = (&'static [&'static str], &'static str);
+
+const MODULO_5: [Vector; 5] = [
+    (&["fft", "4", "1", "1,2,3,4"], "0,4,3,2"),
+    (&["ifft", "4", "1", "1,2,3,4"], "0,3,2,1"),
+    (&["fft", "2", "2", "1,1"], "3,4"),
+    (&["mul", "1,0,1", "1,0,1"], "error 2: NoDomain"),
+    (&["div", "1,2,3", "1,2"], "4,4\n2"),
+];
+
+const MODULO_433: [Vector; 6] = [
+    (&["size", "5"], "8"),
+    (&["size", "17"], "18"),
+    (&["size", "432"], "432"),
+    (&["size", "433"], "error 2: NoDomain"),
+    (
+        &["mul", "1,1,1,1,1,1,1,1,1", "1,1,1,1,1,1,1,1,1"],
+        "1,2,3,4,5,6,7,8,9,8,7,6,5,4,3,2,1",
+    ),
+    (
+        &["fft", "17", "1", "0,1"],
+        "1,137,150,199,417,406,198,280,256,432,296,283,234,16,27,235,153,177",
+    ),
+];
+
+const MODULO_65537: [Vector; 3] = [
+    (
+        &["fft", "8", "1", "1,2"],
+        "3,8193,65026,33,65536,57346,513,65506",
+    ),
+    (&["div", "4,8,5,1", "1,1"], "4,4,1\n"),
+    (&["eval", "1,2", "65538"], "3"),
+];
+
+/// The field of the words and its rows, where the words are a field and `vectors`.
+pub fn vectors_of(words: &[String]) -> Option<(u64, &'static [Vector])>
+    ensures some { IfSome result (λ asked.
+        AsksVectors (map string_bytes words.now) (decimal asked.0) (map shown_row asked.1.now)) }
+    ensures none { IfNone result ((field : List ℕ) (rows : List Row)
+        → ¬ AsksVectors (map string_bytes words.now) field rows) }
+{
+    let [field, name] = words else {
+        return None;
+    };
+    if name.as_str() != "vectors" {
+        return None;
+    }
+    match field.as_str() {
+        "5" => Some((5, &MODULO_5)),
+        "433" => Some((433, &MODULO_433)),
+        "65537" => Some((65537, &MODULO_65537)),
+        _ => None,
+    }
+}
+
+/// The rows with words of their own.
+pub fn owned_rows(
+    alloc: Global,
+    rows: &[(&[&str], &str)],
+) -> Result<Vec<(Vec<String>, String)>, AllocError>
+    ensures { IfOk result (λ owned. map row_of owned.items ≡ map shown_row rows.now) }
+{
+    let mut owned = Vec::new(alloc);
+    for row in rows {
+        owned.push((owned_words(alloc, row.0)?, row.1.to_string(alloc)?))?;
+    }
+    Ok(owned)
+}
+
+/// The words with memory of their own.
+fn owned_words(alloc: Global, words: &[&str]) -> Result<Vec<String>, AllocError>
+    ensures { IfOk result (λ owned. map string_bytes owned.items ≡ map (λ word. word.now) words.now) }
+{
+    let mut owned = Vec::new(alloc);
+    for word in words {
+        owned.push(word.to_string(alloc)?)?;
+    }
+    Ok(owned)
+}
