@@ -38,6 +38,10 @@ pub product_below-same : {F : Type 0} (K : FieldOn F) (n : ℕ) (f g : ℕ → F
 product_below-same K zero f g h = refl
 product_below-same K (suc n) f g h = ap₂ K.times (product_below-same K n f g (λ i l. h i (omega arith))) (h n (omega arith))
 
+-- what an item counts where its bit is s
+abbrev pub side : {F : Type 0} → FieldOn F → Bool → F → F
+side K s x = if s then x else minus K K.one x
+
 module _ {F : Type 0} (K : FieldOn F) (N : IsField K) where
   pub product_below-first : (n : ℕ) (f : ℕ → F) → product_below K (suc n) f ≡ K.times (f 0) (product_below K n (λ i. f (suc i)))
   product_below-first zero f = N.times_comm K.one (f 0)
@@ -47,29 +51,25 @@ module _ {F : Type 0} (K : FieldOn F) (N : IsField K) where
 
   -- ---- weights
 
-  -- what an item counts where its bit is s
-  abbrev pub side : Bool → F → F
-  side s x = if s then x else minus K K.one x
-
   pub weight-nil : (b : ℕ) → weight K [] b ≡ K.one
   weight-nil b = refl
 
-  pub weight-cons : (x : F) (p : List F) (b : ℕ) → weight K (x ∷ p) b ≡ K.times (side (bit b 0) x) (weight K p (b / 2))
+  pub weight-cons : (x : F) (p : List F) (b : ℕ) → weight K (x ∷ p) b ≡ K.times (side K (bit b 0) x) (weight K p (b / 2))
   weight-cons x p b =
-      product_below-first (length p) (λ i. side (bit b i) (item (itself K) (x ∷ p) i))
-      ∙ ap (K.times (side (bit b 0) x))
-      (product_below-same K (length p) (λ i. side (bit b (suc i)) (item (itself K) p i)) (λ i. side (bit (b / 2) i) (item (itself K) p i))
-      (λ i l. ap (λ s. side s (item (itself K) p i)) (bit-suc b i)))
+      product_below-first (length p) (λ i. side K (bit b i) (item (itself K) (x ∷ p) i))
+      ∙ ap (K.times (side K (bit b 0) x))
+      (product_below-same K (length p) (λ i. side K (bit b (suc i)) (item (itself K) p i)) (λ i. side K (bit (b / 2) i) (item (itself K) p i))
+      (λ i l. ap (λ s. side K s (item (itself K) p i)) (bit-suc b i)))
 
   pub weight-even : (x : F) (p : List F) (c : ℕ) → weight K (x ∷ p) (2 * c) ≡ K.times (minus K K.one x) (weight K p c)
   weight-even x p c =
       let e : 2 * c / 2 ≡ c = omega arith in
-      weight-cons x p (2 * c) ∙ ap₂ (λ s b. K.times (side s x) (weight K p b)) (bit-even c) e
+      weight-cons x p (2 * c) ∙ ap₂ (λ s b. K.times (side K s x) (weight K p b)) (bit-even c) e
 
   pub weight-odd : (x : F) (p : List F) (c : ℕ) → weight K (x ∷ p) (2 * c + 1) ≡ K.times x (weight K p c)
   weight-odd x p c =
       let e : (2 * c + 1) / 2 ≡ c = omega arith in
-      weight-cons x p (2 * c + 1) ∙ ap₂ (λ s b. K.times (side s x) (weight K p b)) (bit-odd c) e
+      weight-cons x p (2 * c + 1) ∙ ap₂ (λ s b. K.times (side K s x) (weight K p b)) (bit-odd c) e
 
   -- ---- corners
 
@@ -79,3 +79,4 @@ module _ {F : Type 0} (K : FieldOn F) (N : IsField K) where
       ∙ ap (λ xs. (if bit b 0 then K.one else K.zero) ∷ xs)
       (tabulate-same m (λ i. if bit b (suc i) then K.one else K.zero) (λ i. if bit (b / 2) i then K.one else K.zero)
       (λ i l. ap (λ s. if s then K.one else K.zero) (bit-suc b i)))
+
