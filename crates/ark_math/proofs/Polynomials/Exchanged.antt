@@ -1,9 +1,14 @@
 -- Two windows of variables exchanged: the same by the bits of a corner's index as by the items of a point.
-use Rattle.std.proofs.Common.{◌≡◌, ◌≢◌, ℕ, zero, suc, ◌+◌, ◌-◌, ◌*◌, ◌/◌, ◌%◌, ◌^◌, ◌<◌, ◌≤◌, ◌==◌, ◌&&◌, ◌⊎◌, inl, inr, Bool, true, false, cond, if◌then◌else◌, nat_le, nat_lt, List, length, sym, ◌∙◌, ap, ap₂, refl, subst, arith, ⊎_elim, shr-shr, pow-add, pow_pos, div-add-mod', le-leb, lt-ltb, le-ltb}
+use Rattle.std.proofs.Common.{◌≡◌, ℕ, ◌+◌, ◌-◌, ◌*◌, ◌/◌, ◌%◌, ◌^◌, ◌<◌, ◌≤◌, ◌&&◌, ◌⊎◌, inl, inr, false, if◌then◌else◌, nat_le, nat_lt, List, length, sym, ◌∙◌, ap, ap₂, subst, arith, ⊎_elim, shr-shr, pow-add, pow_pos, div-add-mod', le-leb, lt-ltb, le-ltb}
 use Rattle.std.proofs.lemmas.Bool.{cases_lt, lt-leb, cond-true, cond-false, and_from, and_left, and_right}
-use Rattle.std.proofs.lemmas.Nat.{mod_below, div-mul-add, mod-mul-add}
-use Rattle.ark_math.specs.Multilinear.{bit, AreWindows}
-use Rattle.ark_math.proofs.Polynomials.Cube.{bit-low, bit-high, bit-past, same_bits}
+use Rattle.std.proofs.lemmas.Nat.{mod_below}
+use Rattle.ark_math.specs.Field.{FieldOn, IsField}
+use Rattle.ark_math.specs.Module.{itself, item, tabulate}
+use Rattle.ark_math.specs.Multilinear.{bit, corner, extension, exchanged, AreWindows}
+use Rattle.ark_math.proofs.Lists.Tabulated.{tabulate-same, get_or-tabulate}
+use Rattle.ark_math.proofs.Polynomials.Cube.{bit-low, bit-high, bit-past, equal_bits, below_by_bits}
+use Rattle.ark_math.proofs.Polynomials.Multilinear.{extension-same, extension-corner}
+use Rattle.ark_math.proofs.Polynomials.OnlyMultilinear.{length-corner, only_affine, extension-affine, reordered-affine}
 
 -- the variable that stands at l when the k variables from i on and those from j on are exchanged
 abbrev pub place : ℕ → ℕ → ℕ → ℕ → ℕ
@@ -267,3 +272,46 @@ exchanged_index-bit m i j k w = cases_windows (λ i j k. (n l : ℕ) → bit (ex
     (λ i j n l. ap₂ bit (exchanged_index-none n i j) (sym (place-none i j l)))
     (λ i j k a c n l. exchanged_bit_ordered i j k a n l)
     (λ i j k a c n l. ap (λ b. bit b l) (exchanged_index-swapped n j i k) ∙ exchanged_bit_ordered i j k a n l ∙ ap (bit n) (place-swapped i j k l a))
+
+-- past the variables nothing moves
+place-past : (m i j k : ℕ) → AreWindows m i j k → (l : ℕ) → m ≤ l → place i j k l ≡ l
+place-past m i j k w = cases_windows (λ i j k. (l : ℕ) → m ≤ l → place i j k l ≡ l) m i j k w
+    (λ i k l b. place-same i k l)
+    (λ i j l b. place-none i j l)
+    (λ i j k a c l b. place-other i j k l (inr (omega arith)) (inr (omega arith)))
+    (λ i j k a c l b. place-other j i k l (inr (omega arith)) (inr (omega arith)))
+
+pub exchanged_index-below : (m i j k : ℕ) → AreWindows m i j k → (n : ℕ) → n < 2 ^ m → exchanged_index n i j k < 2 ^ m
+exchanged_index-below m i j k w n b =
+    below_by_bits m (exchanged_index n i j k) (λ l c. exchanged_index-bit m i j k w n l ∙ ap (bit n) (place-past m i j k w l c) ∙ bit-past m l n b c)
+
+-- twice is not at all
+pub exchanged_index-twice : (m i j k : ℕ) → AreWindows m i j k → (n : ℕ) → exchanged_index (exchanged_index n i j k) i j k ≡ n
+exchanged_index-twice m i j k w n =
+    equal_bits (exchanged_index (exchanged_index n i j k) i j k) n
+    (λ l. exchanged_index-bit m i j k w (exchanged_index n i j k) l ∙ exchanged_index-bit m i j k w n (place i j k l) ∙ ap (bit n) (place-twice m i j k w l))
+
+module _ {F : Type 0} (K : FieldOn F) (N : IsField K) where
+  -- the items of a corner are exchanged with its index
+  pub exchanged-corner : (m i j k : ℕ) → AreWindows m i j k → (b : ℕ) → exchanged K (corner K m b) i j k ≡ corner K m (exchanged_index b i j k)
+  exchanged-corner m i j k w b =
+      ap (λ n. tabulate n (λ l. item (itself K) (corner K m b) (place i j k l))) (length-corner K N m b)
+      ∙ tabulate-same m (λ l. item (itself K) (corner K m b) (place i j k l)) (λ l. if bit (exchanged_index b i j k) l then K.one else K.zero)
+      (λ l c.
+      get_or-tabulate m (λ l. if bit b l then K.one else K.zero) (place i j k l) K.zero (place-below m i j k w l c)
+      ∙ ap (λ s. if s then K.one else K.zero) (sym (exchanged_index-bit m i j k w b l)))
+
+  -- a table in the new order has at a point the value of the old one at the point with its windows exchanged
+  pub extension-exchanged : (m i j k : ℕ) → AreWindows m i j k → (t : ℕ → F) (x : List F) → length x ≡ m → extension K (λ b. t (exchanged_index b i j k)) x ≡ extension K t (exchanged K x i j k)
+  extension-exchanged m i j k w t x e =
+      let g : List F → F = λ x. extension K t (tabulate m (λ l. item (itself K) x (place i j k l))) in
+      let same : (y : List F) → length y ≡ m → extension K t (exchanged K y i j k) ≡ g y =
+      λ y f. ap (λ n. extension K t (tabulate n (λ l. item (itself K) y (place i j k l)))) f in
+      sym (same x e
+      ∙ only_affine K N m g (reordered-affine K N m (place i j k) (place-below m i j k w) (λ l b. place-twice m i j k w l) (extension K t) (extension-affine K N m t)) x e
+      ∙ extension-same K N (λ b. g (corner K m b)) (λ b. t (exchanged_index b i j k)) x
+      (λ b l.
+      let c : b < 2 ^ m = subst (λ n. b < 2 ^ n) e l in
+      sym (same (corner K m b) (length-corner K N m b))
+      ∙ ap (extension K t) (exchanged-corner m i j k w b)
+      ∙ extension-corner K N t m (exchanged_index b i j k) (exchanged_index-below m i j k w b c)))

@@ -1,15 +1,13 @@
 -- A function that is affine in each item of a point is the extension of its values at the corners.
-use Rattle.std.proofs.Common.{◌≡◌, ◌≢◌, ℕ, zero, suc, ◌+◌, ◌-◌, ◌*◌, ◌/◌, ◌%◌, ◌^◌, ◌<◌, ◌≤◌, ◌==◌, ◌⊎◌, inl, inr, Bool, true, false, cond, if◌then◌else◌, List, [], ◌∷◌, ◌++◌, length, set, get_or, map, sym, ◌∙◌, ap, ap₂, refl, subst, arith, ⊎_elim, length-set, get_or-set_same, get_or-set_other}
+use Rattle.std.proofs.Common.{◌≡◌, ◌≢◌, ℕ, zero, suc, ◌+◌, ◌*◌, ◌/◌, ◌<◌, if◌then◌else◌, List, [], ◌∷◌, length, set, get_or, sym, ◌∙◌, ap, ap₂, refl, arith, ⊎_elim, length-set, get_or-set_same, get_or-set_other}
 use mathlib.Core.Path.{fun_ext}
 use Rattle.std.proofs.lemmas.Bool.{cases_eq}
-use Rattle.ark_math.specs.Field.{FieldOn, IsField, minus, power}
+use Rattle.ark_math.specs.Field.{FieldOn, IsField, minus}
 use Rattle.ark_math.specs.Module.{itself, item, tabulate}
 use Rattle.ark_math.specs.Univariate.{added, difference, opposite, scaled}
-use Rattle.ark_math.specs.Term.{power_of, term_value}
-use Rattle.ark_math.specs.Multivariate.{of_terms, sum_at, IsValueAt}
-use Rattle.ark_math.specs.Multilinear.{bit, corner, extension, IsMultilinear}
-use Rattle.ark_math.proofs.Algebra.Solve.{unit, nought, negative, ◌⊕◌, ◌⊖◌, ◌⊗◌}
-use Rattle.ark_math.proofs.Algebra.Ring.{ring1, ring2, ring3, ring4}
+use Rattle.ark_math.specs.Multilinear.{bit, corner, extension}
+use Rattle.ark_math.proofs.Algebra.Solve.{unit, nought, ◌⊕◌, ◌⊖◌, ◌⊗◌}
+use Rattle.ark_math.proofs.Algebra.Ring.{ring3}
 use Rattle.ark_math.proofs.Lists.Tabulated.{length-tabulate, get_or-tabulate, is_tabulated}
 use Rattle.ark_math.proofs.Polynomials.Cube.{bit-even, bit-odd, corner-suc}
 use Rattle.ark_math.proofs.Polynomials.Multilinear.{bound, extension-same, extension-nil, extension-cons, extension-added, extension-scaled, extension-opposite}
