@@ -191,6 +191,15 @@ module _ (i j k : ℕ) (apart : i + k ≤ j) (n : ℕ) where
       let new = sum (part n i k) (part n j k) in
       omega arith
 
+  parts_ordered : part n i k * 2 ^ i + part n j k * 2 ^ j ≤ n
+  parts_ordered =
+      let base = ((top * 2 ^ k * 2 ^ (j - (i + k)) + middle) * 2 ^ k * 2 ^ i) + low in
+      let old : n ≡ base + (part n j k * 2 ^ j + part n i k * 2 ^ i) =
+      split
+      ∙ expanded top (part n j k) middle (part n i k) low (2 ^ i) (2 ^ k) (2 ^ (j - (i + k)))
+      ∙ ap (λ p. base + (part n j k * p + part n i k * 2 ^ i)) (sym power_apart) in
+      omega arith
+
   low_below : low < 2 ^ i
   unfolding low
   low_below = mod_below n (2 ^ i) (pow_pos i)
@@ -255,6 +264,12 @@ module _ (i j k : ℕ) (apart : i + k ≤ j) (n : ℕ) where
       (which i k l)
 
 -- ---- the index
+
+-- what windows that are apart hold can be taken away
+pub parts_fit : (i j k : ℕ) → (i + k ≤ j) ⊎ (j + k ≤ i) → (n : ℕ) → part n i k * 2 ^ i + part n j k * 2 ^ j ≤ n
+parts_fit i j k h n = ⊎_elim
+    (λ (a : i + k ≤ j). parts_ordered i j k a n)
+    (λ (a : j + k ≤ i). let l = parts_ordered j i k a n in omega arith) h
 
 pub exchanged_index-same : (n i k : ℕ) → exchanged_index n i i k ≡ n
 exchanged_index-same n i k = omega arith

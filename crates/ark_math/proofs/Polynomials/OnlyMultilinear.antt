@@ -1,14 +1,19 @@
--- A function that is affine in each item of a point is the extension of its values at the corners.
-use Rattle.std.proofs.Common.{◌≡◌, ◌≢◌, ℕ, zero, suc, ◌+◌, ◌*◌, ◌/◌, ◌<◌, if◌then◌else◌, List, [], ◌∷◌, length, set, get_or, sym, ◌∙◌, ap, ap₂, refl, arith, ⊎_elim, length-set, get_or-set_same, get_or-set_other}
+-- A function that is affine in each item of a point is the extension of its values at the corners; so is a polynomial
+-- with no power above one.
+use Rattle.std.proofs.Common.{◌≡◌, ◌≢◌, ℕ, zero, suc, ◌+◌, ◌*◌, ◌/◌, ◌<◌, ◌≤◌, ◌^◌, ◌⊎◌, if◌then◌else◌, List, [], ◌∷◌, length, set, get_or, sym, ◌∙◌, ap, ap₂, refl, subst, arith, ⊎_elim, length-set, get_or-set_same, get_or-set_other}
 use mathlib.Core.Path.{fun_ext}
-use Rattle.std.proofs.lemmas.Bool.{cases_eq}
-use Rattle.ark_math.specs.Field.{FieldOn, IsField, minus}
+use Rattle.std.proofs.lemmas.Bool.{cases_eq, cond-true}
+use Rattle.ark_math.specs.Field.{FieldOn, IsField, minus, power}
 use Rattle.ark_math.specs.Module.{itself, item, tabulate}
 use Rattle.ark_math.specs.Univariate.{added, difference, opposite, scaled}
-use Rattle.ark_math.specs.Multilinear.{bit, corner, extension}
+use Rattle.ark_math.specs.Term.{power_of, term_value}
+use Rattle.ark_math.specs.Multivariate.{same_term, of_terms, sum_at, IsValueAt}
+use Rattle.ark_math.specs.Multilinear.{bit, corner, extension, IsMultilinear}
 use Rattle.ark_math.proofs.Algebra.Solve.{unit, nought, ◌⊕◌, ◌⊖◌, ◌⊗◌}
-use Rattle.ark_math.proofs.Algebra.Ring.{ring3}
+use Rattle.ark_math.proofs.Algebra.Ring.{ring1, ring2, ring3, ring4, ring5}
 use Rattle.ark_math.proofs.Lists.Tabulated.{length-tabulate, get_or-tabulate, is_tabulated}
+use Rattle.ark_math.proofs.Polynomials.Terms.{same_term-same, cases_term, power_of-same, power_of-other}
+use Rattle.ark_math.proofs.Polynomials.Multivariate.{without, length-without, of_terms-without_same, of_terms-without_other, sum_at-without, one_value_at}
 use Rattle.ark_math.proofs.Polynomials.Cube.{bit-even, bit-odd, corner-suc}
 use Rattle.ark_math.proofs.Polynomials.Multilinear.{bound, extension-same, extension-nil, extension-cons, extension-added, extension-scaled, extension-opposite}
 
@@ -95,3 +100,113 @@ module _ {F : Type 0} (K : FieldOn F) (N : IsField K) where
       at c
       ∙ h (tabulate m (λ i. item (itself K) x (s i))) (length-tabulate m (λ i. item (itself K) x (s i))) (s l) (within l b) c
       ∙ ap₂ (λ u v. K.plus u (K.times c (minus K v u))) (sym (at K.zero)) (sym (at K.one))
+
+  -- ---- terms
+
+  -- a term without a variable doesn't depend on it
+  term_value-absent : (ps : List (ℕ × ℕ)) (x : List F) (l : ℕ) (c : F) → power_of ps l ≡ 0 → term_value K ps (set x l c) ≡ term_value K ps x
+  term_value-absent [] x l c e = refl
+  term_value-absent (p ∷ ps) x l c e = ⊎_elim
+      (λ (f : p.0 ≡ l).
+      let yes = power_of-same p ps l f in
+      let none : p.1 ≡ 0 = omega (arith, yes, e) in
+      ap₂ (λ n v. K.times (power K (get_or (set x l c) p.0 K.zero) n) v) none (term_value-absent ps x l c (omega (arith, yes, e)))
+      ∙ ap (λ n. K.times (power K (get_or x p.0 K.zero) n) (term_value K ps x)) (sym none))
+      (λ (ne : p.0 ≢ l).
+      let no = power_of-other p ps l ne in
+      ap₂ (λ y v. K.times (power K y p.1) v) (get_or-set_other x l p.0 c K.zero ne) (term_value-absent ps x l c (omega (arith, no, e))))
+      (cases_eq p.0 l)
+
+  -- a term with a variable once is proportional to it
+  term_value-once : (ps : List (ℕ × ℕ)) (x : List F) (l : ℕ) (c : F) → l < length x → power_of ps l ≡ 1 → term_value K ps (set x l c) ≡ K.times c (term_value K ps (set x l K.one))
+  term_value-once [] x l c b e = absurd (omega (arith, e))
+  term_value-once (p ∷ ps) x l c b e = ⊎_elim
+      (λ (f : p.0 ≡ l).
+      let yes = power_of-same p ps l f in
+      let at : (k : F) → get_or (set x l k) p.0 K.zero ≡ k = λ k. ap (λ v. get_or (set x l k) v K.zero) f ∙ get_or-set_same x l k K.zero b in
+      ⊎_elim
+      (λ (none : p.1 ≡ 0).
+      ap₂ (λ n v. K.times (power K (get_or (set x l c) p.0 K.zero) n) v) none (term_value-once ps x l c b (omega (arith, yes, none, e)))
+      ∙ ring2 K N (λ c v. (unit ⊗ (c ⊗ v), c ⊗ (unit ⊗ v))) refl c (term_value K ps (set x l K.one))
+      ∙ ap (λ n. K.times c (K.times (power K (get_or (set x l K.one) p.0 K.zero) n) (term_value K ps (set x l K.one)))) (sym none))
+      (λ (some : p.1 ≢ 0).
+      let once : p.1 ≡ 1 = omega (arith, yes, e) in
+      let rest : power_of ps l ≡ 0 = omega (arith, yes, e) in
+      let all : (k : F) → term_value K (p ∷ ps) (set x l k) ≡ K.times (K.times k K.one) (term_value K ps x) =
+      λ k. ap₂ (λ n v. K.times (power K (get_or (set x l k) p.0 K.zero) n) v) once (term_value-absent ps x l k rest) ∙ ap (λ y. K.times (K.times y K.one) (term_value K ps x)) (at k) in
+      all c
+      ∙ ring2 K N (λ c v. ((c ⊗ unit) ⊗ v, c ⊗ ((unit ⊗ unit) ⊗ v))) refl c (term_value K ps x)
+      ∙ ap (K.times c) (sym (all K.one)))
+      (cases_eq p.1 0))
+      (λ (ne : p.0 ≢ l).
+      let no = power_of-other p ps l ne in
+      ap₂ (λ y v. K.times (power K y p.1) v) (get_or-set_other x l p.0 c K.zero ne) (term_value-once ps x l c b (omega (arith, no, e)))
+      ∙ ring3 K N (λ y c v. (y ⊗ (c ⊗ v), c ⊗ (y ⊗ v))) refl (power K (get_or x p.0 K.zero) p.1) c (term_value K ps (set x l K.one))
+      ∙ ap (λ y. K.times c (K.times (power K y p.1) (term_value K ps (set x l K.one)))) (sym (get_or-set_other x l p.0 K.one K.zero ne)))
+      (cases_eq p.0 l)
+
+  pub term_value-affine : (m : ℕ) (ps : List (ℕ × ℕ)) → ((v : ℕ) → power_of ps v ≤ 1) → IsAffine K m (term_value K ps)
+  term_value-affine m ps h x e l b c = ⊎_elim
+      (λ (none : power_of ps l ≡ 0).
+      term_value-absent ps x l c none
+      ∙ ring2 K N (λ v c. (v, v ⊕ c ⊗ (v ⊖ v))) refl (term_value K ps x) c
+      ∙ ap₂ (λ u v. K.plus u (K.times c (minus K v u))) (sym (term_value-absent ps x l K.zero none)) (sym (term_value-absent ps x l K.one none)))
+      (λ (some : power_of ps l ≢ 0).
+      let most = h l in
+      let once : power_of ps l ≡ 1 = omega (arith, most, some) in
+      term_value-once ps x l c (omega arith) once
+      ∙ ring2 K N (λ c v. (c ⊗ v, nought ⊗ v ⊕ c ⊗ (v ⊖ nought ⊗ v))) refl c (term_value K ps (set x l K.one))
+      ∙ ap (λ u. K.plus u (K.times c (minus K (term_value K ps (set x l K.one)) u))) (sym (term_value-once ps x l K.zero (omega arith) once)))
+      (cases_eq (power_of ps l) 0)
+
+  -- ---- polynomials
+
+  affine-same : (m : ℕ) (g h : List F → F) → ((x : List F) → g x ≡ h x) → IsAffine K m h → IsAffine K m g
+  affine-same m g h e a x k l b c =
+      e (set x l c) ∙ a x k l b c ∙ ap₂ (λ u v. K.plus u (K.times c (minus K v u))) (sym (e (set x l K.zero))) (sym (e (set x l K.one)))
+
+  affine-plus : (m : ℕ) (g h : List F → F) → IsAffine K m g → IsAffine K m h → IsAffine K m (λ x. K.plus (g x) (h x))
+  affine-plus m g h a b x k l i c =
+      ap₂ K.plus (a x k l i c) (b x k l i c)
+      ∙ ring5 K N (λ u v w z c. ((u ⊕ c ⊗ (v ⊖ u)) ⊕ (w ⊕ c ⊗ (z ⊖ w)), (u ⊕ w) ⊕ c ⊗ ((v ⊕ z) ⊖ (u ⊕ w)))) refl (g (set x l K.zero)) (g (set x l K.one)) (h (set x l K.zero)) (h (set x l K.one)) c
+
+  affine-times : (m : ℕ) (s : F) (g : List F → F) → IsAffine K m g → IsAffine K m (λ x. K.times s (g x))
+  affine-times m s g a x k l i c =
+      ap (K.times s) (a x k l i c)
+      ∙ ring4 K N (λ s u v c. (s ⊗ (u ⊕ c ⊗ (v ⊖ u)), s ⊗ u ⊕ c ⊗ (s ⊗ v ⊖ s ⊗ u))) refl s (g (set x l K.zero)) (g (set x l K.one)) c
+
+  affine-zero : (m : ℕ) → IsAffine K m (λ x. K.zero)
+  affine-zero m x k l i c = ring1 K N (λ c. (nought, nought ⊕ c ⊗ (nought ⊖ nought))) refl c
+
+  module _ (cases_zero : (c : F) → (c ≡ K.zero) ⊎ (c ≢ K.zero)) (m : ℕ) where
+    -- term by term, each of which is taken out
+    sum_at_affine : (n : ℕ) (cs : List (F × List (ℕ × ℕ))) → length cs ≤ n → ((t : List (ℕ × ℕ)) → of_terms K cs t ≢ K.zero → (v : ℕ) → power_of t v ≤ 1) → IsAffine K m (sum_at K cs)
+    sum_at_affine n [] l h = affine-zero m
+    sum_at_affine zero (c ∷ cs) l h = absurd (omega arith)
+    sum_at_affine (suc n) (c ∷ cs) l h =
+        let t = c.1 in
+        let less = length-without t cs in
+        let rest : without t (c ∷ cs) ≡ without t cs = cond-true (same_term t t) (without t cs) (c ∷ without t cs) (same_term-same t) in
+        let k = of_terms K (c ∷ cs) t in
+        let kept : (u : List (ℕ × ℕ)) → of_terms K (without t cs) u ≢ K.zero → (v : ℕ) → power_of u v ≤ 1 =
+        λ u some v. ⊎_elim
+        (λ (e : t ≡ u). absurd (some (ap (of_terms K (without t cs)) (sym e) ∙ of_terms-without_same K N t cs)))
+        (λ (ne : t ≢ u). h u (λ z. some (ap (λ ds. of_terms K ds u) (sym rest) ∙ of_terms-without_other K N t (c ∷ cs) u ne ∙ z)) v)
+        (cases_term t u) in
+        let first : IsAffine K m (λ x. K.times k (term_value K t x)) =
+        ⊎_elim
+        (λ (none : k ≡ K.zero). affine-same m (λ x. K.times k (term_value K t x)) (λ x. K.zero) (λ x. ap (λ s. K.times s (term_value K t x)) none ∙ ring1 K N (λ v. (nought ⊗ v, nought)) refl (term_value K t x)) (affine-zero m))
+        (λ (some : k ≢ K.zero). affine-times m k (term_value K t) (term_value-affine m t (h t some)))
+        (cases_zero k) in
+        affine-same m (sum_at K (c ∷ cs)) (λ x. K.plus (K.times k (term_value K t x)) (sum_at K (without t cs) x))
+        (λ x. sum_at-without K N t (c ∷ cs) x ∙ ap (λ ds. K.plus (K.times k (term_value K t x)) (sum_at K ds x)) rest)
+        (affine-plus m (λ x. K.times k (term_value K t x)) (sum_at K (without t cs)) first (sum_at_affine n (without t cs) (omega arith) kept))
+
+    -- the only multilinear polynomial with these values at the corners
+    pub only_multilinear : (a : List (ℕ × ℕ) → F) (t : ℕ → F) (x : List F) (y : F) → IsMultilinear K m a → ((b : ℕ) → b < 2 ^ m → IsValueAt K a (corner K m b) (t b)) → length x ≡ m → IsValueAt K a x y → y ≡ extension K t x
+    only_multilinear a t x y multilinear values e h =
+        let cs = h.0 in
+        h.2
+        ∙ only_affine m (sum_at K cs) (sum_at_affine (length cs) cs (omega arith) (λ u some v. (multilinear u (λ z. some (ap (λ f. f u) h.1 ∙ z)) v).0)) x e
+        ∙ extension-same K N (λ b. sum_at K cs (corner K m b)) t x
+        (λ b l. one_value_at K N a (corner K m b) (sum_at K cs (corner K m b)) (t b) (cs, h.1, refl) (values b (subst (λ n. b < 2 ^ n) e l)))
