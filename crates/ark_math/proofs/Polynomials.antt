@@ -1,5 +1,5 @@
 -- Polynomials, by coefficient functions: in one variable lists and pairs that denote them, products, quotients, values
--- and zeros; in several variables terms, lists of them, values and degrees.
+-- and zeros; in several variables terms, lists of them, values and degrees; multilinear extensions and tables.
 pub mod Binomials
 pub mod Conversions
 pub mod Cube
@@ -9,6 +9,7 @@ pub mod OnlyMultilinear
 pub mod PairProducts
 pub mod LongDivision
 pub mod Multilinear
+pub mod MultilinearTerms
 pub mod Multivariate
 pub mod Quotients
 pub mod Reversed
