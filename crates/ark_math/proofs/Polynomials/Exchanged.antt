@@ -1,13 +1,15 @@
 -- Two windows of variables exchanged: the same by the bits of a corner's index as by the items of a point.
-use Rattle.std.proofs.Common.{◌≡◌, ℕ, ◌+◌, ◌-◌, ◌*◌, ◌/◌, ◌%◌, ◌^◌, ◌<◌, ◌≤◌, ◌&&◌, ◌⊎◌, inl, inr, false, if◌then◌else◌, nat_le, nat_lt, List, length, sym, ◌∙◌, ap, ap₂, subst, arith, ⊎_elim, shr-shr, pow-add, pow_pos, div-add-mod', le-leb, lt-ltb, le-ltb}
+use Rattle.std.proofs.Common.{◌≡◌, ℕ, ◌+◌, ◌-◌, ◌*◌, ◌/◌, ◌%◌, ◌^◌, ◌<◌, ◌≤◌, ◌&&◌, ◌⊎◌, inl, inr, false, if◌then◌else◌, nat_le, nat_lt, List, length, map, sym, ◌∙◌, ap, ap₂, subst, arith, ⊎_elim, shr-shr, pow-add, pow_pos, div-add-mod', le-leb, lt-ltb, le-ltb}
 use Rattle.std.proofs.lemmas.Bool.{cases_lt, lt-leb, cond-true, cond-false, and_from, and_left, and_right}
 use Rattle.std.proofs.lemmas.Nat.{mod_below}
 use Rattle.ark_math.specs.Field.{FieldOn, IsField}
 use Rattle.ark_math.specs.Module.{itself, item, tabulate}
+use Rattle.ark_math.specs.Univariate.{of_pairs}
 use Rattle.ark_math.specs.Multilinear.{bit, corner, extension, exchanged, AreWindows}
 use Rattle.ark_math.proofs.Lists.Tabulated.{tabulate-same, get_or-tabulate}
 use Rattle.ark_math.proofs.Polynomials.Cube.{bit-low, bit-high, bit-past, equal_bits, below_by_bits}
 use Rattle.ark_math.proofs.Polynomials.Multilinear.{extension-same, extension-corner}
+use Rattle.ark_math.proofs.Polynomials.Tables.{moved_pairs}
 use Rattle.ark_math.proofs.Polynomials.OnlyMultilinear.{length-corner, only_affine, extension-affine, reordered-affine}
 
 -- the variable that stands at l when the k variables from i on and those from j on are exchanged
@@ -330,3 +332,8 @@ module _ {F : Type 0} (K : FieldOn F) (N : IsField K) where
       sym (same (corner K m b) (length-corner K N m b))
       ∙ ap (extension K t) (exchanged-corner m i j k w b)
       ∙ extension-corner K N t m (exchanged_index b i j k) (exchanged_index-below m i j k w b c)))
+
+  pub extension-exchanged_pairs : (m i j k : ℕ) → AreWindows m i j k → (ps : List (ℕ × F)) (x : List F) → length x ≡ m
+      → extension K (of_pairs K (map (λ p. (exchanged_index p.0 i j k, p.1)) ps)) x ≡ extension K (of_pairs K ps) (exchanged K x i j k)
+  extension-exchanged_pairs m i j k w ps x e =
+      ap (λ t. extension K t x) (moved_pairs K (λ b. exchanged_index b i j k) (exchanged_index-twice m i j k w) ps) ∙ extension-exchanged m i j k w (of_pairs K ps) x e

@@ -1,20 +1,20 @@
 -- Laws of tables: their sums, opposites and multiples, and the values of these; tables that are written pair by pair.
-use Rattle.std.proofs.Common.{◌≡◌, ◌≢◌, ℕ, suc, ◌<◌, ◌^◌, ◌==◌, ◌&&◌, inl, inr, Bool, Decides, if◌then◌else◌, All, AllPairs, List, [], ◌∷◌, ◌++◌, length, flat_map, sym, ◌∙◌, ap, ap₂, refl, arith, ⊎_elim, ext_get_or}
-use Rattle.std.proofs.lemmas.Bool.{cases_eq, cases_order, cond-true, cond-false, eq-eqb, ne_eqb}
+use Rattle.std.proofs.Common.{◌≡◌, ◌≢◌, ℕ, suc, ◌<◌, ◌≤◌, ◌^◌, ◌==◌, ◌&&◌, inl, inr, Bool, Decides, if◌then◌else◌, All, AllPairs, List, [], ◌∷◌, ◌++◌, length, get_or, map, flat_map, sym, ◌∙◌, ap, ap₂, refl, arith, ⊎_elim, ext_get_or}
+use Rattle.std.proofs.lemmas.Bool.{cases_eq, cases_lt, cases_order, cond-true, cond-false, eq-eqb, ne_eqb}
 use Rattle.std.proofs.lemmas.Bool.Decides.{Decides-and}
 use Rattle.std.proofs.lemmas.Nat.{pow_below}
 use Rattle.std.proofs.lemmas.Slice.Eq.{slice_eq-Decides}
 use Rattle.std.specs.Cmp.Lexicographic.{pointwise}
 use mathlib.Core.Path.{fun_ext}
 use Rattle.ark_math.specs.Field.{FieldOn, IsField}
-use Rattle.ark_math.specs.Univariate.{monomial, IsBelow, of_list, of_pairs}
+use Rattle.ark_math.specs.Univariate.{monomial, IsBelow, of_list, of_pairs, IsSparse}
 use Rattle.ark_math.specs.Multilinear.{Table, zero_table, table_sum, table_opposite, table_scaled, AreAddable, extension, written, IsConcat}
 use Rattle.ark_math.proofs.Algebra.Groups.{itself_is_module, scale_zero, zero_plus}
 use Rattle.ark_math.proofs.Algebra.Solve.{nought, negative}
 use Rattle.ark_math.proofs.Algebra.Ring.{ring1}
 use Rattle.ark_math.proofs.Domains.Costs.{one_log2}
 use Rattle.ark_math.proofs.Polynomials.Univariate.{coefficients_are_module, monomial-same, monomial-other}
-use Rattle.ark_math.proofs.Polynomials.UnivariatePairs.{of_pairs-absent}
+use Rattle.ark_math.proofs.Polynomials.UnivariatePairs.{of_pairs-absent, of_pairs-at}
 use Rattle.ark_math.proofs.Polynomials.Multilinear.{extension-added, extension-opposite, extension-scaled}
 
 -- tables are equal by their parts
@@ -157,3 +157,30 @@ of_pairs_written K N (p ∷ ps) h = fun_ext (λ b. ⊎_elim
 
 pub one_concat : {F : Type 0} (K : FieldOn F) (ts : List (List F)) (s t : Table F) → IsConcat K ts s → IsConcat K ts t → s ≡ t
 one_concat {F} K ts s t g h = same_table s t (one_log2 (length (flat_map (λ (x : List F). x) ts)) s.variables t.variables g.variables h.variables) (g.values ∙ sym h.values)
+
+-- ---- tables of pairs
+
+pub pairs_below : {F : Type 0} (K : FieldOn F) (N : IsField K) (n : ℕ) (ps : List (ℕ × F)) → All (λ p. p.0 < n) ps → IsBelow K n (of_pairs K ps)
+pairs_below K N n ps h i l = of_pairs-absent K N ps i (λ k d b e. let m = h k d b in omega arith)
+
+-- sparse pairs have no other places than those with a value
+pub sparse_below : {F : Type 0} (K : FieldOn F) (N : IsField K) (n : ℕ) (ps : List (ℕ × F)) → IsSparse K ps → IsBelow K n (of_pairs K ps) → All (λ p. p.0 < n) ps
+sparse_below K N n ps s h k d l = ⊎_elim
+    (λ (a : (get_or ps k d).0 < n). a)
+    (λ (a : n ≤ (get_or ps k d).0). absurd (s.some k d l (sym (of_pairs-at K N ps k d s.rising l) ∙ h (get_or ps k d).0 a)))
+    (cases_lt (get_or ps k d).0 n)
+
+-- places moved by an order that is its own inverse
+pub moved_pairs : {F : Type 0} (K : FieldOn F) (s : ℕ → ℕ) → ((n : ℕ) → s (s n) ≡ n) → (ps : List (ℕ × F)) → of_pairs K (map (λ p. (s p.0, p.1)) ps) ≡ (λ b. of_pairs K ps (s b))
+moved_pairs K s twice [] = refl
+moved_pairs K s twice (p ∷ ps) = fun_ext (λ b.
+    ap₂ K.plus
+    (⊎_elim
+    (λ (e : s p.0 ≡ b).
+    ap (monomial K (s p.0) p.1) (sym e)
+    ∙ monomial-same K (s p.0) p.1
+    ∙ sym (monomial-same K p.0 p.1)
+    ∙ ap (monomial K p.0 p.1) (sym (twice p.0) ∙ ap s e))
+    (λ (ne : s p.0 ≢ b). monomial-other K (s p.0) p.1 b ne ∙ sym (monomial-other K p.0 p.1 (s b) (λ f. ne (ap s f ∙ twice b))))
+    (cases_eq (s p.0) b))
+    (ap (λ f. f b) (moved_pairs K s twice ps)))
