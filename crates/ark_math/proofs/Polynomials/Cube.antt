@@ -211,4 +211,3 @@ module _ {F : Type 0} (K : FieldOn F) (N : IsField K) where
       ∙ ap (λ xs. (if bit b 0 then K.one else K.zero) ∷ xs)
       (tabulate-same m (λ i. if bit b (suc i) then K.one else K.zero) (λ i. if bit (b / 2) i then K.one else K.zero)
       (λ i l. ap (λ s. if s then K.one else K.zero) (bit-suc b i)))
-

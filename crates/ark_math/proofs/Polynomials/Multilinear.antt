@@ -153,12 +153,16 @@ module _ {F : Type 0} (K : FieldOn F) (N : IsField K) where
     where
       L : IsModule K (itself K)
       L = itself_is_module K N
+
       n : ℕ
       n = 2 ^ length p
+
       below : i % n < n
       below = mod_below i n (pow_pos (length p))
+
       whole : i ≡ i / n * n + i % n
       whole = sym (div-add-mod' i n)
+
       none : (b c : ℕ) → i ≢ c * n + b → K.times (monomial K i v (c * n + b)) (weight K p b) ≡ K.zero
       none b c ne = ap (λ k. K.times k (weight K p b)) (monomial-other K i v (c * n + b) ne) ∙ ring1 K N (λ w. (nought ⊗ w, nought)) refl (weight K p b)
 
