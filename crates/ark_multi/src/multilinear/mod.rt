@@ -19,8 +19,8 @@ use std::alloc::Global;
 /// variables are equal, or one of them is zero of no variables; then the sum is the other one. Two are equal where
 /// their numbers of variables and their tables are.
 pub trait MultilinearExtension<F: Field>: Polynomial<F, Point = Vec<F>> {
-    // The table that a polynomial extends.
-    ghost table: { Self.Polynomial.Meaning → Table F };
+    // The table that a value extends.
+    ghost table: { Self → Table F };
 
     /// The number of variables, which is below 64.
     fn num_vars(&self) -> usize
@@ -54,52 +54,57 @@ pub trait MultilinearExtension<F: Field>: Polynomial<F, Point = Vec<F>> {
     fn relabel(&self, alloc: Global, a: usize, b: usize, k: usize) -> Result<Self, PolyError>
         requires { AreWindows (Self.variables self.now) a b k }
         ensures values { IfOk result (λ p. (x : List F) → length x ≡ Self.variables self.now
-            → extension F.field (table (Self.meaning p)).value x
-            ≡ extension F.field (table (Self.meaning self.now)).value (exchanged F.field x a b k)) }
+            → extension F.field (table p).value x
+            ≡ extension F.field (table self.now).value (exchanged F.field x a b k)) }
         ensures variables { IfOk result (λ p. Self.variables p ≡ Self.variables self.now) }
         ensures memory { IsOkUnless result PolyError.Memory };
 
     /// What is left when the first variables are bound to the items of `point`, of which there are at most `num_vars`.
     fn fix_variables(&self, alloc: Global, point: &[F]) -> Result<Self, PolyError>
         requires { length point.now ≤ Self.variables self.now }
-        ensures values { IfOk result (λ p. (table (Self.meaning p)).value
-            ≡ fixed F.field (table (Self.meaning self.now)).value point.now) }
+        ensures values { IfOk result (λ p. (table p).value
+            ≡ fixed F.field (table self.now).value point.now) }
         ensures variables { IfOk result (λ p. Self.variables p ≡ Self.variables self.now - length point.now) }
         ensures memory { IsOkUnless result PolyError.Memory };
 
     /// The table's values, in the order of their indices.
     fn to_evaluations(&self, alloc: Global) -> Result<Vec<F>, PolyError>
         ensures whole { IfOk result (λ v. length v.items ≡ 2 ^ Self.variables self.now) }
-        ensures values { IfOk result (λ v. of_list F.field v.items ≡ (table (Self.meaning self.now)).value) }
+        ensures values { IfOk result (λ v. of_list F.field v.items ≡ (table self.now).value) }
         ensures memory { IsOkUnless result PolyError.Memory };
 
-    ghost one_to_one: { (a b : Self.Polynomial.Meaning) → table a ≡ table b → a ≡ b };
+    // The table that a polynomial extends.
+    ghost table_of: { Self.Polynomial.Meaning → Table F };
 
-    ghost variables_law: { (p : Self) → Self.variables p ≡ (table (Self.meaning p)).variables };
+    ghost table_law: { (p : Self) → table_of (Self.meaning p) ≡ table p };
 
-    ghost few: { (p : Self) → Self.variables p < 64 };
+    ghost one_to_one: { (a b : Self.Polynomial.Meaning) → table_of a ≡ table_of b → a ≡ b };
 
-    ghost below: { (p : Self) → IsBelow F.field (2 ^ Self.variables p) (table (Self.meaning p)).value };
+    ghost variables_law: { (p : Self) → Self.variables p ≡ (table p).variables };
 
-    ghost zero_table_law: { table Self.Polynomial.zero ≡ zero_table F.field };
+    ghost few: { (p : Self) → (table p).variables < 64 };
 
-    ghost sum_table: { (a b : Self.Polynomial.Meaning) → table (Self.sum a b)
-        ≡ table_sum F.field (table a) (table b) };
+    ghost below: { (p : Self) → IsBelow F.field (2 ^ (table p).variables) (table p).value };
 
-    ghost negated_table: { (a : Self.Polynomial.Meaning) → table (Self.negated a)
-        ≡ table_opposite F.field (table a) };
+    ghost table_of_zero: { table_of Self.Polynomial.zero ≡ zero_table F.field };
 
-    ghost scaled_table: { (c : F) (a : Self.Polynomial.Meaning) → table (Self.scaled c a)
-        ≡ table_scaled F.field c (table a) };
+    ghost table_of_sum: { (a b : Self.Polynomial.Meaning) → table_of (Self.sum a b)
+        ≡ table_sum F.field (table_of a) (table_of b) };
+
+    ghost table_of_negated: { (a : Self.Polynomial.Meaning) → table_of (Self.negated a)
+        ≡ table_opposite F.field (table_of a) };
+
+    ghost table_of_scaled: { (c : F) (a : Self.Polynomial.Meaning) → table_of (Self.scaled c a)
+        ≡ table_scaled F.field c (table_of a) };
 
     ghost degree_table: { (a : Self.Polynomial.Meaning) (d : ℕ) → Self.has_degree a d
-        ↔ (d ≡ (table a).variables) };
+        ↔ (d ≡ (table_of a).variables) };
 
     ghost value_table: { (a : Self.Polynomial.Meaning) (x : Vec F Global) (y : F) → Self.has_value a x y
-        ↔ (y ≡ extension F.field (table a).value x.items) };
+        ↔ (y ≡ extension F.field (table_of a).value x.items) };
 
     ghost fits_law: { (n : ℕ) (x : Vec F Global) → Self.fits n x ↔ (length x.items ≡ n) };
 
     ghost addable_law: { (a b : Self.Polynomial.Meaning) → Self.addable a b
-        ↔ AreAddable F.field (table a) (table b) };
+        ↔ AreAddable F.field (table_of a) (table_of b) };
 }
