@@ -2,9 +2,11 @@
 -- and zeros; in several variables terms, lists of them, values and degrees.
 pub mod Binomials
 pub mod Conversions
+pub mod Cube
 pub mod Gathered
 pub mod PairProducts
 pub mod LongDivision
+pub mod Multilinear
 pub mod Multivariate
 pub mod Quotients
 pub mod Reversed
