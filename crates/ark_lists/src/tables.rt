@@ -1,7 +1,8 @@
 //! Tables of values at the corners of a cube, by their indices: bit i of an index is the value of variable i.
 
-ghost use Rattle.std.specs.Prelude.{◌≡◌, ◌<◌, ◌*◌, ◌/◌, ◌^◌, ℕ, [], ◌∷◌, length, IfOk};
-ghost use Rattle.ark_math.specs.Multilinear.{extension, fixed};
+ghost use Rattle.std.specs.Prelude.{◌≡◌, ◌⊎◌, ◌<◌, ◌≤◌, ◌+◌, ◌*◌, ◌/◌, ◌^◌, ℕ, List, [], ◌∷◌, length, IfOk};
+ghost use Rattle.ark_math.specs.Multilinear.{AreWindows, exchanged, extension, fixed};
+ghost use Rattle.ark_math.proofs.Polynomials.Exchanged.{exchanged_index};
 ghost use Rattle.ark_math.specs.Univariate.{of_list, added, opposite, scaled};
 
 use ark_base::Field;
@@ -133,4 +134,34 @@ pub fn value_of_table<F: Field>(
 {
     let left = fixed_table(alloc, table, point)?;
     Ok(left[0])
+}
+
+/// The index with its `k` bits from `a` on and its `k` bits from `b` on exchanged.
+fn exchanged_bits(index: usize, a: usize, b: usize, k: usize) -> usize
+    requires windows { ((a + k ≤ b) × (b + k ≤ 63)) ⊎ ((b + k ≤ a) × (a + k ≤ 63)) }
+    requires below { index < 2 ^ 63 }
+    ensures { result ≡ exchanged_index index a b k }
+{
+    let first = (index >> a) % (1 << k);
+    let second = (index >> b) % (1 << k);
+    index - ((first << a) + (second << b)) + ((second << a) + (first << b))
+}
+
+/// Exchanges the `k` variables from `a` on with the `k` from `b` on: the values at each two indices that change places
+/// are swapped once.
+pub fn relabel_table<F: Field>(table: &mut [F], a: usize, b: usize, k: usize)
+    requires { (m : ℕ) × (m < 64) × (length table.old ≡ 2 ^ m) × AreWindows m a b k }
+    ensures { (x : List F) → length table.old ≡ 2 ^ length x → AreWindows (length x) a b k
+        → extension F.field (of_list F.field table.new) x
+        ≡ extension F.field (of_list F.field table.old) (exchanged F.field x a b k) }
+{
+    if a == b || k == 0 {
+        return;
+    }
+    for i in 0..table.len() {
+        let j = exchanged_bits(i, a, b, k);
+        if i < j {
+            table.swap(i, j);
+        }
+    }
 }
