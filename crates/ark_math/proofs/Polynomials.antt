@@ -1,10 +1,15 @@
 -- Polynomials, by coefficient functions: in one variable lists and pairs that denote them, products, quotients, values
--- and zeros; in several variables terms, lists of them, values and degrees.
+-- and zeros; in several variables terms, lists of them, values and degrees; multilinear extensions and tables.
 pub mod Binomials
 pub mod Conversions
+pub mod Cube
+pub mod Exchanged
 pub mod Gathered
+pub mod OnlyMultilinear
 pub mod PairProducts
 pub mod LongDivision
+pub mod Multilinear
+pub mod MultilinearTerms
 pub mod Multivariate
 pub mod Quotients
 pub mod Reversed
@@ -12,6 +17,7 @@ pub mod Series
 pub mod SortedPairs
 pub mod SortedTerms
 pub mod SparseSums
+pub mod Tables
 pub mod TermLists
 pub mod Terms
 pub mod Trimmed

@@ -11,6 +11,7 @@ use Rattle.ark_math.specs.Univariate.{added, product, of_list, of_pairs, value_b
 use Rattle.ark_math.specs.Term.{power_of, total_degree}
 use Rattle.ark_math.specs.Multivariate.{of_terms, sum_at}
 use Rattle.ark_math.specs.Points.{vanishing, reindexed}
+use Rattle.ark_math.specs.Multilinear.{corner, weight, extension, fixed, exchanged, written}
 use Rattle.ark_math.specs.NormalForms.{trim, gather}
 
 abbrev modulo : ℕ → FieldOn ℕ
@@ -125,3 +126,41 @@ powers_of_one_variable = refl
 
 sum_of_powers : total_degree ((2, 1) ∷ (0, 2) ∷ (2, 3) ∷ (1, 0) ∷ []) ≡ 6
 sum_of_powers = refl
+
+-- ---- multilinear extensions
+
+-- x1 (1 - x0) at (-2, 17)
+extension_of_one_corner : extension (modulo 65537) (of_list (modulo 65537) (0 ∷ 0 ∷ 1 ∷ 0 ∷ [])) (65535 ∷ 17 ∷ []) ≡ 51
+extension_of_one_corner = refl
+
+extension_of_four_corners : extension (modulo 65537) (of_list (modulo 65537) (2 ∷ 3 ∷ 2 ∷ 6 ∷ [])) (1 ∷ 17 ∷ []) ≡ 54
+extension_of_four_corners = refl
+
+first_variable_fixed : tabulate 2 (fixed (modulo 65537) (of_list (modulo 65537) (0 ∷ 1 ∷ 2 ∷ 6 ∷ [])) (5 ∷ [])) ≡ 5 ∷ 22 ∷ []
+first_variable_fixed = refl
+
+both_variables_fixed : tabulate 2 (fixed (modulo 65537) (of_list (modulo 65537) (2 ∷ 3 ∷ 2 ∷ 6 ∷ [])) (1 ∷ 17 ∷ [])) ≡ 54 ∷ 0 ∷ []
+both_variables_fixed = refl
+
+corner_of_six : corner (modulo 5) 3 6 ≡ 0 ∷ 1 ∷ 1 ∷ []
+corner_of_six = refl
+
+-- (1 - 2) (1 - 3), 2 (1 - 3), (1 - 2) 3, 2 * 3
+weights_of_two_items : tabulate 4 (weight (modulo 65537) (2 ∷ 3 ∷ [])) ≡ 2 ∷ 65533 ∷ 65534 ∷ 6 ∷ []
+weights_of_two_items = refl
+
+exchanged_point : exchanged (modulo 65537) (10 ∷ 11 ∷ 12 ∷ 13 ∷ 14 ∷ []) 0 3 2 ≡ 13 ∷ 14 ∷ 12 ∷ 10 ∷ 11 ∷ []
+exchanged_point = refl
+
+-- the first and the last of three variables exchanged, at each corner and at (2, 3, 4)
+exchanged_at_corners : tabulate 8 (λ b. extension (modulo 5) (of_list (modulo 5) (0 ∷ 1 ∷ 2 ∷ 3 ∷ 4 ∷ 0 ∷ 1 ∷ 2 ∷ [])) (exchanged (modulo 5) (corner (modulo 5) 3 b) 0 2 1)) ≡ 0 ∷ 4 ∷ 2 ∷ 1 ∷ 1 ∷ 0 ∷ 3 ∷ 2 ∷ []
+exchanged_at_corners = refl
+
+exchanged_point_before : extension (modulo 5) (of_list (modulo 5) (0 ∷ 1 ∷ 2 ∷ 3 ∷ 4 ∷ 0 ∷ 1 ∷ 2 ∷ [])) (exchanged (modulo 5) (2 ∷ 3 ∷ 4 ∷ []) 0 2 1) ≡ 3
+exchanged_point_before = refl
+
+exchanged_point_after : extension (modulo 5) (of_list (modulo 5) (0 ∷ 4 ∷ 2 ∷ 1 ∷ 1 ∷ 0 ∷ 3 ∷ 2 ∷ [])) (2 ∷ 3 ∷ 4 ∷ []) ≡ 3
+exchanged_point_after = refl
+
+last_written_wins : tabulate {M = ℕ} 4 (written 0 ((1, 3) ∷ (2, 4) ∷ (1, 2) ∷ [])) ≡ 0 ∷ 2 ∷ 4 ∷ 0 ∷ []
+last_written_wins = refl

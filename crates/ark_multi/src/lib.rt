@@ -2,7 +2,9 @@
 #![tactic(auto)]
 
 pub mod laws;
+pub mod multilinear;
 pub mod multivariate;
 mod polynomial;
 
+pub use multilinear::MultilinearExtension;
 pub use polynomial::DenseMVPolynomial;

@@ -1,0 +1,15 @@
+use Rattle.std.proofs.Common.{◌<◌, ◌+◌, ◌-◌, arith}
+use Rattle.ark_lists.proofs.TableLists.{exchanged_sums, moved}
+use Rattle.ark_lists.proofs.tables.exchanged_bits.Goals as goal
+
+pub overflow_sub-result : goal.overflow_sub-result
+overflow_sub-result c = (exchanged_sums c.args.index c.args.a c.args.b c.args.k c.requires.windows c.requires.below).0
+
+pub overflow_add-result-2 : goal.overflow_add-result-2
+overflow_add-result-2 c = record { fits = (exchanged_sums c.args.index c.args.a c.args.b c.args.k c.requires.windows c.requires.below).1 }
+
+pub overflow_add-result-3 : goal.overflow_add-result-3
+overflow_add-result-3 c = record { fits = (exchanged_sums c.args.index c.args.a c.args.b c.args.k c.requires.windows c.requires.below).3 }
+
+pub returns : goal.returns
+returns c = (exchanged_sums c.args.index c.args.a c.args.b c.args.k c.requires.windows c.requires.below).2

@@ -1,0 +1,105 @@
+-- Each table's extension is the value of a multilinear polynomial, by the list of its terms.
+use Rattle.std.proofs.Common.{◌≡◌, ◌≢◌, ℕ, zero, suc, ◌+◌, ◌*◌, ◌<◌, ◌≤◌, ◌^◌, All, List, [], ◌∷◌, ◌++◌, length, get_or, map, sym, ◌∙◌, ap, ap₂, refl, subst, arith, ⊎_elim}
+use Rattle.std.proofs.lemmas.Bool.{cases_eq}
+use Rattle.std.proofs.lemmas.List.Elements.{All-append, All-map, All-cons}
+use Rattle.ark_math.specs.Field.{FieldOn, IsField, minus}
+use Rattle.ark_math.specs.Module.{itself, item, tabulate}
+use Rattle.ark_math.specs.Term.{power_of, term_value}
+use Rattle.ark_math.specs.Multivariate.{of_terms, sum_at, IsValueAt}
+use Rattle.ark_math.specs.Multilinear.{extension, fixed, IsMultilinear}
+use Rattle.ark_math.proofs.Algebra.Solve.{unit, nought, ◌⊕◌, ◌⊖◌, ◌⊗◌}
+use Rattle.ark_math.proofs.Algebra.Ring.{ring1, ring3, ring4}
+use Rattle.ark_math.proofs.Lists.Tabulated.{length-tabulate, tabulate-push, is_tabulated}
+use Rattle.ark_math.proofs.Polynomials.Terms.{power_of-append, power_of-same, power_of-other, term_value-append}
+use Rattle.ark_math.proofs.Polynomials.Multivariate.{of_terms-present, sum_at-append}
+use Rattle.ark_math.proofs.Polynomials.Multilinear.{extension-nil, extension-same, extension-append, extension-added, extension-opposite}
+
+-- the terms with one variable more in each
+abbrev with_variable : {F : Type 0} → ℕ → List (F × List (ℕ × ℕ)) → List (F × List (ℕ × ℕ))
+with_variable v cs = map (λ c. (c.0, c.1 ++ (v, 1) ∷ [])) cs
+
+-- what the last variable adds where it is one
+abbrev growth : {F : Type 0} → FieldOn F → ℕ → (ℕ → F) → ℕ → F
+growth K m t b = minus K (t (2 ^ m + b)) (t b)
+
+-- the terms of the extension of a table of m variables
+abbrev pub multilinear_terms : {F : Type 0} → FieldOn F → ℕ → (ℕ → F) → List (F × List (ℕ × ℕ))
+multilinear_terms K zero t = (t 0, []) ∷ []
+multilinear_terms K (suc m) t = multilinear_terms K m t ++ with_variable m (multilinear_terms K m (growth K m t))
+
+-- variables below m, each at most once
+abbrev IsOnce : ℕ → List (ℕ × ℕ) → Type 0
+IsOnce m ps = (v : ℕ) → (power_of ps v ≤ 1) × (0 < power_of ps v → v < m)
+
+once_more : (m : ℕ) (ps : List (ℕ × ℕ)) → IsOnce m ps → IsOnce (suc m) (ps ++ (m, 1) ∷ [])
+once_more m ps h v =
+    let all = power_of-append ps ((m, 1) ∷ []) v in
+    let few = (h v).0 in
+    ⊎_elim
+    (λ (e : m ≡ v).
+    let one = power_of-same (m, 1) [] v e in
+    let nil : power_of [] v ≡ 0 = refl in
+    ⊎_elim
+    (λ (z : power_of ps v ≡ 0). (omega arith, λ l. omega arith))
+    (λ (s : power_of ps v ≢ 0). let k = (h v).1 (omega arith) in absurd (omega arith))
+    (cases_eq (power_of ps v) 0))
+    (λ (ne : m ≢ v).
+    let none = power_of-other (m, 1) [] v ne in
+    let nil : power_of [] v ≡ 0 = refl in
+    let same : power_of (ps ++ (m, 1) ∷ []) v ≡ power_of ps v = omega arith in
+    (omega arith, λ l. let k = (h v).1 (omega arith) in omega arith))
+    (cases_eq m v)
+
+once_wider : (m : ℕ) (ps : List (ℕ × ℕ)) → IsOnce m ps → IsOnce (suc m) ps
+once_wider m ps h v = ((h v).0, λ l. let k = (h v).1 l in omega arith)
+
+module _ {F : Type 0} (K : FieldOn F) (N : IsField K) where
+  terms_once : (m : ℕ) (t : ℕ → F) → All (λ c. IsOnce m c.1) (multilinear_terms K m t)
+  terms_once zero t = All-cons (λ c. IsOnce 0 c.1) (t 0, []) [] (λ v. (omega arith, λ l. absurd (omega arith))) (λ k d l. absurd (omega arith))
+  terms_once (suc m) t =
+      All-append (λ c. IsOnce (suc m) c.1) (multilinear_terms K m t) (with_variable m (multilinear_terms K m (growth K m t)))
+      (λ k d l. once_wider m (get_or (multilinear_terms K m t) k d).1 (terms_once m t k d l))
+      (All-map (λ c. IsOnce (suc m) c.1) (λ c. (c.0, c.1 ++ (m, 1) ∷ [])) (multilinear_terms K m (growth K m t))
+      (λ k d l. once_more m (get_or (multilinear_terms K m (growth K m t)) k d).1 (terms_once m (growth K m t) k d l)))
+
+  pub terms_multilinear : (m : ℕ) (t : ℕ → F) → IsMultilinear K m (of_terms K (multilinear_terms K m t))
+  terms_multilinear m t u some v =
+      let r = of_terms-present K N (multilinear_terms K m t) u some in
+      subst (λ s. (power_of s v ≤ 1) × (0 < power_of s v → v < m)) (ap (λ c. c.1) r.3 ∙ r.4) (terms_once m t r.0 r.1 r.2 v)
+
+  sum_at-with_variable : (v : ℕ) (cs : List (F × List (ℕ × ℕ))) (x : List F) → sum_at K (with_variable v cs) x ≡ K.times (get_or x v K.zero) (sum_at K cs x)
+  sum_at-with_variable v [] x = ring1 K N (λ y. (nought, y ⊗ nought)) refl (get_or x v K.zero)
+  sum_at-with_variable v (c ∷ cs) x =
+      ap₂ (λ w s. K.plus (K.times c.0 w) s) (term_value-append K N x c.1 ((v, 1) ∷ [])) (sum_at-with_variable v cs x)
+      ∙ ring4 K N (λ c w y s. (c ⊗ (w ⊗ ((y ⊗ unit) ⊗ unit)) ⊕ y ⊗ s, y ⊗ (c ⊗ w ⊕ s))) refl c.0 (term_value K c.1 x) (get_or x v K.zero) (sum_at K cs x)
+
+  -- one item more at the end
+  extension-push : (t : ℕ → F) (p : List F) (y : F) → extension K t (p ++ y ∷ []) ≡ K.plus (extension K t p) (K.times y (extension K (growth K (length p) t) p))
+  extension-push t p y =
+      let m = length p in
+      let high : ℕ → F = λ b. t (2 ^ m + b) in
+      extension-append K N t p (y ∷ [])
+      ∙ ring3 K N (λ u v y. ((nought ⊕ u ⊗ (unit ⊗ (unit ⊖ y))) ⊕ v ⊗ (unit ⊗ y), u ⊕ y ⊗ (v ⊖ u))) refl (fixed K t p 0) (fixed K t p 1) y
+      ∙ ap₂ (λ u v. K.plus u (K.times y (minus K v u)))
+      (extension-same K N (λ b. t (0 * 2 ^ m + b)) t p (λ b l. ap t (omega arith)))
+      (extension-same K N (λ b. t (1 * 2 ^ m + b)) high p (λ b l. ap t (omega arith)))
+      ∙ ap (λ e. K.plus (extension K t p) (K.times y e))
+      (sym (extension-added K N high (λ b. K.negated (t b)) p ∙ ap (K.plus (extension K high p)) (extension-opposite K N t p)))
+
+  terms_value : (m : ℕ) (t : ℕ → F) (x : List F) → sum_at K (multilinear_terms K m t) x ≡ extension K t (tabulate m (item (itself K) x))
+  terms_value zero t x = ring1 K N (λ v. (v ⊗ unit ⊕ nought, v)) refl (t 0) ∙ sym (extension-nil K N t)
+  terms_value (suc m) t x =
+      let p = tabulate m (item (itself K) x) in
+      let e : suc m ≡ m + 1 = omega arith in
+      sum_at-append K N (multilinear_terms K m t) (with_variable m (multilinear_terms K m (growth K m t))) x
+      ∙ ap₂ K.plus (terms_value m t x) (sum_at-with_variable m (multilinear_terms K m (growth K m t)) x ∙ ap (K.times (get_or x m K.zero)) (terms_value m (growth K m t) x))
+      ∙ ap (λ n. K.plus (extension K t p) (K.times (get_or x m K.zero) (extension K (growth K n t) p))) (sym (length-tabulate m (item (itself K) x)))
+      ∙ sym (ap (extension K t) (ap (λ n. tabulate n (item (itself K) x)) e ∙ tabulate-push m (item (itself K) x)) ∙ extension-push t p (get_or x m K.zero))
+
+  -- the value of this polynomial is the table's extension
+  pub terms_value_at : (m : ℕ) (t : ℕ → F) (x : List F) → length x ≡ m → IsValueAt K (of_terms K (multilinear_terms K m t)) x (extension K t x)
+  terms_value_at m t x e = (
+    multilinear_terms K m t,
+    refl,
+    ap (extension K t) (is_tabulated K.zero x m (item (itself K) x) e (λ i l. refl)) ∙ sym (terms_value m t x),
+  )

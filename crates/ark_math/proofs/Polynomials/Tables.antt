@@ -1,0 +1,186 @@
+-- Laws of tables: their sums, opposites and multiples, and the values of these; tables that are written pair by pair.
+use Rattle.std.proofs.Common.{◌≡◌, ◌≢◌, ℕ, suc, ◌<◌, ◌≤◌, ◌^◌, ◌==◌, ◌&&◌, inl, inr, Bool, Decides, if◌then◌else◌, All, AllPairs, List, [], ◌∷◌, ◌++◌, length, get_or, map, flat_map, sym, ◌∙◌, ap, ap₂, refl, arith, ⊎_elim, ext_get_or}
+use Rattle.std.proofs.lemmas.Bool.{cases_eq, cases_lt, cases_order, cond-true, cond-false, eq-eqb, ne_eqb}
+use Rattle.std.proofs.lemmas.Bool.Decides.{Decides-and}
+use Rattle.std.proofs.lemmas.Nat.{pow_below}
+use Rattle.std.proofs.lemmas.Slice.Eq.{slice_eq-Decides}
+use Rattle.std.specs.Cmp.Lexicographic.{pointwise}
+use mathlib.Core.Path.{fun_ext}
+use Rattle.ark_math.specs.Field.{FieldOn, IsField}
+use Rattle.ark_math.specs.Univariate.{monomial, IsBelow, of_list, of_pairs, IsSparse}
+use Rattle.ark_math.specs.Multilinear.{Table, zero_table, table_sum, table_opposite, table_scaled, AreAddable, extension, written, IsConcat}
+use Rattle.ark_math.proofs.Algebra.Groups.{itself_is_module, scale_zero, zero_plus}
+use Rattle.ark_math.proofs.Algebra.Solve.{nought, negative}
+use Rattle.ark_math.proofs.Algebra.Ring.{ring1}
+use Rattle.ark_math.proofs.Domains.Costs.{one_log2}
+use Rattle.ark_math.proofs.Polynomials.Univariate.{coefficients_are_module, monomial-same, monomial-other}
+use Rattle.ark_math.proofs.Polynomials.UnivariatePairs.{of_pairs-absent, of_pairs-at}
+use Rattle.ark_math.proofs.Polynomials.Multilinear.{extension-added, extension-opposite, extension-scaled}
+
+-- tables are equal by their parts
+pub same_table : {F : Type 0} (s t : Table F) → s.variables ≡ t.variables → s.value ≡ t.value → s ≡ t
+same_table s t e f = λ i. record { variables = e i; value = f i }
+
+module _ {F : Type 0} (K : FieldOn F) (N : IsField K) where
+  -- ---- sums and multiples
+
+  pub table_opposite-zero : table_opposite K (zero_table K) ≡ zero_table K
+  table_opposite-zero = same_table (table_opposite K (zero_table K)) (zero_table K) refl (fun_ext (λ b. ring1 K N (λ x. (negative nought, nought)) refl K.one))
+
+  pub table_scaled-zero : (c : F) → table_scaled K c (zero_table K) ≡ zero_table K
+  table_scaled-zero c = same_table (table_scaled K c (zero_table K)) (zero_table K) refl (fun_ext (λ b. scale_zero (itself_is_module K N) c))
+
+  pub table_sum-zero : (a : Table F) → table_sum K a (zero_table K) ≡ a
+  table_sum-zero a = same_table (table_sum K a (zero_table K)) a (omega arith) ((coefficients_are_module K N).plus_zero a.value)
+
+  pub table_sum-comm : (a b : Table F) → table_sum K a b ≡ table_sum K b a
+  table_sum-comm a b = same_table (table_sum K a b) (table_sum K b a) (omega arith) ((coefficients_are_module K N).plus_comm a.value b.value)
+
+  pub table_sum-assoc : (a b c : Table F) → table_sum K (table_sum K a b) c ≡ table_sum K a (table_sum K b c)
+  table_sum-assoc a b c =
+      same_table (table_sum K (table_sum K a b) c) (table_sum K a (table_sum K b c)) (omega arith) ((coefficients_are_module K N).plus_assoc a.value b.value c.value)
+
+  pub table_scaled-one : (a : Table F) → table_scaled K K.one a ≡ a
+  table_scaled-one a = same_table (table_scaled K K.one a) a refl ((coefficients_are_module K N).one_scale a.value)
+
+  pub table_scaled-times : (c d : F) (a : Table F) → table_scaled K (K.times c d) a ≡ table_scaled K c (table_scaled K d a)
+  table_scaled-times c d a = same_table (table_scaled K (K.times c d) a) (table_scaled K c (table_scaled K d a)) refl ((coefficients_are_module K N).times_scale c d a.value)
+
+  pub table_scaled-plus : (c d : F) (a : Table F) → table_scaled K (K.plus c d) a ≡ table_sum K (table_scaled K c a) (table_scaled K d a)
+  table_scaled-plus c d a =
+      same_table (table_scaled K (K.plus c d) a) (table_sum K (table_scaled K c a) (table_scaled K d a)) (omega arith) ((coefficients_are_module K N).plus_scale c d a.value)
+
+  pub table_scaled-sum : (c : F) (a b : Table F) → table_scaled K c (table_sum K a b) ≡ table_sum K (table_scaled K c a) (table_scaled K c b)
+  table_scaled-sum c a b =
+      same_table (table_scaled K c (table_sum K a b)) (table_sum K (table_scaled K c a) (table_scaled K c b)) refl ((coefficients_are_module K N).scale_plus c a.value b.value)
+
+  -- ---- tables that have a sum
+
+  pub AreAddable-zero : (a : Table F) → AreAddable K a (zero_table K)
+  AreAddable-zero a = inr (inr refl)
+
+  pub AreAddable-comm : (a b : Table F) → AreAddable K a b → AreAddable K b a
+  AreAddable-comm a b h =
+      ⊎_elim (λ (e : a.variables ≡ b.variables). inl (sym e))
+      (λ k. ⊎_elim (λ (e : a ≡ zero_table K). inr (inr e)) (λ (e : b ≡ zero_table K). inr (inl e)) k) h
+
+  pub AreAddable-opposite : (a b : Table F) → AreAddable K a b → AreAddable K a (table_opposite K b)
+  AreAddable-opposite a b h =
+      ⊎_elim (λ (e : a.variables ≡ b.variables). inl e)
+      (λ k. ⊎_elim (λ (e : a ≡ zero_table K). inr (inl e)) (λ (e : b ≡ zero_table K). inr (inr (ap (table_opposite K) e ∙ table_opposite-zero))) k) h
+
+  pub AreAddable-scaled : (c : F) (a b : Table F) → AreAddable K a b → AreAddable K a (table_scaled K c b)
+  AreAddable-scaled c a b h =
+      ⊎_elim (λ (e : a.variables ≡ b.variables). inl e)
+      (λ k. ⊎_elim (λ (e : a ≡ zero_table K). inr (inl e)) (λ (e : b ≡ zero_table K). inr (inr (ap (table_scaled K c) e ∙ table_scaled-zero c))) k) h
+
+  -- ---- values
+
+  pub value_of-sum : (a b : Table F) (x : List F) (y z : F) → y ≡ extension K a.value x → z ≡ extension K b.value x → K.plus y z ≡ extension K (table_sum K a b).value x
+  value_of-sum a b x y z e f = ap₂ K.plus e f ∙ sym (extension-added K N a.value b.value x)
+
+  pub value_of-opposite : (a : Table F) (x : List F) (y : F) → y ≡ extension K a.value x → K.negated y ≡ extension K (table_opposite K a).value x
+  value_of-opposite a x y e = ap K.negated e ∙ sym (extension-opposite K N a.value x)
+
+  pub value_of-scaled : (c : F) (a : Table F) (x : List F) (y : F) → y ≡ extension K a.value x → K.times c y ≡ extension K (table_scaled K c a).value x
+  value_of-scaled c a x y e = ap (K.times c) e ∙ sym (extension-scaled K N c a.value x)
+
+-- lists of one length that denote one table are equal
+pub same_values : {F : Type 0} (K : FieldOn F) (c d : List F) → length c ≡ length d → of_list K c ≡ of_list K d → c ≡ d
+same_values K c d e f = ext_get_or K.zero c d e (λ i l. ap (λ a. a i) f)
+
+-- ---- equality
+
+-- a test of both parts
+pub table_Decides : {F : Type 0} {m n : ℕ} {a b : ℕ → F} {s t : Bool} → Decides s (m ≡ n) → Decides t (a ≡ b) → Decides (s && t) (◌≡◌ {A = Table F} (record { variables = m; value = a }) (record { variables = n; value = b }))
+table_Decides {m = m} {n = n} {a = a} {b = b} {s = s} {t = t} left right =
+    let both = Decides-and s t left right in
+    (λ h. let e = both.0 h in same_table (record { variables = m; value = a }) (record { variables = n; value = b }) e.0 e.1, λ e. both.1 (ap (λ t. t.variables) e, ap (λ t. t.value) e))
+
+-- a power of two is one of one exponent
+pub same_power : (m n : ℕ) → 2 ^ m ≡ 2 ^ n → m ≡ n
+same_power m n e = ⊎_elim
+    (λ (h : m ≡ n). h)
+    (λ h. ⊎_elim
+    (λ (l : m < n). let p = pow_below m n l in absurd (omega arith))
+    (λ (l : n < m). let p = pow_below n m l in absurd (omega arith)) h)
+    (cases_order m n)
+
+-- lists of all values, one for each corner
+pub values_Decides : {F : Type 0} (K : FieldOn F) {eq : F → F → Bool} → ((a b : F) → Decides (eq a b) (a ≡ b)) → (m n : ℕ) (c d : List F) → length c ≡ 2 ^ m → length d ≡ 2 ^ n
+    → Decides (pointwise eq c d) (◌≡◌ {A = Table F} (record { variables = m; value = of_list K c }) (record { variables = n; value = of_list K d }))
+values_Decides K decides m n c d e f =
+    let same = slice_eq-Decides decides c d _ refl in
+    (λ h. let g = same.0 h in same_table (record { variables = m; value = of_list K c }) (record { variables = n; value = of_list K d }) (same_power m n (sym e ∙ ap length g ∙ f)) (ap (of_list K) g), λ g. same.1 (same_values K c d (e ∙ ap (λ t. 2 ^ t.variables) g ∙ sym f) (ap (λ t. t.value) g)))
+
+-- ---- written pair by pair
+
+pub written-append : {F : Type 0} (d : F) (ps qs : List (ℕ × F)) (b : ℕ) → written d (ps ++ qs) b ≡ written (written d ps b) qs b
+written-append d [] qs b = refl
+written-append d (p ∷ ps) qs b = written-append (if p.0 == b then p.1 else d) ps qs b
+
+pub written-push : {F : Type 0} (d : F) (ps : List (ℕ × F)) (p : ℕ × F) (b : ℕ) → written d (ps ++ p ∷ []) b ≡ (if p.0 == b then p.1 else written d ps b)
+written-push d ps p b = written-append d ps (p ∷ []) b
+
+pub written-push_same : {F : Type 0} (d : F) (ps : List (ℕ × F)) (p : ℕ × F) → written d (ps ++ p ∷ []) p.0 ≡ p.1
+written-push_same d ps p = written-push d ps p p.0 ∙ cond-true (p.0 == p.0) p.1 (written d ps p.0) (eq-eqb p.0 p.0 refl)
+
+pub written-push_other : {F : Type 0} (d : F) (ps : List (ℕ × F)) (p : ℕ × F) (b : ℕ) → p.0 ≢ b → written d (ps ++ p ∷ []) b ≡ written d ps b
+written-push_other d ps p b ne = written-push d ps p b ∙ cond-false (p.0 == b) p.1 (written d ps b) (ne_eqb p.0 b ne)
+
+-- what no pair is for stays
+pub written-absent : {F : Type 0} (d : F) (ps : List (ℕ × F)) (b : ℕ) → All (λ p. p.0 ≢ b) ps → written d ps b ≡ d
+written-absent d [] b h = refl
+written-absent d (p ∷ ps) b h =
+    ap (λ v. written v ps b) (cond-false (p.0 == b) p.1 d (ne_eqb p.0 b (h 0 p (omega arith)))) ∙ written-absent d ps b (λ k e l. h (suc k) e (omega arith))
+
+pub written-below : {F : Type 0} (K : FieldOn F) (n : ℕ) (ps : List (ℕ × F)) → All (λ p. p.0 < n) ps → IsBelow K n (written K.zero ps)
+written-below K n ps h i l = written-absent K.zero ps i (λ k d b e. let m = h k d b in omega arith)
+
+-- pairs of which no two are for one place are their sum
+pub of_pairs_written : {F : Type 0} (K : FieldOn F) (N : IsField K) (ps : List (ℕ × F)) → AllPairs (λ p q. p.0 ≢ q.0) ps → of_pairs K ps ≡ written K.zero ps
+of_pairs_written K N [] h = refl
+of_pairs_written K N (p ∷ ps) h = fun_ext (λ b. ⊎_elim
+    (λ (e : p.0 ≡ b).
+    let rest : All (λ q. q.0 ≢ b) ps = λ k d l f. h 0 (suc k) d (omega arith) (omega arith) (e ∙ sym f) in
+    ap₂ K.plus (ap (monomial K p.0 p.1) (sym e) ∙ monomial-same K p.0 p.1) (of_pairs-absent K N ps b rest)
+    ∙ N.plus_zero p.1
+    ∙ sym (written-absent p.1 ps b rest)
+    ∙ ap (λ v. written v ps b) (sym (cond-true (p.0 == b) p.1 K.zero (eq-eqb p.0 b e))))
+    (λ (ne : p.0 ≢ b).
+    ap₂ K.plus (monomial-other K p.0 p.1 b ne) (ap (λ f. f b) (of_pairs_written K N ps (λ i j d l m. h (suc i) (suc j) d (omega arith) (omega arith))))
+    ∙ zero_plus (itself_is_module K N) (written K.zero ps b)
+    ∙ ap (λ v. written v ps b) (sym (cond-false (p.0 == b) p.1 K.zero (ne_eqb p.0 b ne))))
+    (cases_eq p.0 b))
+
+-- ---- lists one after the other
+
+pub one_concat : {F : Type 0} (K : FieldOn F) (ts : List (List F)) (s t : Table F) → IsConcat K ts s → IsConcat K ts t → s ≡ t
+one_concat {F} K ts s t g h = same_table s t (one_log2 (length (flat_map (λ (x : List F). x) ts)) s.variables t.variables g.variables h.variables) (g.values ∙ sym h.values)
+
+-- ---- tables of pairs
+
+pub pairs_below : {F : Type 0} (K : FieldOn F) (N : IsField K) (n : ℕ) (ps : List (ℕ × F)) → All (λ p. p.0 < n) ps → IsBelow K n (of_pairs K ps)
+pairs_below K N n ps h i l = of_pairs-absent K N ps i (λ k d b e. let m = h k d b in omega arith)
+
+-- sparse pairs have no other places than those with a value
+pub sparse_below : {F : Type 0} (K : FieldOn F) (N : IsField K) (n : ℕ) (ps : List (ℕ × F)) → IsSparse K ps → IsBelow K n (of_pairs K ps) → All (λ p. p.0 < n) ps
+sparse_below K N n ps s h k d l = ⊎_elim
+    (λ (a : (get_or ps k d).0 < n). a)
+    (λ (a : n ≤ (get_or ps k d).0). absurd (s.some k d l (sym (of_pairs-at K N ps k d s.rising l) ∙ h (get_or ps k d).0 a)))
+    (cases_lt (get_or ps k d).0 n)
+
+-- places moved by an order that is its own inverse
+pub moved_pairs : {F : Type 0} (K : FieldOn F) (s : ℕ → ℕ) → ((n : ℕ) → s (s n) ≡ n) → (ps : List (ℕ × F)) → of_pairs K (map (λ p. (s p.0, p.1)) ps) ≡ (λ b. of_pairs K ps (s b))
+moved_pairs K s twice [] = refl
+moved_pairs K s twice (p ∷ ps) = fun_ext (λ b.
+    ap₂ K.plus
+    (⊎_elim
+    (λ (e : s p.0 ≡ b).
+    ap (monomial K (s p.0) p.1) (sym e)
+    ∙ monomial-same K (s p.0) p.1
+    ∙ sym (monomial-same K p.0 p.1)
+    ∙ ap (monomial K p.0 p.1) (sym (twice p.0) ∙ ap s e))
+    (λ (ne : s p.0 ≢ b). monomial-other K (s p.0) p.1 b ne ∙ sym (monomial-other K p.0 p.1 (s b) (λ f. ne (ap s f ∙ twice b))))
+    (cases_eq (s p.0) b))
+    (ap (λ f. f b) (moved_pairs K s twice ps)))
