@@ -3,3 +3,4 @@ pub mod GatheredPowers
 pub mod GradedOrder
 pub mod PowerLists
 pub mod TableLists
+pub mod DenseTables

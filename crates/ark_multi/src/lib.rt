@@ -6,5 +6,5 @@ pub mod multilinear;
 pub mod multivariate;
 mod polynomial;
 
-pub use multilinear::MultilinearExtension;
+pub use multilinear::{DenseMultilinearExtension, MultilinearExtension};
 pub use polynomial::DenseMVPolynomial;

@@ -7,7 +7,10 @@ ghost use Rattle.ark_math.specs.Multilinear.{Table, zero_table, table_sum, table
 ghost use Rattle.ark_math.specs.Multilinear.{AreAddable, AreWindows, exchanged, extension, fixed};
 ghost use Rattle.ark_math.specs.Univariate.{IsBelow, of_list};
 
+mod dense;
+
 use ark_base::{Field, PolyError, Polynomial};
+pub use dense::DenseMultilinearExtension;
 use rand::Rng;
 use std::alloc::Global;
 

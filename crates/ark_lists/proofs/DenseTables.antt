@@ -1,0 +1,73 @@
+-- Tables as lists of all their values.
+use Rattle.std.proofs.Common.{◌≡◌, ◌≢◌, ℕ, ◌-◌, ◌+◌, ◌*◌, ◌≤◌, ◌^◌, ◌==◌, ◌&&◌, ⊎_elim, max, Bool, Decides, List, length, get_or, refl, sym, ◌∙◌, ap, ap₂, arith}
+use mathlib.Core.Path.{fun_ext}
+use Rattle.std.specs.Cmp.{unsigned_Decides}
+use Rattle.std.proofs.lemmas.Bool.{cases_eq}
+use Rattle.std.proofs.lemmas.Bool.Decides.{Decides-and}
+use Rattle.std.proofs.lemmas.List.{get_or_read}
+use Rattle.std.proofs.lemmas.Slice.Eq.{slice_eq-Decides}
+use Rattle.std.specs.Cmp.Lexicographic.{pointwise}
+use Rattle.std.proofs.lemmas.Nat.{pow-add}
+use Rattle.ark_math.specs.Field.{FieldOn, IsField}
+use Rattle.ark_math.specs.Multilinear.{Table, zero_table, table_sum, table_opposite, table_scaled, AreAddable}
+use Rattle.ark_math.specs.Univariate.{IsBelow, of_list}
+use Rattle.ark_math.proofs.Algebra.Solve.{unit, negative, ◌⊗◌}
+use Rattle.ark_math.proofs.Algebra.Ring.{ring1}
+use Rattle.ark_math.proofs.Polynomials.Tables.{same_table, same_values, table_sum-zero, table_sum-comm}
+use Rattle.ark_math.proofs.Polynomials.UnivariateLists.{of_list-past}
+
+-- the table with these values
+abbrev pub listed : {F : Type 0} → FieldOn F → ℕ → List F → Table F
+listed K n v = record { variables = n; value = of_list K v }
+
+pub same_length : {F : Type 0} (m n : ℕ) (x : List F) → length x ≡ m → length x ≡ n → length x ≡ max m n
+same_length m n x left right = omega arith
+
+pub list_below : {F : Type 0} (K : FieldOn F) (v : List F) (n : ℕ) → length v ≡ 2 ^ n → IsBelow K (2 ^ n) (of_list K v)
+list_below K v n e i past = of_list-past K v i (omega arith)
+
+-- a test of values and numbers of variables is one of tables
+pub equal_tables : {F : Type 0} (K : FieldOn F) (eq : F → F → Bool) → ((a b : F) → Decides (eq a b) (a ≡ b)) → (c d : List F) (m n : ℕ) → length c ≡ 2 ^ m → length d ≡ 2 ^ n → Decides (pointwise eq c d && (m == n)) (listed K m c ≡ listed K n d)
+equal_tables K eq decides c d m n left right =
+    let both = Decides-and (pointwise eq c d) (m == n) (slice_eq-Decides decides c d (pointwise eq c d) refl) (unsigned_Decides m n) in (
+      λ e. let h = both.0 e in ap₂ (listed K) h.1 h.0,
+      λ e.
+          let same : m ≡ n = ap (λ t. t.variables) e in
+          let lengths : length c ≡ length d = left ∙ ap (λ k. 2 ^ k) same ∙ sym right in
+          both.1 (same_values K c d lengths (ap (λ t. t.value) e), same),
+    )
+
+-- zero of no variables is one value, zero
+pub is_zero_table : {F : Type 0} (K : FieldOn F) (v : List F) (n : ℕ) (x : F) → length v ≡ 2 ^ n → n ≡ 0 → x ≡ get_or v 0 x → x ≡ K.zero → listed K n v ≡ zero_table K
+is_zero_table K v n x whole none is zero =
+    let one : length v ≡ 1 = whole ∙ ap (λ k. 2 ^ k) none in
+    same_table (listed K n v) (zero_table K) none
+    (fun_ext (λ i. ⊎_elim
+    (λ (e : i ≡ 0). ap (of_list K v) e ∙ sym (get_or_read v 0 x (omega arith) is K.zero) ∙ zero)
+    (λ (ne : i ≢ 0). of_list-past K v i (omega arith))
+    (cases_eq i 0)))
+
+pub decides_zero : {F : Type 0} (K : FieldOn F) (v : List F) (n : ℕ) (x : F) (b : Bool) → length v ≡ 2 ^ n → n ≡ 0 → x ≡ get_or v 0 x → Decides b (x ≡ K.zero) → Decides b (listed K n v ≡ zero_table K)
+decides_zero {F = F} K v n x b whole none is decides =
+    let one : length v ≡ 1 = whole ∙ ap (λ k. 2 ^ k) none in (
+      λ e. is_zero_table K v n x whole none is (decides.0 e),
+      λ e. decides.1 (get_or_read v 0 x (omega arith) is K.zero ∙ ap (λ (t : Table F). t.value 0) e),
+    )
+
+pub pow_rest : (m j : ℕ) → j ≤ m → 2 ^ (m - j) * 2 ^ j ≡ 2 ^ m
+pow_rest m j l = let e : (m - j) + j ≡ m = omega arith in sym (pow-add 2 (m - j) j) ∙ ap (λ k. 2 ^ k) e
+
+module _ {F : Type 0} (K : FieldOn F) (N : IsField K) where
+  -- a sum with zero of no variables
+  pub left_zero : (a b c : Table F) → a ≡ zero_table K → c ≡ b → c ≡ table_sum K a b
+  left_zero a b c z e = e ∙ sym (table_sum-zero K N b) ∙ table_sum-comm K N b (zero_table K) ∙ ap (λ t. table_sum K t b) (sym z)
+
+  pub right_zero : (a b : Table F) → AreAddable K a b → a.variables ≢ b.variables → a ≢ zero_table K → a ≡ table_sum K a b
+  right_zero a b addable differ some = ⊎_elim
+      (λ (e : a.variables ≡ b.variables). absurd (differ e))
+      (λ k. ⊎_elim (λ (e : a ≡ zero_table K). absurd (some e)) (λ (e : b ≡ zero_table K). sym (ap (table_sum K a) e ∙ table_sum-zero K N a)) k)
+      addable
+
+  pub opposite_scaled : (a : Table F) → table_scaled K (K.negated K.one) a ≡ table_opposite K a
+  opposite_scaled a = same_table (table_scaled K (K.negated K.one) a) (table_opposite K a) refl
+      (fun_ext (λ i. ring1 K N (λ v. (negative unit ⊗ v, negative v)) refl (a.value i)))
