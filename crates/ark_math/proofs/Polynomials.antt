@@ -14,6 +14,7 @@ pub mod Series
 pub mod SortedPairs
 pub mod SortedTerms
 pub mod SparseSums
+pub mod Tables
 pub mod TermLists
 pub mod Terms
 pub mod Trimmed

@@ -5,11 +5,11 @@ use Rattle.std.proofs.lemmas.Bool.{cases_eq, cases_Bool, eqb-true, eqb-false}
 use mathlib.Core.Path.{fun_ext}
 use Rattle.ark_math.specs.Field.{FieldOn, IsField, minus}
 use Rattle.ark_math.specs.Module.{IsModule, itself, sum_below}
-use Rattle.ark_math.specs.Univariate.{nothing, added, opposite, scaled, monomial, of_pairs, IsBelow}
+use Rattle.ark_math.specs.Univariate.{nothing, added, difference, opposite, scaled, monomial, of_pairs, IsBelow}
 use Rattle.ark_math.specs.Multilinear.{bit, corner, weight, extension, fixed}
 use Rattle.ark_math.proofs.Algebra.Groups.{itself_is_module}
 use Rattle.ark_math.proofs.Algebra.Sums.{sum_below-same, sum_below-plus, sum_below-scale}
-use Rattle.ark_math.proofs.Algebra.Regrouped.{sum_below-zero, sum_below-single}
+use Rattle.ark_math.proofs.Algebra.Regrouped.{sum_below-zero, sum_below-single, sum_below-negated}
 use Rattle.ark_math.proofs.Algebra.Solve.{unit, nought, negative, ◌⊕◌, ◌⊖◌, ◌⊗◌}
 use Rattle.ark_math.proofs.Algebra.Ring.{ring1, ring2, ring3, ring4}
 use Rattle.ark_math.proofs.Polynomials.Univariate.{monomial-same, monomial-other}
@@ -190,3 +190,34 @@ module _ {F : Type 0} (K : FieldOn F) (N : IsField K) where
       ∙ ring2 K N (λ u v. (u ⊕ nought ⊗ (v ⊖ u), u)) refl (t (2 * (b / 2))) (t (2 * (b / 2) + 1))
       ∙ ap t o)
       (cases_Bool (bit b 0))
+
+  -- ---- sums over the cube
+
+  -- the first variable is zero, or one
+  pub cube_sum : (m : ℕ) (t : ℕ → F) → sum_below (itself K) (2 ^ suc m) t ≡ K.plus (sum_below (itself K) (2 ^ m) (fixed K t (K.zero ∷ []))) (sum_below (itself K) (2 ^ m) (fixed K t (K.one ∷ [])))
+  cube_sum m t =
+      ap (λ n. sum_below (itself K) n t) (pow_twice m)
+      ∙ sum_below-pairs (itself_is_module K N) (2 ^ m) t
+      ∙ sum_below-plus (itself_is_module K N) (2 ^ m) (λ c. t (2 * c)) (λ c. t (2 * c + 1))
+      ∙ ap₂ (λ f g. K.plus (sum_below (itself K) (2 ^ m) f) (sum_below (itself K) (2 ^ m) g))
+      (sym (fixed-one t K.zero ∙ fun_ext (λ c. ring2 K N (λ u v. (u ⊕ nought ⊗ (v ⊖ u), u)) refl (t (2 * c)) (t (2 * c + 1)))))
+      (sym (fixed-one t K.one ∙ fun_ext (λ c. ring2 K N (λ u v. (u ⊕ unit ⊗ (v ⊖ u), v)) refl (t (2 * c)) (t (2 * c + 1)))))
+
+  -- what is left is affine in the item that is bound
+  pub fixed_one-affine : (t : ℕ → F) (x : F) → fixed K t (x ∷ []) ≡ added K (fixed K t (K.zero ∷ [])) (scaled K x (difference K (fixed K t (K.one ∷ [])) (fixed K t (K.zero ∷ []))))
+  fixed_one-affine t x =
+      fixed-one t x
+      ∙ fun_ext (λ c. ring3 K N (λ u v x. (u ⊕ x ⊗ (v ⊖ u), (u ⊕ nought ⊗ (v ⊖ u)) ⊕ x ⊗ ((u ⊕ unit ⊗ (v ⊖ u)) ⊖ (u ⊕ nought ⊗ (v ⊖ u))))) refl (t (2 * c)) (t (2 * c + 1)) x)
+      ∙ ap₂ (λ f g. added K f (scaled K x (difference K g f))) (sym (fixed-one t K.zero)) (sym (fixed-one t K.one))
+
+  -- and so is its sum
+  pub cube_sum-affine : (n : ℕ) (t : ℕ → F) (x : F) → sum_below (itself K) n (fixed K t (x ∷ []))
+      ≡ K.plus (sum_below (itself K) n (fixed K t (K.zero ∷ []))) (K.times x (minus K (sum_below (itself K) n (fixed K t (K.one ∷ []))) (sum_below (itself K) n (fixed K t (K.zero ∷ [])))))
+  cube_sum-affine n t x =
+      let L = itself_is_module K N in
+      let f = fixed K t (K.zero ∷ []) in
+      let g = fixed K t (K.one ∷ []) in
+      ap (sum_below (itself K) n) (fixed_one-affine t x)
+      ∙ sum_below-plus L n f (scaled K x (difference K g f))
+      ∙ ap (K.plus (sum_below (itself K) n f)) (sum_below-scale L n x (difference K g f)
+      ∙ ap (K.times x) (sum_below-plus L n g (opposite K f) ∙ ap (K.plus (sum_below (itself K) n g)) (sum_below-negated N L n f)))
