@@ -1,4 +1,5 @@
-//! Lists behind the polynomials of several variables: the powers of a term.
+//! Lists behind the polynomials of several variables: the powers of a term, and the entries of a table.
 #![tactic(auto)]
 
 pub mod powers;
+pub mod windows;
