@@ -3,7 +3,9 @@
 pub mod Binomials
 pub mod Conversions
 pub mod Cube
+pub mod Exchanged
 pub mod Gathered
+pub mod OnlyMultilinear
 pub mod PairProducts
 pub mod LongDivision
 pub mod Multilinear

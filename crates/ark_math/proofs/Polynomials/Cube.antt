@@ -1,7 +1,7 @@
 -- Bits of an index, corners of the cube, and how much each corner counts at a point.
-use Rattle.std.proofs.Common.{◌≡◌, ℕ, zero, suc, ◌+◌, ◌*◌, ◌/◌, ◌%◌, ◌^◌, ◌<◌, Bool, true, false, if◌then◌else◌, List, [], ◌∷◌, ◌++◌, length, sym, ◌∙◌, ap, ap₂, refl, arith, shr-shr, pow-suc, ⊎_elim, ◌≤◌, ◌-◌, eqb, eq-eqb, ne_eqb}
+use Rattle.std.proofs.Common.{◌≡◌, ℕ, zero, suc, ◌+◌, ◌*◌, ◌/◌, ◌%◌, ◌^◌, ◌<◌, Bool, true, false, if◌then◌else◌, List, [], ◌∷◌, ◌++◌, length, sym, ◌∙◌, ap, ap₂, refl, arith, shr-shr, pow-suc, pow_pos, div-add-mod', ⊎_elim, ◌≤◌, ◌-◌, eqb, eq-eqb, ne_eqb}
 use Rattle.std.proofs.lemmas.Bool.{cases_Bool, eqb-true, eqb-false}
-use Rattle.std.proofs.lemmas.Nat.{div-mul-add}
+use Rattle.std.proofs.lemmas.Nat.{div-mul-add, mod_below}
 use Rattle.ark_math.specs.Field.{FieldOn, IsField, minus}
 use Rattle.ark_math.specs.Module.{ModuleOn, IsModule, itself, sum_below, item}
 use Rattle.ark_math.specs.Multilinear.{bit, corner, product_below, weight}
@@ -74,6 +74,30 @@ same_bits (suc n) b c l m h =
     let twice = pow_twice n in
     let e = bit-half b c (h 0 (omega arith)) in
     let f = same_bits n (b / 2) (c / 2) (omega arith) (omega arith) (λ i k. sym (bit-suc b i) ∙ h (suc i) (omega arith) ∙ bit-suc c i) in
+    omega arith
+
+below_power : (n : ℕ) → n < 2 ^ n
+below_power zero = omega arith
+below_power (suc n) = let twice = pow_twice n in let h = below_power n in omega arith
+
+-- numbers are equal by all their bits
+pub equal_bits : (b c : ℕ) → ((i : ℕ) → bit b i ≡ bit c i) → b ≡ c
+equal_bits b c h =
+    let l = below_power (b + c) in
+    same_bits (b + c) b c (omega arith) (omega arith) (λ i k. h i)
+
+-- a number with no bits from n on
+pub below_by_bits : (n b : ℕ) → ((i : ℕ) → n ≤ i → bit b i ≡ false) → b < 2 ^ n
+below_by_bits n b h =
+    let low = mod_below b (2 ^ n) (pow_pos n) in
+    let none : b / 2 ^ n ≡ 0 =
+    equal_bits (b / 2 ^ n) 0
+    (λ i.
+    sym (bit-high n i (b / 2 ^ n) (b % 2 ^ n) low)
+    ∙ ap (λ k. bit k (n + i)) (div-add-mod' b (2 ^ n))
+    ∙ h (n + i) (omega arith)
+    ∙ sym (bit-zero i)) in
+    let e : b ≡ 0 * 2 ^ n + b % 2 ^ n = sym (div-add-mod' b (2 ^ n)) ∙ ap (λ k. k * 2 ^ n + b % 2 ^ n) none in
     omega arith
 
 -- ---- sums and products

@@ -1,0 +1,136 @@
+//! Tables of values at the corners of a cube, by their indices: bit i of an index is the value of variable i.
+
+ghost use Rattle.std.specs.Prelude.{◌≡◌, ◌<◌, ◌*◌, ◌/◌, ◌^◌, ℕ, [], ◌∷◌, length, IfOk};
+ghost use Rattle.ark_math.specs.Multilinear.{extension, fixed};
+ghost use Rattle.ark_math.specs.Univariate.{of_list, added, opposite, scaled};
+
+use ark_base::Field;
+use std::alloc::{AllocError, Global};
+
+/// Adds to each item the one at its place.
+pub fn add_each<F: Field>(items: &mut [F], other: &[F])
+    requires { length other.now ≡ length items.old }
+    ensures { of_list F.field items.new ≡ added F.field (of_list F.field items.old)
+        (of_list F.field other.now) }
+{
+    for i in 0..other.len() {
+        items[i] += other[i];
+    }
+}
+
+/// Subtracts from each item the one at its place.
+pub fn subtract_each<F: Field>(items: &mut [F], other: &[F])
+    requires { length other.now ≡ length items.old }
+    ensures { of_list F.field items.new ≡ added F.field (of_list F.field items.old)
+        (opposite F.field (of_list F.field other.now)) }
+{
+    for i in 0..other.len() {
+        items[i] -= other[i];
+    }
+}
+
+/// Adds to each item a multiple of the one at its place.
+pub fn add_scaled<F: Field>(items: &mut [F], factor: F, other: &[F])
+    requires { length other.now ≡ length items.old }
+    ensures { of_list F.field items.new ≡ added F.field (of_list F.field items.old)
+        (scaled F.field factor (of_list F.field other.now)) }
+{
+    for i in 0..other.len() {
+        items[i] += factor * other[i];
+    }
+}
+
+/// Multiplies each item by the factor.
+pub fn scale_each<F: Field>(items: &mut [F], factor: F)
+    ensures { of_list F.field items.new ≡ scaled F.field factor (of_list F.field items.old) }
+{
+    for i in 0..items.len() {
+        items[i] *= factor;
+    }
+}
+
+/// Writes what is left of a table when its first variable is bound to `x` over a buffer of half the length: one product
+/// for each pair of values.
+fn bind_pairs<F: Field>(half: &mut [F], table: &[F], x: F)
+    requires { length table.now ≡ 2 * length half.old }
+    ensures { of_list F.field half.new ≡ fixed F.field (of_list F.field table.now) (x ∷ []) }
+{
+    for i in 0..half.len() {
+        let low = table[2 * i];
+        let high = table[2 * i + 1];
+        half[i] = low + x * (high - low);
+    }
+}
+
+/// What is left of a table when its first variable is bound to `x`, in a list of its own.
+fn bound_table<F: Field>(alloc: Global, table: &[F], x: F) -> Result<Vec<F>, AllocError>
+    requires { length table.now ≡ 2 * (length table.now / 2) }
+    ensures values { IfOk result (λ t. of_list F.field t.items
+        ≡ fixed F.field (of_list F.field table.now) (x ∷ [])) }
+    ensures len { IfOk result (λ t. 2 * length t.items ≡ length table.now) }
+{
+    let len = table.len() / 2;
+    let mut half = Vec::with_capacity(alloc, len)?;
+    half.resize(len, F::zero())?;
+    bind_pairs(half.as_mut_slice(), table, x);
+    Ok(half)
+}
+
+/// Writes what is left of a table when its first variable is bound to `x` over its lower half.
+fn bind_in_place<F: Field>(table: &mut [F], x: F)
+    ensures { (i : ℕ) → i < length table.old / 2 → of_list F.field table.new i
+        ≡ fixed F.field (of_list F.field table.old) (x ∷ []) i }
+{
+    for i in 0..table.len() / 2 {
+        let low = table[2 * i];
+        let high = table[2 * i + 1];
+        table[i] = low + x * (high - low);
+    }
+}
+
+/// Binds the first variable of a table to `x`, which halves it.
+fn bind_first<F: Field>(table: &mut Vec<F>, x: F)
+    requires { length table.old.items ≡ 2 * (length table.old.items / 2) }
+    ensures values { of_list F.field table.new.items
+        ≡ fixed F.field (of_list F.field table.old.items) (x ∷ []) }
+    ensures len { 2 * length table.new.items ≡ length table.old.items }
+{
+    bind_in_place(table.as_mut_slice(), x);
+    table.truncate(table.len() / 2);
+}
+
+/// What is left of a table when its first variables are bound to the point's items, in a list of its own. Each variable
+/// halves the table, and takes one product for each pair of values; the first is bound on the way into the list, which
+/// takes no more than half the memory of the table.
+pub fn fixed_table<F: Field>(
+    alloc: Global,
+    table: &[F],
+    point: &[F],
+) -> Result<Vec<F>, AllocError>
+    requires { (n : ℕ) × (n * 2 ^ length point.now ≡ length table.now) }
+    ensures values { IfOk result (λ t. of_list F.field t.items
+        ≡ fixed F.field (of_list F.field table.now) point.now) }
+    ensures len { IfOk result (λ t. length t.items * 2 ^ length point.now ≡ length table.now) }
+{
+    let Some((first, others)) = point.split_first() else {
+        return Vec::from_slice(alloc, table);
+    };
+    let mut left = bound_table(alloc, table, *first)?;
+    for x in others {
+        bind_first(&mut left, *x);
+    }
+    Ok(left)
+}
+
+/// The value at a point of a table's extension: all its variables are bound.
+pub fn value_of_table<F: Field>(
+    alloc: Global,
+    table: &[F],
+    point: &[F],
+) -> Result<F, AllocError>
+    requires { length table.now ≡ 2 ^ length point.now }
+    ensures { IfOk result (λ y. y ≡ extension F.field (of_list F.field table.now) point.now) }
+{
+    let left = fixed_table(alloc, table, point)?;
+    Ok(left[0])
+}
