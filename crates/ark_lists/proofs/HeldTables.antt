@@ -1,22 +1,28 @@
 -- The tables that maps hold, entry by entry, and what is left of one when variables are bound.
-use Rattle.std.proofs.Common.{◌≡◌, ◌≢◌, ℕ, zero, suc, ◌+◌, ◌*◌, ◌/◌, ◌%◌, ◌<◌, ◌≤◌, ◌^◌, List, [], ◌∷◌, ◌++◌, length, get_or, take, nat_eq, Bool, true, false, None, Some, unwrap_or, cond, ◌==◌, if◌then◌else◌, sym, ◌∙◌, ap, ap₂, refl, subst, arith, eq-eqb, ne_eqb, ⊎_elim}
+use Rattle.std.proofs.Common.{◌≡◌, ◌≢◌, ℕ, ◌+◌, ◌/◌, ◌%◌, ◌<◌, ◌≤◌, ◌^◌, List, [], ◌∷◌, ◌++◌, length, get_or, set, take, nat_eq, Some, Result, Ok, Err, IfOk, IfErr, unwrap_or, ◌==◌, if◌then◌else◌, sym, ◌∙◌, ap, ap₂, refl, subst, arith, eq-eqb, ne_eqb, ⊎_elim}
 use mathlib.Core.Path.{fun_ext}
 use Rattle.std.specs.Cmp.{nat_eq_equiv}
-use Rattle.std.specs.List.{IsDistinct}
+use Rattle.std.specs.List.{All, IsDistinct}
 use Rattle.std.specs.Map.{lookup, keys_of}
 use Rattle.std.specs.declared.hash.FoldHasher.{FoldHasher}
 use Rattle.std.specs.declared.hash.BuildHasherDefault.{BuildHasherDefault}
-use Rattle.std.specs.HashMap.{get, HashMap, Updates, IsUnique}
-use Rattle.std.proofs.lemmas.Bool.{cases_eq}
+use Rattle.std.specs.HashMap.{HashMap, Updates, IsUnique}
+use Rattle.std.specs.List.Sorted.{IsSearchInRange, IsBinarySearchResult, IsNonDecreasingBy}
+use Rattle.std.specs.Ordering.{nat_cmp, ordering_index}
+use Rattle.std.proofs.lemmas.Cmp.{ranked}
+use Rattle.std.proofs.lemmas.Bool.{cases_eq, cases_lt}
+use Rattle.std.proofs.lemmas.Bool.Decides.{nat_tests}
+use Rattle.std.proofs.lemmas.List.{get_or_read, get_or-take, length-take}
 use Rattle.std.proofs.lemmas.Map.{lookup-none}
 use Rattle.std.proofs.lemmas.Map.Keys.{IsDistinct-tail}
 use Rattle.std.proofs.lemmas.Map.Entries.{lookup_head, lookup_tail, none_past_head}
 use Rattle.ark_math.specs.Field.{FieldOn, IsField}
 use Rattle.ark_math.specs.Multilinear.{fixed, weight, written}
-use Rattle.ark_math.specs.Univariate.{nothing, of_pairs, added, monomial}
+use Rattle.ark_math.specs.Univariate.{nothing, of_list, of_pairs, added, monomial, IsSparse}
 use Rattle.ark_math.proofs.Algebra.Groups.{itself_is_module, zero_plus}
 use Rattle.ark_math.proofs.Polynomials.Univariate.{monomial-same, monomial-other}
-use Rattle.ark_math.proofs.Polynomials.UnivariatePairs.{of_pairs-push, take_next}
+use Rattle.ark_math.proofs.Polynomials.UnivariateLists.{of_list-set}
+use Rattle.ark_math.proofs.Polynomials.UnivariatePairs.{of_pairs-at, of_pairs-absent, of_pairs-push, take_next}
 use Rattle.ark_math.proofs.Polynomials.Multilinear.{fixed-added, fixed-monomial}
 use Rattle.ark_lists.specs.Held.{held}
 
@@ -96,3 +102,49 @@ module _ {F : Type 0} (K : FieldOn F) (N : IsField K) where
 pub no_items : {X : Type 0} (xs : List X) → length xs ≡ 0 → xs ≡ []
 no_items [] e = refl
 no_items (x ∷ xs) e = absurd (omega arith)
+
+module _ {F : Type 0} (K : FieldOn F) (N : IsField K) where
+  -- a search among entries ends at the index, or where no entry has it
+  pub searched : (es : List (ℕ × F)) (k : ℕ) (r : Result ℕ ℕ) → IsSparse K es → IsSearchInRange r (length es) → IsBinarySearchResult (λ e. nat_cmp e.0 k) es r
+      → record { found : IfOk r (λ i. (i < length es) × ((d : ℕ × F) → (get_or es i d).1 ≡ of_pairs K es k)); absent : IfErr r (λ _. of_pairs K es k ≡ K.zero) }
+  searched es k (Ok at) s within equal = record {
+    found = (within, λ d.
+        let same : (get_or es at d).0 ≡ k = ranked _ k _ (sym (equal d)) in
+        sym (of_pairs-at K N es at d s.rising within) ∙ ap (of_pairs K es) same);
+    absent = tt;
+  }
+  searched es k (Err at) s within parted = record {
+    found = tt;
+    absent = of_pairs-absent K N es k (λ j d l same. ⊎_elim
+        (λ (b : j < at). let m : (get_or es j d).0 < k = ranked _ k _ (sym ((parted rises).0 j d (omega arith) b)) in absurd (omega arith))
+        (λ (b : at ≤ j). let m : k < (get_or es j d).0 = ranked _ k _ (sym ((parted rises).1 j d b l)) in absurd (omega arith))
+        (cases_lt j at));
+  } where
+    rises : IsNonDecreasingBy (λ e. ordering_index (nat_cmp e.0 k)) es
+    rises i j d le l = ⊎_elim
+        (λ (e : i ≡ j). subst (λ n. ordering_index (nat_cmp (get_or es i d).0 k) ≤ ordering_index (nat_cmp (get_or es n d).0 k)) e (omega arith))
+        (λ (ne : i ≢ j).
+        let up : (get_or es i d).0 < (get_or es j d).0 = s.rising i j d (⊎_elim (λ (m : i < j). m) (λ (m : j ≤ i). absurd (ne (omega arith))) (cases_lt i j)) l in
+        grind (arith, nat_tests))
+        (cases_eq i j)
+
+  -- one more entry is written over a list
+  pub listed_more : (es : List (ℕ × F)) (c : List F) (i : ℕ) (e : ℕ × F) → IsSparse K es → of_list K c ≡ of_pairs K (take i es) → i < length es → e ≡ get_or es i e → e.0 < length c → of_list K (set c e.0 e.1) ≡ of_pairs K (take (i + 1) es)
+  listed_more es c i e s h l is inside =
+      of_list-set K c e.0 e.1 (of_pairs K (take (i + 1) es)) inside
+      (more e.0 ∙ ap₂ K.plus absent (monomial-same K e.0 e.1) ∙ zero_plus (itself_is_module K N) e.1)
+      (λ k ne. more k ∙ ap (K.plus (of_pairs K (take i es) k)) (monomial-other K e.0 e.1 k (λ f. ne (sym f))) ∙ N.plus_zero (of_pairs K (take i es) k) ∙ sym (ap (λ t. t k) h))
+    where
+      more : (k : ℕ) → of_pairs K (take (i + 1) es) k ≡ K.plus (of_pairs K (take i es) k) (monomial K e.0 e.1 k)
+      more k = ap (λ t. of_pairs K t k) (take_next K N es i e l is) ∙ ap (λ t. t k) (of_pairs-push K N (take i es) e)
+      absent : of_pairs K (take i es) e.0 ≡ K.zero
+      absent = of_pairs-absent K N (take i es) e.0 (λ k d m same.
+          let short : k < i = omega (arith, length-take i es) in
+          let early : get_or (take i es) k d ≡ get_or es k d = get_or-take i es k d short in
+          let up : (get_or es k d).0 < (get_or es i d).0 = s.rising k i d short l in
+          let here : e ≡ get_or es i d = get_or_read es i e l is d in
+          omega (arith, same, ap (λ t. t.0) early, ap (λ t. t.0) here))
+
+-- what holds of each item holds of one
+pub item_of : {X : Type 0} (P : X → Type 0) (xs : List X) (i : ℕ) (x : X) → All P xs → i < length xs → x ≡ get_or xs i x → P x
+item_of P xs i x h l is = subst P (sym is) (h i x l)

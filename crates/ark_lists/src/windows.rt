@@ -2,13 +2,14 @@
 //! at a time.
 
 ghost use Rattle.std.specs.Prelude.{◌≡◌, ℕ, ◌+◌, ◌*◌, ◌<◌, ◌^◌, length};
-ghost use Rattle.std.specs.Prelude.{IfOk, OnOk, IsOkUnless};
+ghost use Rattle.std.specs.Prelude.{All, IfOk, OnOk, IsOkUnless};
 ghost use Rattle.ark_math.specs.Field.{minus};
 ghost use Rattle.ark_math.specs.Multilinear.{fixed, weight, written};
 ghost use Rattle.ark_math.specs.Univariate.{IsSparse, of_list, of_pairs, added, monomial};
 ghost use Rattle.ark_lists.specs.Held.{held};
 
 use ark_base::{Field, PolyError, log2};
+use ark_coeffs::dense::zeros;
 use ark_coeffs::sparse::gathered_terms;
 use std::alloc::Global;
 use std::collections::HashMap;
@@ -142,4 +143,36 @@ pub fn written_entries<F: Field>(
         table.insert(pair.0, pair.1)?;
     }
     sorted_entries(alloc, table)
+}
+
+/// The value at an index: lent from the entries, or the zero that is handed in where they have none.
+pub fn value_at<'a, F: Field>(entries: &'a [(usize, F)], index: usize, zero: &'a F) -> &'a F
+    requires sparse { IsSparse F.field entries.now }
+    requires zero { zero.now ≡ F.field.zero }
+    ensures { result.now ≡ of_pairs F.field entries.now index }
+{
+    match entries.binary_search_by_key(&index, |entry| entry.0) {
+        Ok(place) => &entries[place].1,
+        Err(_) => zero,
+    }
+}
+
+/// All values of a table by its entries, whose indices are below their number.
+pub fn values_of_entries<F: Field>(
+    alloc: Global,
+    len: usize,
+    entries: &[(usize, F)],
+) -> Result<Vec<F>, PolyError>
+    requires sparse { IsSparse F.field entries.now }
+    requires within { All (λ e. e.0 < len) entries.now }
+    ensures length { IfOk result (λ v. length v.items ≡ len) }
+    ensures values { IfOk result (λ v. of_list F.field v.items ≡ of_pairs F.field entries.now) }
+    ensures memory { IsOkUnless result PolyError.Memory }
+{
+    let mut values = zeros(alloc, len)?;
+    for i in 0..entries.len() {
+        let entry = entries[i];
+        values[entry.0] = entry.1;
+    }
+    Ok(values)
 }

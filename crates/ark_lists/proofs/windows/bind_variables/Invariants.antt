@@ -1,4 +1,4 @@
-use Rattle.std.proofs.Common.{◌≡◌, ◌<◌, ◌^◌, length}
+use Rattle.std.proofs.Common.{◌≡◌, ◌<◌, length}
 use Rattle.ark_math.specs.Univariate.{IsSparse, of_pairs}
 use Rattle.ark_math.specs.Multilinear.{fixed}
 use Rattle.ark_lists.proofs.windows.bind_variables.Given as goal

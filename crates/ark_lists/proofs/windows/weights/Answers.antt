@@ -1,4 +1,4 @@
-use Rattle.std.proofs.Common.{length, take, subst, sym, ap, ◌∙◌, ◌++◌, ◌∷◌, [], add-one}
+use Rattle.std.proofs.Common.{take, subst, sym, ap, ◌∙◌, ◌++◌, ◌∷◌, [], add-one}
 use Rattle.std.proofs.Math.Seq.{take-suc}
 use Rattle.ark_lists.proofs.Doubled.{AreWeights, AreWeights-next}
 use Rattle.ark_lists.proofs.windows.weights.Goals as goal
