@@ -4,4 +4,5 @@ pub mod GatheredPowers
 pub mod GradedOrder
 pub mod HeldTables
 pub mod PowerLists
+pub mod SparseTables
 pub mod TableLists
