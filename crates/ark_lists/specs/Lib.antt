@@ -1,2 +1,3 @@
 -- Words of the lists behind polynomials of several variables.
 pub mod Graded
+pub mod Held

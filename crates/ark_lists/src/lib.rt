@@ -1,5 +1,6 @@
-//! Lists behind the polynomials of several variables: the powers of a term, and tables of values.
+//! Lists behind the polynomials of several variables: the powers of a term, tables, and the entries of tables.
 #![tactic(auto)]
 
 pub mod powers;
 pub mod tables;
+pub mod windows;

@@ -1,0 +1,90 @@
+-- Weights of the corners at a point, doubled item by item.
+use Rattle.std.proofs.Common.{◌≡◌, ◌≢◌, ℕ, suc, ◌+◌, ◌-◌, ◌*◌, ◌<◌, ◌≤◌, ◌^◌, List, [], ◌∷◌, ◌++◌, length, set, length-set, sym, ◌∙◌, ap, refl, arith, ⊎_elim}
+use Rattle.std.proofs.lemmas.Bool.{cases_eq, cases_lt}
+use Rattle.std.proofs.lemmas.List.{length_push, get_or_push, get_or_append_left, get_or-set_same, get_or-set_other}
+use Rattle.ark_math.specs.Field.{FieldOn, IsField, minus}
+use Rattle.ark_math.specs.Multilinear.{weight}
+use Rattle.ark_math.specs.Univariate.{of_list}
+use Rattle.ark_math.proofs.Algebra.Solve.{unit, ◌⊖◌, ◌⊗◌}
+use Rattle.ark_math.proofs.Algebra.Ring.{ring2}
+use Rattle.ark_math.proofs.Polynomials.Cube.{pow_twice, weight-push_low, weight-push_high}
+
+-- the first i of ws are doubled
+pub record IsDoubling {F : Type 0} (K : FieldOn F) (x : F) (ws vs : List F) (i : ℕ) : Type 0 where
+  pub whole : length vs ≡ length ws + i
+  pub low : (b : ℕ) → b < i → of_list K vs b ≡ minus K (of_list K ws b) (K.times (of_list K ws b) x)
+  pub rest : (b : ℕ) → i ≤ b → b < length ws → of_list K vs b ≡ of_list K ws b
+  pub high : (b : ℕ) → b < i → of_list K vs (length ws + b) ≡ K.times (of_list K ws b) x
+
+-- the weights of the corners at p
+pub record AreWeights {F : Type 0} (K : FieldOn F) (p ws : List F) : Type 0 where
+  pub whole : length ws ≡ 2 ^ length p
+  pub values : (b : ℕ) → b < 2 ^ length p → of_list K ws b ≡ weight K p b
+
+module _ {F : Type 0} (K : FieldOn F) where
+  pub IsDoubling-begin : (x : F) (ws : List F) → IsDoubling K x ws ws 0
+  IsDoubling-begin x ws = record {
+    whole = omega arith;
+    low = λ b l. absurd (omega arith);
+    rest = λ b l m. refl;
+    high = λ b l. absurd (omega arith);
+  }
+
+  pub IsDoubling-next : (x : F) (ws vs : List F) (i : ℕ) (l h : F) → IsDoubling K x ws vs i → i < length ws → h ≡ K.times (of_list K ws i) x → l ≡ minus K (of_list K ws i) h → IsDoubling K x ws (set vs i l ++ h ∷ []) (i + 1)
+  IsDoubling-next x ws vs i l h d inside is_high is_low = record {
+    whole = omega (arith, d.whole, length_push us h, kept);
+    low = λ b s. ⊎_elim
+        (λ (e : b ≡ i).
+        within b (omega (arith, d.whole))
+        ∙ ap (of_list K us) e
+        ∙ get_or-set_same vs i l K.zero (omega (arith, d.whole))
+        ∙ is_low ∙ ap (minus K (of_list K ws i)) is_high
+        ∙ ap (λ k. minus K (of_list K ws k) (K.times (of_list K ws k) x)) (sym e))
+        (λ (ne : b ≢ i). within b (omega (arith, d.whole)) ∙ get_or-set_other vs i b l K.zero ne ∙ d.low b (below b ne s))
+        (cases_eq b i);
+    rest = λ b s m. within b (omega (arith, d.whole)) ∙ get_or-set_other vs i b l K.zero (λ e. omega arith) ∙ d.rest b (omega arith) m;
+    high = λ b s. ⊎_elim
+        (λ (e : b ≡ i).
+        get_or_push us h K.zero (length ws + b) (omega (arith, d.whole, kept)) ∙ is_high ∙ ap (λ k. K.times (of_list K ws k) x) (sym e))
+        (λ (ne : b ≢ i).
+        within (length ws + b) (let m = below b ne s in omega (arith, d.whole))
+        ∙ get_or-set_other vs i (length ws + b) l K.zero (λ e. omega arith)
+        ∙ d.high b (below b ne s))
+        (cases_eq b i);
+  } where
+    us : List F
+    us = set vs i l
+    kept : length us ≡ length vs
+    kept = length-set vs i l
+    within : (b : ℕ) → b < length vs → of_list K (us ++ h ∷ []) b ≡ of_list K us b
+    within b s = get_or_append_left us (h ∷ []) K.zero b (omega (arith, kept))
+    below : (b : ℕ) → b ≢ i → b < i + 1 → b < i
+    below b ne s = ⊎_elim (λ (m : b < i). m) (λ (m : i ≤ b). absurd (ne (omega arith))) (cases_lt b i)
+
+module _ {F : Type 0} (K : FieldOn F) (N : IsField K) where
+  pub AreWeights-next : (p ws vs : List F) (x : F) → AreWeights K p ws → length vs ≡ 2 * length ws
+      → ((b : ℕ) → b < length ws → of_list K vs b ≡ minus K (of_list K ws b) (K.times (of_list K ws b) x))
+      → ((b : ℕ) → b < length ws → of_list K vs (length ws + b) ≡ K.times (of_list K ws b) x)
+      → AreWeights K (p ++ x ∷ []) vs
+  AreWeights-next p ws vs x h twice low high = record {
+    whole = twice ∙ ap (λ n. 2 * n) h.whole ∙ sym (pow_twice (length p)) ∙ ap (λ n. 2 ^ n) (sym longer);
+    values = λ b l. ⊎_elim
+        (λ (s : b < 2 ^ length p).
+        low b (omega (arith, h.whole))
+        ∙ ap (λ v. minus K v (K.times v x)) (h.values b s)
+        ∙ ring2 K N (λ v x. (v ⊖ v ⊗ x, v ⊗ (unit ⊖ x))) refl (weight K p b) x
+        ∙ sym (weight-push_low K N p x b s))
+        (λ (s : 2 ^ length p ≤ b).
+        let c = b - 2 ^ length p in
+        let e : b ≡ 2 ^ length p + c = omega arith in
+        let f : b ≡ length ws + c = omega (arith, h.whole) in
+        let m : c < 2 ^ length p = omega (arith, l, ap (λ n. 2 ^ n) longer, pow_twice (length p)) in
+        ap (of_list K vs) f
+        ∙ high c (omega (arith, h.whole))
+        ∙ ap (λ v. K.times v x) (h.values c m)
+        ∙ sym (weight-push_high K N p x c m)
+        ∙ ap (weight K (p ++ x ∷ [])) (sym e))
+        (cases_lt b (2 ^ length p));
+  } where
+    longer : length (p ++ x ∷ []) ≡ suc (length p)
+    longer = let e = length_push p x in omega arith
