@@ -16,7 +16,6 @@ use rand::Rng;
 use std::alloc::{AllocError, Global};
 use std::fmt::{self, Debug, Formatter, Write};
 use std::ops::Index;
-use std::slice::Iter;
 
 /// A multilinear extension by all the values of its table, in the order of their indices.
 #[derive(Drop)]
@@ -381,6 +380,20 @@ impl<F: Field> DenseMultilinearExtension<F> {
             return DenseMultilinearExtension::zero(alloc);
         }
         self.multiple(alloc, factor)
+    }
+
+    /// The multiple by the factor, in place. After an error it has the value that it had.
+    pub fn mul_assign(&mut self, alloc: Global, factor: F) -> Result<(), PolyError>
+        ensures multiple { factor ≢ F.field.zero → OnOk result (
+            ⟦<DenseMultilinearExtension<F> as MultilinearExtension<F>>⟧.table self.new ≡ table_scaled F.field factor
+            (⟦<DenseMultilinearExtension<F> as MultilinearExtension<F>>⟧.table self.old)) }
+        ensures zero { factor ≡ F.field.zero → OnOk result (
+            ⟦<DenseMultilinearExtension<F> as MultilinearExtension<F>>⟧.table self.new ≡ zero_table F.field) }
+        ensures kept { OnErr result (self.new ≡ self.old) }
+        ensures memory { IsOkUnless result PolyError.Memory }
+    {
+        *self = self.mul_scalar(alloc, factor)?;
+        Ok(())
     }
 
     /// All values times the factor, which keeps the variables.
