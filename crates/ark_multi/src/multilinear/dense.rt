@@ -16,7 +16,6 @@ use rand::Rng;
 use std::alloc::{AllocError, Global};
 use std::fmt::{self, Debug, Formatter, Write};
 use std::ops::Index;
-use std::slice::Iter;
 
 /// A multilinear extension by all the values of its table, in the order of their indices.
 #[derive(Drop)]
@@ -368,6 +367,35 @@ impl<F: Field> DenseMultilinearExtension<F> {
         self.evaluations[index] = value;
     }
 
+    /// The multiple by the factor: zero of no variables where the factor is zero.
+    pub fn mul_scalar(&self, alloc: Global, factor: F) -> Result<Self, PolyError>
+        ensures multiple { factor ≢ F.field.zero → IfOk result (λ p.
+            ⟦<DenseMultilinearExtension<F> as MultilinearExtension<F>>⟧.table p ≡ table_scaled F.field factor
+            (⟦<DenseMultilinearExtension<F> as MultilinearExtension<F>>⟧.table self.now)) }
+        ensures zero { factor ≡ F.field.zero → IfOk result (λ p.
+            ⟦<DenseMultilinearExtension<F> as MultilinearExtension<F>>⟧.table p ≡ zero_table F.field) }
+        ensures memory { IsOkUnless result PolyError.Memory }
+    {
+        if factor.is_zero() {
+            return DenseMultilinearExtension::zero(alloc);
+        }
+        self.multiple(alloc, factor)
+    }
+
+    /// The multiple by the factor, in place. After an error it has the value that it had.
+    pub fn mul_assign(&mut self, alloc: Global, factor: F) -> Result<(), PolyError>
+        ensures multiple { factor ≢ F.field.zero → OnOk result (
+            ⟦<DenseMultilinearExtension<F> as MultilinearExtension<F>>⟧.table self.new ≡ table_scaled F.field factor
+            (⟦<DenseMultilinearExtension<F> as MultilinearExtension<F>>⟧.table self.old)) }
+        ensures zero { factor ≡ F.field.zero → OnOk result (
+            ⟦<DenseMultilinearExtension<F> as MultilinearExtension<F>>⟧.table self.new ≡ zero_table F.field) }
+        ensures kept { OnErr result (self.new ≡ self.old) }
+        ensures memory { IsOkUnless result PolyError.Memory }
+    {
+        *self = self.mul_scalar(alloc, factor)?;
+        Ok(())
+    }
+
     /// All values times the factor, which keeps the variables.
     fn multiple(&self, alloc: Global, factor: F) -> Result<Self, PolyError>
         ensures multiple { IfOk result (λ p. ⟦<DenseMultilinearExtension<F> as Polynomial<F>>⟧.meaning p
@@ -377,5 +405,18 @@ impl<F: Field> DenseMultilinearExtension<F> {
         let mut multiple = self.clone()?;
         scale_each(multiple.evaluations.as_mut_slice(), factor);
         Ok(multiple)
+    }
+}
+
+impl<F: Field> Index<usize> for DenseMultilinearExtension<F> {
+    type Output = F;
+
+    ghost can_index = { λ p i. i < 2 ^ p.num_vars };
+
+    ghost index_gives = { λ p i x. x ≡ slice_index_or p.evaluations.items i x };
+
+    /// The value at this index, one of the first `2^num_vars`.
+    fn index(&self, index: usize) -> &F {
+        &self.evaluations[index]
     }
 }

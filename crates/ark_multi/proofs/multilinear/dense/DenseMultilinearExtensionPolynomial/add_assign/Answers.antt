@@ -1,4 +1,4 @@
-use Rattle.std.proofs.Common.{◌≡◌, sym, ap₂, ◌∙◌}
+use Rattle.std.proofs.Common.{sym, ap₂, ◌∙◌}
 use Rattle.std.proofs.lemmas.Bool.{false≢true}
 use Rattle.ark_lists.proofs.DenseTables.{listed, left_zero, right_zero}
 use Rattle.ark_multi.proofs.multilinear.dense.DenseMultilinearExtensionPolynomial.add_assign.Goals as goal

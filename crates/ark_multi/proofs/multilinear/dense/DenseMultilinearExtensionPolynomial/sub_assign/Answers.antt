@@ -1,4 +1,4 @@
-use Rattle.std.proofs.Common.{◌≡◌, sym, ap₂, ◌∙◌}
+use Rattle.std.proofs.Common.{sym, ◌∙◌}
 use Rattle.std.proofs.lemmas.Bool.{false≢true}
 use Rattle.ark_math.specs.Multilinear.{table_opposite}
 use Rattle.ark_math.proofs.Polynomials.Tables.{AreAddable-opposite}
