@@ -1,13 +1,13 @@
 //! Conversions between dense and sparse polynomials, and sums of the one with the other.
 
+use crate::changes::gave;
 use crate::polynomials::poly;
-use crate::products::{is, some};
+use crate::products::some;
 use crate::sparse::{Terms, sparse};
 use ark_base::{F5, F433, F65537, Field, PolyError};
 use ark_poly::laws::{dense_and_back, sparse_and_back};
 use ark_poly::univariate::{DensePolynomial, SparsePolynomial};
 use ark_poly::{DenseUVPolynomial, Polynomial};
-use ark_trials::calls::elements;
 use rand_core::Rng;
 use rand_pcg::Pcg64;
 use std::alloc::Global;
@@ -49,11 +49,28 @@ fn gives<F: Field>(
     p: &DensePolynomial<F>,
     operation: Operation,
     q: &SparsePolynomial<F>,
-    answer: &[F],
-) -> Result<bool, PolyError> {
-    let mut changed = p.clone()?;
-    join(alloc, &mut changed, operation, q)?;
-    Ok(changed.coeffs() == answer && joined(alloc, p, operation, q)?.coeffs() == answer)
+    answer: &DensePolynomial<F>,
+) -> bool {
+    let Ok(mut changed) = p.clone() else {
+        return false;
+    };
+    join(alloc, &mut changed, operation, q).is_ok()
+        && changed == *answer
+        && gave(joined(alloc, p, operation, q), answer)
+}
+
+// The same of listed coefficients and terms.
+fn lists_give<F: Field>(
+    alloc: Global,
+    p: &DensePolynomial<F>,
+    operation: Operation,
+    terms: Terms<'_>,
+    answer: &[u64],
+) -> bool {
+    let (Ok(q), Ok(answer)) = (sparse(alloc, terms), poly(alloc, answer)) else {
+        return false;
+    };
+    gives(alloc, p, operation, &q, &answer)
 }
 
 // Whether coefficients and terms have this sum and this difference.
@@ -62,13 +79,12 @@ fn have_sums<F: Field>(
     coeffs: &[u64],
     terms: Terms<'_>,
     [sum, difference]: [&[u64]; 2],
-) -> Result<bool, PolyError> {
-    let p = poly::<F>(alloc, coeffs)?;
-    let q = sparse(alloc, terms)?;
-    Ok(
-        gives(alloc, &p, Operation::Add, &q, &elements(alloc, sum)?)?
-            && gives(alloc, &p, Operation::Sub, &q, &elements(alloc, difference)?)?,
-    )
+) -> bool {
+    let Ok(p) = poly::<F>(alloc, coeffs) else {
+        return false;
+    };
+    lists_give(alloc, &p, Operation::Add, terms, sum)
+        && lists_give(alloc, &p, Operation::Sub, terms, difference)
 }
 
 #[test]
@@ -82,9 +98,9 @@ fn sums_without_zeros_at_their_end(rt: HostRuntime) -> Result<(), Fail> {
         (&[], &[], [&[], &[]]),
     ];
     for (coeffs, terms, answers) in rows {
-        assert!(rt; have_sums::<F65537>(alloc, coeffs, terms, answers)?);
+        assert!(rt; have_sums::<F65537>(alloc, coeffs, terms, answers));
     }
-    assert!(rt; have_sums::<F5>(alloc, &[1, 1], &[(1, 4)], [&[1], &[1, 2]])?);
+    assert!(rt; have_sums::<F5>(alloc, &[1, 1], &[(1, 4)], [&[1], &[1, 2]]));
     Ok(())
 }
 
@@ -101,38 +117,44 @@ fn is_refused<F: Field>(
     p: &DensePolynomial<F>,
     operation: Operation,
     q: &SparsePolynomial<F>,
-) -> Result<bool, PolyError> {
-    let mut kept = p.clone()?;
+) -> bool {
+    let Ok(mut kept) = p.clone() else {
+        return false;
+    };
     let in_place = overflows(join(alloc, &mut kept, operation, q));
-    Ok(in_place && kept == *p && overflows(joined(alloc, p, operation, q)))
+    in_place && kept == *p && overflows(joined(alloc, p, operation, q))
 }
 
 // Whether the degree usize::MAX is refused.
-fn refuses<F: Field>(alloc: Global, coeffs: &[u64]) -> Result<bool, PolyError> {
-    let p = poly::<F>(alloc, coeffs)?;
-    let q = sparse(alloc, &[(usize::MAX, 1), (0, 2)])?;
-    Ok(
-        is_refused(alloc, &p, Operation::Add, &q)?
-            && is_refused(alloc, &p, Operation::Sub, &q)?
-            && overflows(DensePolynomial::from_sparse(alloc, &q)),
-    )
+fn refuses<F: Field>(alloc: Global, coeffs: &[u64]) -> bool {
+    let Ok(p) = poly::<F>(alloc, coeffs) else {
+        return false;
+    };
+    let Ok(q) = sparse(alloc, &[(usize::MAX, 1), (0, 2)]) else {
+        return false;
+    };
+    is_refused(alloc, &p, Operation::Add, &q)
+        && is_refused(alloc, &p, Operation::Sub, &q)
+        && overflows(DensePolynomial::from_sparse(alloc, &q))
 }
 
 #[test]
 fn no_room_for_the_greatest_degree(rt: HostRuntime) -> Result<(), Fail> {
-    assert!(rt; refuses::<F5>(rt.alloc(), &[])?);
-    assert!(rt; refuses::<F433>(rt.alloc(), &[1, 2])?);
+    assert!(rt; refuses::<F5>(rt.alloc(), &[]));
+    assert!(rt; refuses::<F433>(rt.alloc(), &[1, 2]));
     Ok(())
 }
 
 // Whether both forms have these coefficients and these terms.
-fn converts<F: Field>(alloc: Global, coeffs: &[u64], terms: Terms<'_>) -> Result<bool, PolyError> {
-    let p = poly::<F>(alloc, coeffs)?;
-    let q = sparse(alloc, terms)?;
-    Ok(
-        is(&DensePolynomial::from_sparse(alloc, &q)?, coeffs)
-            && SparsePolynomial::from_dense(alloc, &p)? == q,
-    )
+fn converts<F: Field>(alloc: Global, coeffs: &[u64], terms: Terms<'_>) -> bool {
+    let Ok(p) = poly::<F>(alloc, coeffs) else {
+        return false;
+    };
+    let Ok(q) = sparse(alloc, terms) else {
+        return false;
+    };
+    gave(DensePolynomial::from_sparse(alloc, &q), &p)
+        && gave(SparsePolynomial::from_dense(alloc, &p), &q)
 }
 
 #[test]
@@ -143,7 +165,7 @@ fn both_forms(rt: HostRuntime) -> Result<(), Fail> {
         (&[0, 1, 0, 0, 3], &[(1, 1), (4, 3)]),
     ];
     for (coeffs, terms) in rows {
-        assert!(rt; converts::<F5>(rt.alloc(), coeffs, terms)?);
+        assert!(rt; converts::<F5>(rt.alloc(), coeffs, terms));
     }
     Ok(())
 }
@@ -180,29 +202,30 @@ fn is_like_dense<F: Field>(
     p: &DensePolynomial<F>,
     operation: Operation,
     q: &SparsePolynomial<F>,
-) -> Result<bool, PolyError> {
-    let dense = DensePolynomial::from_sparse(alloc, q)?;
-    let answer = joined_dense(alloc, p, operation, &dense)?;
-    gives(alloc, p, operation, q, answer.coeffs())
+) -> bool {
+    let Ok(dense) = DensePolynomial::from_sparse(alloc, q) else {
+        return false;
+    };
+    let Ok(answer) = joined_dense(alloc, p, operation, &dense) else {
+        return false;
+    };
+    gives(alloc, p, operation, q, &answer)
 }
 
 // Whether forms of one polynomial have one value.
-fn have_one_value<F: Field>(
-    alloc: Global,
-    q: &SparsePolynomial<F>,
-    point: F,
-) -> Result<bool, PolyError> {
-    let dense = DensePolynomial::from_sparse(alloc, q)?;
-    Ok(dense.evaluate(alloc, &point)? == q.evaluate(alloc, &point)?)
+fn have_one_value<F: Field>(alloc: Global, q: &SparsePolynomial<F>, point: F) -> bool {
+    let Ok(dense) = DensePolynomial::from_sparse(alloc, q) else {
+        return false;
+    };
+    let Ok(value) = q.evaluate(alloc, &point) else {
+        return false;
+    };
+    gave(dense.evaluate(alloc, &point), &value)
 }
 
 // Whether both come back from the other form.
-fn come_back<F: Field>(
-    alloc: Global,
-    p: &DensePolynomial<F>,
-    q: &SparsePolynomial<F>,
-) -> Result<bool, PolyError> {
-    Ok(sparse_and_back(alloc, p)? == *p && dense_and_back(alloc, q)? == *q)
+fn come_back<F: Field>(alloc: Global, p: &DensePolynomial<F>, q: &SparsePolynomial<F>) -> bool {
+    gave(sparse_and_back(alloc, p), p) && gave(dense_and_back(alloc, q), q)
 }
 
 // Whether all this holds.
@@ -211,30 +234,32 @@ fn agree<F: Field>(
     p: &DensePolynomial<F>,
     q: &SparsePolynomial<F>,
     point: F,
-) -> Result<bool, PolyError> {
-    Ok(
-        have_one_value(alloc, q, point)?
-            && is_like_dense(alloc, p, Operation::Add, q)?
-            && is_like_dense(alloc, p, Operation::Sub, q)?
-            && come_back(alloc, p, q)?,
-    )
+) -> bool {
+    have_one_value(alloc, q, point)
+        && is_like_dense(alloc, p, Operation::Add, q)
+        && is_like_dense(alloc, p, Operation::Sub, q)
+        && come_back(alloc, p, q)
 }
 
 // Whether it holds of drawn polynomials of many lengths.
-fn all_agree<F: Field>(alloc: Global, rng: &mut Pcg64) -> Result<bool, PolyError> {
+fn all_agree<F: Field>(alloc: Global, rng: &mut Pcg64) -> bool {
     let mut right = true;
     for i in 0..300 {
-        let p = some::<F>(alloc, rng, i % 25)?;
-        let q = drawn_terms(alloc, rng, i / 25)?;
-        right = right && agree(alloc, &p, &q, F::from(rng.next_u64()))?;
+        let Ok(p) = some::<F>(alloc, rng, i % 25) else {
+            return false;
+        };
+        let Ok(q) = drawn_terms(alloc, rng, i / 25) else {
+            return false;
+        };
+        right = right && agree(alloc, &p, &q, F::from(rng.next_u64()));
     }
-    Ok(right)
+    right
 }
 
 #[test]
 fn drawn_polynomials_of_both_forms(rt: HostRuntime) -> Result<(), Fail> {
     let mut rng = Pcg64::new(17, 2);
-    assert!(rt; all_agree::<F5>(rt.alloc(), &mut rng)?);
-    assert!(rt; all_agree::<F65537>(rt.alloc(), &mut rng)?);
+    assert!(rt; all_agree::<F5>(rt.alloc(), &mut rng));
+    assert!(rt; all_agree::<F65537>(rt.alloc(), &mut rng));
     Ok(())
 }

@@ -1,3 +1,4 @@
 //! Polynomials by their values.
 
+pub mod multivariate;
 pub mod univariate;

@@ -1,0 +1,4 @@
+//! Multilinear polynomials by their values.
+
+pub use ark_multi::multilinear;
+pub use ark_multi::multilinear::{DenseMultilinearExtension, MultilinearExtension};
