@@ -1,5 +1,6 @@
 //! Small callers, as a user of the crates writes them: a transform and back, values on a coset, the
-//! convolution of two lists, exact costs, fields and a module of one's own. The program prints what each gives.
+//! convolution of two lists, exact costs, the first round of a sum-check, fields and a module of one's own. The
+//! program prints what each gives.
 #![tactic(auto)]
 
 mod convolution;
@@ -8,10 +9,14 @@ mod cost;
 mod field;
 mod large_field;
 mod module;
+mod sum_check;
 mod there_and_back;
 
-use ark_base::{F433, F65537, FftField, PolyError, PrimeField, PrimeModulus, Work};
-use ark_poly::{EvaluationDomain, MixedRadixEvaluationDomain, Radix2EvaluationDomain};
+use ark_base::{F433, F65537, FftField, Field, PolyError, PrimeField, PrimeModulus, Work};
+use ark_poly::{
+    DenseMultilinearExtension, EvaluationDomain, MixedRadixEvaluationDomain, MultilinearExtension,
+    Radix2EvaluationDomain,
+};
 use convolution::convolution;
 use coset::values_on_coset;
 use cost::over_sixteen_and_back;
@@ -20,6 +25,7 @@ use large_field::size_for_a_hundred_million;
 use module::{Point, points_of_curve};
 use std::alloc::Global;
 use std::io::Print;
+use sum_check::first_round;
 use there_and_back::there_and_back;
 
 fn main(rt: HostRuntime) -> anyhow::Result<()> {
@@ -36,6 +42,8 @@ fn main(rt: HostRuntime) -> anyhow::Result<()> {
     print_list(&rt, alloc, "convolution", &both)?;
     let items = over_sixteen(alloc, [1, 2, 3, 4].map(F65537::from))?;
     print_list(&rt, alloc, "over sixteen elements and back", &items)?;
+    let [low, high] = round(alloc, [1, 2, 3, 4].map(F65537::from))?;
+    print_list(&rt, alloc, "first round of a sum-check", &[low, high])?;
     print_fields(&rt)?;
     let coeffs = [(1, 2), (3, 4), (5, 6)].map(|(x, y)| Point {
         x: F433::from(x),
@@ -63,6 +71,16 @@ fn over_sixteen<F: FftField>(alloc: Global, items: [F; 4]) -> Result<Vec<F>, Pol
     }
     over_sixteen_and_back(alloc, &domain, &mut items, &mut Work::new())?;
     Ok(items)
+}
+
+/// The first round for a table of two variables.
+fn round<F: Field>(alloc: Global, values: [F; 4]) -> Result<[F; 2], PolyError> {
+    let table = DenseMultilinearExtension::from_evaluations_slice(alloc, 2, &values)?;
+    if table.num_vars() == 0 {
+        return Err(PolyError::NoDomain);
+    }
+    let (low, high) = first_round(alloc, &table)?;
+    Ok([low, high])
 }
 
 /// The points of the curve over a mixed domain.

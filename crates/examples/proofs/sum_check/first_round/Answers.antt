@@ -1,0 +1,21 @@
+use Rattle.std.proofs.Common.{◌≡◌, ℕ, suc, ◌-◌, ◌^◌, [], ◌∷◌, ◌∙◌, sym, ap, ap₂, arith}
+use Rattle.ark_math.specs.Module.{itself, sum_below}
+use Rattle.ark_math.specs.Multilinear.{fixed}
+use Rattle.ark_math.proofs.Polynomials.Multilinear.{cube_sum}
+use Rattle.examples.proofs.sum_check.first_round.Goals as goal
+
+pub returns : goal.returns
+returns g c =
+    let K = g.F.Field.field in
+    let t = (g.E.MultilinearExtension.table c.args.table.now).value in
+    let m = g.E.Polynomial.variables c.args.table.now - 1 in
+    let some = c.requires.variables in
+    let whole : suc m ≡ g.E.Polynomial.variables c.args.table.now = omega (arith, some) in
+    record {
+      claim =
+          ap₂ K.plus
+          (c.in_ok-sum_over_others.ensures.sum ∙ ap (λ x. sum_below (itself K) (2 ^ m) (fixed K t (x ∷ []))) (c.zero.ensures ∙ g.met.F.Field.zero_law))
+          (c.in_ok-sum_over_others-2.ensures.sum ∙ ap (λ x. sum_below (itself K) (2 ^ m) (fixed K t (x ∷ []))) (c.one.ensures ∙ g.met.F.Field.one_law))
+          ∙ sym (cube_sum K g.met.F.Field.field_laws m t)
+          ∙ ap (λ n. sum_below (itself K) (2 ^ n) t) whole;
+    }

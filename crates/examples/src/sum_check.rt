@@ -1,0 +1,52 @@
+//! The first round of a sum-check over the values of a table.
+
+ghost use Rattle.std.specs.Prelude.{◌≡◌, ◌-◌, ◌<◌, ◌^◌, [], ◌∷◌, length, IfOk};
+ghost use Rattle.ark_math.specs.Module.{itself, sum_below};
+ghost use Rattle.ark_math.specs.Multilinear.{fixed};
+ghost use Rattle.ark_math.specs.Univariate.{of_list};
+
+use ark_base::{Field, PolyError};
+use ark_poly::MultilinearExtension;
+use std::alloc::Global;
+
+/// The two numbers that a prover sends: the sums over the other variables where the first one is zero, and where it is
+/// one. They add up to the sum of the whole table, which is what the verifier tests.
+pub fn first_round<F: Field, E: MultilinearExtension<F>>(
+    alloc: Global,
+    table: &E,
+) -> Result<(F, F), PolyError>
+    requires variables { 0 < E.variables table.now }
+    ensures claim { IfOk result (λ g. F.field.plus g.0 g.1
+        ≡ sum_below (itself F.field) (2 ^ E.variables table.now) (E.table table.now).value) }
+{
+    Ok((
+        sum_over_others(alloc, table, F::zero())?,
+        sum_over_others(alloc, table, F::one())?,
+    ))
+}
+
+/// The sum over the other variables where the first one is `x`: the polynomial of the round, at `x`.
+pub fn sum_over_others<F: Field, E: MultilinearExtension<F>>(
+    alloc: Global,
+    table: &E,
+    x: F,
+) -> Result<F, PolyError>
+    requires variables { 0 < E.variables table.now }
+    ensures sum { IfOk result (λ y. y ≡ sum_below (itself F.field) (2 ^ (E.variables table.now - 1))
+        (fixed F.field (E.table table.now).value (x ∷ []))) }
+{
+    let mut first = Vec::new(alloc);
+    first.push(x)?;
+    let rest = table.fix_variables(alloc, &first)?;
+    Ok(sum(&rest.to_evaluations(alloc)?))
+}
+
+fn sum<F: Field>(values: &[F]) -> F
+    ensures { result ≡ sum_below (itself F.field) (length values.now) (of_list F.field values.now) }
+{
+    let mut sum = F::zero();
+    for value in values {
+        sum += *value;
+    }
+    sum
+}
