@@ -1,0 +1,13 @@
+//! Tests of multilinear extensions.
+#![tactic(auto)]
+
+#[cfg(test)]
+mod building;
+#[cfg(test)]
+mod dense;
+#[cfg(test)]
+mod drawn;
+#[cfg(test)]
+mod rows;
+#[cfg(test)]
+mod sums;
