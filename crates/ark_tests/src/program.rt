@@ -274,10 +274,7 @@ fn rows_of_the_fields(rt: HostRuntime) -> Result<(), Fail> {
 const VECTORS_COMMANDS: [(&[&str], &str); 3] = [
     (&["5", "vectors"], "1 ok\n2 ok\n3 ok\n4 ok\n5 ok"),
     (&["433", "vectors"], "1 ok\n2 ok\n3 ok\n4 ok\n5 ok\n6 ok"),
-    (
-        &["65537", "vectors"],
-        "1 ok\n2 ok\n3 ok\n4 ok\n5 ok\n6 ok",
-    ),
+    (&["65537", "vectors"], "1 ok\n2 ok\n3 ok\n4 ok\n5 ok\n6 ok"),
 ];
 
 #[test]
