@@ -101,6 +101,42 @@ fn values(rt: HostRuntime) -> Result<(), Fail> {
     Ok(())
 }
 
+const EXTENSIONS: [(&[&str], &str); 6] = [
+    (&["65537", "mle", "2", "0,0,1,0", "65535,17"], "51"),
+    (&["65537", "mle", "2", "2,3,2,6", "1,17"], "54"),
+    (
+        &["65537", "mle", "3", "0,2,0,2,0,3,1,4", "123,456,789"],
+        "63855",
+    ),
+    (&["5", "mle", "0", "7", ""], "2"),
+    (&["5", "mle", "1", "3,4", "6"], "4"),
+    (&["433", "mle", "01", "3,4", "0"], "3"),
+];
+
+#[test]
+fn extensions(rt: HostRuntime) -> Result<(), Fail> {
+    assert!(rt; answers(rt.alloc(), &EXTENSIONS, 0)?);
+    Ok(())
+}
+
+// The number of variables is 64 or more, and the lists are too short or too long.
+const NO_EXTENSIONS: [(&[&str], &str); 8] = [
+    (&["5", "mle", "0", "", ""], "usage"),
+    (&["5", "mle", "1", "1,2", ""], "usage"),
+    (&["5", "mle", "1", "1,2", "1,2"], "usage"),
+    (&["5", "mle", "2", "1,2,3", "1,2"], "usage"),
+    (&["5", "mle", "1", "1,2,3", "1"], "usage"),
+    (&["5", "mle", "64", "1", ""], "usage"),
+    (&["5", "mle", "18446744073709551615", "1", "1"], "usage"),
+    (&["5", "mle", "1", "1,2"], "usage"),
+];
+
+#[test]
+fn no_extensions(rt: HostRuntime) -> Result<(), Fail> {
+    assert!(rt; answers(rt.alloc(), &NO_EXTENSIONS, 2)?);
+    Ok(())
+}
+
 const PRODUCTS: [(&[&str], &str); 5] = [
     (
         &["433", "mul", "1,1,1,1,1,1,1,1,1", "1,1,1,1,1,1,1,1,1"],
@@ -193,7 +229,7 @@ fn without_a_domain(rt: HostRuntime) -> Result<(), Fail> {
 }
 
 // The rows of each field, with their field's word first, by status.
-const VECTORS: [(&[&str], &str); 12] = [
+const VECTORS: [(&[&str], &str); 15] = [
     (&["5", "fft", "4", "1", "1,2,3,4"], "0,4,3,2"),
     (&["5", "ifft", "4", "1", "1,2,3,4"], "0,3,2,1"),
     (&["5", "fft", "2", "2", "1,1"], "3,4"),
@@ -214,6 +250,12 @@ const VECTORS: [(&[&str], &str); 12] = [
         "3,8193,65026,33,65536,57346,513,65506",
     ),
     (&["65537", "div", "4,8,5,1", "1,1"], "4,4,1\n"),
+    (&["65537", "mle", "2", "0,0,1,0", "65535,17"], "51"),
+    (&["65537", "mle", "2", "2,3,2,6", "1,17"], "54"),
+    (
+        &["65537", "mle", "3", "0,2,0,2,0,3,1,4", "123,456,789"],
+        "63855",
+    ),
     (&["65537", "eval", "1,2", "65538"], "3"),
 ];
 
@@ -232,7 +274,7 @@ fn rows_of_the_fields(rt: HostRuntime) -> Result<(), Fail> {
 const VECTORS_COMMANDS: [(&[&str], &str); 3] = [
     (&["5", "vectors"], "1 ok\n2 ok\n3 ok\n4 ok\n5 ok"),
     (&["433", "vectors"], "1 ok\n2 ok\n3 ok\n4 ok\n5 ok\n6 ok"),
-    (&["65537", "vectors"], "1 ok\n2 ok\n3 ok"),
+    (&["65537", "vectors"], "1 ok\n2 ok\n3 ok\n4 ok\n5 ok\n6 ok"),
 ];
 
 #[test]

@@ -9,7 +9,7 @@ use Rattle.ark_base.specs.declared.error.PolyError.{PolyError}
 use Rattle.polyrun_lib.specs.Lines.{refusal_line_of, usage_text}
 use Rattle.polyrun_lib.specs.Answer.{Known, IsCommand, MayAnswer}
 use Rattle.polyrun_lib.specs.Outcome.{MayRefuse}
-use Rattle.polyrun_lib.specs.Commands.{Command, transform_of, product_of, division_of, value_of, size_for, transform_name, command_name, IsNoTransform, AreTwoLists, AreEvaluated, Takes, Reads, IsNoCommand}
+use Rattle.polyrun_lib.specs.Commands.{Command, transform_of, product_of, division_of, value_of, extension_of, size_for, transform_name, command_name, IsNoTransform, IsNoExtension, AreTwoLists, AreEvaluated, Takes, Reads, IsNoCommand}
 
 pub IfNone-weaker : {T : Type 0} (o : Option T) {P Q : Type 0} → IfNone o P → (P → Q) → IfNone o Q
 IfNone-weaker None p f = f p
@@ -50,6 +50,10 @@ reads words name rest c e is takes = (rest, e ∙ ap (λ n. n ∷ rest) is, take
 differ : {name : List ℕ} (a b : List ℕ) → eqb (get_or a 0 0) (get_or b 0 0) ≡ false → name ≡ a → name ≡ b → ⊥
 differ a b test e f = eqb-false _ _ test (ap (λ l. get_or l 0 0) (sym e ∙ f))
 
+-- names whose second bytes differ
+differ_next : {name : List ℕ} (a b : List ℕ) → eqb (get_or a 1 0) (get_or b 1 0) ≡ false → name ≡ a → name ≡ b → ⊥
+differ_next a b test e f = eqb-false _ _ test (ap (λ l. get_or l 1 0) (sym e ∙ f))
+
 pub not_transform : (words : List (List ℕ)) (name : List ℕ) (rest : List (List ℕ)) (direction : Direction) → words ≡ name ∷ rest → name ≡ transform_name direction
     → IsNoTransform rest → IsNoCommand words
 not_transform words name rest direction e is none (transform_of way k h xs) r = none k h xs (named words name rest (transform_of way k h xs) e r).1
@@ -59,7 +63,9 @@ not_transform words name rest Forward e is none (division_of xs ys) r = differ (
 not_transform words name rest Inverse e is none (division_of xs ys) r = differ (codes "div") (codes "ifft") refl (named words name rest (division_of xs ys) e r).0 is
 not_transform words name rest Forward e is none (value_of xs x) r = differ (codes "eval") (codes "fft") refl (named words name rest (value_of xs x) e r).0 is
 not_transform words name rest Inverse e is none (value_of xs x) r = differ (codes "eval") (codes "ifft") refl (named words name rest (value_of xs x) e r).0 is
+not_transform words name rest Forward e is none (extension_of n xs x) r = differ (codes "mle") (codes "fft") refl (named words name rest (extension_of n xs x) e r).0 is
 not_transform words name rest Forward e is none (size_for k) r = differ (codes "size") (codes "fft") refl (named words name rest (size_for k) e r).0 is
+not_transform words name rest Inverse e is none (extension_of n xs x) r = differ (codes "mle") (codes "ifft") refl (named words name rest (extension_of n xs x) e r).0 is
 not_transform words name rest Inverse e is none (size_for k) r = differ (codes "size") (codes "ifft") refl (named words name rest (size_for k) e r).0 is
 
 pub not_multiplied : (words : List (List ℕ)) (name : List ℕ) (rest : List (List ℕ)) → words ≡ name ∷ rest → name ≡ codes "mul"
@@ -69,6 +75,7 @@ not_multiplied words name rest e is none (transform_of Inverse k h xs) r = diffe
 not_multiplied words name rest e is none (product_of xs ys) r = none xs ys (named words name rest (product_of xs ys) e r).1
 not_multiplied words name rest e is none (division_of xs ys) r = differ (codes "div") (codes "mul") refl (named words name rest (division_of xs ys) e r).0 is
 not_multiplied words name rest e is none (value_of xs x) r = differ (codes "eval") (codes "mul") refl (named words name rest (value_of xs x) e r).0 is
+not_multiplied words name rest e is none (extension_of n xs x) r = differ_next (codes "mle") (codes "mul") refl (named words name rest (extension_of n xs x) e r).0 is
 not_multiplied words name rest e is none (size_for k) r = differ (codes "size") (codes "mul") refl (named words name rest (size_for k) e r).0 is
 
 pub not_divided : (words : List (List ℕ)) (name : List ℕ) (rest : List (List ℕ)) → words ≡ name ∷ rest → name ≡ codes "div"
@@ -78,6 +85,7 @@ not_divided words name rest e is none (transform_of Inverse k h xs) r = differ (
 not_divided words name rest e is none (product_of xs ys) r = differ (codes "mul") (codes "div") refl (named words name rest (product_of xs ys) e r).0 is
 not_divided words name rest e is none (division_of xs ys) r = none xs ys (named words name rest (division_of xs ys) e r).1
 not_divided words name rest e is none (value_of xs x) r = differ (codes "eval") (codes "div") refl (named words name rest (value_of xs x) e r).0 is
+not_divided words name rest e is none (extension_of n xs x) r = differ (codes "mle") (codes "div") refl (named words name rest (extension_of n xs x) e r).0 is
 not_divided words name rest e is none (size_for k) r = differ (codes "size") (codes "div") refl (named words name rest (size_for k) e r).0 is
 
 pub not_evaluated : (words : List (List ℕ)) (name : List ℕ) (rest : List (List ℕ)) → words ≡ name ∷ rest → name ≡ codes "eval"
@@ -87,7 +95,18 @@ not_evaluated words name rest e is none (transform_of Inverse k h xs) r = differ
 not_evaluated words name rest e is none (product_of xs ys) r = differ (codes "mul") (codes "eval") refl (named words name rest (product_of xs ys) e r).0 is
 not_evaluated words name rest e is none (division_of xs ys) r = differ (codes "div") (codes "eval") refl (named words name rest (division_of xs ys) e r).0 is
 not_evaluated words name rest e is none (value_of xs x) r = none xs x (named words name rest (value_of xs x) e r).1
+not_evaluated words name rest e is none (extension_of n xs x) r = differ (codes "mle") (codes "eval") refl (named words name rest (extension_of n xs x) e r).0 is
 not_evaluated words name rest e is none (size_for k) r = differ (codes "size") (codes "eval") refl (named words name rest (size_for k) e r).0 is
+
+pub not_extended : (words : List (List ℕ)) (name : List ℕ) (rest : List (List ℕ)) → words ≡ name ∷ rest → name ≡ codes "mle"
+    → IsNoExtension rest → IsNoCommand words
+not_extended words name rest e is none (transform_of Forward k h xs) r = differ (codes "fft") (codes "mle") refl (named words name rest (transform_of Forward k h xs) e r).0 is
+not_extended words name rest e is none (transform_of Inverse k h xs) r = differ (codes "ifft") (codes "mle") refl (named words name rest (transform_of Inverse k h xs) e r).0 is
+not_extended words name rest e is none (product_of xs ys) r = differ_next (codes "mul") (codes "mle") refl (named words name rest (product_of xs ys) e r).0 is
+not_extended words name rest e is none (division_of xs ys) r = differ (codes "div") (codes "mle") refl (named words name rest (division_of xs ys) e r).0 is
+not_extended words name rest e is none (value_of xs x) r = differ (codes "eval") (codes "mle") refl (named words name rest (value_of xs x) e r).0 is
+not_extended words name rest e is none (extension_of n xs x) r = none n xs x (named words name rest (extension_of n xs x) e r).1
+not_extended words name rest e is none (size_for k) r = differ (codes "size") (codes "mle") refl (named words name rest (size_for k) e r).0 is
 
 -- ---- a field and a command
 

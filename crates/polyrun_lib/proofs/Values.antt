@@ -4,10 +4,11 @@ use Rattle.ark_math.specs.Field.{FieldOn}
 use Rattle.ark_math.specs.Module.{itself}
 use Rattle.ark_math.specs.Domain.{Domain, HasNoSize, IsDomain}
 use Rattle.ark_math.specs.Transform.{transform, value_at, IsInverse}
+use Rattle.ark_math.specs.Multilinear.{extension}
 use Rattle.ark_math.specs.Univariate.{of_list, product, nothing, IsTrimmed, IsQuotient}
 use Rattle.ark_math.proofs.Polynomials.Trimmed.{trim-same, trim-trimmed}
 use Rattle.ark_math.proofs.Polynomials.UnivariateLists.{same_trimmed, trimmed_nothing, zero_divisor_cases}
-use Rattle.ark_math.proofs.Transforms.Carried.{Carries, carried, power-carried, value_at-carried, transform-carried, IsInverse-carried, of_list-carried, product-carried, IsQuotient-carried}
+use Rattle.ark_math.proofs.Transforms.Carried.{Carries, carried, power-carried, value_at-carried, transform-carried, IsInverse-carried, of_list-carried, product-carried, extension-carried, IsQuotient-carried}
 use Rattle.ark_math.proofs.Transforms.Inversion.{inverse_exists}
 use Rattle.ark_math.proofs.Domains.Domains.{root_order, size_not_zero}
 use mathlib.Core.Path.{fun_ext}
@@ -27,7 +28,7 @@ use Rattle.ark_base.specs.ElementLaws.{prime_field_laws, prime_module_laws, prim
 use Rattle.polyrun_lib.specs.Lines.{line_of}
 use Rattle.polyrun_lib.specs.declared.command.Direction.{Direction}
 use Rattle.polyrun_lib.specs.declared.command.Direction.TheVariants.{Forward, Inverse}
-use Rattle.polyrun_lib.specs.Commands.{Command, transform_of, product_of, division_of, value_of}
+use Rattle.polyrun_lib.specs.Commands.{Command, transform_of, product_of, division_of, value_of, extension_of}
 use Rattle.polyrun_lib.specs.Answer.{Known, operations, reduced, coefficients, domain_of, IsChosen, IsDomainFor, HasNoDomain, HasNoProduct, HasNoQuotient, Gives, TakesMemory}
 use Rattle.polyrun_lib.specs.Outcome.{MayRefuse, IsOutcome}
 
@@ -135,6 +136,18 @@ module _ (M : Type 0) (g : Ghosts M) (S : Shown g) where
       let L = operations (shown_field g) in
       ap (λ t. line_of (t ∷ []))
       (ap number f ∙ value_at-carried number_carries items at_x ∙ ap₂ (value_at L (itself L)) same (ap number e))
+
+  pub gives_extension : (n : ℕ) (xs x : List ℕ) (items point : List (PrimeField M g)) (y : PrimeField M g) → map (number {M = M} {g = g}) items ≡ reduced (shown_field g) xs → map (number {M = M} {g = g}) point ≡ reduced (shown_field g) x → y ≡ extension K (of_list K items) point
+      → Gives (shown_field g) (extension_of n xs x) (line_of (map (number {M = M} {g = g}) (y ∷ [])))
+  gives_extension n xs x items point y same e f =
+      let L = operations (shown_field g) in
+      ap (λ t. line_of (t ∷ []))
+      (ap number f ∙ extension-carried number_carries (λ a. refl) (of_list K items) point
+      ∙ ap₂ (extension L) (fun_ext (of_list-carried number_carries items) ∙ ap (of_list L) same) e)
+
+  -- as many elements as numbers
+  pub as_many : (xs : List ℕ) (items : List (PrimeField M g)) → map (number {M = M} {g = g}) items ≡ reduced (shown_field g) xs → length items ≡ length xs
+  as_many xs items e = sym (length-map items number) ∙ ap length e ∙ length-map xs (λ v. v % g.MODULUS)
 
   same_numbers : (c d : List (PrimeField M g)) → of_list K c ≡ of_list K d → of_list (operations (shown_field g)) (map (number {M = M} {g = g}) c) ≡ of_list (operations (shown_field g)) (map (number {M = M} {g = g}) d)
   same_numbers c d e = fun_ext (λ i. sym (of_list-carried number_carries c i) ∙ ap (λ a. number (a i)) e ∙ of_list-carried number_carries d i)

@@ -9,12 +9,13 @@ use Rattle.ark_math.specs.Domain.{Kind, Domain, HasNoSize, IsGeneral}
 use Rattle.ark_math.specs.Transform.{transform, value_at, IsInverse}
 use Rattle.ark_math.specs.NormalForms.{trim}
 use Rattle.ark_math.specs.Univariate.{of_list, product, IsTrimmed, IsQuotient}
+use Rattle.ark_math.specs.Multilinear.{extension}
 use Rattle.ark_base.specs.declared.error.PolyError.{PolyError}
 use Rattle.ark_base.specs.declared.error.PolyError.TheVariants.{Memory, NoDomain, ZeroDivisor}
 use Rattle.ark_base.specs.Transfer.{AppendsBeginning}
 use Rattle.polyrun_lib.specs.declared.command.Direction.{Direction}
 use Rattle.polyrun_lib.specs.declared.command.Direction.TheVariants.{Forward, Inverse}
-use Rattle.polyrun_lib.specs.Commands.{Command, transform_of, product_of, division_of, value_of, size_for, Reads}
+use Rattle.polyrun_lib.specs.Commands.{Command, transform_of, product_of, division_of, value_of, extension_of, size_for, Reads}
 use Rattle.polyrun_lib.specs.Lines.{line_of, refusal_line_of, usage_text}
 
 -- ---- fields
@@ -107,6 +108,7 @@ Gives f (product_of xs ys) text = (zs : List ℕ) × AreProduct f (coefficients 
 Gives f (division_of xs ys) text = (qs : List ℕ) × (rs : List ℕ) × AreQuotient f (coefficients f xs) (coefficients f ys) qs rs
     × (text ≡ line_of qs ++ line_of rs)
 Gives f (value_of xs x) text = text ≡ line_of (value_at (operations f) (itself (operations f)) (reduced f xs) (x % f.modulus) ∷ [])
+Gives f (extension_of n xs x) text = text ≡ line_of (extension (operations f) (of_list (operations f) (reduced f xs)) (reduced f x) ∷ [])
 Gives f (size_for k) text = (kind : Kind) × (n : ℕ) × IsChosen f.adicity k kind n × (text ≡ line_of (n ∷ []))
 
 -- no domain is as long as k, or the offset is zero
@@ -119,6 +121,7 @@ Refuses f (transform_of direction k h xs) error = HasNoDomain f k h × (error �
 Refuses f (product_of xs ys) error = HasNoProduct f (coefficients f xs) (coefficients f ys) × (error ≡ NoDomain)
 Refuses f (division_of xs ys) error = HasNoQuotient (coefficients f xs) (coefficients f ys) × (error ≡ ZeroDivisor)
 Refuses f (value_of xs x) error = ⊥
+Refuses f (extension_of n xs x) error = ⊥
 Refuses f (size_for k) error = HasNoSize (IsChosen f.adicity) k × (error ≡ NoDomain)
 
 -- a command for which want of memory may be reported: one that has an answer, and any product and any division, whose

@@ -1,18 +1,20 @@
 -- Which words are a command.
-use Rattle.std.specs.Prelude.{◌≡◌, ℕ, List, [], ◌∷◌, codes}
+use Rattle.std.specs.Prelude.{◌≡◌, ◌<◌, ◌^◌, ℕ, List, [], ◌∷◌, length, codes}
 use Rattle.polyrun_lib.specs.declared.command.Direction.{Direction}
 use Rattle.polyrun_lib.specs.declared.command.Direction.TheVariants.{Forward, Inverse}
 use Rattle.polyrun_lib.specs.declared.command.Command.{Command as Parsed}
-use Rattle.polyrun_lib.specs.declared.command.Command.TheVariants.{Transform, Mul, Div, Eval, Size}
+use Rattle.polyrun_lib.specs.declared.command.Command.TheVariants.{Transform, Mul, Div, Eval, Mle, Size}
 use Rattle.polyrun_lib.specs.Words.{IsNumber, IsList}
 
 -- the transform of a list over the domain for k with the offset h, the product of two polynomials, the quotient and the
--- remainder of the first of two by the second, a polynomial's value at a point, the size for k
+-- remainder of the first of two by the second, a polynomial's value at a point, the value at a point of the extension of
+-- a list in n variables, the size for k
 pub data Command : Type 0 where
   transform_of : Direction → ℕ → ℕ → List ℕ → Command
   product_of : List ℕ → List ℕ → Command
   division_of : List ℕ → List ℕ → Command
   value_of : List ℕ → ℕ → Command
+  extension_of : ℕ → List ℕ → List ℕ → Command
   size_for : ℕ → Command
 
 -- the name that stands first
@@ -25,6 +27,7 @@ command_name (transform_of direction k h xs) = transform_name direction
 command_name (product_of xs ys) = codes "mul"
 command_name (division_of xs ys) = codes "div"
 command_name (value_of xs x) = codes "eval"
+command_name (extension_of n xs x) = codes "mle"
 command_name (size_for k) = codes "size"
 
 -- a size, an offset and a list
@@ -39,6 +42,15 @@ AreTwoLists words xs ys = (a : List ℕ) × (b : List ℕ) × (words ≡ a ∷ b
 abbrev pub AreEvaluated : List (List ℕ) → List ℕ → ℕ → Type 0
 AreEvaluated words xs x = (a : List ℕ) × (b : List ℕ) × (words ≡ a ∷ b ∷ []) × IsList a xs × IsNumber b x
 
+-- a number of variables that is below 64, a value for each corner, and a point
+abbrev pub AreValuesAndPoint : ℕ → List ℕ → List ℕ → Type 0
+AreValuesAndPoint n xs x = (n < 64) × (length xs ≡ 2 ^ n) × (length x ≡ n)
+
+-- and the words for them
+abbrev pub AreExtended : List (List ℕ) → ℕ → List ℕ → List ℕ → Type 0
+AreExtended words n xs x = (a : List ℕ) × (b : List ℕ) × (c : List ℕ) × (words ≡ a ∷ b ∷ c ∷ []) × IsNumber a n × IsList b xs × IsList c x
+    × AreValuesAndPoint n xs x
+
 -- a number of coefficients
 abbrev pub AreSized : List (List ℕ) → ℕ → Type 0
 AreSized words k = (a : List ℕ) × (words ≡ a ∷ []) × IsNumber a k
@@ -49,6 +61,7 @@ Takes words (transform_of direction k h xs) = AreTransformed words k h xs
 Takes words (product_of xs ys) = AreTwoLists words xs ys
 Takes words (division_of xs ys) = AreTwoLists words xs ys
 Takes words (value_of xs x) = AreEvaluated words xs x
+Takes words (extension_of n xs x) = AreExtended words n xs x
 Takes words (size_for k) = AreSized words k
 
 -- the words after the field
@@ -61,6 +74,8 @@ Spells (Transform direction k h list) c = (xs : List ℕ) × IsList list.now xs 
 Spells (Mul left right) c = (xs : List ℕ) × (ys : List ℕ) × IsList left.now xs × IsList right.now ys × (c ≡ product_of xs ys)
 Spells (Div left right) c = (xs : List ℕ) × (ys : List ℕ) × IsList left.now xs × IsList right.now ys × (c ≡ division_of xs ys)
 Spells (Eval list x) c = (xs : List ℕ) × IsList list.now xs × (c ≡ value_of xs x)
+Spells (Mle n list point) c = (xs : List ℕ) × (x : List ℕ) × IsList list.now xs × IsList point.now x × AreValuesAndPoint n xs x
+    × (c ≡ extension_of n xs x)
 Spells (Size k) c = c ≡ size_for k
 
 -- each list is a word that spells one
@@ -73,6 +88,17 @@ IsTransform words direction parsed = (k : ℕ) × (h : ℕ) × (xs : List ℕ) �
 
 abbrev pub IsNoTransform : List (List ℕ) → Type 0
 IsNoTransform words = (k h : ℕ) (xs : List ℕ) → AreTransformed words k h xs → ⊥
+
+-- the extension that the words after its name are, and that they are none
+abbrev pub IsExtension : List (List ℕ) → Parsed → Type 0
+IsExtension words parsed = (n : ℕ) × (xs : List ℕ) × (x : List ℕ) × AreExtended words n xs x × Spells parsed (extension_of n xs x)
+
+abbrev pub IsNoExtension : List (List ℕ) → Type 0
+IsNoExtension words = (n : ℕ) (xs x : List ℕ) → AreExtended words n xs x → ⊥
+
+-- two words that spell the values and the point of an extension in n variables
+abbrev pub SpellExtended : ℕ → List ℕ → List ℕ → Type 0
+SpellExtended n list point = (xs : List ℕ) × (x : List ℕ) × IsList list xs × IsList point x × AreValuesAndPoint n xs x
 
 -- the command that the words after the field are, and that they are none
 abbrev pub IsRead : List (List ℕ) → Parsed → Type 0

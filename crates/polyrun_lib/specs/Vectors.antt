@@ -29,6 +29,9 @@ abbrev pub rows_65537 : List Row
 rows_65537 =
     (codes "fft" ∷ codes "8" ∷ codes "1" ∷ codes "1,2" ∷ [], codes "3,8193,65026,33,65536,57346,513,65506")
     ∷ (codes "div" ∷ codes "4,8,5,1" ∷ codes "1,1" ∷ [], ended (codes "4,4,1"))
+    ∷ (codes "mle" ∷ codes "2" ∷ codes "0,0,1,0" ∷ codes "65535,17" ∷ [], codes "51")
+    ∷ (codes "mle" ∷ codes "2" ∷ codes "2,3,2,6" ∷ codes "1,17" ∷ [], codes "54")
+    ∷ (codes "mle" ∷ codes "3" ∷ codes "0,2,0,2,0,3,1,4" ∷ codes "123,456,789" ∷ [], codes "63855")
     ∷ (codes "eval" ∷ codes "1,2" ∷ codes "65538" ∷ [], codes "3")
     ∷ []
 

@@ -1,10 +1,11 @@
 //! The commands, and how the words of a command line are read as one.
 
-ghost use Rattle.std.specs.Prelude.{◌≡◌, ◌↔◌, ℕ, List, IfSome, IfNone, map, string_bytes};
+ghost use Rattle.std.specs.Prelude.{◌≡◌, ◌↔◌, ℕ, List, IfSome, IfNone, IsTrue, map, string_bytes};
 ghost use Rattle.polyrun_lib.specs.Words.{IsList, SpellsList};
 ghost use Rattle.polyrun_lib.specs.Commands.{AreTwoLists, IsTransform, IsNoTransform, IsRead, IsNoCommand};
+ghost use Rattle.polyrun_lib.specs.Commands.{AreValuesAndPoint, IsExtension, IsNoExtension};
 
-use crate::words::{is_list, number};
+use crate::words::{is_list, list_len, number};
 
 /// Which way a transform goes: from coefficients to values, or back.
 #[derive(Clone, Copy)]
@@ -37,6 +38,12 @@ pub enum Command<'a> {
     Eval {
         list: &'a str,
         point: u64,
+    },
+    /// The value at a point of the multilinear extension of a list, in so many variables.
+    Mle {
+        num_vars: usize,
+        list: &'a str,
+        point: &'a str,
     },
     /// The size of the domain for so many coefficients.
     Size {
@@ -72,6 +79,7 @@ pub fn parse(words: &[String]) -> Option<Command>
                 point: number(point.as_str())?,
             })
         }
+        "mle" => parse_extension(arguments),
         "size" => {
             let [num_coeffs] = arguments else {
                 return None;
@@ -98,6 +106,38 @@ fn parse_transform(direction: Direction, words: &[String]) -> Option<Command>
         offset: number(offset.as_str())?,
         list: list_word(list.as_str())?,
     })
+}
+
+/// The extension whose number of variables, values and point the words are.
+fn parse_extension(words: &[String]) -> Option<Command>
+    ensures some { IfSome result (IsExtension (map string_bytes words.now)) }
+    ensures none { IfNone result (IsNoExtension (map string_bytes words.now)) }
+{
+    let [num_vars, list, point] = words else {
+        return None;
+    };
+    let num_vars = number(num_vars.as_str())? as usize;
+    let list = list_word(list.as_str())?;
+    let point = list_word(point.as_str())?;
+    if are_values_and_point(num_vars, list, point) {
+        Some(Command::Mle {
+            num_vars,
+            list,
+            point,
+        })
+    } else {
+        None
+    }
+}
+
+/// Whether the lists have `2^num_vars` and `num_vars` items, and `num_vars` is below 64. It takes no memory.
+fn are_values_and_point(num_vars: usize, list: &str, point: &str) -> bool
+    requires list { SpellsList list.now }
+    requires point { SpellsList point.now }
+    ensures { (xs x : List ℕ) → IsList list.now xs → IsList point.now x
+        → IsTrue result ↔ AreValuesAndPoint num_vars xs x }
+{
+    num_vars < 64 && list_len(list) == 1 << num_vars && list_len(point) == num_vars
 }
 
 /// The words themselves, where they spell two lists.

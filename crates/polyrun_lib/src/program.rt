@@ -8,7 +8,8 @@ ghost use Rattle.ark_math.specs.Univariate.{of_list, nothing, IsQuotient};
 ghost use Rattle.ark_base.specs.Element.{number};
 ghost use Rattle.polyrun_lib.specs.Words.{IsList, SpellsList};
 ghost use Rattle.polyrun_lib.specs.Commands.{Command as Asked, Spells, IsSpelled};
-ghost use Rattle.polyrun_lib.specs.Commands.{transform_of, product_of, division_of, value_of, size_for};
+ghost use Rattle.polyrun_lib.specs.Commands.{transform_of, product_of, division_of, value_of, extension_of, size_for};
+ghost use Rattle.polyrun_lib.specs.Commands.{SpellExtended};
 ghost use Rattle.polyrun_lib.specs.Lines.{line_of};
 ghost use Rattle.polyrun_lib.specs.Answer.{Known, known_by, coefficients, IsCommand, MayAnswer, IsWritten};
 ghost use Rattle.polyrun_lib.specs.Check.{shown_row, MayCheck, MayWrite};
@@ -24,7 +25,10 @@ use ark_base::{
     Work,
 };
 use ark_poly::univariate::{DenseOrSparsePolynomial, DensePolynomial};
-use ark_poly::{DenseUVPolynomial, EvaluationDomain, GeneralEvaluationDomain, Polynomial};
+use ark_poly::{
+    DenseMultilinearExtension, DenseUVPolynomial, EvaluationDomain, GeneralEvaluationDomain,
+    Polynomial,
+};
 use std::alloc::{AllocError, Global};
 
 /// The domains that the transforms are over.
@@ -41,6 +45,7 @@ type Domain<M> = GeneralEvaluationDomain<PrimeField<M>>;
 /// - `mul LIST LIST`, the product of the polynomials with these coefficients, by transforms over that domain for the
 ///   product's length,
 /// - `eval LIST X`, the value at `X` of the polynomial with these coefficients,
+/// - `mle N LIST POINT`, the value at `POINT` of the multilinear extension of the `2^N` items of `LIST`,
 /// - `size K`, the size of that domain,
 /// - `vectors`, what `check` writes for the field's own rows, with its status.
 pub fn run<W: Sink>(alloc: Global, words: &[String], out: &mut W) -> u8
@@ -132,6 +137,11 @@ fn answer_over<M: PrimeModulus>(alloc: Global, command: Command) -> Result<Strin
         Command::Mul { left, right } => product_line::<M>(alloc, left, right),
         Command::Div { left, right } => quotient_lines::<M>(alloc, left, right),
         Command::Eval { list, point } => value_line::<M>(alloc, list, point),
+        Command::Mle {
+            num_vars,
+            list,
+            point,
+        } => extension_line::<M>(alloc, num_vars, list, point),
         Command::Size { num_coeffs } => size_line::<M>(alloc, num_coeffs),
     }
 }
@@ -226,6 +236,24 @@ fn value_line<M: PrimeModulus>(alloc: Global, list: &str, point: u64) -> Result<
 {
     let polynomial = DensePolynomial::from_coefficients_vec(elements::<M>(alloc, list)?);
     let value = polynomial.evaluate(alloc, &PrimeField::from(point))?;
+    element_line(alloc, &[value])
+}
+
+/// The line of an extension's value.
+fn extension_line<M: PrimeModulus>(
+    alloc: Global,
+    num_vars: usize,
+    list: &str,
+    point: &str,
+) -> Result<String, PolyError>
+    requires { SpellExtended num_vars list.now point.now }
+    ensures { (xs x : List ℕ) → IsList list.now xs → IsList point.now x
+        → IsOutcome (known_by M.modulus) (extension_of num_vars xs x) result }
+{
+    let evaluations = elements::<M>(alloc, list)?;
+    let point = elements::<M>(alloc, point)?;
+    let extension = DenseMultilinearExtension::from_evaluations_vec(num_vars, evaluations);
+    let value = extension.evaluate(alloc, &point)?;
     element_line(alloc, &[value])
 }
 

@@ -3,7 +3,7 @@ use Rattle.std.specs.Prelude.{string_bytes}
 use Rattle.polyrun_lib.specs.declared.command.Direction.TheVariants.{Forward, Inverse}
 use Rattle.polyrun_lib.specs.Words.{IsNumber, IsList}
 use Rattle.polyrun_lib.specs.Commands.{product_of, division_of, value_of, size_for}
-use Rattle.polyrun_lib.proofs.Commands.{IfNone-weaker, map-first, map-one, map-two, reads, not_transform, not_multiplied, not_divided, not_evaluated}
+use Rattle.polyrun_lib.proofs.Commands.{IfNone-weaker, map-first, map-one, map-two, reads, not_transform, not_multiplied, not_divided, not_evaluated, not_extended}
 use Rattle.polyrun_lib.proofs.command.parse.Goals as goal
 
 pub returns-in-fft-clause-none : goal.returns-in-fft-clause-none
@@ -65,6 +65,10 @@ returns-in_ok-number-in-eval-clause-some c =
           (c.as_str-in-eval.result.now, c.as_str-in-eval-2.result.now, rw (c.as_str-in-eval.ensures.value, c.as_str-in-eval-2.ensures.value) arguments, list.1.1, c.in_ok-number-in-eval.ensures.some),
       (list.1.0, rw list.0 list.1.1, refl),
     )
+
+pub returns-in-mle-clause-none : goal.returns-in-mle-clause-none
+returns-in-mle-clause-none c = IfNone-weaker _ c.parse_extension.ensures.none
+    (not_extended _ _ _ (map-first string_bytes c.args.words.now c.name-item.result c.in-len1-up.len_at_least c.name-item.is) (sym c.as_str.ensures.value ∙ c.in-mle.is))
 
 pub returns-in_ok-number-in-size-clause-some : goal.returns-in_ok-number-in-size-clause-some
 returns-in_ok-number-in-size-clause-some c =
