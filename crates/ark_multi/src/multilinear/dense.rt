@@ -9,9 +9,8 @@ ghost use Rattle.ark_math.specs.Univariate.{of_list};
 
 use crate::multilinear::MultilinearExtension;
 use ark_base::{Field, PolyError, Polynomial};
-use ark_lists::tables::{
-    add_each, add_scaled, fixed_table, relabel_table, scale_each, subtract_each, value_of_table,
-};
+use ark_coeffs::dense::{add_each, add_scaled, scale_each, subtract_each};
+use ark_lists::tables::{fixed_table, relabel_table, value_of_table};
 use rand::Rng;
 use std::alloc::{AllocError, Global};
 use std::fmt::{self, Debug, Formatter, Write};
