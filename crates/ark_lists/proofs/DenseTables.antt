@@ -9,10 +9,12 @@ use Rattle.std.proofs.lemmas.Slice.Eq.{slice_eq-Decides}
 use Rattle.std.specs.Cmp.Lexicographic.{pointwise}
 use Rattle.std.proofs.lemmas.Nat.{pow-add}
 use Rattle.ark_math.specs.Field.{FieldOn, IsField}
+use Rattle.ark_math.specs.Module.{tabulate}
 use Rattle.ark_math.specs.Multilinear.{Table, zero_table, table_sum, table_opposite, table_scaled, AreAddable}
 use Rattle.ark_math.specs.Univariate.{IsBelow, of_list}
 use Rattle.ark_math.proofs.Algebra.Solve.{unit, negative, ◌⊗◌}
 use Rattle.ark_math.proofs.Algebra.Ring.{ring1}
+use Rattle.ark_math.proofs.Lists.Tabulated.{is_tabulated}
 use Rattle.ark_math.proofs.Polynomials.Tables.{same_table, same_values, table_sum-zero, table_sum-comm}
 use Rattle.ark_math.proofs.Polynomials.UnivariateLists.{of_list-past}
 
@@ -25,6 +27,10 @@ same_length m n x left right = omega arith
 
 pub list_below : {F : Type 0} (K : FieldOn F) (v : List F) (n : ℕ) → length v ≡ 2 ^ n → IsBelow K (2 ^ n) (of_list K v)
 list_below K v n e i past = of_list-past K v i (omega arith)
+
+-- the values at all the corners, in order
+pub is_listing : {F : Type 0} (K : FieldOn F) (v : List F) (n : ℕ) → length v ≡ 2 ^ n → v ≡ tabulate (2 ^ n) (of_list K v)
+is_listing K v n whole = is_tabulated K.zero v (2 ^ n) (of_list K v) whole (λ i l. refl)
 
 -- a test of values and numbers of variables is one of tables
 pub equal_tables : {F : Type 0} (K : FieldOn F) (eq : F → F → Bool) → ((a b : F) → Decides (eq a b) (a ≡ b)) → (c d : List F) (m n : ℕ) → length c ≡ 2 ^ m → length d ≡ 2 ^ n → Decides (pointwise eq c d && (m == n)) (listed K m c ≡ listed K n d)

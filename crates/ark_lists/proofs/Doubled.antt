@@ -54,10 +54,13 @@ module _ {F : Type 0} (K : FieldOn F) where
   } where
     us : List F
     us = set vs i l
+
     kept : length us ≡ length vs
     kept = length-set vs i l
+
     within : (b : ℕ) → b < length vs → of_list K (us ++ h ∷ []) b ≡ of_list K us b
     within b s = get_or_append_left us (h ∷ []) K.zero b (omega (arith, kept))
+
     below : (b : ℕ) → b ≢ i → b < i + 1 → b < i
     below b ne s = ⊎_elim (λ (m : b < i). m) (λ (m : i ≤ b). absurd (ne (omega arith))) (cases_lt b i)
 

@@ -108,9 +108,12 @@ module _ {F : Type 0} (K : FieldOn F) (N : IsField K) where
   pub searched : (es : List (ℕ × F)) (k : ℕ) (r : Result ℕ ℕ) → IsSparse K es → IsSearchInRange r (length es) → IsBinarySearchResult (λ e. nat_cmp e.0 k) es r
       → record { found : IfOk r (λ i. (i < length es) × ((d : ℕ × F) → (get_or es i d).1 ≡ of_pairs K es k)); absent : IfErr r (λ _. of_pairs K es k ≡ K.zero) }
   searched es k (Ok at) s within equal = record {
-    found = (within, λ d.
-        let same : (get_or es at d).0 ≡ k = ranked _ k _ (sym (equal d)) in
-        sym (of_pairs-at K N es at d s.rising within) ∙ ap (of_pairs K es) same);
+    found = (
+      within,
+      λ d.
+          let same : (get_or es at d).0 ≡ k = ranked _ k _ (sym (equal d)) in
+          sym (of_pairs-at K N es at d s.rising within) ∙ ap (of_pairs K es) same,
+    );
     absent = tt;
   }
   searched es k (Err at) s within parted = record {
@@ -137,6 +140,7 @@ module _ {F : Type 0} (K : FieldOn F) (N : IsField K) where
     where
       more : (k : ℕ) → of_pairs K (take (i + 1) es) k ≡ K.plus (of_pairs K (take i es) k) (monomial K e.0 e.1 k)
       more k = ap (λ t. of_pairs K t k) (take_next K N es i e l is) ∙ ap (λ t. t k) (of_pairs-push K N (take i es) e)
+
       absent : of_pairs K (take i es) e.0 ≡ K.zero
       absent = of_pairs-absent K N (take i es) e.0 (λ k d m same.
           let short : k < i = omega (arith, length-take i es) in

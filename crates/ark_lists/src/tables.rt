@@ -3,52 +3,10 @@
 ghost use Rattle.std.specs.Prelude.{◌≡◌, ◌⊎◌, ◌<◌, ◌≤◌, ◌+◌, ◌*◌, ◌/◌, ◌^◌, ℕ, List, [], ◌∷◌, length, IfOk};
 ghost use Rattle.ark_math.specs.Multilinear.{AreWindows, exchanged, extension, fixed};
 ghost use Rattle.ark_math.proofs.Polynomials.Exchanged.{exchanged_index};
-ghost use Rattle.ark_math.specs.Univariate.{of_list, added, opposite, scaled};
+ghost use Rattle.ark_math.specs.Univariate.{of_list};
 
 use ark_base::Field;
 use std::alloc::{AllocError, Global};
-
-/// Adds to each item the one at its place.
-pub fn add_each<F: Field>(items: &mut [F], other: &[F])
-    requires { length other.now ≡ length items.old }
-    ensures { of_list F.field items.new ≡ added F.field (of_list F.field items.old)
-        (of_list F.field other.now) }
-{
-    for i in 0..other.len() {
-        items[i] += other[i];
-    }
-}
-
-/// Subtracts from each item the one at its place.
-pub fn subtract_each<F: Field>(items: &mut [F], other: &[F])
-    requires { length other.now ≡ length items.old }
-    ensures { of_list F.field items.new ≡ added F.field (of_list F.field items.old)
-        (opposite F.field (of_list F.field other.now)) }
-{
-    for i in 0..other.len() {
-        items[i] -= other[i];
-    }
-}
-
-/// Adds to each item a multiple of the one at its place.
-pub fn add_scaled<F: Field>(items: &mut [F], factor: F, other: &[F])
-    requires { length other.now ≡ length items.old }
-    ensures { of_list F.field items.new ≡ added F.field (of_list F.field items.old)
-        (scaled F.field factor (of_list F.field other.now)) }
-{
-    for i in 0..other.len() {
-        items[i] += factor * other[i];
-    }
-}
-
-/// Multiplies each item by the factor.
-pub fn scale_each<F: Field>(items: &mut [F], factor: F)
-    ensures { of_list F.field items.new ≡ scaled F.field factor (of_list F.field items.old) }
-{
-    for i in 0..items.len() {
-        items[i] *= factor;
-    }
-}
 
 /// Writes what is left of a table when its first variable is bound to `x` over a buffer of half the length: one product
 /// for each pair of values.
@@ -103,11 +61,7 @@ fn bind_first<F: Field>(table: &mut Vec<F>, x: F)
 /// What is left of a table when its first variables are bound to the point's items, in a list of its own. Each variable
 /// halves the table, and takes one product for each pair of values; the first is bound on the way into the list, which
 /// takes no more than half the memory of the table.
-pub fn fixed_table<F: Field>(
-    alloc: Global,
-    table: &[F],
-    point: &[F],
-) -> Result<Vec<F>, AllocError>
+pub fn fixed_table<F: Field>(alloc: Global, table: &[F], point: &[F]) -> Result<Vec<F>, AllocError>
     requires { (n : ℕ) × (n * 2 ^ length point.now ≡ length table.now) }
     ensures values { IfOk result (λ t. of_list F.field t.items
         ≡ fixed F.field (of_list F.field table.now) point.now) }
@@ -124,11 +78,7 @@ pub fn fixed_table<F: Field>(
 }
 
 /// The value at a point of a table's extension: all its variables are bound.
-pub fn value_of_table<F: Field>(
-    alloc: Global,
-    table: &[F],
-    point: &[F],
-) -> Result<F, AllocError>
+pub fn value_of_table<F: Field>(alloc: Global, table: &[F], point: &[F]) -> Result<F, AllocError>
     requires { length table.now ≡ 2 ^ length point.now }
     ensures { IfOk result (λ y. y ≡ extension F.field (of_list F.field table.now) point.now) }
 {

@@ -50,11 +50,7 @@ pub fn weights<F: Field>(alloc: Global, point: &[F]) -> Result<Vec<F>, PolyError
 }
 
 /// Adds to the value at an index.
-fn add_at<F: Field>(
-    table: &mut HashMap<usize, F>,
-    index: usize,
-    value: F,
-) -> Result<(), PolyError>
+fn add_at<F: Field>(table: &mut HashMap<usize, F>, index: usize, value: F) -> Result<(), PolyError>
     ensures sum { OnOk result (held F.field table.new
         ≡ added F.field (held F.field table.old) (monomial F.field index value)) }
     ensures memory { IsOkUnless result PolyError.Memory }

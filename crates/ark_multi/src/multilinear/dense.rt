@@ -3,19 +3,22 @@
 ghost use Rattle.std.specs.Prelude.{◌≡◌, ◌≢◌, ◌↔◌, ◌⊎◌, ◌<◌, ◌≤◌, ◌-◌, ◌^◌, ◌==◌, ℕ, List, length, map, max, set};
 ghost use Rattle.std.specs.Prelude.{slice_index_or, if◌then◌else◌};
 ghost use Rattle.std.specs.Prelude.{IfErr, IfOk, IfSome, IsOkUnless, IsSome, IsTrue, OnErr, OnOk};
+ghost use Rattle.std.specs.Slice.Iter.{iter_rest};
+ghost use Rattle.std.specs.Iterator.Adapters.{IterYieldsInOrder};
 ghost use Rattle.ark_math.specs.Multilinear.{AreAddable, AreWindows, extension, exchanged, fixed};
 ghost use Rattle.ark_math.specs.Multilinear.{zero_table, table_sum, table_opposite, table_scaled};
+ghost use Rattle.ark_math.specs.Module.{tabulate};
 ghost use Rattle.ark_math.specs.Univariate.{of_list};
 
 use crate::multilinear::MultilinearExtension;
 use ark_base::{Field, PolyError, Polynomial};
-use ark_lists::tables::{
-    add_each, add_scaled, fixed_table, relabel_table, scale_each, subtract_each, value_of_table,
-};
+use ark_coeffs::dense::{add_each, add_scaled, scale_each, subtract_each};
+use ark_lists::tables::{fixed_table, relabel_table, value_of_table};
 use rand::Rng;
 use std::alloc::{AllocError, Global};
 use std::fmt::{self, Debug, Formatter, Write};
 use std::ops::Index;
+use std::slice::Iter;
 
 /// A multilinear extension by all the values of its table, in the order of their indices.
 #[derive(Drop)]
@@ -336,6 +339,16 @@ impl<F: Field> DenseMultilinearExtension<F> {
             evaluations,
             num_vars,
         }
+    }
+
+    /// The values, in the order of their indices.
+    pub fn iter(&self) -> Iter<'_, F>
+        ensures values { iter_rest result ≡ tabulate
+            (2 ^ (⟦<DenseMultilinearExtension<F> as MultilinearExtension<F>>⟧.table self.now).variables)
+            (⟦<DenseMultilinearExtension<F> as MultilinearExtension<F>>⟧.table self.now).value }
+        ensures runs { IterYieldsInOrder F }
+    {
+        self.evaluations.iter()
     }
 
     /// Exchanges the `k` variables from `a` on with the `k` from `b` on, by exchanging values. Takes no memory.

@@ -1,5 +1,4 @@
-use Rattle.std.proofs.Common.{◌<◌, ◌+◌, ◌-◌, arith}
-use Rattle.ark_lists.proofs.TableLists.{exchanged_sums, moved}
+use Rattle.ark_lists.proofs.TableLists.{exchanged_sums}
 use Rattle.ark_lists.proofs.tables.exchanged_bits.Goals as goal
 
 pub overflow_sub-result : goal.overflow_sub-result

@@ -1,9 +1,7 @@
-use Rattle.std.proofs.Common.{◌≡◌, suc, ◌+◌, ◌*◌, ◌/◌, ◌^◌, ◌<◌, [], ◌∷◌, length, get_or, take, sym, ap, ◌∙◌, arith}
-use Rattle.std.proofs.lemmas.List.{take_all}
+use Rattle.std.proofs.Common.{◌≡◌, suc, ◌+◌, ◌*◌, ◌^◌, ◌<◌, [], ◌∷◌, length, get_or, take, sym, ap, ◌∙◌, arith}
 use Rattle.ark_math.specs.Multilinear.{fixed}
 use Rattle.ark_math.specs.Univariate.{of_list}
-use Rattle.ark_math.proofs.Polynomials.Multilinear.{fixed-nil}
-use Rattle.ark_lists.proofs.TableLists.{IsLeft, IsLeft-more, even_left}
+use Rattle.ark_lists.proofs.TableLists.{IsLeft-more, even_left}
 use Rattle.ark_lists.proofs.tables.fixed_table.Goals as goal
 
 pub bound_table-requires : goal.bound_table-requires

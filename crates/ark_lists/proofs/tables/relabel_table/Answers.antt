@@ -1,8 +1,8 @@
-use Rattle.std.proofs.Common.{◌≡◌, ℕ, ◌+◌, ◌^◌, ◌<◌, ◌≤◌, List, length, refl, sym, subst, ap, ◌∙◌, arith}
+use Rattle.std.proofs.Common.{◌≡◌, ℕ, ◌+◌, ◌<◌, ◌≤◌, length, refl, sym, subst, ap, ◌∙◌, arith}
 use mathlib.Core.Path.{fun_ext}
 use Rattle.std.specs.List.{swap}
 use Rattle.std.proofs.lemmas.List.Edits.{swapped_from_swap}
-use Rattle.ark_math.specs.Multilinear.{AreWindows, exchanged, extension}
+use Rattle.ark_math.specs.Multilinear.{extension}
 use Rattle.ark_math.specs.Univariate.{of_list}
 use Rattle.ark_math.proofs.Polynomials.Exchanged.{exchanged_index, exchanged_index-same, exchanged_index-none, exchanged_index-below, exchanged_index-twice, extension-exchanged}
 use Rattle.ark_math.proofs.Polynomials.Multilinear.{extension-same}
@@ -15,7 +15,7 @@ returns-then-a-b g c x whole windows =
     let K = g.F.Field.field in
     let t = of_list K c.args.table.now in
     let still : (n : ℕ) → exchanged_index n c.args.a c.args.b c.args.k ≡ n = λ n. elim c.then-a-b.branch [
-      then-a-b-via-then-a-b w ↦ ap (λ b. exchanged_index n c.args.a b c.args.k) (sym w.if-a-b.true) ∙ exchanged_index-same n c.args.a c.args.k
+      | then-a-b-via-then-a-b w ↦ ap (λ b. exchanged_index n c.args.a b c.args.k) (sym w.if-a-b.true) ∙ exchanged_index-same n c.args.a c.args.k
       | then-a-b-via-else-a-b+then-k-eq0 w ↦ ap (exchanged_index n c.args.a c.args.b) w.if-k-eq0.true ∙ exchanged_index-none n c.args.a c.args.b
     ] in
     ap (λ f. extension K f x) (fun_ext (λ n. ap t (sym (still n))))
@@ -43,11 +43,11 @@ loop-i-preserved g c n =
     let whole = c.requires.2 in
     omega (arith, c.loop-i.auto.table) in
     elim c.if-i-j.branch [
-      then-i-j w ↦ subst (λ u. of_list K u n ≡ exchanged_below s (i + 1) t n) (sym w.table-is)
-      (exchanged_below-swap s t twice i (subst (λ m. i < m) is w.if-i-j.true) (of_list K c.loop-i.table) (of_list K w.swap.new.self) c.loop-i.invariant
-      (swapped_from_swap c.loop-i.table w.swap.new.self i (s i) K.zero inside below (w.swap.ensures.after ∙ ap (swap c.loop-i.table i) is)) n)
+      | then-i-j w ↦ subst (λ u. of_list K u n ≡ exchanged_below s (i + 1) t n) (sym w.table-is)
+          (exchanged_below-swap s t twice i (subst (λ m. i < m) is w.if-i-j.true) (of_list K c.loop-i.table) (of_list K w.swap.new.self) c.loop-i.invariant
+          (swapped_from_swap c.loop-i.table w.swap.new.self i (s i) K.zero inside below (w.swap.ensures.after ∙ ap (swap c.loop-i.table i) is)) n)
       | else-i-j w ↦ subst (λ u. of_list K u n ≡ exchanged_below s (i + 1) t n) (sym w.table-is)
-      (c.loop-i.invariant n ∙ exchanged_below-kept s t twice i (subst (λ m. m ≤ i) is w.if-i-j.false) n)
+          (c.loop-i.invariant n ∙ exchanged_below-kept s t twice i (subst (λ m. m ≤ i) is w.if-i-j.false) n)
     ]
 
 pub returns : goal.returns

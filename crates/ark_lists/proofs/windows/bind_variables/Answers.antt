@@ -16,12 +16,14 @@ bind-preserved g c =
     let others = c.split_at.result.1.now in
     let t = of_pairs K c.bind.bound.items in
     let joined : first ++ others ≡ c.bind.left.now = ap₂ (λ p q. p ++ q) s.front s.back ∙ take-append-drop _ c.bind.left.now in
-    let b = c.in_ok-bound-2.ensures in
-    (b.sparse, omega (arith, s.back_len, h.1),
-    ap (λ u. fixed K u others) (b.values ∙ ap (λ es. fixed K (of_pairs K es) first) c.deref.ensures.value)
-    ∙ sym (fixed-append K N t first others)
-    ∙ ap (fixed K t) joined
-    ∙ h.2)
+    let b = c.in_ok-bound-2.ensures in (
+      b.sparse,
+      omega (arith, s.back_len, h.1),
+      ap (λ u. fixed K u others) (b.values ∙ ap (λ es. fixed K (of_pairs K es) first) c.deref.ensures.value)
+          ∙ sym (fixed-append K N t first others)
+          ∙ ap (fixed K t) joined
+          ∙ h.2,
+    )
 
 pub returns-clause-values : goal.returns-clause-values
 returns-clause-values g c =

@@ -15,6 +15,7 @@ pub loop-i-preserved : goal.loop-i-preserved
 loop-i-preserved g c =
     let h = c.loop-i.invariant in
     let e = c.index-entries-i.result in
-    let within : e.0 < c.args.len = item_of (λ p. p.0 < c.args.len) c.args.entries.now c.loop-i.i e c.requires.within c.loop-i-test.true c.index-entries-i.is in
-    (length-set c.loop-i.values.items e.0 e.1 ∙ h.0,
-    listed_more g.F.Field.field g.met.F.Field.field_laws c.args.entries.now c.loop-i.values.items c.loop-i.i e c.requires.sparse h.1 c.loop-i-test.true c.index-entries-i.is (subst (λ n. e.0 < n) (sym h.0) within))
+    let within : e.0 < c.args.len = item_of (λ p. p.0 < c.args.len) c.args.entries.now c.loop-i.i e c.requires.within c.loop-i-test.true c.index-entries-i.is in (
+      length-set c.loop-i.values.items e.0 e.1 ∙ h.0,
+      listed_more g.F.Field.field g.met.F.Field.field_laws c.args.entries.now c.loop-i.values.items c.loop-i.i e c.requires.sparse h.1 c.loop-i-test.true c.index-entries-i.is (subst (λ n. e.0 < n) (sym h.0) within),
+    )

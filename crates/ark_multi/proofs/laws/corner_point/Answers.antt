@@ -1,4 +1,4 @@
-use Rattle.std.proofs.Common.{◌≡◌, ◌∙◌, ◌++◌, [], ◌∷◌, sym, ap₂, if◌then◌else◌}
+use Rattle.std.proofs.Common.{◌∙◌, ◌++◌, [], ◌∷◌, sym, ap₂, if◌then◌else◌}
 use Rattle.ark_math.specs.Multilinear.{bit}
 use Rattle.ark_math.proofs.Lists.Tabulated.{tabulate-push}
 use Rattle.ark_multi.proofs.laws.corner_point.Goals as goal

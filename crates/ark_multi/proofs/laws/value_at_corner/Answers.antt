@@ -1,6 +1,6 @@
 use Rattle.std.proofs.Common.{◌≡◌, ◌<◌, ◌^◌, ◌∙◌, sym, subst, ap, length}
 use Rattle.std.proofs.lemmas.Result.{IfOk-weaker}
-use Rattle.ark_math.specs.Multilinear.{corner, extension}
+use Rattle.ark_math.specs.Multilinear.{extension}
 use Rattle.ark_math.proofs.Polynomials.Multilinear.{extension-corner}
 use Rattle.ark_math.proofs.Polynomials.OnlyMultilinear.{length-corner}
 use Rattle.ark_multi.proofs.laws.value_at_corner.Goals as goal

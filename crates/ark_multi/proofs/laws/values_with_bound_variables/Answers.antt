@@ -1,5 +1,5 @@
 use Rattle.std.proofs.Common.{◌≡◌, ◌∙◌, sym, subst, ap}
-use Rattle.ark_math.specs.Multilinear.{extension, fixed}
+use Rattle.ark_math.specs.Multilinear.{extension}
 use Rattle.ark_math.proofs.Polynomials.Multilinear.{extension-append}
 use Rattle.ark_multi.proofs.laws.values_with_bound_variables.Goals as goal
 

@@ -1,5 +1,4 @@
-use Rattle.std.proofs.Common.{◌≡◌, ◌∙◌, sym, subst, ap, length}
-use Rattle.ark_math.specs.Multilinear.{exchanged, extension}
+use Rattle.std.proofs.Common.{◌∙◌, ap, length}
 use Rattle.ark_math.proofs.Lists.Tabulated.{length-tabulate}
 use Rattle.ark_multi.proofs.laws.values_with_exchanged_variables.Goals as goal
 

@@ -1,4 +1,4 @@
-use Rattle.std.proofs.Common.{◌≤◌, sym, subst, refl, inr, arith}
+use Rattle.std.proofs.Common.{◌≤◌, sym, subst, inr, arith}
 use Rattle.std.specs.List.{All}
 use Rattle.std.proofs.lemmas.List.Elements.{All-push}
 use Rattle.ark_math.specs.SortedTerms.{IsOnePower}

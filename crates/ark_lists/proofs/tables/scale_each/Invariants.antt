@@ -1,9 +1,0 @@
-use Rattle.std.proofs.Common.{◌≡◌}
-use Rattle.ark_math.specs.Univariate.{of_list}
-use Rattle.ark_math.proofs.Polynomials.UnivariateLoops.{zipped}
-use Rattle.ark_lists.proofs.tables.scale_each.Given as goal
-
-abbrev pub invariant-loop-i : goal.invariant-loop-i
-invariant-loop-i g l =
-    let K = g.F.Field.field in
-    of_list K l.items ≡ zipped (λ x _. K.times l.factor x) l.i (of_list K l.initial.items) (of_list K l.initial.items)
