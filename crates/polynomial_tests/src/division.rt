@@ -1,7 +1,8 @@
 //! Quotients and remainders of polynomials in either form, and what a form becomes.
 
+use crate::changes::gave;
 use crate::conversions::drawn_terms;
-use crate::polynomials::poly;
+use crate::polynomials::{is, poly};
 use crate::sparse::{Terms, sparse};
 use ark_base::{F5, F433, F65537, Field, PolyError};
 use ark_poly::univariate::{DenseOrSparsePolynomial, DensePolynomial, SparsePolynomial};
@@ -17,9 +18,9 @@ fn in_form<'a, F: Field>(
     dense: bool,
 ) -> Result<DenseOrSparsePolynomial<'a, F>, PolyError> {
     if dense {
-        return Ok(p.into());
+        return Ok(DenseOrSparsePolynomial::from(p));
     }
-    Ok(SparsePolynomial::from_dense(alloc, p)?.into())
+    Ok(DenseOrSparsePolynomial::from(SparsePolynomial::from_dense(alloc, p)?))
 }
 
 // The quotient and the remainder, from the two forms with this number.
@@ -39,8 +40,11 @@ fn is_sum<F: Field>(
     dividend: &DensePolynomial<F>,
     divisor: &DensePolynomial<F>,
     (quotient, remainder): &(DensePolynomial<F>, DensePolynomial<F>),
-) -> Result<bool, PolyError> {
-    Ok(quotient.naive_mul(alloc, divisor)?.add(alloc, remainder)? == *dividend)
+) -> bool {
+    let Ok(product) = quotient.naive_mul(alloc, divisor) else {
+        return false;
+    };
+    gave(product.add(alloc, remainder), dividend)
 }
 
 // Whether that is so, and the remainder is below the divisor; there are none exactly where zero divides something else.
@@ -49,12 +53,15 @@ fn multiplies_back<F: Field>(
     dividend: &DensePolynomial<F>,
     divisor: &DensePolynomial<F>,
     forms: usize,
-) -> Result<bool, PolyError> {
-    let Some(pair) = divided(alloc, dividend, divisor, forms)? else {
-        return Ok(divisor.is_zero() && !dividend.is_zero());
-    };
-    let below = pair.1.is_zero() || pair.1.degree() < divisor.degree();
-    Ok(below && is_sum(alloc, dividend, divisor, &pair)?)
+) -> bool {
+    match divided(alloc, dividend, divisor, forms) {
+        Ok(Some(pair)) => {
+            (pair.1.is_zero() || pair.1.degree() < divisor.degree())
+                && is_sum(alloc, dividend, divisor, &pair)
+        }
+        Ok(None) => divisor.is_zero() && !dividend.is_zero(),
+        Err(_) => false,
+    }
 }
 
 // A drawn polynomial of a degree below 25.
@@ -67,23 +74,27 @@ fn some<F: Field>(
 }
 
 // Whether this holds of drawn polynomials in each pair of forms.
-fn multiply_back<F: Field>(alloc: Global, rng: &mut Pcg64) -> Result<bool, PolyError> {
+fn multiply_back<F: Field>(alloc: Global, rng: &mut Pcg64) -> bool {
     for i in 0..1000 {
-        let dividend = some::<F>(alloc, rng, i % 29)?;
-        let divisor = some(alloc, rng, i % 13)?;
-        if !multiplies_back(alloc, &dividend, &divisor, i % 4)? {
-            return Ok(false);
+        let Ok(dividend) = some::<F>(alloc, rng, i % 29) else {
+            return false;
+        };
+        let Ok(divisor) = some(alloc, rng, i % 13) else {
+            return false;
+        };
+        if !multiplies_back(alloc, &dividend, &divisor, i % 4) {
+            return false;
         }
     }
-    Ok(true)
+    true
 }
 
 #[test]
 fn drawn_ones_multiply_back(rt: HostRuntime) -> Result<(), Fail> {
     let mut rng = Pcg64::new(41, 43);
-    assert!(rt; multiply_back::<F5>(rt.alloc(), &mut rng)?);
-    assert!(rt; multiply_back::<F433>(rt.alloc(), &mut rng)?);
-    assert!(rt; multiply_back::<F65537>(rt.alloc(), &mut rng)?);
+    assert!(rt; multiply_back::<F5>(rt.alloc(), &mut rng));
+    assert!(rt; multiply_back::<F433>(rt.alloc(), &mut rng));
+    assert!(rt; multiply_back::<F65537>(rt.alloc(), &mut rng));
     Ok(())
 }
 
@@ -107,11 +118,11 @@ fn divides<F: Field>(
     operands: [&[u64]; 2],
     [quotient, remainder]: [&[u64]; 2],
     forms: usize,
-) -> Result<bool, PolyError> {
-    let Some(found) = divided_lists::<F>(alloc, operands, forms)? else {
-        return Ok(false);
+) -> bool {
+    let Ok(Some(found)) = divided_lists::<F>(alloc, operands, forms) else {
+        return false;
     };
-    Ok(found.0 == poly(alloc, quotient)? && found.1 == poly(alloc, remainder)?)
+    is(&found.0, quotient) && is(&found.1, remainder)
 }
 
 // Whether it is so in all forms.
@@ -119,13 +130,13 @@ fn divides_in_all_forms<F: Field>(
     alloc: Global,
     operands: [&[u64]; 2],
     answer: [&[u64]; 2],
-) -> Result<bool, PolyError> {
+) -> bool {
     for forms in 0..4 {
-        if !divides::<F>(alloc, operands, answer, forms)? {
-            return Ok(false);
+        if !divides::<F>(alloc, operands, answer, forms) {
+            return false;
         }
     }
-    Ok(true)
+    true
 }
 
 #[test]
@@ -137,21 +148,22 @@ fn quotients_and_remainders(rt: HostRuntime) -> Result<(), Fail> {
         ([&[3, 0, 0, 0, 1], &[1, 0, 0, 1]], [&[0, 1], &[3, 4]]),
     ];
     for (operands, answer) in rows {
-        assert!(rt; divides_in_all_forms::<F5>(rt.alloc(), operands, answer)?);
+        assert!(rt; divides_in_all_forms::<F5>(rt.alloc(), operands, answer));
     }
     let operands: [&[u64]; 2] = [&[4, 8, 5, 1], &[1, 1]];
-    assert!(rt; divides_in_all_forms::<F65537>(rt.alloc(), operands, [&[4, 4, 1], &[]])?);
+    assert!(rt; divides_in_all_forms::<F65537>(rt.alloc(), operands, [&[4, 4, 1], &[]]));
     Ok(())
 }
 
 // Whether one has no quotient by zero, in any of the forms.
-fn zero_divides_nothing<F: Field>(alloc: Global) -> Result<bool, PolyError> {
+fn zero_divides_nothing<F: Field>(alloc: Global) -> bool {
     for forms in 0..4 {
-        if divided_lists::<F>(alloc, [&[1], &[]], forms)?.is_some() {
-            return Ok(false);
+        match divided_lists::<F>(alloc, [&[1], &[]], forms) {
+            Ok(None) => {}
+            _ => return false,
         }
     }
-    Ok(true)
+    true
 }
 
 // What a sum of terms by another one gives.
@@ -161,37 +173,38 @@ fn divided_terms<F: Field>(
     divisor: Terms<'_>,
 ) -> Result<Option<(DensePolynomial<F>, DensePolynomial<F>)>, PolyError> {
     let dividend = DenseOrSparsePolynomial::from(sparse(alloc, dividend)?);
-    dividend.divide_with_q_and_r(alloc, &sparse(alloc, divisor)?.into())
+    let divisor = DenseOrSparsePolynomial::from(sparse(alloc, divisor)?);
+    dividend.divide_with_q_and_r(alloc, &divisor)
 }
 
 // Whether the degree usize::MAX is refused by a divisor, but not by zero.
-fn refuses<F: Field>(alloc: Global) -> Result<bool, PolyError> {
+fn refuses<F: Field>(alloc: Global) -> bool {
     let high: Terms<'_> = &[(usize::MAX, 1)];
-    let none = divided_terms::<F>(alloc, high, &[])?.is_none();
-    match divided_terms::<F>(alloc, high, &[(1, 1)]) {
-        Err(PolyError::Overflow) => Ok(none),
-        _ => Ok(false),
-    }
+    matches!(divided_terms::<F>(alloc, high, &[]), Ok(None))
+        && matches!(
+            divided_terms::<F>(alloc, high, &[(1, 1)]),
+            Err(PolyError::Overflow)
+        )
 }
 
 // Whether this degree has no dense form.
-fn has_no_dense_form<F: Field>(alloc: Global) -> Result<bool, PolyError> {
-    let high = DenseOrSparsePolynomial::<F>::from(sparse(alloc, &[(usize::MAX, 1)])?);
-    match high.into_dense(alloc) {
-        Err(PolyError::Overflow) => Ok(true),
-        _ => Ok(false),
-    }
+fn has_no_dense_form<F: Field>(alloc: Global) -> bool {
+    let Ok(high) = sparse::<F>(alloc, &[(usize::MAX, 1)]) else {
+        return false;
+    };
+    let dense = DenseOrSparsePolynomial::from(high).into_dense(alloc);
+    matches!(dense, Err(PolyError::Overflow))
 }
 
 // Whether all this is so.
-fn is_refused<F: Field>(alloc: Global) -> Result<bool, PolyError> {
-    let refused = zero_divides_nothing::<F>(alloc)? && refuses::<F>(alloc)?;
-    Ok(refused && has_no_dense_form::<F>(alloc)?)
+fn is_refused<F: Field>(alloc: Global) -> bool {
+    let refused = zero_divides_nothing::<F>(alloc) && refuses::<F>(alloc);
+    refused && has_no_dense_form::<F>(alloc)
 }
 
 #[test]
 fn no_quotient(rt: HostRuntime) -> Result<(), Fail> {
-    assert!(rt; is_refused::<F5>(rt.alloc())?);
+    assert!(rt; is_refused::<F5>(rt.alloc()));
     Ok(())
 }
 
@@ -205,9 +218,8 @@ fn denotes<F: Field>(
     alloc: Global,
     held: DenseOrSparsePolynomial<'_, F>,
     p: &DensePolynomial<F>,
-) -> Result<bool, PolyError> {
-    let same = has_degree_of(&held, p);
-    Ok(held.into_dense(alloc)? == *p && same)
+) -> bool {
+    has_degree_of(&held, p) && gave(held.into_dense(alloc), p)
 }
 
 // Whether it is refused as dense.
@@ -218,57 +230,69 @@ fn is_not_sparse<F: Field>(alloc: Global, held: DenseOrSparsePolynomial<'_, F>) 
     }
 }
 
-// Whether a dense polynomial, borrowed and not, stays what it is, and isn't made sparse.
-fn dense_stays<F: Field>(alloc: Global, p: &DensePolynomial<F>) -> Result<bool, PolyError> {
-    let own = DenseOrSparsePolynomial::from(p.clone()?);
-    let same = denotes(alloc, own.clone()?, p)? && denotes(alloc, p.into(), p)?;
-    Ok(same && is_not_sparse(alloc, own) && is_not_sparse(alloc, p.into()))
-}
-
-// Whether a sparse polynomial, borrowed and not, is made dense.
-fn is_made_dense<F: Field>(
+// Whether it denotes the dense polynomial that it holds, and isn't made sparse.
+fn stays_dense<F: Field>(
     alloc: Global,
-    p: &SparsePolynomial<F>,
-    dense: &DensePolynomial<F>,
-) -> Result<bool, PolyError> {
-    Ok(denotes(alloc, p.into(), dense)? && denotes(alloc, p.clone()?.into(), dense)?)
+    held: DenseOrSparsePolynomial<'_, F>,
+    p: &DensePolynomial<F>,
+) -> bool {
+    let Ok(copy) = held.clone() else {
+        return false;
+    };
+    denotes(alloc, copy, p) && is_not_sparse(alloc, held)
 }
 
-// Whether it is held in sparse form.
-fn becomes<F: Field>(
+// Whether that is so of a dense polynomial, borrowed and not.
+fn dense_stays<F: Field>(alloc: Global, p: &DensePolynomial<F>) -> bool {
+    let Ok(copy) = p.clone() else {
+        return false;
+    };
+    stays_dense(alloc, DenseOrSparsePolynomial::from(copy), p)
+        && stays_dense(alloc, DenseOrSparsePolynomial::from(p), p)
+}
+
+// Whether it denotes the sparse polynomial that it holds, and isn't changed by being made sparse.
+fn stays_sparse<F: Field>(
     alloc: Global,
     held: DenseOrSparsePolynomial<'_, F>,
     p: &SparsePolynomial<F>,
-) -> Result<bool, PolyError> {
-    Ok(held.into_sparse(alloc)? == *p)
+    dense: &DensePolynomial<F>,
+) -> bool {
+    let Ok(copy) = held.clone() else {
+        return false;
+    };
+    denotes(alloc, copy, dense) && gave(held.into_sparse(alloc), p)
 }
 
-// Whether a sparse polynomial, borrowed and not, stays what it is.
-fn sparse_stays<F: Field>(alloc: Global, p: &SparsePolynomial<F>) -> Result<bool, PolyError> {
-    Ok(becomes(alloc, p.into(), p)? && becomes(alloc, p.clone()?.into(), p)?)
-}
-
-// Whether both forms do.
-fn both_stay<F: Field>(
+// Whether that is so of a sparse polynomial, borrowed and not.
+fn sparse_stays<F: Field>(
     alloc: Global,
     p: &SparsePolynomial<F>,
     dense: &DensePolynomial<F>,
-) -> Result<bool, PolyError> {
-    let stay = dense_stays(alloc, dense)? && sparse_stays(alloc, p)?;
-    Ok(stay && is_made_dense(alloc, p, dense)?)
+) -> bool {
+    let Ok(copy) = p.clone() else {
+        return false;
+    };
+    stays_sparse(alloc, DenseOrSparsePolynomial::from(copy), p, dense)
+        && stays_sparse(alloc, DenseOrSparsePolynomial::from(p), p, dense)
 }
 
-// Whether both forms of the polynomial with these terms do.
-fn stay<F: Field>(alloc: Global, terms: Terms<'_>) -> Result<bool, PolyError> {
-    let p = sparse::<F>(alloc, terms)?;
-    both_stay(alloc, &p, &DensePolynomial::from_sparse(alloc, &p)?)
+// Whether both forms of the polynomial with these terms stay what they are.
+fn stay<F: Field>(alloc: Global, terms: Terms<'_>) -> bool {
+    let Ok(p) = sparse::<F>(alloc, terms) else {
+        return false;
+    };
+    let Ok(dense) = DensePolynomial::from_sparse(alloc, &p) else {
+        return false;
+    };
+    dense_stays(alloc, &dense) && sparse_stays(alloc, &p, &dense)
 }
 
 #[test]
 fn forms_stay(rt: HostRuntime) -> Result<(), Fail> {
     let rows: [Terms<'_>; 3] = [&[], &[(0, 3)], &[(5, 1), (0, 2)]];
     for terms in rows {
-        assert!(rt; stay::<F5>(rt.alloc(), terms)?);
+        assert!(rt; stay::<F5>(rt.alloc(), terms));
     }
     Ok(())
 }

@@ -1,5 +1,6 @@
 ghost use Rattle.std.specs.Prelude.{◌≡◌, IfOk};
 
+use crate::changes::gave;
 use ark_base::{F5, FftField, PolyError};
 use ark_poly::{EvaluationDomain, Evaluations};
 use ark_trials::calls::{coset, elements, hash_of};
@@ -31,16 +32,30 @@ struct Compared<'a> {
     equal: bool,
 }
 
+// The values over the coset of as many elements.
+fn over_coset<F: FftField, D: EvaluationDomain<F>>(
+    alloc: Global,
+    (offset, values): (u64, &[u64]),
+) -> Result<Evaluations<F, D>, PolyError> {
+    over(alloc, coset(values.len(), offset)?, values)
+}
+
+// Whether both are equal or not, as told.
+fn compare<F: FftField, D: EvaluationDomain<F>>(
+    alloc: Global,
+    left: &Evaluations<F, D>,
+    right: &Evaluations<F, D>,
+    equal: bool,
+) -> bool {
+    let same_hash = hash_of(left) == hash_of(right);
+    (*left == *right) == equal && (!equal || same_hash) && gave(left.clone(), left)
+}
+
 impl Trial for Compared<'_> {
     fn holds<F: FftField, D: EvaluationDomain<F>>(&self, alloc: Global) -> Result<bool, PolyError> {
-        let (left, right): (D, D) = (
-            coset(self.left.1.len(), self.left.0)?,
-            coset(self.right.1.len(), self.right.0)?,
-        );
-        let left = over::<F, D>(alloc, left, self.left.1)?;
-        let right = over::<F, D>(alloc, right, self.right.1)?;
-        let same_hash = hash_of(&left) == hash_of(&right);
-        Ok((left == right) == self.equal && (!self.equal || same_hash) && left.clone()? == left)
+        let left = over_coset::<F, D>(alloc, self.left)?;
+        let right = over_coset::<F, D>(alloc, self.right)?;
+        Ok(compare(alloc, &left, &right, self.equal))
     }
 }
 

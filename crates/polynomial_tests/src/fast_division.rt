@@ -1,7 +1,7 @@
 //! Division through transforms, against multiplying back.
 
-use crate::polynomials::poly;
-use crate::products::{is, some};
+use crate::polynomials::{is, poly};
+use crate::products::some;
 use ark_base::{F5, F433, F65537, FftField, PolyError};
 use ark_poly::Polynomial;
 use ark_poly::univariate::DensePolynomial;
@@ -14,10 +14,10 @@ fn divides_into<F: FftField>(
     alloc: Global,
     [dividend, divisor]: [&DensePolynomial<F>; 2],
     [quotient, remainder]: [&DensePolynomial<F>; 2],
-) -> Result<bool, PolyError> {
-    match dividend.divide_by_transforms(alloc, divisor)? {
-        Some(found) => Ok(found.0 == *quotient && found.1 == *remainder),
-        None => Ok(false),
+) -> bool {
+    match dividend.divide_by_transforms(alloc, divisor) {
+        Ok(Some(found)) => found.0 == *quotient && found.1 == *remainder,
+        _ => false,
     }
 }
 
@@ -27,9 +27,16 @@ fn gives_both<F: FftField>(
     rng: &mut Pcg64,
     quotient: &DensePolynomial<F>,
     divisor: &DensePolynomial<F>,
-) -> Result<bool, PolyError> {
-    let remainder = some::<F>(alloc, rng, divisor.degree())?;
-    let dividend = quotient.naive_mul(alloc, divisor)?.add(alloc, &remainder)?;
+) -> bool {
+    let Ok(remainder) = some::<F>(alloc, rng, divisor.degree()) else {
+        return false;
+    };
+    let Ok(product) = quotient.naive_mul(alloc, divisor) else {
+        return false;
+    };
+    let Ok(dividend) = product.add(alloc, &remainder) else {
+        return false;
+    };
     divides_into(alloc, [&dividend, divisor], [quotient, &remainder])
 }
 
@@ -38,10 +45,14 @@ fn gives_back<F: FftField>(
     alloc: Global,
     rng: &mut Pcg64,
     [quotient, divisor]: [usize; 2],
-) -> Result<bool, PolyError> {
-    let quotient = some::<F>(alloc, rng, quotient)?;
-    let divisor = some::<F>(alloc, rng, divisor)?;
-    Ok(divisor.is_zero() || gives_both(alloc, rng, &quotient, &divisor)?)
+) -> bool {
+    let Ok(quotient) = some::<F>(alloc, rng, quotient) else {
+        return false;
+    };
+    let Ok(divisor) = some::<F>(alloc, rng, divisor) else {
+        return false;
+    };
+    divisor.is_zero() || gives_both(alloc, rng, &quotient, &divisor)
 }
 
 // The same of all lengths below these two.
@@ -50,21 +61,21 @@ fn all_give_back<F: FftField>(
     rng: &mut Pcg64,
     quotients: usize,
     divisors: usize,
-) -> Result<bool, PolyError> {
+) -> bool {
     let mut right = true;
     for quotient in 0..quotients {
         for divisor in 0..divisors {
-            right = right && gives_back::<F>(alloc, rng, [quotient, divisor])?;
+            right = right && gives_back::<F>(alloc, rng, [quotient, divisor]);
         }
     }
-    Ok(right)
+    right
 }
 
 #[test]
 fn short_ones_give_back(rt: HostRuntime) -> Result<(), Fail> {
     let mut rng = Pcg64::new(13, 17);
-    assert!(rt; all_give_back::<F433>(rt.alloc(), &mut rng, 36, 36)?);
-    assert!(rt; all_give_back::<F65537>(rt.alloc(), &mut rng, 36, 36)?);
+    assert!(rt; all_give_back::<F433>(rt.alloc(), &mut rng, 36, 36));
+    assert!(rt; all_give_back::<F65537>(rt.alloc(), &mut rng, 36, 36));
     Ok(())
 }
 
@@ -88,7 +99,7 @@ fn long_ones_give_back(rt: HostRuntime) -> Result<(), Fail> {
         [700, 3000],
     ];
     for row in lengths {
-        assert!(rt; gives_back::<F65537>(alloc, &mut rng, row)?);
+        assert!(rt; gives_back::<F65537>(alloc, &mut rng, row));
     }
     Ok(())
 }
@@ -97,11 +108,11 @@ fn long_ones_give_back(rt: HostRuntime) -> Result<(), Fail> {
 fn without_a_domain_give_back(rt: HostRuntime) -> Result<(), Fail> {
     let alloc = rt.alloc();
     let mut rng = Pcg64::new(29, 31);
-    // No product of these has a domain.
-    assert!(rt; gives_back::<F5>(alloc, &mut rng, [140, 530])?);
-    assert!(rt; gives_back::<F5>(alloc, &mut rng, [600, 520])?);
-    // The last product alone has none.
-    assert!(rt; gives_back::<F433>(alloc, &mut rng, [140, 530])?);
+    // No product of these has a domain over the small field, and over the other one the last product alone has none.
+    for row in [[140, 530], [600, 520]] {
+        assert!(rt; gives_back::<F5>(alloc, &mut rng, row));
+    }
+    assert!(rt; gives_back::<F433>(alloc, &mut rng, [140, 530]));
     Ok(())
 }
 
@@ -110,58 +121,58 @@ fn splits<F: FftField>(
     alloc: Global,
     dividend: &DensePolynomial<F>,
     divisor: &DensePolynomial<F>,
-    quotient: &[u64],
-    remainder: &[u64],
-) -> Result<bool, PolyError> {
-    match dividend.divide_by_transforms(alloc, divisor)? {
-        Some(found) => Ok(is(&found.0, quotient) && is(&found.1, remainder)),
-        None => Ok(false),
+    [quotient, remainder]: [&[u64]; 2],
+) -> bool {
+    match dividend.divide_by_transforms(alloc, divisor) {
+        Ok(Some(found)) => is(&found.0, quotient) && is(&found.1, remainder),
+        _ => false,
     }
 }
 
 // The same of polynomials with these coefficients, and whether `div` gives the same quotient.
 fn divides<F: FftField>(
     alloc: Global,
-    dividend: &[u64],
-    divisor: &[u64],
-    quotient: &[u64],
-    remainder: &[u64],
-) -> Result<bool, PolyError> {
-    let dividend = poly::<F>(alloc, dividend)?;
-    let divisor = poly::<F>(alloc, divisor)?;
-    Ok(
-        splits(alloc, &dividend, &divisor, quotient, remainder)?
-            && is(&dividend.div(alloc, &divisor)?, quotient),
-    )
+    [dividend, divisor]: [&[u64]; 2],
+    answer: [&[u64]; 2],
+) -> bool {
+    let Ok(dividend) = poly::<F>(alloc, dividend) else {
+        return false;
+    };
+    let Ok(divisor) = poly::<F>(alloc, divisor) else {
+        return false;
+    };
+    let Ok(quotient) = dividend.div(alloc, &divisor) else {
+        return false;
+    };
+    is(&quotient, answer[0]) && splits(alloc, &dividend, &divisor, answer)
 }
 
 // Whether one has no quotient by zero.
-fn zero_divides_nothing<F: FftField>(alloc: Global) -> Result<bool, PolyError> {
-    let one = poly::<F>(alloc, &[1])?;
-    let zero = poly::<F>(alloc, &[])?;
-    if one.divide_by_transforms(alloc, &zero)?.is_some() {
-        return Ok(false);
-    }
-    match one.div(alloc, &zero) {
-        Err(PolyError::ZeroDivisor) => Ok(true),
-        _ => Ok(false),
-    }
-}
-
-#[test]
-fn with_zero(rt: HostRuntime) -> Result<(), Fail> {
-    let alloc = rt.alloc();
-    assert!(rt; divides::<F5>(alloc, &[], &[], &[], &[])?);
-    assert!(rt; divides::<F5>(alloc, &[], &[1, 2], &[], &[])?);
-    assert!(rt; zero_divides_nothing::<F5>(alloc)?);
-    Ok(())
+fn zero_divides_nothing<F: FftField>(alloc: Global) -> bool {
+    let Ok(one) = poly::<F>(alloc, &[1]) else {
+        return false;
+    };
+    let Ok(zero) = poly::<F>(alloc, &[]) else {
+        return false;
+    };
+    matches!(one.divide_by_transforms(alloc, &zero), Ok(None))
+        && matches!(one.div(alloc, &zero), Err(PolyError::ZeroDivisor))
 }
 
 #[test]
 fn quotients_and_remainders(rt: HostRuntime) -> Result<(), Fail> {
     let alloc = rt.alloc();
-    assert!(rt; divides::<F5>(alloc, &[3], &[1, 2], &[], &[3])?);
-    assert!(rt; divides::<F5>(alloc, &[1, 2, 3], &[1, 2], &[4, 4], &[2])?);
-    assert!(rt; divides::<F65537>(alloc, &[4, 8, 5, 1], &[1, 1], &[4, 4, 1], &[])?);
+    let rows: [([&[u64]; 2], [&[u64]; 2]); 4] = [
+        ([&[], &[]], [&[], &[]]),
+        ([&[], &[1, 2]], [&[], &[]]),
+        ([&[3], &[1, 2]], [&[], &[3]]),
+        ([&[1, 2, 3], &[1, 2]], [&[4, 4], &[2]]),
+    ];
+    for (operands, answer) in rows {
+        assert!(rt; divides::<F5>(alloc, operands, answer));
+    }
+    let operands: [&[u64]; 2] = [&[4, 8, 5, 1], &[1, 1]];
+    assert!(rt; divides::<F65537>(alloc, operands, [&[4, 4, 1], &[]]));
+    assert!(rt; zero_divides_nothing::<F5>(alloc));
     Ok(())
 }

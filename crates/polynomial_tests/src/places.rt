@@ -3,11 +3,11 @@
 ghost use Rattle.std.specs.Prelude.{◌≡◌, IfOk};
 
 use crate::evaluations::over;
-use crate::products::is;
+use crate::polynomials::is;
 use ark_base::{F5, F433, FftField, PolyError};
 use ark_poly::univariate::DensePolynomial;
 use ark_poly::{DenseUVPolynomial, EvaluationDomain, Evaluations};
-use ark_trials::calls::{coset, elements};
+use ark_trials::calls::{coset, elements, has_numbers};
 use ark_trials::trials::{Trial, over_radix2};
 use std::alloc::Global;
 use std::test::Fail;
@@ -49,7 +49,7 @@ impl Trial for Row<'_> {
         let left = over(alloc, domain, &[1, 2, 3, 4])?;
         let right = over(alloc, domain, &[2, 0, 1, 4])?;
         let answer = applied(alloc, self.operation, &left, &right)?;
-        Ok(answer == over(alloc, domain, self.answer)?)
+        Ok(answer.domain() == domain && has_numbers(answer.evals(), self.answer))
     }
 }
 
@@ -133,7 +133,7 @@ impl Trial for Scaled<'_> {
             values.set(self.index, F::from(self.value));
         }
         let scaled = values.mul_scalar(alloc, F::from(self.factor))?;
-        Ok(scaled == over(alloc, domain, self.answer)?)
+        Ok(scaled.domain() == domain && has_numbers(scaled.evals(), self.answer))
     }
 }
 

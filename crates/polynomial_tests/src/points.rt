@@ -1,8 +1,9 @@
-use crate::products::is;
+use crate::changes::gave;
+use crate::polynomials::is;
 use ark_base::{F5, F433, F65537, FftField, Field, PolyError};
 use ark_poly::univariate::{DensePolynomial, SparsePolynomial};
 use ark_poly::{DenseUVPolynomial, EvaluationDomain, Polynomial};
-use ark_trials::calls::{coset, elements, listed};
+use ark_trials::calls::{coset, has_numbers, listed};
 use ark_trials::trials::{Trial, over_mixed, over_radix2};
 use std::alloc::{AllocError, Global};
 use std::test::Fail;
@@ -50,7 +51,7 @@ impl Trial for Weights<'_> {
     fn holds<F: FftField, D: EvaluationDomain<F>>(&self, alloc: Global) -> Result<bool, PolyError> {
         let domain: D = coset(self.size, self.offset)?;
         let weights = domain.evaluate_all_lagrange_coefficients(alloc, F::from(self.point))?;
-        Ok(weights == elements(alloc, self.weights)?)
+        Ok(has_numbers(&weights, self.weights))
     }
 }
 
@@ -93,18 +94,27 @@ struct Filter {
     value: u64,
 }
 
+// Whether the filter has these coefficients, and the value at the point.
+fn is_filter<F: Field>(
+    alloc: Global,
+    filter: &DensePolynomial<F>,
+    coeffs: &[u64],
+    point: F,
+    value: F,
+) -> bool {
+    is(filter, coeffs) && gave(filter.evaluate(alloc, &point), &value)
+}
+
 impl Trial for Filter {
     fn holds<F: FftField, D: EvaluationDomain<F>>(&self, alloc: Global) -> Result<bool, PolyError> {
         let whole: D = coset(4, 1)?;
         let part = coset(2, self.offset)?;
         let point = F::from(self.point);
         let value = F::from(self.value);
+        let told = whole.evaluate_filter_polynomial(&part, point);
         let filter = whole.filter_polynomial(alloc, &part)?;
-        Ok(
-            is(&filter, &[self.constant, 0, self.square])
-                && whole.evaluate_filter_polynomial(&part, point) == Some(value)
-                && filter.evaluate(alloc, &point)? == value,
-        )
+        let coeffs = [self.constant, 0, self.square];
+        Ok(told == Some(value) && is_filter(alloc, &filter, &coeffs, point, value))
     }
 }
 
@@ -221,19 +231,19 @@ fn differences<F: Field>(elements: &[F], other: F, point: F) -> F {
 }
 
 // Whether the weights at the point are the values there of the Lagrange polynomials by their definition.
-fn has_weights<F: FftField, D: EvaluationDomain<F>>(
-    alloc: Global,
-    domain: &D,
-    point: F,
-) -> Result<bool, PolyError> {
-    let elements = listed(alloc, domain)?;
-    let weights = domain.evaluate_all_lagrange_coefficients(alloc, point)?;
+fn has_weights<F: FftField, D: EvaluationDomain<F>>(alloc: Global, domain: &D, point: F) -> bool {
+    let Ok(elements) = listed(alloc, domain) else {
+        return false;
+    };
+    let Ok(weights) = domain.evaluate_all_lagrange_coefficients(alloc, point) else {
+        return false;
+    };
     let mut same = weights.len() == elements.len();
     for (weight, element) in weights.iter().zip(&elements) {
         let value = differences(&elements, *element, point);
         same = same && *weight * differences(&elements, *element, *element) == value;
     }
-    Ok(same)
+    same
 }
 
 // Whether the vanishing polynomial's value at the point is the one told without it, and zero at an element alone.
@@ -243,10 +253,12 @@ fn vanishes<F: FftField, D: EvaluationDomain<F>>(
     vanishing: &SparsePolynomial<F>,
     elements: &[F],
     point: F,
-) -> Result<bool, PolyError> {
-    let value = vanishing.evaluate(alloc, &point)?;
+) -> bool {
+    let Ok(value) = vanishing.evaluate(alloc, &point) else {
+        return false;
+    };
     let told = domain.evaluate_vanishing_polynomial(point);
-    Ok(value == told && value.is_zero() == elements.contains(&point))
+    value == told && value.is_zero() == elements.contains(&point)
 }
 
 // Whether that is so at each point of the field, and the degree is the size.
@@ -254,14 +266,18 @@ fn has_vanishing<F: FftField, D: EvaluationDomain<F>>(
     alloc: Global,
     domain: &D,
     field_size: u64,
-) -> Result<bool, PolyError> {
-    let elements = listed(alloc, domain)?;
-    let vanishing = domain.vanishing_polynomial(alloc)?;
+) -> bool {
+    let Ok(elements) = listed(alloc, domain) else {
+        return false;
+    };
+    let Ok(vanishing) = domain.vanishing_polynomial(alloc) else {
+        return false;
+    };
     let mut same = vanishing.degree() == domain.size();
     for number in 0..field_size {
-        same = same && vanishes(alloc, domain, &vanishing, &elements, F::from(number))?;
+        same = same && vanishes(alloc, domain, &vanishing, &elements, F::from(number));
     }
-    Ok(same)
+    same
 }
 
 // The filter of the coset of so many elements that has element `first`.
@@ -281,15 +297,17 @@ fn has_filter<F: FftField, D: EvaluationDomain<F>>(
     domain: &D,
     size: usize,
     first: usize,
-) -> Result<bool, PolyError> {
+) -> bool {
     let step = domain.size() / size.max(1);
-    let filter = filter_of(alloc, domain, size, first)?;
+    let Ok(filter) = filter_of(alloc, domain, size, first) else {
+        return false;
+    };
     let mut right = filter.coeffs().len() == domain.size().saturating_sub(size).saturating_add(1);
     for i in 0..domain.size() {
         let wanted = F::from(u64::from(i % step.max(1) == first));
-        right = right && filter.evaluate(alloc, &domain.element(i))? == wanted;
+        right = right && gave(filter.evaluate(alloc, &domain.element(i)), &wanted);
     }
-    Ok(right)
+    right
 }
 
 // Whether that holds of each coset of this size. Of a large domain the first two cosets and the last one are tried.
@@ -297,25 +315,23 @@ fn has_filters<F: FftField, D: EvaluationDomain<F>>(
     alloc: Global,
     domain: &D,
     size: usize,
-) -> Result<bool, PolyError> {
+) -> bool {
     let count = domain.size() / size.max(1);
     let mut right = true;
     for first in 0..count {
         if domain.size() <= 48 || first < 2 || first == count - 1 {
-            right = right && has_filter(alloc, domain, size, first)?;
+            right = right && has_filter(alloc, domain, size, first);
         }
     }
-    Ok(right)
+    right
 }
 
 // Whether the order of indices for a subdomain of this size has its indices first, and each one once.
-fn has_order<F: FftField, D: EvaluationDomain<F>>(
-    alloc: Global,
-    domain: &D,
-    size: usize,
-) -> Result<bool, PolyError> {
+fn has_order<F: FftField, D: EvaluationDomain<F>>(alloc: Global, domain: &D, size: usize) -> bool {
     let step = domain.size() / size.max(1);
-    let mut order = order(alloc, domain, size)?;
+    let Ok(mut order) = order(alloc, domain, size) else {
+        return false;
+    };
     let mut right = order.len() == domain.size();
     for (i, index) in order.iter().enumerate().take(size) {
         right = right && Some(*index) == i.checked_mul(step);
@@ -324,7 +340,7 @@ fn has_order<F: FftField, D: EvaluationDomain<F>>(
     for (i, index) in order.iter().enumerate() {
         right = right && *index == i;
     }
-    Ok(right)
+    right
 }
 
 // All that is asked of the coset with this offset: the weights at an element, at zero and at a point outside, the
@@ -337,22 +353,37 @@ struct Coset<'a> {
     parts: &'a [usize],
 }
 
+// Whether the weights at an element, at zero and at a point outside are so.
+fn has_all_weights<F: FftField, D: EvaluationDomain<F>>(alloc: Global, domain: &D) -> bool {
+    has_weights(alloc, domain, domain.element(1))
+        && has_weights(alloc, domain, F::zero())
+        && has_weights(alloc, domain, F::from(7))
+}
+
+// Whether the order and the filters for each part of these sizes are so.
+fn has_parts<F: FftField, D: EvaluationDomain<F>>(
+    alloc: Global,
+    domain: &D,
+    parts: &[usize],
+) -> bool {
+    let mut right = true;
+    for part in parts {
+        if domain.size() % (*part).max(1) == 0 {
+            right = right && has_order(alloc, domain, *part) && has_filters(alloc, domain, *part);
+        }
+    }
+    right
+}
+
 impl Trial for Coset<'_> {
     fn holds<F: FftField, D: EvaluationDomain<F>>(&self, alloc: Global) -> Result<bool, PolyError> {
         let domain: D = coset(self.size, self.offset)?;
-        let mut right = domain.size() == self.size
-            && has_vanishing(alloc, &domain, self.field_size)?
-            && has_weights(alloc, &domain, domain.element(1))?
-            && has_weights(alloc, &domain, F::zero())?
-            && has_weights(alloc, &domain, F::from(7))?;
-        for part in self.parts {
-            if self.size % (*part).max(1) == 0 {
-                right = right
-                    && has_order(alloc, &domain, *part)?
-                    && has_filters(alloc, &domain, *part)?;
-            }
-        }
-        Ok(right)
+        Ok(
+            domain.size() == self.size
+                && has_vanishing(alloc, &domain, self.field_size)
+                && has_all_weights(alloc, &domain)
+                && has_parts(alloc, &domain, self.parts),
+        )
     }
 }
 

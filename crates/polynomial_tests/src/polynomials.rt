@@ -1,7 +1,8 @@
+use crate::changes::gave;
 use ark_base::{F5, F433, F65537, FftField, Field, PolyError};
 use ark_poly::univariate::DensePolynomial;
 use ark_poly::{DenseUVPolynomial, EvaluationDomain, Evaluations, Polynomial};
-use ark_trials::calls::{coset, elements, hash_of};
+use ark_trials::calls::{coset, elements, has_numbers, hash_of};
 use ark_trials::plain::{drawn, product};
 use ark_trials::trials::{Trial, over_radix2};
 use rand_pcg::Pcg64;
@@ -14,19 +15,24 @@ pub fn poly<F: Field>(alloc: Global, coeffs: &[u64]) -> Result<DensePolynomial<F
     Ok(DensePolynomial::from_coefficients_vec(elements(alloc, coeffs)?))
 }
 
+/// Whether these are the coefficients.
+pub fn is<F: Field>(p: &DensePolynomial<F>, coeffs: &[u64]) -> bool {
+    has_numbers(p.coeffs(), coeffs)
+}
+
 // Whether these are the coefficients, none of them a leading zero.
-fn has_coeffs<F: Field>(
-    alloc: Global,
-    p: &DensePolynomial<F>,
-    coeffs: &[u64],
-) -> Result<bool, PolyError> {
-    let coeffs = elements::<F>(alloc, coeffs)?;
-    Ok(
-        p.coeffs() == coeffs.as_slice()
-            && p.degree() == coeffs.len().saturating_sub(1)
-            && p.is_zero() == coeffs.is_empty()
-            && *p == DensePolynomial::from_coefficients_vec(coeffs),
-    )
+fn has_coeffs<F: Field>(p: &DensePolynomial<F>, coeffs: &[u64]) -> bool {
+    is(p, coeffs)
+        && p.degree() == coeffs.len().saturating_sub(1)
+        && p.is_zero() == coeffs.is_empty()
+}
+
+/// Whether the call gave the polynomial with these coefficients.
+pub fn came_out<F: Field>(answer: Result<DensePolynomial<F>, PolyError>, coeffs: &[u64]) -> bool {
+    match answer {
+        Ok(p) => has_coeffs(&p, coeffs),
+        Err(_) => false,
+    }
 }
 
 // Whether two lists have this sum and this difference, and the second has this negative.
@@ -34,13 +40,16 @@ fn has_sums<F: Field>(
     alloc: Global,
     [left, right]: [&[u64]; 2],
     [sum, difference, negative]: [&[u64]; 3],
-) -> Result<bool, PolyError> {
-    let p = poly::<F>(alloc, left)?;
-    let q = poly::<F>(alloc, right)?;
-    let added = has_coeffs(alloc, &p.add(alloc, &q)?, sum)?;
-    let subtracted = has_coeffs(alloc, &p.sub(alloc, &q)?, difference)?;
-    let negated = has_coeffs(alloc, &q.neg(alloc)?, negative)?;
-    Ok(added && subtracted && negated)
+) -> bool {
+    let Ok(p) = poly::<F>(alloc, left) else {
+        return false;
+    };
+    let Ok(q) = poly::<F>(alloc, right) else {
+        return false;
+    };
+    came_out(p.add(alloc, &q), sum)
+        && came_out(p.sub(alloc, &q), difference)
+        && came_out(q.neg(alloc), negative)
 }
 
 #[test]
@@ -52,17 +61,21 @@ fn sums(rt: HostRuntime) -> Result<(), Fail> {
         ([&[1, 2], &[1, 2]], [&[2, 4], &[], &[4, 3]]),
     ];
     for (lists, answers) in rows {
-        assert!(rt; has_sums::<F5>(rt.alloc(), lists, answers)?);
+        assert!(rt; has_sums::<F5>(rt.alloc(), lists, answers));
     }
     Ok(())
 }
 
-// Whether both constructors cut the list to these coefficients.
-fn is_cut<F: Field>(alloc: Global, list: &[u64], coeffs: &[u64]) -> Result<bool, PolyError> {
-    let listed = elements::<F>(alloc, list)?;
-    let copied = DensePolynomial::from_coefficients_slice(alloc, &listed)?;
+// Whether both constructors cut the list to these coefficients, and make equal polynomials.
+fn is_cut<F: Field>(alloc: Global, list: &[u64], coeffs: &[u64]) -> bool {
+    let Ok(listed) = elements::<F>(alloc, list) else {
+        return false;
+    };
+    let Ok(copied) = DensePolynomial::from_coefficients_slice(alloc, &listed) else {
+        return false;
+    };
     let moved = DensePolynomial::from_coefficients_vec(listed);
-    Ok(has_coeffs(alloc, &copied, coeffs)? && has_coeffs(alloc, &moved, coeffs)?)
+    has_coeffs(&copied, coeffs) && copied == moved
 }
 
 #[test]
@@ -73,29 +86,31 @@ fn constructors_drop_leading_zeros(rt: HostRuntime) -> Result<(), Fail> {
         (&[0, 0, 0, 1], &[0, 0, 0, 1]),
     ];
     for (list, coeffs) in rows {
-        assert!(rt; is_cut::<F5>(rt.alloc(), list, coeffs)?);
+        assert!(rt; is_cut::<F5>(rt.alloc(), list, coeffs));
     }
     Ok(())
 }
 
-// Whether zero has no coefficients, and the polynomial has this value at the point.
-fn has_value<F: Field>(
-    alloc: Global,
-    coeffs: &[u64],
-    point: u64,
-    value: u64,
-) -> Result<bool, PolyError> {
-    let p = poly::<F>(alloc, coeffs)?;
-    let zero = DensePolynomial::zero(alloc)?;
-    let point = F::from(point);
-    let valued = p.evaluate(alloc, &point)? == F::from(value);
-    let nothing = zero.evaluate(alloc, &point)? == F::zero() && has_coeffs(alloc, &zero, &[])?;
-    Ok(valued && nothing && p.point_fits(&point) && p.addable(&zero))
+// Whether zero has no coefficients, and the value zero at the point.
+fn has_no_coeffs<F: Field>(alloc: Global, zero: &DensePolynomial<F>, point: F) -> bool {
+    has_coeffs(zero, &[]) && gave(zero.evaluate(alloc, &point), &F::zero())
+}
+
+// Whether the polynomial has this value at the point, and zero has zero.
+fn has_value<F: Field>(alloc: Global, coeffs: &[u64], point: F, value: F) -> bool {
+    let Ok(p) = poly::<F>(alloc, coeffs) else {
+        return false;
+    };
+    let Ok(zero) = DensePolynomial::zero(alloc) else {
+        return false;
+    };
+    let fits = p.point_fits(&point) && p.addable(&zero);
+    fits && gave(p.evaluate(alloc, &point), &value) && has_no_coeffs(alloc, &zero, point)
 }
 
 #[test]
 fn values(rt: HostRuntime) -> Result<(), Fail> {
-    assert!(rt; has_value::<F433>(rt.alloc(), &[1, 2, 3], 10, 321)?);
+    assert!(rt; has_value(rt.alloc(), &[1, 2, 3], F433::from(10), F433::from(321)));
     Ok(())
 }
 
@@ -120,9 +135,8 @@ impl Trial for FourTimes<'_> {
         let domain: D = coset(4, 1)?;
         let p = poly::<F>(alloc, self.coeffs)?;
         let values = p.evaluate_over_domain_by_ref(alloc, domain)?;
-        let known = elements::<F>(alloc, &[self.value; 4])?;
         Ok(
-            values.evals() == known.as_slice()
+            has_numbers(values.evals(), &[self.value; 4])
                 && values.domain() == domain
                 && fourth(&values) == Some(F::from(self.value))
                 && p.evaluate_over_domain(alloc, domain)? == values,
@@ -140,24 +154,15 @@ fn values_over_a_domain(rt: HostRuntime) -> Result<(), Fail> {
     Ok(())
 }
 
-fn has_product<F: Field>(
-    alloc: Global,
-    left: Vec<F>,
-    right: Vec<F>,
-    product: Vec<F>,
-) -> Result<bool, PolyError> {
-    let p = DensePolynomial::from_coefficients_vec(left);
-    let q = DensePolynomial::from_coefficients_vec(right);
-    Ok(p.naive_mul(alloc, &q)? == DensePolynomial::from_coefficients_vec(product))
-}
-
-fn has_listed_product<F: Field>(
-    alloc: Global,
-    [left, right, product]: [&[u64]; 3],
-) -> Result<bool, PolyError> {
-    let left = elements::<F>(alloc, left)?;
-    let right = elements(alloc, right)?;
-    has_product(alloc, left, right, elements(alloc, product)?)
+// Whether the product by all pairs of coefficients is this one.
+fn has_product<F: Field>(alloc: Global, [left, right, product]: [&[u64]; 3]) -> bool {
+    let Ok(right) = poly(alloc, right) else {
+        return false;
+    };
+    let Ok(left) = poly::<F>(alloc, left) else {
+        return false;
+    };
+    came_out(left.naive_mul(alloc, &right), product)
 }
 
 #[test]
@@ -168,50 +173,55 @@ fn products(rt: HostRuntime) -> Result<(), Fail> {
         [&[1, 0, 1], &[], &[]],
     ];
     for row in rows {
-        assert!(rt; has_listed_product::<F5>(rt.alloc(), row)?);
+        assert!(rt; has_product::<F5>(rt.alloc(), row));
     }
     Ok(())
 }
 
 // Whether two drawn lists have the plain product.
-fn has_plain_product<F: Field>(
-    alloc: Global,
-    rng: &mut Pcg64,
-    left: usize,
-    right: usize,
-) -> Result<bool, PolyError> {
-    let left = drawn::<F>(alloc, rng, left)?;
-    let right = drawn(alloc, rng, right)?;
-    let plain = product(alloc, &left, &right)?;
-    has_product(alloc, left, right, plain)
+fn has_plain_product<F: Field>(alloc: Global, rng: &mut Pcg64, left: usize, right: usize) -> bool {
+    let Ok(left) = drawn::<F>(alloc, rng, left) else {
+        return false;
+    };
+    let Ok(right) = drawn(alloc, rng, right) else {
+        return false;
+    };
+    let Ok(plain) = product(alloc, &left, &right) else {
+        return false;
+    };
+    let p = DensePolynomial::from_coefficients_vec(left);
+    let q = DensePolynomial::from_coefficients_vec(right);
+    gave(
+        p.naive_mul(alloc, &q),
+        &DensePolynomial::from_coefficients_vec(plain),
+    )
 }
 
 #[test]
 fn products_of_drawn_polynomials(rt: HostRuntime) -> Result<(), Fail> {
     let mut rng = Pcg64::new(3, 5);
     for (left, right) in [(1, 1), (1, 7), (5, 3), (20, 31)] {
-        assert!(rt; has_plain_product::<F65537>(rt.alloc(), &mut rng, left, right)?);
+        assert!(rt; has_plain_product::<F65537>(rt.alloc(), &mut rng, left, right));
     }
     Ok(())
 }
 
 // Whether both lists are equal polynomials or not, as told: equal ones hash equally, and a copy is equal.
-fn compare<F: Field>(
-    alloc: Global,
-    left: &[u64],
-    right: &[u64],
-    equal: bool,
-) -> Result<bool, PolyError> {
-    let p = poly::<F>(alloc, left)?;
-    let q = poly::<F>(alloc, right)?;
-    Ok((p == q) == equal && (!equal || hash_of(&p) == hash_of(&q)) && p.clone()? == p)
+fn compare<F: Field>(alloc: Global, left: &[u64], right: &[u64], equal: bool) -> bool {
+    let Ok(p) = poly::<F>(alloc, left) else {
+        return false;
+    };
+    let Ok(q) = poly::<F>(alloc, right) else {
+        return false;
+    };
+    (p == q) == equal && (!equal || hash_of(&p) == hash_of(&q)) && gave(p.clone(), &p)
 }
 
 #[test]
 fn equal_values_hash_equally(rt: HostRuntime) -> Result<(), Fail> {
     let rows: [(&[u64], bool); 2] = [(&[65538, 2, 0], true), (&[2, 1], false)];
     for (list, equal) in rows {
-        assert!(rt; compare::<F65537>(rt.alloc(), &[1, 2], list, equal)?);
+        assert!(rt; compare::<F65537>(rt.alloc(), &[1, 2], list, equal));
     }
     Ok(())
 }

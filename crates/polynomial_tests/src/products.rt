@@ -1,34 +1,17 @@
 //! Products through domains, products and quotients by vanishing polynomials, and what is done in place.
 
-use crate::polynomials::poly;
+use crate::changes::{Change, gave, make_change};
+use crate::polynomials::{came_out, is, poly};
 use ark_base::{F5, F433, F65537, FftField, Field, PolyError};
 use ark_poly::laws::{both_products, degree_of_product, weighted_sum};
 use ark_poly::univariate::DensePolynomial;
-use ark_poly::{DenseUVPolynomial, EvaluationDomain, Polynomial};
-use ark_trials::calls::{coset, elements};
+use ark_poly::{DenseUVPolynomial, EvaluationDomain, Evaluations, Polynomial};
+use ark_trials::calls::coset;
 use ark_trials::plain::drawn;
 use ark_trials::trials::{Trial, over_mixed, over_radix2};
 use rand_pcg::Pcg64;
-use std::alloc::{AllocError, Global};
+use std::alloc::Global;
 use std::test::Fail;
-
-/// Whether these are the coefficients.
-pub fn is<F: Field>(p: &DensePolynomial<F>, coeffs: &[u64]) -> bool {
-    let mut right = p.coeffs().len() == coeffs.len();
-    for (coefficient, known) in p.coeffs().iter().zip(coeffs) {
-        right = right && *coefficient == F::from(*known);
-    }
-    right
-}
-
-// The same, told by a list of them.
-fn lists<F: Field>(
-    alloc: Global,
-    p: &DensePolynomial<F>,
-    coeffs: &[u64],
-) -> Result<bool, AllocError> {
-    Ok(p.coeffs() == elements::<F>(alloc, coeffs)?.as_slice())
-}
 
 /// A drawn polynomial with at most this many coefficients.
 pub fn some<F: Field>(
@@ -39,24 +22,22 @@ pub fn some<F: Field>(
     Ok(DensePolynomial::from_coefficients_vec(drawn(alloc, rng, len)?))
 }
 
-// Whether the product through a domain has these coefficients.
+// Whether the product through a domain has these coefficients; with `None`, whether there is no domain for it.
 fn has_product<F: FftField>(
     alloc: Global,
-    [left, right, product]: [&[u64]; 3],
-) -> Result<bool, PolyError> {
-    let product_of_both = poly::<F>(alloc, left)?.mul(alloc, &poly(alloc, right)?)?;
-    Ok(lists(alloc, &product_of_both, product)?)
-}
-
-// Whether there is no domain for the product.
-fn has_no_domain<F: FftField>(
-    alloc: Global,
-    left: &[u64],
-    right: &[u64],
-) -> Result<bool, PolyError> {
-    match poly::<F>(alloc, left)?.mul(alloc, &poly(alloc, right)?) {
-        Ok(_) => Ok(false),
-        Err(error) => Ok(error == PolyError::NoDomain),
+    [left, right]: [&[u64]; 2],
+    product: Option<&[u64]>,
+) -> bool {
+    let Ok(right) = poly(alloc, right) else {
+        return false;
+    };
+    let Ok(left) = poly::<F>(alloc, left) else {
+        return false;
+    };
+    match (left.mul(alloc, &right), product) {
+        (Ok(found), Some(coeffs)) => is(&found, coeffs),
+        (Err(error), None) => error == PolyError::NoDomain,
+        _ => false,
     }
 }
 
@@ -65,48 +46,66 @@ fn products_through_domains(rt: HostRuntime) -> Result<(), Fail> {
     let alloc = rt.alloc();
     let ones: &[u64] = &[1; 9];
     let square: &[u64] = &[1, 2, 3, 4, 5, 6, 7, 8, 9, 8, 7, 6, 5, 4, 3, 2, 1];
-    assert!(rt; has_product::<F433>(alloc, [ones, ones, square])?);
-    assert!(rt; has_no_domain::<F5>(alloc, &[1, 0, 1], &[1, 0, 1])?);
-    let rows: [[&[u64]; 3]; 3] = [
-        [&[], &[1, 0, 1, 0, 1, 1], &[]],
-        [&[1, 0, 1, 0, 1, 1], &[], &[]],
-        [&[2, 1], &[3, 0, 1], &[1, 3, 2, 1]],
+    assert!(rt; has_product::<F433>(alloc, [ones, ones], Some(square)));
+    let rows: [([&[u64]; 2], Option<&[u64]>); 4] = [
+        ([&[1, 0, 1], &[1, 0, 1]], None),
+        ([&[], &[1, 0, 1, 0, 1, 1]], Some(&[])),
+        ([&[1, 0, 1, 0, 1, 1], &[]], Some(&[])),
+        ([&[2, 1], &[3, 0, 1]], Some(&[1, 3, 2, 1])),
     ];
-    for row in rows {
-        assert!(rt; has_product::<F5>(alloc, row)?);
+    for (operands, product) in rows {
+        assert!(rt; has_product::<F5>(alloc, operands, product));
     }
     Ok(())
 }
 
-// Whether products of drawn polynomials through domains are the products by all pairs of coefficients, and have the
-// sums of the degrees.
-fn are_naive<F: FftField>(
+// Whether the product through a domain is the one by all pairs of coefficients.
+fn is_naive<F: FftField>(
     alloc: Global,
-    rng: &mut Pcg64,
-    products: usize,
-) -> Result<bool, PolyError> {
-    for i in 0..products {
-        let left = DensePolynomial::<F>::from_coefficients_vec(drawn(alloc, rng, i % 38)?);
-        let right = DensePolynomial::from_coefficients_vec(drawn(alloc, rng, i / 38)?);
-        let (product, plain) = both_products(alloc, &left, &right)?;
-        if product != plain {
-            return Ok(false);
-        }
-        if !left.is_zero() && !right.is_zero() {
-            let degree = degree_of_product(alloc, &left, &right)?;
-            if degree != left.degree().saturating_add(right.degree()) {
-                return Ok(false);
-            }
-        }
+    left: &DensePolynomial<F>,
+    right: &DensePolynomial<F>,
+) -> bool {
+    let Ok((product, plain)) = both_products(alloc, left, right) else {
+        return false;
+    };
+    product == plain
+}
+
+// Whether its degree is the sum of the degrees, where neither is zero.
+fn adds_degrees<F: FftField>(
+    alloc: Global,
+    left: &DensePolynomial<F>,
+    right: &DensePolynomial<F>,
+) -> bool {
+    if left.is_zero() || right.is_zero() {
+        return true;
     }
-    Ok(true)
+    let Ok(degree) = degree_of_product(alloc, left, right) else {
+        return false;
+    };
+    degree == left.degree().saturating_add(right.degree())
+}
+
+// Whether so many products of drawn polynomials are and do so.
+fn are_naive<F: FftField>(alloc: Global, rng: &mut Pcg64, products: usize) -> bool {
+    let mut right = true;
+    for i in 0..products {
+        let Ok(factor) = some::<F>(alloc, rng, i % 38) else {
+            return false;
+        };
+        let Ok(other) = some::<F>(alloc, rng, i / 38) else {
+            return false;
+        };
+        right = right && is_naive(alloc, &factor, &other) && adds_degrees(alloc, &factor, &other);
+    }
+    right
 }
 
 #[test]
 fn products_of_drawn_polynomials(rt: HostRuntime) -> Result<(), Fail> {
     let mut rng = Pcg64::new(7, 11);
-    assert!(rt; are_naive::<F433>(rt.alloc(), &mut rng, 1500)?);
-    assert!(rt; are_naive::<F65537>(rt.alloc(), &mut rng, 1500)?);
+    assert!(rt; are_naive::<F433>(rt.alloc(), &mut rng, 1500));
+    assert!(rt; are_naive::<F65537>(rt.alloc(), &mut rng, 1500));
     Ok(())
 }
 
@@ -127,9 +126,9 @@ impl Trial for Vanishing<'_> {
         let product = p.mul_by_vanishing_poly(alloc, domain)?;
         let (quotient, remainder) = p.divide_by_vanishing_poly(alloc, domain)?;
         Ok(
-            lists(alloc, &product, self.product)?
-                && lists(alloc, &quotient, self.quotient)?
-                && lists(alloc, &remainder, self.remainder)?,
+            is(&product, self.product)
+                && is(&quotient, self.quotient)
+                && is(&remainder, self.remainder),
         )
     }
 }
@@ -173,8 +172,112 @@ fn by_vanishing_polynomials(rt: HostRuntime) -> Result<(), Fail> {
     Ok(())
 }
 
-/// That values over a domain are those at its elements, for drawn polynomials of several lengths, that products by places
-/// are those of products, and that the values with weights give that of the polynomial through them.
+/// A coset, over which products of drawn polynomials with the vanishing polynomial are divided by it again.
+#[derive(Clone, Copy)]
+struct DividedBack {
+    size: usize,
+    offset: u64,
+}
+
+// Whether the product with the vanishing polynomial has this quotient by it, and no remainder.
+fn is_divided_back<F: FftField, D: EvaluationDomain<F>>(
+    alloc: Global,
+    domain: D,
+    p: &DensePolynomial<F>,
+) -> bool {
+    let Ok(product) = p.mul_by_vanishing_poly(alloc, domain) else {
+        return false;
+    };
+    let Ok((quotient, remainder)) = product.divide_by_vanishing_poly(alloc, domain) else {
+        return false;
+    };
+    quotient == *p && remainder.is_zero()
+}
+
+impl Trial for DividedBack {
+    fn holds<F: FftField, D: EvaluationDomain<F>>(&self, alloc: Global) -> Result<bool, PolyError> {
+        let domain: D = coset(self.size, self.offset)?;
+        let mut rng = Pcg64::new(31, 37);
+        let mut right = true;
+        for len in 0..20 {
+            right = right && is_divided_back(alloc, domain, &some::<F>(alloc, &mut rng, len)?);
+        }
+        Ok(right)
+    }
+}
+
+#[test]
+fn products_with_vanishing_polynomials(rt: HostRuntime) -> Result<(), Fail> {
+    for (size, offset) in [(1, 1), (1, 5), (2, 3), (6, 1), (9, 7), (16, 2), (27, 5)] {
+        assert!(rt; over_mixed::<F433, _>(rt.alloc(), &DividedBack { size, offset })?);
+    }
+    Ok(())
+}
+
+// Whether the values are the polynomial's at the elements of their domain.
+fn are_at_elements<F: FftField, D: EvaluationDomain<F>>(
+    alloc: Global,
+    values: &Evaluations<F, D>,
+    p: &DensePolynomial<F>,
+) -> bool {
+    let mut right = true;
+    for (value, element) in values.evals().iter().zip(values.domain().elements()) {
+        right = right && gave(p.evaluate(alloc, &element), value);
+    }
+    right
+}
+
+// Whether their squares are the values of the polynomial's square.
+fn have_squares<F: FftField, D: EvaluationDomain<F>>(
+    alloc: Global,
+    values: &Evaluations<F, D>,
+    p: &DensePolynomial<F>,
+) -> bool {
+    let domain = values.domain();
+    let evals = values.evals();
+    let Ok(squares) = domain.mul_polynomials_in_evaluation_domain(alloc, evals, evals) else {
+        return false;
+    };
+    let Ok(square) = p.naive_mul(alloc, p) else {
+        return false;
+    };
+    let Ok(square) = square.evaluate_over_domain(alloc, domain) else {
+        return false;
+    };
+    square.evals() == squares.as_slice()
+}
+
+// Whether with weights they give the value at the point of the polynomial through them.
+fn are_weighted<F: FftField, D: EvaluationDomain<F>>(
+    alloc: Global,
+    values: &Evaluations<F, D>,
+    point: F,
+) -> bool {
+    let Ok(p) = values.interpolate_by_ref(alloc) else {
+        return false;
+    };
+    let Ok(value) = p.evaluate(alloc, &point) else {
+        return false;
+    };
+    gave(weighted_sum(alloc, values, point), &value)
+}
+
+// Whether all this holds of the polynomial's values over the domain.
+fn is_valued<F: FftField, D: EvaluationDomain<F>>(
+    alloc: Global,
+    domain: D,
+    p: &DensePolynomial<F>,
+    point: F,
+) -> bool {
+    let Ok(values) = p.evaluate_over_domain_by_ref(alloc, domain) else {
+        return false;
+    };
+    are_at_elements(alloc, &values, p)
+        && have_squares(alloc, &values, p)
+        && are_weighted(alloc, &values, point)
+}
+
+/// A coset, over which drawn polynomials of several lengths are so valued.
 #[derive(Clone, Copy)]
 struct Valued {
     size: usize,
@@ -185,30 +288,12 @@ impl Trial for Valued {
     fn holds<F: FftField, D: EvaluationDomain<F>>(&self, alloc: Global) -> Result<bool, PolyError> {
         let domain: D = coset(self.size, self.offset)?;
         let mut rng = Pcg64::new(13, 1);
+        let mut right = true;
         for len in [0, 1, 6, 28, 70] {
-            let p = DensePolynomial::<F>::from_coefficients_vec(drawn(alloc, &mut rng, len)?);
-            let values = p.evaluate_over_domain_by_ref(alloc, domain)?;
-            for (value, element) in values.evals().iter().zip(domain.elements()) {
-                if *value != p.evaluate(alloc, &element)? {
-                    return Ok(false);
-                }
-            }
-            let squares = domain.mul_polynomials_in_evaluation_domain(
-                alloc,
-                values.evals(),
-                values.evals(),
-            )?;
-            let square = p.naive_mul(alloc, &p)?.evaluate_over_domain(alloc, domain)?;
-            if square.evals() != squares.as_slice() {
-                return Ok(false);
-            }
-            let tau = F::from(len as u64);
-            let interpolated = values.interpolate_by_ref(alloc)?.evaluate(alloc, &tau)?;
-            if weighted_sum(alloc, &values, tau)? != interpolated {
-                return Ok(false);
-            }
+            let p = some::<F>(alloc, &mut rng, len)?;
+            right = right && is_valued(alloc, domain, &p, F::from(len as u64));
         }
-        Ok(true)
+        Ok(right)
     }
 }
 
@@ -223,25 +308,32 @@ fn values_of_long_polynomials(rt: HostRuntime) -> Result<(), Fail> {
     Ok(())
 }
 
-// Whether a list becomes these sums with another one, with its negative and with a multiple of it.
+// Whether the change makes these coefficients of the left ones with the right ones.
 fn becomes<F: Field>(
     alloc: Global,
     [left, right]: [&[u64]; 2],
+    by: Change,
+    coeffs: &[u64],
+) -> bool {
+    let Ok(mut p) = poly::<F>(alloc, left) else {
+        return false;
+    };
+    let Ok(other) = poly(alloc, right) else {
+        return false;
+    };
+    make_change(alloc, &mut p, by, &other) && is(&p, coeffs)
+}
+
+// Whether a list becomes these sums with another one, with its negative and with a multiple of it.
+fn all_become<F: Field>(
+    alloc: Global,
+    operands: [&[u64]; 2],
     factor: u64,
     [sum, difference, scaled]: [&[u64]; 3],
-) -> Result<bool, PolyError> {
-    let other = poly::<F>(alloc, right)?;
-    let mut added = poly::<F>(alloc, left)?;
-    let mut subtracted = poly::<F>(alloc, left)?;
-    let mut with_multiple = poly::<F>(alloc, left)?;
-    added.add_assign(alloc, &other)?;
-    subtracted.sub_assign(alloc, &other)?;
-    with_multiple.add_assign_scaled(alloc, F::from(factor), &other)?;
-    Ok(
-        lists(alloc, &added, sum)?
-            && lists(alloc, &subtracted, difference)?
-            && lists(alloc, &with_multiple, scaled)?,
-    )
+) -> bool {
+    becomes::<F>(alloc, operands, Change::Add, sum)
+        && becomes::<F>(alloc, operands, Change::Sub, difference)
+        && becomes::<F>(alloc, operands, Change::AddScaled(factor), scaled)
 }
 
 #[test]
@@ -252,21 +344,18 @@ fn sums_in_place(rt: HostRuntime) -> Result<(), Fail> {
         ([&[1, 2, 3], &[0, 0, 3]], 4, [&[1, 2, 1], &[1, 2], &[1, 2]]),
         ([&[3], &[1, 0, 2]], 1, [&[4, 0, 2], &[2, 0, 3], &[4, 0, 2]]),
     ];
-    for (lists, factor, answers) in rows {
-        assert!(rt; becomes::<F5>(rt.alloc(), lists, factor, answers)?);
+    for (operands, factor, answers) in rows {
+        assert!(rt; all_become::<F5>(rt.alloc(), operands, factor, answers));
     }
     Ok(())
 }
 
 // Whether multiples by these factors have these coefficients.
-fn has_multiple<F: Field>(
-    alloc: Global,
-    coeffs: &[u64],
-    factor: u64,
-    multiple: &[u64],
-) -> Result<bool, PolyError> {
-    let p = poly::<F>(alloc, coeffs)?;
-    Ok(lists(alloc, &p.mul_scalar(alloc, F::from(factor))?, multiple)?)
+fn has_multiple<F: Field>(alloc: Global, coeffs: &[u64], factor: u64, multiple: &[u64]) -> bool {
+    let Ok(p) = poly::<F>(alloc, coeffs) else {
+        return false;
+    };
+    came_out(p.mul_scalar(alloc, F::from(factor)), multiple)
 }
 
 #[test]
@@ -277,26 +366,55 @@ fn multiples(rt: HostRuntime) -> Result<(), Fail> {
         (&[], 2, &[]),
     ];
     for (coeffs, factor, multiple) in rows {
-        assert!(rt; has_multiple::<F5>(rt.alloc(), coeffs, factor, multiple)?);
+        assert!(rt; has_multiple::<F5>(rt.alloc(), coeffs, factor, multiple));
+    }
+    Ok(())
+}
+
+// Whether adding zero leaves a drawn polynomial as it is, and adding it to itself doubles it.
+fn is_doubled<F: Field>(alloc: Global, rng: &mut Pcg64, len: usize) -> bool {
+    let Ok(p) = some::<F>(alloc, rng, len) else {
+        return false;
+    };
+    let (Ok(zero), Ok(double)) = (
+        DensePolynomial::zero(alloc),
+        p.mul_scalar(alloc, F::from(2)),
+    ) else {
+        return false;
+    };
+    gave(p.add(alloc, &zero), &p) && gave(p.add(alloc, &p), &double)
+}
+
+#[test]
+fn sums_with_zero_and_doubles(rt: HostRuntime) -> Result<(), Fail> {
+    let mut rng = Pcg64::new(41, 1);
+    for len in 0..70 {
+        assert!(rt; is_doubled::<F65537>(rt.alloc(), &mut rng, len));
     }
     Ok(())
 }
 
 // Whether ample tries give two different polynomials of the degree, and no try gives none.
-fn are_drawn<F: Field>(alloc: Global, d: usize) -> Result<bool, PolyError> {
+fn are_drawn<F: Field>(alloc: Global, d: usize) -> bool {
     let mut rng = Pcg64::new(5, 3);
-    let none = DensePolynomial::<F>::rand(alloc, d, &mut rng, 0)?;
-    let first = DensePolynomial::<F>::rand(alloc, d, &mut rng, 100)?;
-    let second = DensePolynomial::<F>::rand(alloc, d, &mut rng, 100)?;
-    let (None, Some(first), Some(second)) = (none, first, second) else {
-        return Ok(false);
+    let Ok(none) = DensePolynomial::<F>::rand(alloc, d, &mut rng, 0) else {
+        return false;
     };
-    Ok(first.degree() == d && second.degree() == d && first != second)
+    let Ok(first) = DensePolynomial::<F>::rand(alloc, d, &mut rng, 100) else {
+        return false;
+    };
+    let Ok(second) = DensePolynomial::<F>::rand(alloc, d, &mut rng, 100) else {
+        return false;
+    };
+    let (None, Some(first), Some(second)) = (none, first, second) else {
+        return false;
+    };
+    first.degree() == d && second.degree() == d && first != second
 }
 
 #[test]
 fn drawn_polynomials(rt: HostRuntime) -> Result<(), Fail> {
-    assert!(rt; are_drawn::<F433>(rt.alloc(), 3)?);
-    assert!(rt; are_drawn::<F65537>(rt.alloc(), 40)?);
+    assert!(rt; are_drawn::<F433>(rt.alloc(), 3));
+    assert!(rt; are_drawn::<F65537>(rt.alloc(), 40));
     Ok(())
 }

@@ -1,38 +1,38 @@
 //! Products of sparse polynomials, and their values over domains.
 
-use crate::sparse::{Terms, pairs, sparse};
+use crate::changes::gave;
+use crate::sparse::{Terms, has_terms, sparse};
+use crate::sparse_sums::drawn_with_zeros;
 use ark_base::{F5, F433, F65537, FftField, Field, PolyError};
 use ark_poly::univariate::{DensePolynomial, SparsePolynomial};
-use ark_poly::{DenseUVPolynomial, EvaluationDomain, Polynomial};
-use ark_trials::calls::{coset, elements, listed};
+use ark_poly::{DenseUVPolynomial, EvaluationDomain, Evaluations, Polynomial};
+use ark_trials::calls::{coset, has_numbers};
 use ark_trials::plain::drawn;
 use ark_trials::trials::{Trial, over_general, over_mixed, over_radix2};
 use rand_core::Rng;
 use rand_pcg::Pcg64;
-use std::alloc::{AllocError, Global};
+use std::alloc::Global;
 use std::test::Fail;
 
 // Half of usize::MAX, rounded up.
 const HALF: usize = 0x8000_0000_0000_0000;
 
-// Whether the product has these terms.
+// Whether the product has these terms; with `None`, whether its degree is too great.
 fn has_product<F: Field>(
     alloc: Global,
-    [left, right, product]: [Terms<'_>; 3],
-) -> Result<bool, PolyError> {
-    let product_of_both = sparse::<F>(alloc, left)?.mul(alloc, &sparse(alloc, right)?)?;
-    Ok(product_of_both.coeffs() == pairs(alloc, product)?.as_slice())
-}
-
-// Whether the product's degree is too great.
-fn overflows<F: Field>(
-    alloc: Global,
-    left: Terms<'_>,
-    right: Terms<'_>,
-) -> Result<bool, PolyError> {
-    match sparse::<F>(alloc, left)?.mul(alloc, &sparse(alloc, right)?) {
-        Ok(_) => Ok(false),
-        Err(error) => Ok(error == PolyError::Overflow),
+    [left, right]: [Terms<'_>; 2],
+    product: Option<Terms<'_>>,
+) -> bool {
+    let Ok(right) = sparse(alloc, right) else {
+        return false;
+    };
+    let Ok(left) = sparse::<F>(alloc, left) else {
+        return false;
+    };
+    match (left.mul(alloc, &right), product) {
+        (Ok(found), Some(terms)) => has_terms(&found, terms),
+        (Err(error), None) => error == PolyError::Overflow,
+        _ => false,
     }
 }
 
@@ -40,40 +40,27 @@ fn overflows<F: Field>(
 fn products_of_terms(rt: HostRuntime) -> Result<(), Fail> {
     let alloc = rt.alloc();
     let greatest: Terms<'_> = &[(usize::MAX, 1)];
-    let rows: [[Terms<'_>; 3]; 6] = [
-        [&[(0, 1), (1, 1)], &[(0, 4), (1, 1)], &[(0, 4), (2, 1)]],
-        [
-            &[(0, 1), (3, 2), (9, 1)],
-            &[(1, 3), (4, 1)],
-            &[(1, 3), (4, 2), (7, 2), (10, 3), (13, 1)],
-        ],
-        [greatest, &[(0, 1)], greatest],
-        [greatest, &[], &[]],
-        [&[], greatest, &[]],
-        [&[(HALF, 3)], &[(HALF - 1, 2)], greatest],
+    let rows: [([Terms<'_>; 2], Option<Terms<'_>>); 9] = [
+        (
+            [&[(0, 1), (1, 1)], &[(0, 4), (1, 1)]],
+            Some(&[(0, 4), (2, 1)]),
+        ),
+        (
+            [&[(0, 1), (3, 2), (9, 1)], &[(1, 3), (4, 1)]],
+            Some(&[(1, 3), (4, 2), (7, 2), (10, 3), (13, 1)]),
+        ),
+        ([greatest, &[(0, 1)]], Some(greatest)),
+        ([greatest, &[]], Some(&[])),
+        ([&[], greatest], Some(&[])),
+        ([&[(HALF, 3)], &[(HALF - 1, 2)]], Some(greatest)),
+        ([greatest, &[(1, 1)]], None),
+        ([&[(1, 1)], greatest], None),
+        ([&[(HALF, 1)], &[(0, 1), (HALF, 1)]], None),
     ];
-    for row in rows {
-        assert!(rt; has_product::<F5>(alloc, row)?);
+    for (operands, product) in rows {
+        assert!(rt; has_product::<F5>(alloc, operands, product));
     }
-    assert!(rt; overflows::<F5>(alloc, greatest, &[(1, 1)])?);
-    assert!(rt; overflows::<F5>(alloc, &[(1, 1)], greatest)?);
-    assert!(rt; overflows::<F5>(alloc, &[(HALF, 1)], &[(0, 1), (HALF, 1)])?);
     Ok(())
-}
-
-// Drawn coefficients, of which many are zero.
-fn drawn_with_zeros<F: Field>(
-    alloc: Global,
-    rng: &mut Pcg64,
-    len: usize,
-) -> Result<Vec<F>, AllocError> {
-    let mut coeffs = drawn::<F>(alloc, rng, len)?;
-    for coefficient in coeffs.iter_mut() {
-        if rng.next_u64() % 3 != 0 {
-            *coefficient = F::zero();
-        }
-    }
-    Ok(coeffs)
 }
 
 // The sparse polynomial with these coefficients.
@@ -85,34 +72,67 @@ fn sparse_of<F: Field>(alloc: Global, coeffs: &[F]) -> Result<SparsePolynomial<F
     SparsePolynomial::from_coefficients_vec(alloc, terms)
 }
 
-// Whether the product is that of the dense polynomials with these coefficients.
-fn is_naive<F: Field>(alloc: Global, left: &[F], right: &[F]) -> Result<bool, PolyError> {
-    let product = sparse_of(alloc, left)?.mul(alloc, &sparse_of(alloc, right)?)?;
+// The product of the dense polynomials with these coefficients, made sparse.
+fn dense_product<F: Field>(
+    alloc: Global,
+    left: &[F],
+    right: &[F],
+) -> Result<SparsePolynomial<F>, PolyError> {
     let left = DensePolynomial::from_coefficients_slice(alloc, left)?;
     let right = DensePolynomial::from_coefficients_slice(alloc, right)?;
-    Ok(product == sparse_of(alloc, left.naive_mul(alloc, &right)?.coeffs())?)
+    sparse_of(alloc, left.naive_mul(alloc, &right)?.coeffs())
+}
+
+// Whether the product of terms is that one.
+fn is_naive<F: Field>(alloc: Global, left: &[F], right: &[F]) -> bool {
+    let (Ok(p), Ok(q)) = (sparse_of(alloc, left), sparse_of(alloc, right)) else {
+        return false;
+    };
+    let Ok(product) = dense_product(alloc, left, right) else {
+        return false;
+    };
+    gave(p.mul(alloc, &q), &product)
+}
+
+// Whether it is so for drawn coefficients of these numbers.
+fn is_naive_drawn<F: Field>(alloc: Global, rng: &mut Pcg64, [left, right]: [usize; 2]) -> bool {
+    let Ok(left) = drawn_with_zeros::<F>(alloc, rng, left, 3) else {
+        return false;
+    };
+    let Ok(right) = drawn_with_zeros::<F>(alloc, rng, right, 3) else {
+        return false;
+    };
+    is_naive(alloc, &left, &right)
+}
+
+// The same with a drawn constant.
+fn is_naive_with_constant<F: Field>(alloc: Global, rng: &mut Pcg64, left: usize) -> bool {
+    let Ok(left) = drawn_with_zeros::<F>(alloc, rng, left, 3) else {
+        return false;
+    };
+    let Ok(constant) = drawn::<F>(alloc, rng, 1) else {
+        return false;
+    };
+    is_naive(alloc, &left, &constant)
 }
 
 // Whether products of drawn polynomials are the dense ones: some with few terms, and some with a constant.
-fn are_naive<F: Field>(alloc: Global, rng: &mut Pcg64) -> Result<bool, PolyError> {
+fn are_naive<F: Field>(alloc: Global, rng: &mut Pcg64) -> bool {
     let mut right = true;
     for i in 0..13 {
         for j in 0..12 {
-            let factor = drawn_with_zeros::<F>(alloc, rng, i)?;
-            let other = drawn_with_zeros(alloc, rng, j)?;
-            right = right && is_naive(alloc, &factor, &other)?;
+            right = right && is_naive_drawn::<F>(alloc, rng, [i, j]);
         }
-        let factor = drawn_with_zeros::<F>(alloc, rng, i)?;
-        right = right && is_naive(alloc, &factor, &drawn(alloc, rng, 1)?)?;
+        right = right && is_naive_with_constant::<F>(alloc, rng, i);
     }
-    Ok(right)
+    right
 }
 
 #[test]
 fn products_of_drawn_terms(rt: HostRuntime) -> Result<(), Fail> {
     let mut rng = Pcg64::new(5, 3);
-    assert!(rt; are_naive::<F5>(rt.alloc(), &mut rng)?);
-    assert!(rt; are_naive::<F65537>(rt.alloc(), &mut rng)?);
+    assert!(rt; are_naive::<F5>(rt.alloc(), &mut rng));
+    assert!(rt; are_naive::<F65537>(rt.alloc(), &mut rng));
     Ok(())
 }
 
@@ -127,7 +147,7 @@ impl Trial for Listed<'_> {
     fn holds<F: FftField, D: EvaluationDomain<F>>(&self, alloc: Global) -> Result<bool, PolyError> {
         let domain: D = coset(self.values.len(), 1)?;
         let values = sparse::<F>(alloc, self.terms)?.evaluate_over_domain(alloc, domain)?;
-        Ok(values.evals() == elements(alloc, self.values)?.as_slice())
+        Ok(has_numbers(values.evals(), self.values))
     }
 }
 
@@ -153,18 +173,30 @@ fn values_of_high_terms(rt: HostRuntime) -> Result<(), Fail> {
     Ok(())
 }
 
-// Whether the values over the domain are those at each of its elements.
+// Whether the values are those at each element of their domain.
+fn are_at_elements<F: FftField, D: EvaluationDomain<F>>(
+    alloc: Global,
+    values: &Evaluations<F, D>,
+    p: &SparsePolynomial<F>,
+) -> bool {
+    let domain = values.domain();
+    let mut right = values.evals().len() == domain.size();
+    for (value, point) in values.evals().iter().zip(domain.elements()) {
+        right = right && gave(p.evaluate(alloc, &point), value);
+    }
+    right
+}
+
+// Whether both ways give these values.
 fn has_values_at_elements<F: FftField, D: EvaluationDomain<F>>(
     alloc: Global,
     domain: D,
     p: SparsePolynomial<F>,
-) -> Result<bool, PolyError> {
-    let values = p.evaluate_over_domain_by_ref(alloc, domain)?;
-    let mut right = values.evals().len() == domain.size();
-    for (point, value) in listed(alloc, &domain)?.iter().zip(values.evals()) {
-        right = right && p.evaluate(alloc, point)? == *value;
-    }
-    Ok(right && p.evaluate_over_domain(alloc, domain)? == values)
+) -> bool {
+    let Ok(values) = p.evaluate_over_domain_by_ref(alloc, domain) else {
+        return false;
+    };
+    are_at_elements(alloc, &values, &p) && gave(p.evaluate_over_domain(alloc, domain), &values)
 }
 
 // The sum of some terms of low degrees, and of some of the highest.
@@ -195,7 +227,7 @@ impl Trial for AtElements {
         let mut right = true;
         for count in 0..12 {
             let p = low_and_high::<F>(alloc, &mut rng, count)?;
-            right = right && has_values_at_elements(alloc, domain, p)?;
+            right = right && has_values_at_elements(alloc, domain, p);
         }
         Ok(right)
     }
@@ -239,22 +271,56 @@ struct LikeDense {
     offset: u64,
 }
 
+// Whether the values of the terms are those of all coefficients, and interpolate to these.
+fn has_dense_values<F: FftField, D: EvaluationDomain<F>>(
+    alloc: Global,
+    domain: D,
+    coeffs: &[F],
+) -> bool {
+    let Ok(dense) = DensePolynomial::from_coefficients_slice(alloc, coeffs) else {
+        return false;
+    };
+    let Ok(sparse) = sparse_of(alloc, coeffs) else {
+        return false;
+    };
+    let Ok(values) = sparse.evaluate_over_domain(alloc, domain) else {
+        return false;
+    };
+    gave(dense.evaluate_over_domain_by_ref(alloc, domain), &values)
+        && gave(values.interpolate(alloc), &dense)
+}
+
+// Whether the products of their values are those of the product.
+fn has_product_values<F: FftField, D: EvaluationDomain<F>>(
+    alloc: Global,
+    domain: D,
+    left: &SparsePolynomial<F>,
+    right: &SparsePolynomial<F>,
+) -> bool {
+    let Ok(values) = left.evaluate_over_domain_by_ref(alloc, domain) else {
+        return false;
+    };
+    let Ok(others) = right.evaluate_over_domain_by_ref(alloc, domain) else {
+        return false;
+    };
+    let Ok(products) = values.mul(alloc, &others) else {
+        return false;
+    };
+    let Ok(product) = left.mul(alloc, right) else {
+        return false;
+    };
+    gave(product.evaluate_over_domain(alloc, domain), &products)
+}
+
 impl Trial for LikeDense {
     fn holds<F: FftField, D: EvaluationDomain<F>>(&self, alloc: Global) -> Result<bool, PolyError> {
         let domain: D = coset(self.left.saturating_add(self.right), self.offset)?;
         let mut rng = Pcg64::new(23, 29);
-        let coeffs = drawn_with_zeros::<F>(alloc, &mut rng, self.left)?;
-        let left = sparse_of(alloc, &coeffs)?;
-        let right = sparse_of(alloc, &drawn_with_zeros::<F>(alloc, &mut rng, self.right)?)?;
-        let dense = DensePolynomial::from_coefficients_vec(coeffs);
-        let values = left.evaluate_over_domain_by_ref(alloc, domain)?;
-        let products = values.mul(alloc, &right.evaluate_over_domain_by_ref(alloc, domain)?)?;
-        let product = left.mul(alloc, &right)?;
-        Ok(
-            values == dense.evaluate_over_domain_by_ref(alloc, domain)?
-                && values.interpolate_by_ref(alloc)? == dense
-                && product.evaluate_over_domain(alloc, domain)? == products,
-        )
+        let left = drawn_with_zeros::<F>(alloc, &mut rng, self.left, 3)?;
+        let right = drawn_with_zeros::<F>(alloc, &mut rng, self.right, 3)?;
+        let alike = has_dense_values(alloc, domain, &left);
+        let left = sparse_of(alloc, &left)?;
+        Ok(alike && has_product_values(alloc, domain, &left, &sparse_of(alloc, &right)?))
     }
 }
 
