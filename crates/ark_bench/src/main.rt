@@ -19,7 +19,7 @@ use ark_poly::{
 use batches::{Number, report};
 use draws::Draws;
 use large_field::F2013265921;
-use multivariate::{BoundTable, ValueAtPoint, drawn_table, drawn_terms};
+use multivariate::ValueOfTerms;
 use polynomials::{
     Division, Interpolation, LongDivision, Product, Quotients, SparseProduct, Value, Way, Weights,
 };
@@ -129,8 +129,7 @@ fn report_polynomials<F: FftField + Number>(
     report_division::<F>(rt, alloc, timed, draws)?;
     report_by_passes::<F>(rt, alloc, timed, draws)?;
     report_by_terms::<F>(rt, alloc, timed, draws)?;
-    report_multivariate::<F>(rt, alloc, timed, draws)?;
-    report_tables::<F>(rt, alloc, timed, draws)
+    report_multivariate::<F>(rt, alloc, timed, draws)
 }
 
 fn report_over_domain<F: FftField + Number, D: EvaluationDomain<F>>(
@@ -331,10 +330,7 @@ fn report_multivariate<F: Field + Number>(
     timed: bool,
     draws: &mut Draws,
 ) -> anyhow::Result<()> {
-    let mut value = ValueAtPoint {
-        polynomial: drawn_terms::<F>(alloc, draws, 1000)?,
-        point: draws.list(alloc, 5)?,
-    };
+    let mut value = ValueOfTerms::<F>::new(alloc, draws, 1000)?;
     report(
         rt,
         alloc,
@@ -342,31 +338,5 @@ fn report_multivariate<F: Field + Number>(
         "multivariate_evaluate_5_vars",
         1000,
         &mut value,
-    )
-}
-
-fn report_tables<F: Field + Number>(
-    rt: &(impl Print + Clock),
-    alloc: Global,
-    timed: bool,
-    draws: &mut Draws,
-) -> anyhow::Result<()> {
-    let mut value = ValueAtPoint {
-        polynomial: drawn_table::<F>(alloc, draws, 16)?,
-        point: draws.list(alloc, 16)?,
-    };
-    report(rt, alloc, timed, "mle_dense_evaluate", 16, &mut value)?;
-    let mut rest = BoundTable {
-        table: drawn_table::<F>(alloc, draws, 20)?,
-        point: draws.list(alloc, 10)?,
-        values: Vec::new(alloc),
-    };
-    report(
-        rt,
-        alloc,
-        timed,
-        "mle_dense_fix_10_of_20_vars",
-        20,
-        &mut rest,
     )
 }
