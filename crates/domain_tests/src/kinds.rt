@@ -24,7 +24,7 @@ fn both_agree<F: FftField, D: EvaluationDomain<F>>(
     Ok(agrees(alloc, rng, &subgroup)? && agrees(alloc, rng, &coset)?)
 }
 
-/// Plain sums over the domain of each size, for lists drawn by this seed.
+/// Plain sums over the least domain for each of the sizes, for lists drawn by this seed.
 #[derive(Clone, Copy)]
 struct PlainSums(u128);
 
@@ -32,9 +32,9 @@ impl Trial for PlainSums {
     fn holds<F: FftField, D: EvaluationDomain<F>>(&self, alloc: Global) -> Result<bool, PolyError> {
         let mut rng = Pcg64::new(self.0, 3);
         let mut right = true;
-        for size in SIZES {
-            let domain: D = coset(size, 1)?;
-            right = right && domain.size() == size && both_agree(alloc, &mut rng, domain)?;
+        for num_coeffs in SIZES {
+            let domain: D = coset(num_coeffs, 1)?;
+            right = right && both_agree(alloc, &mut rng, domain)?;
         }
         Ok(right)
     }
@@ -52,7 +52,7 @@ fn plain_sums_over_general_domains(rt: HostRuntime) -> Result<(), Fail> {
     Ok(())
 }
 
-/// Plain sums over the mixed domain of each size as a general one.
+/// Plain sums over the mixed domain of exactly each size as a general one.
 #[derive(Clone, Copy)]
 struct MixedAsGeneral;
 
@@ -63,7 +63,7 @@ impl FieldTrial for MixedAsGeneral {
         for size in SIZES {
             let mixed: MixedRadixEvaluationDomain<F> = coset(size, 1)?;
             let general = GeneralEvaluationDomain::MixedRadix(mixed);
-            right = right && both_agree(alloc, &mut rng, general)?;
+            right = right && general.size() == size && both_agree(alloc, &mut rng, general)?;
         }
         Ok(right)
     }
