@@ -1,8 +1,10 @@
 //! Inputs, the same at each run.
 
-use ark_base::Field;
-use ark_poly::DenseUVPolynomial;
+ghost use Rattle.std.specs.Prelude.{◌<◌};
+
+use ark_base::{Field, PolyError};
 use ark_poly::univariate::DensePolynomial;
+use ark_poly::{DenseUVPolynomial, MultilinearExtension};
 use rand_core::Rng;
 use rand_pcg::Pcg64;
 use std::alloc::{AllocError, Global};
@@ -54,5 +56,16 @@ impl Draws {
             block = block.saturating_add(1024);
         }
         Ok(terms)
+    }
+
+    /// A multilinear extension of so many variables, where a place is found for each value within 100 draws.
+    pub fn extension<F: Field, E: MultilinearExtension<F>>(
+        &mut self,
+        alloc: Global,
+        num_vars: usize,
+    ) -> Result<Option<E>, PolyError>
+        requires { num_vars < 64 }
+    {
+        E::rand(alloc, num_vars, &mut self.rng, 100)
     }
 }

@@ -7,19 +7,20 @@
 mod batches;
 mod draws;
 mod large_field;
-mod multivariate;
+mod points;
 mod polynomials;
 mod transforms;
 
 use ark_base::{F433, F65537, FftField, Field, Polynomial};
 use ark_poly::univariate::{DensePolynomial, SparsePolynomial};
 use ark_poly::{
-    DenseUVPolynomial, EvaluationDomain, MixedRadixEvaluationDomain, Radix2EvaluationDomain,
+    DenseMultilinearExtension, DenseUVPolynomial, EvaluationDomain, MixedRadixEvaluationDomain,
+    MultilinearExtension, Radix2EvaluationDomain, SparseMultilinearExtension,
 };
 use batches::{Number, report};
 use draws::Draws;
 use large_field::F2013265921;
-use multivariate::ValueOfTerms;
+use points::{BoundTable, VARIABLES, ValueAtPoint, polynomial_of_terms};
 use polynomials::{
     Division, Interpolation, LongDivision, Product, Quotients, SparseProduct, Value, Way, Weights,
 };
@@ -129,7 +130,7 @@ fn report_polynomials<F: FftField + Number>(
     report_division::<F>(rt, alloc, timed, draws)?;
     report_by_passes::<F>(rt, alloc, timed, draws)?;
     report_by_terms::<F>(rt, alloc, timed, draws)?;
-    report_multivariate::<F>(rt, alloc, timed, draws)
+    report_several_variables::<F>(rt, alloc, timed, draws)
 }
 
 fn report_over_domain<F: FftField + Number, D: EvaluationDomain<F>>(
@@ -324,19 +325,62 @@ fn report_by_terms<F: FftField + Number>(
     report(rt, alloc, timed, name, 1 << 14, &mut division)
 }
 
-fn report_multivariate<F: Field + Number>(
+// The value at a point of so many items.
+fn report_value<F: Field + Number, P: Polynomial<F, Point = Vec<F>>>(
+    rt: &(impl Print + Clock),
+    alloc: Global,
+    timed: bool,
+    draws: &mut Draws,
+    name: &'static str,
+    size: usize,
+    polynomial: P,
+    num_vars: usize,
+) -> anyhow::Result<()> {
+    let point = draws.list(alloc, num_vars)?;
+    let mut value = ValueAtPoint { polynomial, point };
+    report(rt, alloc, timed, name, size, &mut value)
+}
+
+fn report_several_variables<F: Field + Number>(
     rt: &(impl Print + Clock),
     alloc: Global,
     timed: bool,
     draws: &mut Draws,
 ) -> anyhow::Result<()> {
-    let mut value = ValueOfTerms::<F>::new(alloc, draws, 1000)?;
+    let polynomial = polynomial_of_terms::<F>(alloc, draws, 1000)?;
+    let name = "multivariate_evaluate_5_vars";
+    report_value(rt, alloc, timed, draws, name, 1000, polynomial, VARIABLES)?;
+    let dense: Option<DenseMultilinearExtension<F>> = draws.extension(alloc, 16)?;
+    if let Some(extension) = dense {
+        let name = "mle_dense_evaluate";
+        report_value(rt, alloc, timed, draws, name, 16, extension, 16)?;
+    }
+    let sparse: Option<SparseMultilinearExtension<F>> = draws.extension(alloc, 16)?;
+    if let Some(extension) = sparse {
+        let name = "mle_sparse_evaluate_16_vars";
+        report_value(rt, alloc, timed, draws, name, 1 << 8, extension, 16)?;
+    }
+    report_bound_table::<F>(rt, alloc, timed, draws)
+}
+
+// A dense table with half of its variables bound.
+fn report_bound_table<F: Field + Number>(
+    rt: &(impl Print + Clock),
+    alloc: Global,
+    timed: bool,
+    draws: &mut Draws,
+) -> anyhow::Result<()> {
+    let Some(extension) = draws.extension::<F, DenseMultilinearExtension<F>>(alloc, 20)? else {
+        return Ok(());
+    };
+    let point = draws.list(alloc, 10)?;
+    let mut bound = BoundTable { extension, point };
     report(
         rt,
         alloc,
         timed,
-        "multivariate_evaluate_5_vars",
-        1000,
-        &mut value,
+        "mle_dense_fix_10_of_20_vars",
+        20,
+        &mut bound,
     )
 }

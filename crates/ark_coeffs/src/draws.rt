@@ -8,7 +8,7 @@ use rand::Rng;
 use std::alloc::{AllocError, Global};
 
 /// Adds so many drawn items at the end.
-fn push_drawn<F: Field, R: Rng>(
+pub fn push_drawn<F: Field, R: Rng>(
     items: &mut Vec<F>,
     count: usize,
     rng: &mut R,

@@ -1,5 +1,5 @@
 -- The tables that maps hold, entry by entry, and what is left of one when variables are bound.
-use Rattle.std.proofs.Common.{◌≡◌, ◌≢◌, ℕ, ◌+◌, ◌/◌, ◌%◌, ◌<◌, ◌≤◌, ◌^◌, List, [], ◌∷◌, ◌++◌, length, get_or, set, take, nat_eq, Some, Result, Ok, Err, IfOk, IfErr, unwrap_or, ◌==◌, if◌then◌else◌, sym, ◌∙◌, ap, ap₂, refl, subst, arith, eq-eqb, ne_eqb, ⊎_elim}
+use Rattle.std.proofs.Common.{◌≡◌, ◌≢◌, ℕ, ◌+◌, ◌/◌, ◌%◌, ◌<◌, ◌≤◌, ◌^◌, List, [], ◌∷◌, length, get_or, set, take, nat_eq, Some, Result, Ok, Err, IfOk, IfErr, unwrap_or, ◌==◌, if◌then◌else◌, sym, ◌∙◌, ap, ap₂, refl, subst, arith, eq-eqb, ne_eqb, ⊎_elim}
 use mathlib.Core.Path.{fun_ext}
 use Rattle.std.specs.Cmp.{nat_eq_equiv}
 use Rattle.std.specs.List.{All, IsDistinct}
@@ -22,17 +22,14 @@ use Rattle.ark_math.specs.Univariate.{nothing, of_list, of_pairs, added, monomia
 use Rattle.ark_math.proofs.Algebra.Groups.{itself_is_module, zero_plus}
 use Rattle.ark_math.proofs.Polynomials.Univariate.{monomial-same, monomial-other}
 use Rattle.ark_math.proofs.Polynomials.UnivariateLists.{of_list-set}
-use Rattle.ark_math.proofs.Polynomials.UnivariatePairs.{of_pairs-at, of_pairs-absent, of_pairs-push, take_next}
+use Rattle.ark_math.proofs.Polynomials.UnivariatePairs.{monomial-zero, monomial-added, of_pairs-at, of_pairs-absent, of_pairs-push, take_next}
 use Rattle.ark_math.proofs.Polynomials.Multilinear.{fixed-added, fixed-monomial}
+use Rattle.ark_math.proofs.Polynomials.Tables.{written-push}
 use Rattle.ark_lists.specs.Held.{held}
 
 -- a map from indices to values
 abbrev Values : Type 0 → Type 0
 Values F = HashMap ℕ F (BuildHasherDefault FoldHasher)
-
-pub written-push : {F : Type 0} (d : F) (ps : List (ℕ × F)) (p : ℕ × F) (b : ℕ) → written d (ps ++ p ∷ []) b ≡ (if p.0 == b then p.1 else written d ps b)
-written-push d [] p b = refl
-written-push d (q ∷ ps) p b = written-push (if q.0 == b then q.1 else d) ps p b
 
 module _ {F : Type 0} (K : FieldOn F) (N : IsField K) where
   of_distinct : (es : List (ℕ × F)) (b : ℕ) → IsDistinct nat_eq (keys_of es) → of_pairs K es b ≡ unwrap_or (lookup (nat_eq b) es) K.zero
@@ -99,9 +96,19 @@ module _ {F : Type 0} (K : FieldOn F) (N : IsField K) where
       ∙ sym (fixed-added K N (of_pairs K (take i es)) (monomial K e.0 e.1) p)
       ∙ ap (λ u. fixed K u p) (sym (of_pairs-push K N (take i es) e) ∙ ap (of_pairs K) (sym (take_next K N es i e l is)))
 
-pub no_items : {X : Type 0} (xs : List X) → length xs ≡ 0 → xs ≡ []
-no_items [] e = refl
-no_items (x ∷ xs) e = absurd (omega arith)
+  pub nothing_more : (n : ℕ) → added K (nothing K) (monomial K n K.zero) ≡ nothing K
+  nothing_more n = ap (added K (nothing K)) (monomial-zero K N n) ∙ fun_ext (λ b. N.plus_zero K.zero)
+
+  -- a sum that waits beside a table is put into it, and a new one begins
+  pub sum_put : (h t : ℕ → F) (n k : ℕ) (s z : F) → t ≡ added K h (monomial K n s) → z ≡ K.zero → added K t (monomial K k z) ≡ added K h (monomial K n s)
+  sum_put h t n k s z e none = ap₂ (added K) e (ap (monomial K k) none ∙ monomial-zero K N k) ∙ fun_ext (λ b. N.plus_zero (K.plus (h b) (monomial K n s b)))
+
+  -- one more entry is bound into the sum that waits
+  pub bound_sum : (es : List (ℕ × F)) (p : List F) (i : ℕ) (e : ℕ × F) (h : ℕ → F) (k : ℕ) (s w r : F) → added K h (monomial K k s) ≡ fixed K (of_pairs K (take i es)) p → i < length es → e ≡ get_or es i e
+      → k ≡ e.0 / 2 ^ length p → w ≡ K.times e.1 (weight K p (e.0 % 2 ^ length p)) → r ≡ K.plus s w → added K h (monomial K k r) ≡ fixed K (of_pairs K (take (i + 1) es)) p
+  bound_sum es p i e h k s w r before l is f g j =
+      bound_more es p i e k w (added K h (monomial K k s)) (added K h (monomial K k r)) before l is f g
+      (ap (added K h) (ap (monomial K k) j ∙ sym (monomial-added K N k s w)) ∙ fun_ext (λ b. sym (N.plus_assoc (h b) (monomial K k s b) (monomial K k w b))))
 
 module _ {F : Type 0} (K : FieldOn F) (N : IsField K) where
   -- a search among entries ends at the index, or where no entry has it

@@ -1,5 +1,5 @@
 -- Tables as lists: halves, and what is left when variables are bound.
-use Rattle.std.proofs.Common.{◌≡◌, ◌≢◌, ◌⊎◌, min, cond, inl, inr, ⊎_elim, ℕ, suc, ◌+◌, ◌-◌, ◌*◌, ◌/◌, ◌%◌, ◌^◌, ◌<◌, ◌≤◌, List, [], ◌∷◌, ◌++◌, length, get_or, take, refl, sym, ◌∙◌, ap, subst, arith, pow_pos}
+use Rattle.std.proofs.Common.{◌≡◌, ◌≢◌, ◌⊎◌, min, cond, inl, inr, ⊎_elim, ℕ, suc, ◌+◌, ◌-◌, ◌*◌, ◌/◌, ◌%◌, ◌^◌, ◌<◌, ◌≤◌, List, [], ◌∷◌, ◌++◌, length, get_or, take, refl, sym, ◌∙◌, ap, ap₂, subst, arith, pow_pos}
 use Rattle.std.proofs.lemmas.List.{get_or-take, length-take}
 use Rattle.std.proofs.lemmas.Bool.{cases_eq, cases_lt, cond-true, cond-false, lt-ltb, le-ltb}
 use Rattle.std.proofs.lemmas.Nat.{pow-add}
@@ -7,12 +7,12 @@ use Rattle.std.specs.Prelude.{nat_lt}
 use Rattle.std.proofs.lemmas.List.Edits.{Swapped}
 use Rattle.std.proofs.Math.Nat.{mul_assoc, mul-div_cancel, pow-le-pow_right, mod-eq_of_lt}
 use Rattle.std.proofs.Math.Seq.{take-suc}
-use Rattle.ark_math.specs.Field.{FieldOn, IsField}
-use Rattle.ark_math.specs.Multilinear.{fixed}
-use Rattle.ark_math.specs.Univariate.{IsBelow, of_list}
+use Rattle.ark_math.specs.Field.{FieldOn, IsField, minus}
+use Rattle.ark_math.specs.Multilinear.{extension, fixed}
+use Rattle.ark_math.specs.Univariate.{IsBelow, of_list, added, difference, scaled}
 use Rattle.ark_math.proofs.Polynomials.Cube.{pow_twice}
 use Rattle.ark_math.proofs.Polynomials.Exchanged.{part, exchanged_index, parts_fit, exchanged_index-below}
-use Rattle.ark_math.proofs.Polynomials.Multilinear.{bound-below, fixed-one, fixed-push}
+use Rattle.ark_math.proofs.Polynomials.Multilinear.{bound-below, extension-last, extension-same, fixed-one, fixed-push, last_bound}
 use Rattle.ark_math.proofs.Polynomials.Univariate.{same_below}
 use Rattle.ark_math.proofs.Polynomials.UnivariateLists.{of_list-past}
 
@@ -48,6 +48,15 @@ module _ {F : Type 0} (K : FieldOn F) (N : IsField K) where
       (λ i past. of_list-past K (take h u) i (let e = length-take h u in omega arith))
       (subst (IsBelow K h) (sym (fixed-one K N (of_list K t) x)) (bound-below K N (of_list K t) x h (λ i past. of_list-past K t i (omega arith))))
       (λ i below. get_or-take h u i K.zero below ∙ inside i below)
+
+module _ {F : Type 0} (K : FieldOn F) (N : IsField K) where
+  -- the last variable is bound over the lower half of a table
+  pub halves_bound : (t low high : List F) (f : ℕ → F) (p : List F) (x : F) (h : ℕ) → h ≡ 2 ^ length p → ((k : ℕ) → k < h → of_list K low k ≡ of_list K t k) → ((k : ℕ) → of_list K high k ≡ of_list K t (h + k))
+      → f ≡ added K (of_list K low) (scaled K x (difference K (of_list K high) (of_list K low))) → extension K f p ≡ extension K (of_list K t) (p ++ x ∷ [])
+  halves_bound t low high f p x h n lower upper e =
+      extension-same K N f (last_bound K (length p) (of_list K t) x) p
+      (λ b l. ap (λ s. s b) e ∙ ap₂ (λ u v. K.plus u (K.times x (minus K v u))) (lower b (omega arith)) (upper b ∙ ap (λ m. of_list K t (m + b)) n))
+      ∙ sym (extension-last K N (of_list K t) p x)
 
 -- what is left of the table t when the first i variables are bound to the items of p
 pub record IsLeft {F : Type 0} (K : FieldOn F) (t p : List F) (i : ℕ) (left : List F) : Type 0 where

@@ -1,9 +1,9 @@
 //! Tables of values at the corners of a cube, by their indices: bit i of an index is the value of variable i.
 
-ghost use Rattle.std.specs.Prelude.{◌≡◌, ◌⊎◌, ◌<◌, ◌≤◌, ◌+◌, ◌*◌, ◌/◌, ◌^◌, ℕ, List, [], ◌∷◌, length, IfOk};
+ghost use Rattle.std.specs.Prelude.{◌≡◌, ◌⊎◌, ◌<◌, ◌≤◌, ◌+◌, ◌*◌, ◌/◌, ◌^◌, ℕ, List, [], ◌∷◌, ◌++◌, length, IfOk};
 ghost use Rattle.ark_math.specs.Multilinear.{AreWindows, exchanged, extension, fixed};
 ghost use Rattle.ark_math.proofs.Polynomials.Exchanged.{exchanged_index};
-ghost use Rattle.ark_math.specs.Univariate.{of_list};
+ghost use Rattle.ark_math.specs.Univariate.{added, difference, of_list, scaled};
 
 use ark_base::Field;
 use std::alloc::{AllocError, Global};
@@ -77,17 +77,54 @@ pub fn fixed_table<F: Field>(alloc: Global, table: &[F], point: &[F]) -> Result<
     Ok(left)
 }
 
-/// The value at a point of a table's extension: all its variables are bound.
+/// Binds the last variable of a table in two halves to `x`: what is left is written over the lower one.
+fn bind_halves<F: Field>(low: &mut [F], high: &[F], x: F)
+    requires { length high.now ≡ length low.old }
+    ensures { of_list F.field low.new ≡ added F.field (of_list F.field low.old)
+        (scaled F.field x (difference F.field (of_list F.field high.now) (of_list F.field low.old))) }
+{
+    for i in 0..low.len() {
+        let value = low[i];
+        low[i] = value + x * (high[i] - value);
+    }
+}
+
+/// Binds the last variable of a table to `x`, which halves it.
+fn bind_last<F: Field>(table: &mut Vec<F>, x: F)
+    requires { length table.old.items ≡ 2 * (length table.old.items / 2) }
+    ensures values { (p : List F) → length table.old.items ≡ 2 * 2 ^ length p
+        → extension F.field (of_list F.field table.new.items) p
+        ≡ extension F.field (of_list F.field table.old.items) (p ++ x ∷ []) }
+    ensures len { 2 * length table.new.items ≡ length table.old.items }
+{
+    let half = table.len() / 2;
+    let (low, high) = table.as_mut_slice().split_at_mut(half);
+    bind_halves(low, high, x);
+    table.truncate(half);
+}
+
+/// The value at a point of a table's extension: all its variables are bound, the last one first, since then the values
+/// of a pair lie in two rows. The first one to be bound is bound over a copy of the lower half.
 pub fn value_of_table<F: Field>(alloc: Global, table: &[F], point: &[F]) -> Result<F, AllocError>
     requires { length table.now ≡ 2 ^ length point.now }
     ensures { IfOk result (λ y. y ≡ extension F.field (of_list F.field table.now) point.now) }
 {
-    let left = fixed_table(alloc, table, point)?;
+    let Some((last, others)) = point.split_last() else {
+        return Ok(table[0]);
+    };
+    let (low, high) = table.split_at(table.len() / 2);
+    let mut left = Vec::from_slice(alloc, low)?;
+    bind_halves(left.as_mut_slice(), high, *last);
+    let mut unbound = others;
+    'bind: while let Some((last, others)) = unbound.split_last() {
+        bind_last(&mut left, *last);
+        unbound = others;
+    }
     Ok(left[0])
 }
 
 /// The index with its `k` bits from `a` on and its `k` bits from `b` on exchanged.
-fn exchanged_bits(index: usize, a: usize, b: usize, k: usize) -> usize
+pub fn exchanged_bits(index: usize, a: usize, b: usize, k: usize) -> usize
     requires windows { ((a + k ≤ b) × (b + k ≤ 63)) ⊎ ((b + k ≤ a) × (a + k ≤ 63)) }
     requires below { index < 2 ^ 63 }
     ensures { result ≡ exchanged_index index a b k }
@@ -105,7 +142,7 @@ pub fn relabel_table<F: Field>(table: &mut [F], a: usize, b: usize, k: usize)
         → extension F.field (of_list F.field table.new) x
         ≡ extension F.field (of_list F.field table.old) (exchanged F.field x a b k) }
 {
-    if a == b || k == 0 {
+    if k == 0 || a == b {
         return;
     }
     for i in 0..table.len() {

@@ -1,13 +1,15 @@
 //! Tables by their entries, which are pairs of index and value: what is left when the first variables are bound, a few
 //! at a time.
 
-ghost use Rattle.std.specs.Prelude.{◌≡◌, ℕ, ◌+◌, ◌*◌, ◌<◌, ◌^◌, length};
+ghost use Rattle.std.specs.Prelude.{◌≡◌, ◌⊎◌, ℕ, ◌+◌, ◌*◌, ◌<◌, ◌≤◌, ◌^◌, List, length, map};
 ghost use Rattle.std.specs.Prelude.{All, IfOk, OnOk, IsOkUnless};
 ghost use Rattle.ark_math.specs.Field.{minus};
-ghost use Rattle.ark_math.specs.Multilinear.{fixed, weight, written};
+ghost use Rattle.ark_math.specs.Multilinear.{AreWindows, exchanged, extension, fixed, weight, written};
 ghost use Rattle.ark_math.specs.Univariate.{IsSparse, of_list, of_pairs, added, monomial};
+ghost use Rattle.ark_math.proofs.Polynomials.Exchanged.{exchanged_index};
 ghost use Rattle.ark_lists.specs.Held.{held};
 
+use crate::tables::exchanged_bits;
 use ark_base::{Field, PolyError, log2};
 use ark_coeffs::dense::zeros;
 use ark_coeffs::sparse::gathered_terms;
@@ -89,12 +91,20 @@ pub fn bind_window<F: Field>(
 {
     let weights = weights(alloc, point)?;
     let corners = 1 << point.len();
-    let mut table = HashMap::new(alloc);
+    let mut table = HashMap::with_capacity(alloc, entries.len())?;
+    let mut index = 0;
+    let mut sum = F::zero();
     for i in 0..entries.len() {
         let entry = entries[i];
-        let weighted = entry.1 * weights[entry.0 % corners];
-        add_at(&mut table, entry.0 / corners, weighted)?;
+        // Neighbours often share an index: their sum is looked up once.
+        if entry.0 / corners != index {
+            add_at(&mut table, index, sum)?;
+            index = entry.0 / corners;
+            sum = F::zero();
+        }
+        sum += entry.1 * weights[entry.0 % corners];
     }
+    add_at(&mut table, index, sum)?;
     sorted_entries(alloc, table)
 }
 
@@ -121,6 +131,53 @@ pub fn bind_variables<F: Field>(
         left = others;
     }
     Ok(bound)
+}
+
+/// The entries with the bits of each index exchanged, in the order in which they come.
+fn exchanged_entries<F: Field>(
+    alloc: Global,
+    entries: &[(usize, F)],
+    a: usize,
+    b: usize,
+    k: usize,
+) -> Result<Vec<(usize, F)>, PolyError>
+    requires windows { ((a + k ≤ b) × (b + k ≤ 63)) ⊎ ((b + k ≤ a) × (a + k ≤ 63)) }
+    requires below { All (λ e. e.0 < 2 ^ 63) entries.now }
+    ensures moved { IfOk result (λ m. m.items ≡ map (λ e. (exchanged_index e.0 a b k, e.1)) entries.now) }
+    ensures memory { IsOkUnless result PolyError.Memory }
+{
+    let mut moved = Vec::with_capacity(alloc, entries.len())?;
+    for i in 0..entries.len() {
+        let entry = entries[i];
+        moved.push((exchanged_bits(entry.0, a, b, k), entry.1))?;
+    }
+    Ok(moved)
+}
+
+/// The entries with the `k` variables from `a` on and the `k` from `b` on exchanged, by rising indices.
+pub fn relabel_entries<F: Field>(
+    alloc: Global,
+    num_vars: usize,
+    entries: &[(usize, F)],
+    a: usize,
+    b: usize,
+    k: usize,
+) -> Result<Vec<(usize, F)>, PolyError>
+    requires few { num_vars < 64 }
+    requires windows { AreWindows num_vars a b k }
+    requires sparse { IsSparse F.field entries.now }
+    requires within { All (λ e. e.0 < 2 ^ num_vars) entries.now }
+    ensures sparse { IfOk result (λ e. IsSparse F.field e.items) }
+    ensures within { IfOk result (λ e. All (λ p. p.0 < 2 ^ num_vars) e.items) }
+    ensures values { IfOk result (λ e. (x : List F) → length x ≡ num_vars
+        → extension F.field (of_pairs F.field e.items) x
+        ≡ extension F.field (of_pairs F.field entries.now) (exchanged F.field x a b k)) }
+    ensures memory { IsOkUnless result PolyError.Memory }
+{
+    if k == 0 || a == b {
+        return Ok(Vec::from_slice(alloc, entries)?);
+    }
+    gathered_terms(alloc, exchanged_entries(alloc, entries, a, b, k)?)
 }
 
 /// What stands in a table of zeros after these pairs of index and value are written in order, so that the last pair of

@@ -1,11 +1,10 @@
 -- Multilinear extensions: polynomials in m variables, each with no power above one, by their values at the 2 ^ m corners
 -- of the cube. Bit i of a corner's index is the value of variable i.
 use Rattle.std.specs.Prelude.{◌≡◌, ◌≢◌, ◌⊎◌, ℕ, suc, zero, max, ◌+◌, ◌-◌, ◌*◌, ◌/◌, ◌^◌, ◌%◌, ◌<◌, ◌≤◌, ◌==◌, ◌&&◌, Bool, List, [], ◌∷◌}
-use Rattle.std.specs.Prelude.{if◌then◌else◌, length, flat_map, nat_le, nat_lt}
+use Rattle.std.specs.Prelude.{if◌then◌else◌, length, flat_map, nat_le, nat_lt, All, AllPairs}
 use Rattle.ark_math.specs.Field.{FieldOn, minus}
 use Rattle.ark_math.specs.Module.{itself, sum_below, item, tabulate}
 use Rattle.ark_math.specs.Cost.{IsLog2Up}
-use Rattle.ark_math.specs.Term.{power_of}
 use Rattle.ark_math.specs.Univariate.{nothing, added, opposite, scaled, of_list}
 
 -- ---- the cube
@@ -81,6 +80,11 @@ pub record IsConcat {F : Type 0} (K : FieldOn F) (ts : List (List F)) (t : Table
 
 -- ---- polynomials of terms
 
--- only variables below m, and no power above one
+-- a product of variables below m: they rise strictly, each with power one
+pub record IsSquareFree (m : ℕ) (ps : List (ℕ × ℕ)) : Type 0 where
+  pub rising : AllPairs (λ p q. p.0 < q.0) ps
+  pub once : All (λ p. (p.0 < m) × (p.1 ≡ 1)) ps
+
+-- only terms in variables below m, with no power above one
 abbrev pub IsMultilinear : {F : Type 0} → FieldOn F → ℕ → (List (ℕ × ℕ) → F) → Type 0
-IsMultilinear K m a = (t : List (ℕ × ℕ)) → a t ≢ K.zero → (v : ℕ) → (power_of t v ≤ 1) × (0 < power_of t v → v < m)
+IsMultilinear K m a = (t : List (ℕ × ℕ)) → a t ≢ K.zero → IsSquareFree m t

@@ -64,7 +64,7 @@ fn bit_of<F: Field>(index: usize, variable: usize) -> F
 }
 
 /// The value of a multilinear extension at a point, which is that of every polynomial of terms with no power above one
-/// that has the table's values at the corners; and there is one.
+/// that has the table's values at the corners; and there is one such polynomial, and no second one.
 pub fn only_multilinear<F: Field, E: MultilinearExtension<F>>(
     alloc: Global,
     table: &E,
@@ -76,7 +76,16 @@ pub fn only_multilinear<F: Field, E: MultilinearExtension<F>>(
         → IsValueAt F.field a (corner F.field (E.variables table.now) b) ((E.table table.now).value b))
         → (z : F) → IsValueAt F.field a point.now.items z → z ≡ y) }
     ensures some { IfOk result (λ y. (a : List (ℕ × ℕ) → F) × IsMultilinear F.field (E.variables table.now) a
+        × ((b : ℕ) → b < 2 ^ E.variables table.now
+        → IsValueAt F.field a (corner F.field (E.variables table.now) b) ((E.table table.now).value b))
         × IsValueAt F.field a point.now.items y) }
+    ensures one { (a b : List (ℕ × ℕ) → F) → IsMultilinear F.field (E.variables table.now) a
+        → IsMultilinear F.field (E.variables table.now) b
+        → ((c : ℕ) → c < 2 ^ E.variables table.now
+        → IsValueAt F.field a (corner F.field (E.variables table.now) c) ((E.table table.now).value c))
+        → ((c : ℕ) → c < 2 ^ E.variables table.now
+        → IsValueAt F.field b (corner F.field (E.variables table.now) c) ((E.table table.now).value c))
+        → a ≡ b }
     ensures memory { IsOkUnless result PolyError.Memory }
 {
     table.evaluate(alloc, point)
@@ -93,6 +102,7 @@ pub fn values_with_bound_variables<F: Field, E: MultilinearExtension<F>>(
 ) -> Result<(F, F), PolyError>
     requires whole { whole.now.items ≡ first.now ++ others.now.items }
     requires fits { length whole.now.items ≡ E.variables table.now }
+    ensures value { IfOk result (λ y. y.0 ≡ extension F.field (E.table table.now).value whole.now.items) }
     ensures same { IfOk result (λ y. y.1 ≡ y.0) }
     ensures memory { IsOkUnless result PolyError.Memory }
 {
@@ -114,6 +124,7 @@ pub fn values_with_exchanged_variables<F: Field, E: MultilinearExtension<F>>(
     requires windows { AreWindows (E.variables table.now) a b k }
     requires fits { length point.now.items ≡ E.variables table.now }
     requires turned { turned.now.items ≡ exchanged F.field point.now.items a b k }
+    ensures value { IfOk result (λ y. y.0 ≡ extension F.field (E.table table.now).value turned.now.items) }
     ensures same { IfOk result (λ y. y.1 ≡ y.0) }
     ensures memory { IsOkUnless result PolyError.Memory }
 {

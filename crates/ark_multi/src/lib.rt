@@ -6,5 +6,7 @@ pub mod multilinear;
 pub mod multivariate;
 mod polynomial;
 
-pub use multilinear::{DenseMultilinearExtension, MultilinearExtension};
+pub use multilinear::{
+    DenseMultilinearExtension, MultilinearExtension, SparseMultilinearExtension,
+};
 pub use polynomial::DenseMVPolynomial;

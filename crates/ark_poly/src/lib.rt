@@ -9,6 +9,8 @@ pub mod polynomial;
 pub use domain::{
     EvaluationDomain, GeneralEvaluationDomain, MixedRadixEvaluationDomain, Radix2EvaluationDomain,
 };
-pub use evaluations::multivariate::{DenseMultilinearExtension, MultilinearExtension};
+pub use evaluations::multivariate::{
+    DenseMultilinearExtension, MultilinearExtension, SparseMultilinearExtension,
+};
 pub use evaluations::univariate::Evaluations;
 pub use polynomial::{DenseMVPolynomial, DenseUVPolynomial, Polynomial, multivariate, univariate};

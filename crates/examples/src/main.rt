@@ -1,6 +1,6 @@
 //! Small callers, as a user of the crates writes them: a transform and back, values on a coset, the
-//! convolution of two lists, exact costs, the first round of a sum-check, fields and a module of one's own. The
-//! program prints what each gives.
+//! convolution of two lists, exact costs, the first round of a sum-check, what chooses a value of a table, fields and a
+//! module of one's own. The program prints what each gives.
 #![tactic(auto)]
 
 mod convolution;
@@ -9,6 +9,7 @@ mod cost;
 mod field;
 mod large_field;
 mod module;
+mod selector;
 mod sum_check;
 mod there_and_back;
 
@@ -23,6 +24,7 @@ use cost::over_sixteen_and_back;
 use field::{F97, quotient};
 use large_field::size_for_a_hundred_million;
 use module::{Point, points_of_curve};
+use selector::selector;
 use std::alloc::Global;
 use std::io::Print;
 use sum_check::first_round;
@@ -44,6 +46,13 @@ fn main(rt: HostRuntime) -> anyhow::Result<()> {
     print_list(&rt, alloc, "over sixteen elements and back", &items)?;
     let [low, high] = round(alloc, [1, 2, 3, 4].map(F65537::from))?;
     print_list(&rt, alloc, "first round of a sum-check", &[low, high])?;
+    let counts = counts_at(alloc, [2, 3].map(F65537::from))?;
+    print_list(
+        &rt,
+        alloc,
+        "what each of four values counts at (2, 3)",
+        &counts,
+    )?;
     print_fields(&rt)?;
     let coeffs = [(1, 2), (3, 4), (5, 6)].map(|(x, y)| Point {
         x: F433::from(x),
@@ -81,6 +90,17 @@ fn round<F: Field>(alloc: Global, values: [F; 4]) -> Result<[F; 2], PolyError> {
     }
     let (low, high) = first_round(alloc, &table)?;
     Ok([low, high])
+}
+
+/// How much each value of a table of two variables counts at a point.
+fn counts_at<F: Field>(alloc: Global, point: [F; 2]) -> Result<Vec<F>, PolyError> {
+    let [first, second] = point;
+    let point = vec![in alloc; first, second]?;
+    let mut counts = Vec::with_capacity(alloc, 4)?;
+    for index in 0..4 {
+        counts.push(selector(alloc, index, &point)?)?;
+    }
+    Ok(counts)
 }
 
 /// The points of the curve over a mixed domain.

@@ -1,7 +1,9 @@
 //! Extensions from numbers, for the tests beside.
 
 use ark_base::{Field, PolyError, Polynomial};
-use ark_multi::multilinear::{DenseMultilinearExtension, MultilinearExtension};
+use ark_multi::multilinear::{
+    DenseMultilinearExtension, MultilinearExtension, SparseMultilinearExtension,
+};
 use std::alloc::{AllocError, Global};
 use std::hash::{DefaultHasher, Hash, Hasher};
 
@@ -25,6 +27,47 @@ pub fn dense<F: Field>(
         return DenseMultilinearExtension::zero(alloc);
     }
     Ok(DenseMultilinearExtension::from_evaluations_vec(num_vars, evaluations))
+}
+
+/// The sparse extension of a table by all its values, zeros too.
+pub fn sparse<F: Field>(
+    alloc: Global,
+    table: &[u64],
+) -> Result<SparseMultilinearExtension<F>, PolyError> {
+    let mut entries = Vec::with_capacity(alloc, table.len())?;
+    for (index, number) in table.iter().enumerate() {
+        entries.push((index, F::from(*number)))?;
+    }
+    from_entries(alloc, table.len().trailing_zeros() as usize, &entries)
+}
+
+/// The sparse extension with these values at these indices; zero where one is past the table.
+pub fn from_pairs<F: Field>(
+    alloc: Global,
+    num_vars: usize,
+    pairs: &[(usize, u64)],
+) -> Result<SparseMultilinearExtension<F>, PolyError> {
+    let mut entries = Vec::with_capacity(alloc, pairs.len())?;
+    for (index, number) in pairs {
+        entries.push((*index, F::from(*number)))?;
+    }
+    from_entries(alloc, num_vars, &entries)
+}
+
+/// The sparse extension of these entries; zero where one is past the table.
+pub fn from_entries<F: Field>(
+    alloc: Global,
+    num_vars: usize,
+    entries: &[(usize, F)],
+) -> Result<SparseMultilinearExtension<F>, PolyError> {
+    if num_vars >= 64 {
+        return SparseMultilinearExtension::zero(alloc);
+    }
+    let len = 1 << num_vars;
+    if !entries.iter().all(|entry| entry.0 < len) {
+        return SparseMultilinearExtension::zero(alloc);
+    }
+    SparseMultilinearExtension::from_evaluations(alloc, num_vars, entries)
 }
 
 /// Whether the values are these numbers.
@@ -88,6 +131,53 @@ pub fn relabelled<F: Field, E: MultilinearExtension<F>>(
         return Ok(None);
     }
     Ok(Some(p.relabel(alloc, a, b, k)?))
+}
+
+/// The sum in place of the first.
+pub fn added<F: Field, E: MultilinearExtension<F>>(
+    alloc: Global,
+    p: &E,
+    q: &E,
+) -> Result<Option<E>, PolyError> {
+    let mut changed = p.clone()?;
+    if !changed.addable(q) {
+        return Ok(None);
+    }
+    changed.add_assign(alloc, q)?;
+    Ok(Some(changed))
+}
+
+/// The difference in place of the first.
+pub fn subtracted<F: Field, E: MultilinearExtension<F>>(
+    alloc: Global,
+    p: &E,
+    q: &E,
+) -> Result<Option<E>, PolyError> {
+    let mut changed = p.clone()?;
+    if !changed.addable(q) {
+        return Ok(None);
+    }
+    changed.sub_assign(alloc, q)?;
+    Ok(Some(changed))
+}
+
+/// The sum with a multiple in place of the first.
+pub fn added_scaled<F: Field, E: MultilinearExtension<F>>(
+    alloc: Global,
+    p: &E,
+    (factor, q): (F, &E),
+) -> Result<Option<E>, PolyError> {
+    let mut changed = p.clone()?;
+    if !changed.addable(q) {
+        return Ok(None);
+    }
+    changed.add_assign_scaled(alloc, factor, q)?;
+    Ok(Some(changed))
+}
+
+/// Whether two are equal and hash equally, or neither.
+pub fn compare<F: Field, E: MultilinearExtension<F>>(p: &E, q: &E, equal: bool) -> bool {
+    (p == q) == equal && (hash_of(p) == hash_of(q)) == equal
 }
 
 /// The hash of the value.

@@ -1,8 +1,10 @@
 //! What the dense extension alone has.
 
-use crate::building::{dense, elements, has_table};
+use crate::building::{dense, elements, has_table, value};
+use crate::drawn::{drawn, drawn_point};
 use ark_base::{F5, F65537, Field, PolyError, Polynomial};
 use ark_multi::multilinear::{DenseMultilinearExtension, MultilinearExtension};
+use rand_pcg::Pcg64;
 use std::alloc::Global;
 use std::test::Fail;
 
@@ -125,5 +127,208 @@ fn debug_texts(rt: HostRuntime) -> Result<(), Fail> {
     for (table, start, end) in rows {
         assert!(rt; is_printed::<F5>(rt.alloc(), table, start, end)?);
     }
+    Ok(())
+}
+
+// The extensions of these tables.
+fn extensions<F: Field>(
+    alloc: Global,
+    tables: &[&[u64]],
+) -> Result<Vec<DenseMultilinearExtension<F>>, PolyError> {
+    let mut extensions = Vec::new(alloc);
+    for table in tables {
+        extensions.push(dense(alloc, table)?)?;
+    }
+    Ok(extensions)
+}
+
+fn are_joined<F: Field>(
+    alloc: Global,
+    tables: &[&[u64]],
+    joined: &[u64],
+) -> Result<bool, PolyError> {
+    let parts = extensions::<F>(alloc, tables)?;
+    let p = DenseMultilinearExtension::concat(alloc, &parts)?;
+    Ok(has_table(alloc, &p, joined)? && p == dense(alloc, joined)?)
+}
+
+#[test]
+fn tables_one_after_the_other(rt: HostRuntime) -> Result<(), Fail> {
+    let rows: [(&[&[u64]], &[u64]); 9] = [
+        (&[], &[0]),
+        (&[&[7]], &[7]),
+        (&[&[0]], &[0]),
+        (&[&[1, 2, 3, 4]], &[1, 2, 3, 4]),
+        (&[&[1, 2], &[3, 4]], &[1, 2, 3, 4]),
+        (&[&[1, 2], &[3, 4], &[5, 6]], &[1, 2, 3, 4, 5, 6, 0, 0]),
+        (&[&[5], &[1, 2, 3, 4]], &[5, 1, 2, 3, 4, 0, 0, 0]),
+        (&[&[1, 2, 3, 4], &[5], &[6, 7]], &[1, 2, 3, 4, 5, 6, 7, 0]),
+        (&[&[0, 0], &[0, 0], &[0]], &[0, 0, 0, 0, 0, 0, 0, 0]),
+    ];
+    for (tables, joined) in rows {
+        assert!(rt; are_joined::<F65537>(rt.alloc(), tables, joined)?);
+    }
+    Ok(())
+}
+
+fn joined_has_value<F: Field>(
+    alloc: Global,
+    tables: &[&[u64]],
+    point: &[u64],
+    answer: u64,
+) -> Result<bool, PolyError> {
+    let p = DenseMultilinearExtension::concat(alloc, &extensions::<F>(alloc, tables)?)?;
+    Ok(value(alloc, &p, &elements(alloc, point)?)? == Some(F::from(answer)))
+}
+
+#[test]
+fn values_of_joined_tables(rt: HostRuntime) -> Result<(), Fail> {
+    let tables: [&[u64]; 2] = [&[2, 3, 2, 6], &[0, 0, 0, 1]];
+    assert!(rt; joined_has_value::<F65537>(rt.alloc(), &tables, &[1, 17, 3], 65480)?);
+    assert!(rt; joined_has_value::<F65537>(rt.alloc(), &[], &[], 0)?);
+    Ok(())
+}
+
+// Whether the value of two joined, of as many variables, goes from that of the first to that of the second by the last
+// item of the point.
+fn goes_between<F: Field>(
+    alloc: Global,
+    parts: &[DenseMultilinearExtension<F>; 2],
+    point: Vec<F>,
+    last: F,
+) -> Result<bool, PolyError> {
+    let joined = DenseMultilinearExtension::concat(alloc, parts)?;
+    let (Some(x), Some(y)) = (
+        value(alloc, &parts[0], &point)?,
+        value(alloc, &parts[1], &point)?,
+    ) else {
+        return Ok(false);
+    };
+    let mut longer = point;
+    longer.push(last)?;
+    Ok(value(alloc, &joined, &longer)? == Some((F::one() - last) * x + last * y))
+}
+
+fn draws_go_between<F: Field>(
+    alloc: Global,
+    rng: &mut Pcg64,
+    num_vars: usize,
+) -> Result<bool, PolyError> {
+    let (Some(p), Some(q)) = (
+        drawn::<F, DenseMultilinearExtension<F>>(alloc, rng, num_vars, 0)?,
+        drawn::<F, DenseMultilinearExtension<F>>(alloc, rng, num_vars, 0)?,
+    ) else {
+        return Ok(false);
+    };
+    let point = drawn_point(alloc, rng, num_vars)?;
+    goes_between(alloc, &[p, q], point, F::rand(rng))
+}
+
+#[test]
+fn values_between_two_joined(rt: HostRuntime) -> Result<(), Fail> {
+    let mut rng = Pcg64::new(49, 1);
+    for num_vars in 0..11 {
+        assert!(rt; draws_go_between::<F65537>(rt.alloc(), &mut rng, num_vars)?);
+    }
+    Ok(())
+}
+
+// The same for one with a variable more and one without, which is padded with zeros.
+fn unequal_go_between<F: Field>(
+    alloc: Global,
+    rng: &mut Pcg64,
+    num_vars: usize,
+) -> Result<bool, PolyError> {
+    let (Some(p), Some(q)) = (
+        drawn::<F, DenseMultilinearExtension<F>>(alloc, rng, num_vars.saturating_add(1), 0)?,
+        drawn::<F, DenseMultilinearExtension<F>>(alloc, rng, num_vars, 0)?,
+    ) else {
+        return Ok(false);
+    };
+    let (middle, last) = (F::rand(rng), F::rand(rng));
+    let mut point = drawn_point(alloc, rng, num_vars)?;
+    let short = value(alloc, &q, &point)?;
+    point.push(middle)?;
+    let long = value(alloc, &p, &point)?;
+    point.push(last)?;
+    let joined = DenseMultilinearExtension::concat(alloc, &[p, q])?;
+    let (Some(x), Some(y)) = (long, short) else {
+        return Ok(false);
+    };
+    let between = (F::one() - last) * x + last * (F::one() - middle) * y;
+    Ok(value(alloc, &joined, &point)? == Some(between))
+}
+
+#[test]
+fn values_between_two_of_other_lengths(rt: HostRuntime) -> Result<(), Fail> {
+    let mut rng = Pcg64::new(50, 1);
+    for num_vars in 0..10 {
+        assert!(rt; unequal_go_between::<F65537>(rt.alloc(), &mut rng, num_vars)?);
+    }
+    Ok(())
+}
+
+fn drawn_parts<F: Field>(
+    alloc: Global,
+    rng: &mut Pcg64,
+    count: usize,
+    num_vars: usize,
+) -> Result<Vec<DenseMultilinearExtension<F>>, PolyError> {
+    let mut parts = Vec::new(alloc);
+    for _ in 0..count {
+        if let Some(part) = drawn(alloc, rng, num_vars, 0)? {
+            parts.push(part)?;
+        }
+    }
+    Ok(parts)
+}
+
+// Whether four are joined as two that are each joined of two.
+fn four_are_two_of_two<F: Field>(
+    alloc: Global,
+    rng: &mut Pcg64,
+    num_vars: usize,
+) -> Result<bool, PolyError> {
+    let parts = drawn_parts::<F>(alloc, rng, 4, num_vars)?;
+    let [first, second, third, fourth] = parts.as_slice() else {
+        return Ok(false);
+    };
+    let low = DenseMultilinearExtension::concat(alloc, &[first.clone()?, second.clone()?])?;
+    let high = DenseMultilinearExtension::concat(alloc, &[third.clone()?, fourth.clone()?])?;
+    let joined = DenseMultilinearExtension::concat(alloc, &parts)?;
+    let halves = [low, high];
+    let point = drawn_point(alloc, rng, num_vars.saturating_add(1))?;
+    Ok(
+        joined == DenseMultilinearExtension::concat(alloc, &halves)?
+            && goes_between(alloc, &halves, point, F::rand(rng))?,
+    )
+}
+
+#[test]
+fn four_joined(rt: HostRuntime) -> Result<(), Fail> {
+    let mut rng = Pcg64::new(51, 1);
+    for num_vars in 0..10 {
+        assert!(rt; four_are_two_of_two::<F65537>(rt.alloc(), &mut rng, num_vars)?);
+    }
+    Ok(())
+}
+
+// Whether the sum of two that are joined has this table.
+fn sum_of_joined<F: Field>(
+    alloc: Global,
+    left: &[&[u64]; 2],
+    right: &[&[u64]; 2],
+    sum: &[u64],
+) -> Result<bool, PolyError> {
+    let p = DenseMultilinearExtension::concat(alloc, &extensions::<F>(alloc, left)?)?;
+    let q = DenseMultilinearExtension::concat(alloc, &extensions::<F>(alloc, right)?)?;
+    Ok(p.addable(&q) && has_table(alloc, &p.add(alloc, &q)?, sum)?)
+}
+
+#[test]
+fn sums_of_joined_tables(rt: HostRuntime) -> Result<(), Fail> {
+    let left: [&[u64]; 2] = [&[1, 2], &[3, 4]];
+    let right: [&[u64]; 2] = [&[4, 4], &[3, 0]];
+    assert!(rt; sum_of_joined::<F5>(rt.alloc(), &left, &right, &[0, 1, 1, 4])?);
     Ok(())
 }

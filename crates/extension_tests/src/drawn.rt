@@ -1,8 +1,10 @@
-//! Drawn extensions, of up to twelve variables and more.
+//! Drawn extensions of both forms, of up to twelve variables and more.
 
 use crate::building::{fixed, relabelled, value};
 use ark_base::{F65537, Field, PolyError, Polynomial};
-use ark_multi::multilinear::{DenseMultilinearExtension, MultilinearExtension};
+use ark_multi::multilinear::{
+    DenseMultilinearExtension, MultilinearExtension, SparseMultilinearExtension,
+};
 use rand_core::Rng;
 use rand_pcg::Pcg64;
 use std::alloc::{AllocError, Global};
@@ -10,8 +12,10 @@ use std::test::Fail;
 
 type Dense = DenseMultilinearExtension<F65537>;
 
-// What a form that draws places may try for one.
-const TRIES: usize = 1000;
+type Sparse = SparseMultilinearExtension<F65537>;
+
+/// What a form that draws places may try for one.
+pub const TRIES: usize = 1000;
 
 pub fn drawn<F: Field, E: MultilinearExtension<F>>(
     alloc: Global,
@@ -73,8 +77,8 @@ fn leaves<F: Field, E: MultilinearExtension<F>>(
     Ok(left.to_evaluations(alloc)?.as_slice() == table)
 }
 
-// Whether binding the first variables at once leaves what binding them one at a time does, however many they are.
-fn binds_as_one_at_a_time<F: Field, E: MultilinearExtension<F>>(
+/// Whether binding the first variables at once leaves what binding them one at a time does, however many they are.
+pub fn binds_as_one_at_a_time<F: Field, E: MultilinearExtension<F>>(
     alloc: Global,
     p: &E,
     point: &Vec<F>,
@@ -106,6 +110,7 @@ fn variables_bound_at_once_and_one_at_a_time(rt: HostRuntime) -> Result<(), Fail
     let mut rng = Pcg64::new(43, 1);
     for num_vars in 0..13 {
         assert!(rt; draws_and_binds::<F65537, Dense>(rt.alloc(), &mut rng, num_vars)?);
+        assert!(rt; draws_and_binds::<F65537, Sparse>(rt.alloc(), &mut rng, num_vars)?);
     }
     Ok(())
 }
@@ -141,6 +146,7 @@ fn values_at_corners(rt: HostRuntime) -> Result<(), Fail> {
     let mut rng = Pcg64::new(44, 1);
     for num_vars in 0..8 {
         assert!(rt; has_values_at_corners::<F65537, Dense>(rt.alloc(), &mut rng, num_vars)?);
+        assert!(rt; has_values_at_corners::<F65537, Sparse>(rt.alloc(), &mut rng, num_vars)?);
     }
     Ok(())
 }
@@ -231,6 +237,7 @@ fn values_when_variables_are_bound_and_exchanged(rt: HostRuntime) -> Result<(), 
     let mut rng = Pcg64::new(45, 1);
     for _ in 0..20 {
         assert!(rt; has_values_of_parts::<F65537, Dense>(rt.alloc(), &mut rng)?);
+        assert!(rt; has_values_of_parts::<F65537, Sparse>(rt.alloc(), &mut rng)?);
     }
     Ok(())
 }
@@ -276,6 +283,8 @@ fn draws_differ_and_add_up(rt: HostRuntime) -> Result<(), Fail> {
     let mut rng = Pcg64::new(46, 1);
     for _ in 0..20 {
         assert!(rt; draws_add_up::<F65537, Dense>(rt.alloc(), &mut rng, 10)?);
+        assert!(rt; draws_add_up::<F65537, Sparse>(rt.alloc(), &mut rng, 10)?);
+        assert!(rt; draws_add_up::<F65537, Sparse>(rt.alloc(), &mut rng, 18)?);
     }
     Ok(())
 }

@@ -10,4 +10,6 @@ mod drawn;
 #[cfg(test)]
 mod rows;
 #[cfg(test)]
+mod sparse;
+#[cfg(test)]
 mod sums;

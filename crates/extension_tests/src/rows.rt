@@ -1,6 +1,6 @@
-//! Rows of values, bound and exchanged variables, and equality.
+//! Rows of values, bound and exchanged variables, and equality, of both forms.
 
-use crate::building::{dense, elements, fixed, has_table, hash_of, relabelled, value};
+use crate::building::{compare, dense, elements, fixed, has_table, relabelled, sparse, value};
 use ark_base::{F5, F65537, Field, PolyError, Polynomial};
 use ark_multi::multilinear::MultilinearExtension;
 use std::alloc::Global;
@@ -22,7 +22,10 @@ fn table_has_value<F: Field>(
     point: &[u64],
     answer: u64,
 ) -> Result<bool, PolyError> {
-    has_value(alloc, &dense::<F>(alloc, table)?, point, answer)
+    Ok(
+        has_value(alloc, &dense::<F>(alloc, table)?, point, answer)?
+            && has_value(alloc, &sparse::<F>(alloc, table)?, point, answer)?,
+    )
 }
 
 #[test]
@@ -63,7 +66,10 @@ fn table_leaves<F: Field>(
     point: &[u64],
     left: &[u64],
 ) -> Result<bool, PolyError> {
-    leaves(alloc, &dense::<F>(alloc, table)?, point, left)
+    Ok(
+        leaves(alloc, &dense::<F>(alloc, table)?, point, left)?
+            && leaves(alloc, &sparse::<F>(alloc, table)?, point, left)?,
+    )
 }
 
 #[test]
@@ -111,7 +117,10 @@ fn table_gives<F: Field>(
     windows: Windows,
     answer: &[u64],
 ) -> Result<bool, PolyError> {
-    gives(alloc, &dense::<F>(alloc, table)?, windows, answer)
+    Ok(
+        gives(alloc, &dense::<F>(alloc, table)?, windows, answer)?
+            && gives(alloc, &sparse::<F>(alloc, table)?, windows, answer)?,
+    )
 }
 
 #[test]
@@ -158,7 +167,8 @@ fn has_windows<F: Field, E: MultilinearExtension<F>>(p: &E) -> bool {
 }
 
 fn table_has_windows<F: Field>(alloc: Global) -> Result<bool, PolyError> {
-    Ok(has_windows(&dense::<F>(alloc, &[1; 1024])?))
+    let table = [1; 1024];
+    Ok(has_windows(&dense::<F>(alloc, &table)?) && has_windows(&sparse::<F>(alloc, &table)?))
 }
 
 #[test]
@@ -167,20 +177,16 @@ fn windows_that_fit(rt: HostRuntime) -> Result<(), Fail> {
     Ok(())
 }
 
-// Whether two are equal and hash equally, or neither.
-fn compare<F: Field, E: MultilinearExtension<F>>(p: &E, q: &E, equal: bool) -> bool {
-    (p == q) == equal && (hash_of(p) == hash_of(q)) == equal
-}
-
 fn tables_compare<F: Field>(
     alloc: Global,
     left: &[u64],
     right: &[u64],
     equal: bool,
 ) -> Result<bool, PolyError> {
-    let p = dense::<F>(alloc, left)?;
-    let q = dense::<F>(alloc, right)?;
-    Ok(compare(&p, &q, equal))
+    Ok(
+        compare(&dense::<F>(alloc, left)?, &dense(alloc, right)?, equal)
+            && compare(&sparse::<F>(alloc, left)?, &sparse(alloc, right)?, equal),
+    )
 }
 
 #[test]
@@ -206,7 +212,7 @@ fn is_cloned<F: Field, E: MultilinearExtension<F>>(p: &E) -> Result<bool, PolyEr
 }
 
 fn table_is_cloned<F: Field>(alloc: Global, table: &[u64]) -> Result<bool, PolyError> {
-    is_cloned(&dense::<F>(alloc, table)?)
+    Ok(is_cloned(&dense::<F>(alloc, table)?)? && is_cloned(&sparse::<F>(alloc, table)?)?)
 }
 
 #[test]

@@ -1,7 +1,7 @@
-//! Sums, differences and multiples.
+//! Sums, differences and multiples, of both forms.
 
-use crate::building::{dense, has_table};
-use ark_base::{F5, Field, PolyError, Polynomial};
+use crate::building::{added, added_scaled, dense, has_table, sparse, subtracted};
+use ark_base::{F5, F65537, Field, PolyError, Polynomial};
 use ark_multi::multilinear::MultilinearExtension;
 use std::alloc::Global;
 use std::test::Fail;
@@ -89,11 +89,9 @@ fn is_added_in_place<F: Field, E: MultilinearExtension<F>>(
     q: &E,
     sum: &[u64],
 ) -> Result<bool, PolyError> {
-    let mut changed = p.clone()?;
-    if !changed.addable(q) {
+    let Some(changed) = added(alloc, p, q)? else {
         return Ok(false);
-    }
-    changed.add_assign(alloc, q)?;
+    };
     has_table(alloc, &changed, sum)
 }
 
@@ -103,11 +101,9 @@ fn is_subtracted_in_place<F: Field, E: MultilinearExtension<F>>(
     q: &E,
     difference: &[u64],
 ) -> Result<bool, PolyError> {
-    let mut changed = p.clone()?;
-    if !changed.addable(q) {
+    let Some(changed) = subtracted(alloc, p, q)? else {
         return Ok(false);
-    }
-    changed.sub_assign(alloc, q)?;
+    };
     has_table(alloc, &changed, difference)
 }
 
@@ -117,11 +113,9 @@ fn is_added_scaled<F: Field, E: MultilinearExtension<F>>(
     (factor, q): (u64, &E),
     sum: &[u64],
 ) -> Result<bool, PolyError> {
-    let mut changed = p.clone()?;
-    if !changed.addable(q) {
+    let Some(changed) = added_scaled(alloc, p, (F::from(factor), q))? else {
         return Ok(false);
-    }
-    changed.add_assign_scaled(alloc, F::from(factor), q)?;
+    };
     has_table(alloc, &changed, sum)
 }
 
@@ -140,9 +134,9 @@ fn has_all_sums<F: Field, E: MultilinearExtension<F>>(
 }
 
 fn tables_have_sums<F: Field>(alloc: Global, row: Row<'_>) -> Result<bool, PolyError> {
-    let p = dense::<F>(alloc, row.left)?;
-    let q = dense::<F>(alloc, row.right)?;
-    has_all_sums(alloc, &p, &q, row)
+    let (p, q) = (dense::<F>(alloc, row.left)?, dense(alloc, row.right)?);
+    let (few, others) = (sparse::<F>(alloc, row.left)?, sparse(alloc, row.right)?);
+    Ok(has_all_sums(alloc, &p, &q, row)? && has_all_sums(alloc, &few, &others, row)?)
 }
 
 #[test]
@@ -167,7 +161,10 @@ fn table_has_opposite<F: Field>(
     table: &[u64],
     opposite: &[u64],
 ) -> Result<bool, PolyError> {
-    has_opposite(alloc, &dense::<F>(alloc, table)?, opposite)
+    Ok(
+        has_opposite(alloc, &dense::<F>(alloc, table)?, opposite)?
+            && has_opposite(alloc, &sparse::<F>(alloc, table)?, opposite)?,
+    )
 }
 
 #[test]
@@ -194,9 +191,10 @@ fn tables_can_be_added<F: Field>(
     right: &[u64],
     addable: bool,
 ) -> Result<bool, PolyError> {
-    let p = dense::<F>(alloc, left)?;
-    let q = dense::<F>(alloc, right)?;
-    Ok(can_be_added(&p, &q, addable))
+    Ok(
+        can_be_added(&dense::<F>(alloc, left)?, &dense(alloc, right)?, addable)
+            && can_be_added(&sparse::<F>(alloc, left)?, &sparse(alloc, right)?, addable),
+    )
 }
 
 #[test]
@@ -213,6 +211,7 @@ fn addable_by_variables_or_as_zero(rt: HostRuntime) -> Result<(), Fail> {
     for (left, right, addable) in rows {
         assert!(rt; tables_can_be_added::<F5>(rt.alloc(), left, right, addable)?);
     }
+    assert!(rt; tables_can_be_added::<F65537>(rt.alloc(), &[5], &[1, 2], false)?);
     Ok(())
 }
 
@@ -229,11 +228,14 @@ fn keeps_variables<F: Field, E: MultilinearExtension<F>>(
 }
 
 fn table_keeps_variables<F: Field>(alloc: Global) -> Result<bool, PolyError> {
-    keeps_variables(alloc, &dense::<F>(alloc, &[1, 2])?)
+    Ok(
+        keeps_variables(alloc, &dense::<F>(alloc, &[1, 2])?)?
+            && keeps_variables(alloc, &sparse::<F>(alloc, &[1, 2])?)?,
+    )
 }
 
 #[test]
 fn zero_with_no_multiple_gains_the_variables(rt: HostRuntime) -> Result<(), Fail> {
-    assert!(rt; table_keeps_variables::<F5>(rt.alloc())?);
+    assert!(rt; table_keeps_variables::<F65537>(rt.alloc())?);
     Ok(())
 }

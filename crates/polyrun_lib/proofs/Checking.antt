@@ -1,8 +1,9 @@
 -- What is written of rows, line by line, up to the end of the rows, a failure of the writer or want of memory.
-use Rattle.std.proofs.Common.{◌≡◌, ◌⊎◌, ◌≢◌, ℕ, ◌+◌, ◌<◌, Bool, true, false, List, [], ◌∷◌, ◌++◌, length, map, take, get_or, inl, inr, refl, sym, ap, ap₂, subst, ◌∙◌, suc, arith, append-nil, codes, ltb, ltb-true, ltb-false, IsTrue, ◌↔◌, true≢false, lit<, bytes_eq, string_bytes, Result, Ok, Err, not, zero, vec_items}
+use Rattle.std.proofs.Common.{◌≡◌, ◌⊎◌, ◌≢◌, ℕ, ◌+◌, ◌<◌, Bool, true, false, List, [], ◌∷◌, ◌++◌, length, map, take, get_or, inl, inr, refl, sym, ap, ap₂, subst, ◌∙◌, suc, arith, append-nil, codes, ltb, ltb-true, ltb-false, IsTrue, ◌↔◌, true≢false, bytes_eq, string_bytes, Result, Ok, Err, not, zero, vec_items}
 use Rattle.std.specs.Prelude.{Option, Vec}
 use Rattle.std.specs.List.{concat}
 use Rattle.std.specs.Io.KnownBytes.{Appends}
+use denote.Ref.{Bor}
 use Rattle.std.proofs.KnownBytes.{Appends-nil, Appends-trans}
 use Rattle.std.proofs.lemmas.List.{append_cancel_right, length-map, length-take, take_more, take_all}
 use Rattle.std.proofs.lemmas.List.Folds.{concat-append}
@@ -17,8 +18,8 @@ use Rattle.polyrun_lib.specs.Lines.{ended, row_line_of, refusal_line_of, usage_t
 use Rattle.polyrun_lib.specs.Answer.{Known, IsCommand, IsPlainAnswer, IsWritten}
 use Rattle.polyrun_lib.specs.Commands.{Command}
 use Rattle.polyrun_lib.specs.Outcome.{MayRefuse, IsOutcome, IsOutcomeOf}
-use Rattle.polyrun_lib.specs.Vectors.{Row, HasRows}
-use Rattle.polyrun_lib.specs.Check.{row_of, IsVectors, IsVerdict, AreVerdicts, lines_from, lines_text, status_of, MayCheck}
+use Rattle.polyrun_lib.specs.Vectors.{Row}
+use Rattle.polyrun_lib.specs.Check.{row_of, shown_row, IsVectors, IsVerdict, HasLine, EndsAt, AreVerdicts, lines_from, lines_text, status_of, MayCheck}
 
 -- ---- one more verdict
 
@@ -88,25 +89,23 @@ verdicts_more : (field : List ℕ) (rows : List Row) (i : ℕ) (row : Row) (verd
 verdicts_more field rows i row verdicts good below is are verdict =
     rw (take_more rows i row below, is) (AreVerdicts-push field (take i rows) row verdicts good are verdict)
 
-lines_more : (field : List ℕ) (rows : List Row) (i : ℕ) (verdicts : List Bool) (good : Bool) (line : List ℕ) → i < length rows → AreVerdicts field (take i rows) verdicts → line ≡ row_line_of (i + 1) good
-    → lines_text (verdicts ++ good ∷ []) ≡ lines_text verdicts ++ line
-lines_more field rows i verdicts good line below are is =
+lines_more : (field : List ℕ) (rows : List Row) (i : ℕ) (verdicts : List Bool) (good : Bool) → i < length rows → AreVerdicts field (take i rows) verdicts
+    → lines_text (verdicts ++ good ∷ []) ≡ lines_text verdicts ++ row_line_of (i + 1) good
+lines_more field rows i verdicts good below are =
     let e : 1 + length verdicts ≡ i + 1 = omega (arith, AreVerdicts-length field (take i rows) verdicts are, length-take i rows) in
-    lines_text-push verdicts good ∙ ap (λ m. lines_text verdicts ++ row_line_of m good) e ∙ ap (λ l. lines_text verdicts ++ l) (sym is)
+    lines_text-push verdicts good ∙ ap (λ m. lines_text verdicts ++ row_line_of m good) e
 
 -- a line that was written
-pub under_way-more : (field : List ℕ) (rows : List Row) (i : ℕ) (row : Row) (good : Bool) (line : List ℕ) (status : ℕ) (old now next : Option (List ℕ)) (failures_old failures_now failures_next result : ℕ)
-    → IsUnderWay field rows i status old now failures_old failures_now → i < length rows → get_or rows i row ≡ row → IsVerdict field row good → line ≡ row_line_of (i + 1) good
-    → IsWritten now next failures_now failures_next line 0 result → result ≢ 3
+pub under_way-more : (field : List ℕ) (rows : List Row) (i : ℕ) (row : Row) (good : Bool) (status : ℕ) (old now next : Option (List ℕ)) (failures_old failures_now failures_next : ℕ)
+    → IsUnderWay field rows i status old now failures_old failures_now → i < length rows → get_or rows i row ≡ row → HasLine field row (i + 1) now next failures_now failures_next good
     → (status_next : ℕ) → status_next ≡ status_after good status → IsUnderWay field rows (i + 1) status_next old next failures_old failures_next
-under_way-more field rows i row good line status old now next failures_old failures_now failures_next result way below at verdict is (inl written) more status_next after = record {
+under_way-more field rows i row good status old now next failures_old failures_now failures_next way below at has status_next after = record {
   verdicts = way.verdicts ++ good ∷ [];
-  are = verdicts_more field rows i row way.verdicts good below at way.are verdict;
-  appends = rw (lines_more field rows i way.verdicts good line below way.are is) (Appends-trans old now next (lines_text way.verdicts) line way.appends written.0);
-  kept = written.1 ∙ way.kept;
+  are = verdicts_more field rows i row way.verdicts good below at way.are has.0;
+  appends = rw (lines_more field rows i way.verdicts good below way.are) (Appends-trans old now next (lines_text way.verdicts) (row_line_of (i + 1) good) way.appends has.1);
+  kept = has.2 ∙ way.kept;
   ends = after ∙ ap (status_after good) way.ends ∙ sym (status_of-push way.verdicts good);
 }
-under_way-more field rows i row good line status old now next failures_old failures_now failures_next result way below at verdict is (inr failed) more status_next after = absurd (more failed.2)
 
 -- no line of these rows is left, or one is
 rest_cases : (i n : ℕ) → i < n → (n ≡ i + 1) ⊎ (i + 1 < n)
@@ -135,17 +134,6 @@ done-beginning field rows i verdicts old new failures_old failures_new below are
       inr (AppendsBeginning-more old new (lines_text verdicts) (refusal_line_of Memory) written, failed, refl),
     )
 
--- the writer failed at a line
-pub done-failed : (field : List ℕ) (rows : List Row) (i : ℕ) (row : Row) (good : Bool) (line : List ℕ) (status : ℕ) (old now next : Option (List ℕ)) (failures_old failures_now failures_next result : ℕ)
-    → IsUnderWay field rows i status old now failures_old failures_now → i < length rows → get_or rows i row ≡ row → IsVerdict field row good → line ≡ row_line_of (i + 1) good
-    → IsWritten now next failures_now failures_next line 0 result → result ≡ 3
-    → IsDone field rows old next failures_old failures_next 3
-done-failed field rows i row good line status old now next failures_old failures_now failures_next result way below at verdict is (inl written) e = let none = written.2 in absurd (omega (arith, none, e))
-done-failed field rows i row good line status old now next failures_old failures_now failures_next result way below at verdict is (inr failed) e =
-    done-beginning field rows i (way.verdicts ++ good ∷ []) old next failures_old failures_next below (verdicts_more field rows i row way.verdicts good below at way.are verdict)
-    (rw (lines_more field rows i way.verdicts good line below way.are is) (AppendsBeginning-after old now next (lines_text way.verdicts) line way.appends failed.0))
-    (failed.1 ∙ ap (λ n. n + 1) way.kept)
-
 -- what was written, and then more
 IsWritten-after : (old now next : Option (List ℕ)) (failures_old failures_now failures_next : ℕ) (first text : List ℕ) (status result : ℕ) → Appends old now first → failures_now ≡ failures_old
     → IsWritten now next failures_now failures_next text status result → IsWritten old next failures_old failures_next (first ++ text) status result
@@ -153,16 +141,22 @@ IsWritten-after old now next failures_old failures_now failures_next first text 
 IsWritten-after old now next failures_old failures_now failures_next first text status result appends kept (inr failed) =
     inr (AppendsBeginning-after old now next first text appends failed.0, failed.1 ∙ ap (λ n. n + 1) kept, failed.2)
 
--- memory was refused for a row's line
-pub done-cut_short : (field : List ℕ) (rows : List Row) (i : ℕ) (line : List ℕ) (status : ℕ) (old now next : Option (List ℕ)) (failures_old failures_now failures_next result : ℕ)
-    → IsUnderWay field rows i status old now failures_old failures_now → i < length rows → line ≡ refusal_line_of Memory → IsWritten now next failures_now failures_next line 1 result
+-- no line comes after a row's
+pub done-ended : (field : List ℕ) (rows : List Row) (i : ℕ) (row : Row) (status : ℕ) (old now next : Option (List ℕ)) (failures_old failures_now failures_next result : ℕ)
+    → IsUnderWay field rows i status old now failures_old failures_now → i < length rows → get_or rows i row ≡ row → EndsAt field row (i + 1) now next failures_now failures_next result
     → IsDone field rows old next failures_old failures_next result
-done-cut_short field rows i line status old now next failures_old failures_now failures_next result way below is written = (
-  lines_text way.verdicts ++ line,
+done-ended field rows i row status old now next failures_old failures_now failures_next result way below at (inl refused) = (
+  lines_text way.verdicts ++ refusal_line_of Memory,
   1,
-  inr (i, below, (way.verdicts, way.are, ap (λ l. lines_text way.verdicts ++ l) is, refl)),
-  IsWritten-after old now next failures_old failures_now failures_next (lines_text way.verdicts) line 1 result way.appends way.kept written,
+  inr (i, below, (way.verdicts, way.are, refl, refl)),
+  IsWritten-after old now next failures_old failures_now failures_next (lines_text way.verdicts) (refusal_line_of Memory) 1 result way.appends way.kept refused,
 )
+done-ended field rows i row status old now next failures_old failures_now failures_next result way below at (inr failed) =
+    let good = failed.0 in
+    subst (IsDone field rows old next failures_old failures_next) (sym failed.4)
+    (done-beginning field rows i (way.verdicts ++ good ∷ []) old next failures_old failures_next below (verdicts_more field rows i row way.verdicts good below at way.are failed.1)
+    (rw (lines_more field rows i way.verdicts good below way.are) (AppendsBeginning-after old now next (lines_text way.verdicts) (row_line_of (i + 1) good) way.appends failed.2))
+    (failed.3 ∙ ap (λ n. n + 1) way.kept))
 
 -- each row has its line
 pub done-all : (field : List ℕ) (rows : List Row) (i status : ℕ) (old now : Option (List ℕ)) (failures_old failures_now : ℕ)
@@ -173,6 +167,20 @@ done-all field rows i status old now failures_old failures_now way e = (
   inl (way.verdicts, subst (λ l. AreVerdicts field l way.verdicts) (take_all i rows (omega (arith, e))) way.are, refl, way.ends),
   inl (way.appends, way.kept, refl),
 )
+
+-- ---- one line
+
+-- all of it was written
+pub has_line : (field : List ℕ) (row : Row) (n : ℕ) (good : Bool) (line : List ℕ) (old new : Option (List ℕ)) (failures_old failures_new result : ℕ) → IsVerdict field row good → line ≡ row_line_of n good
+    → IsWritten old new failures_old failures_new line 0 result → result ≢ 3 → HasLine field row n old new failures_old failures_new good
+has_line field row n good line old new failures_old failures_new result verdict is (inl written) whole = (verdict, subst (Appends old new) is written.0, written.1)
+has_line field row n good line old new failures_old failures_new result verdict is (inr failed) whole = absurd (whole failed.2)
+
+-- the writer failed
+pub ends_failed : (field : List ℕ) (row : Row) (n : ℕ) (good : Bool) (line : List ℕ) (old new : Option (List ℕ)) (failures_old failures_new result : ℕ) → IsVerdict field row good → line ≡ row_line_of n good
+    → IsWritten old new failures_old failures_new line 0 result → result ≡ 3 → EndsAt field row n old new failures_old failures_new 3
+ends_failed field row n good line old new failures_old failures_new result verdict is (inl written) e = let none = written.2 in absurd (omega (arith, none, e))
+ends_failed field row n good line old new failures_old failures_new result verdict is (inr failed) e = inr (good, verdict, subst (AppendsBeginning old new) is failed.0, failed.1, refl)
 
 -- ---- a verdict
 
@@ -225,18 +233,6 @@ vectors-tells words name rest same is e =
 
 -- ---- what may be written for any words
 
--- some row is in each table
-pub some_row : (field : List ℕ) (rows : List Row) → HasRows field rows → 0 < length rows
-some_row field rows (inl first) = subst (λ l. 0 < length l) (sym first.1) (lit< tt)
-some_row field rows (inr (inl second)) = subst (λ l. 0 < length l) (sym second.1) (lit< tt)
-some_row field rows (inr (inr third)) = subst (λ l. 0 < length l) (sym third.1) (lit< tt)
-
--- the memory for the rows themselves was refused
-pub done-none : (field : List ℕ) (rows : List Row) (line : List ℕ) (old new : Option (List ℕ)) (failures_old failures_new result : ℕ) → 0 < length rows → line ≡ refusal_line_of Memory
-    → IsWritten old new failures_old failures_new line 1 result → IsDone field rows old new failures_old failures_new result
-done-none field rows line old new failures_old failures_new result some is written =
-    done-cut_short field rows 0 line 0 old old new failures_old failures_old failures_new result (under_way-start field rows old failures_old) some is written
-
 -- a field's word and `vectors`
 pub two_words : (words : List (List ℕ)) (field name field_text name_text number : List ℕ) (differ : Bool) → words ≡ field ∷ name ∷ [] → field_text ≡ field → field_text ≡ number → name_text ≡ name
     → differ ≡ not (bytes_eq name_text (codes "vectors")) → differ ≡ false → words ≡ number ∷ codes "vectors" ∷ []
@@ -254,16 +250,21 @@ get_or-map f [] i x = refl
 get_or-map f (y ∷ ys) zero x = refl
 get_or-map f (y ∷ ys) (suc i) x = get_or-map f ys i x
 
-pub row_at : (rows : List (Vec (String Global) Global × String Global)) (i : ℕ) (item : Vec (String Global) Global × String Global) → item ≡ get_or rows i item → get_or (map row_of rows) i (row_of item) ≡ row_of item
-row_at rows i item e = get_or-map row_of rows i item ∙ ap row_of (sym e)
+get_or-twice : {A : Type 0} (xs : List A) (i : ℕ) (x : A) → get_or xs i (get_or xs i x) ≡ get_or xs i x
+get_or-twice [] i x = refl
+get_or-twice (y ∷ ys) zero x = refl
+get_or-twice (y ∷ ys) (suc i) x = get_or-twice ys i x
 
-pub rows_below : (rows : List (Vec (String Global) Global × String Global)) (i : ℕ) → i < length rows → i < length (map row_of rows)
-rows_below rows i below = subst (λ n. i < n) (sym (length-map rows row_of)) below
+pub row_at : (rows : List (Vec (String Global) Global × String Global)) (i : ℕ) (item : Vec (String Global) Global × String Global) (words : List (String Global)) (text : List ℕ) → item ≡ get_or rows i item → words ≡ vec_items item.0 → text ≡ string_bytes item.1
+    → get_or (map row_of rows) i (map string_bytes words, text) ≡ (map string_bytes words, text)
+row_at rows i item words text e f h =
+    subst (λ row. get_or (map row_of rows) i row ≡ row) (ap₂ (λ w t. (map string_bytes w, t)) (sym f) (sym h)) (get_or-map row_of rows i item ∙ ap row_of (sym e))
 
-pub verdict_of : (field : List ℕ) (item : Vec (String Global) Global × String Global) (words : List (String Global)) (text : List ℕ) (good : Bool) → words ≡ vec_items item.0 → text ≡ string_bytes item.1
-    → IsVerdict field (map string_bytes words, text) good → IsVerdict field (row_of item) good
-verdict_of field item words text good e f verdict =
-    subst (λ w. IsVerdict field (map string_bytes w, string_bytes item.1) good) e (subst (λ t. IsVerdict field (map string_bytes words, t) good) f verdict)
+pub vector_at : (rows : List (Bor (List (Bor (List ℕ))) × Bor (List ℕ))) (i : ℕ) (item : Bor (List (Bor (List ℕ))) × Bor (List ℕ)) → get_or (map shown_row rows) i (shown_row (get_or rows i item)) ≡ shown_row (get_or rows i item)
+vector_at rows i item = get_or-map shown_row rows i (get_or rows i item) ∙ ap shown_row (get_or-twice rows i item)
+
+pub below_map : {A B : Type 0} (f : A → B) (xs : List A) (i : ℕ) → i < length xs → i < length (map f xs)
+below_map f xs i below = subst (λ n. i < n) (sym (length-map xs f)) below
 
 -- ---- the status after a row, as the branches set it
 

@@ -56,7 +56,7 @@ module _ (M : Type 0) (g : Ghosts M) (S : Shown g) where
   abbrev pub IsOurs : Domain (PrimeField M g) → Type 0
   IsOurs d = IsDomain (prime_field {M = M} {g = g} S.prime) (adicity g) (prime_root {M = M} {g = g} S) d
 
-  number_carries : Carries (prime_field {M = M} {g = g} S.prime) (operations (shown_field g)) (number {M = M} {g = g})
+  pub number_carries : Carries (prime_field {M = M} {g = g} S.prime) (operations (shown_field g)) (number {M = M} {g = g})
   number_carries = record { zero_kept = refl; one_kept = refl; plus_kept = λ x y. refl; times_kept = λ x y. refl }
 
   zero_offset : (h : ℕ) → h % g.MODULUS ≡ 0 → residue_of {M = M} {g = g} S.prime h ≡ (prime_field {M = M} {g = g} S.prime).zero
@@ -109,11 +109,10 @@ module _ (M : Type 0) (g : Ghosts M) (S : Shown g) where
         refl,
       )
 
-  elements_of : List ℕ → List (PrimeField M g)
+  abbrev pub elements_of : List ℕ → List (PrimeField M g)
   elements_of xs = map (residue_of S.prime) xs
 
-  values_of_elements : (xs : List ℕ) → map (number {M = M} {g = g}) (elements_of xs) ≡ reduced (shown_field g) xs
-  unfolding elements_of
+  pub values_of_elements : (xs : List ℕ) → map (number {M = M} {g = g}) (elements_of xs) ≡ reduced (shown_field g) xs
   values_of_elements [] = refl
   values_of_elements (x ∷ xs) = ap (λ ys. x % g.MODULUS ∷ ys) (values_of_elements xs)
 

@@ -148,6 +148,10 @@ MayAnswer words text status =
     IsPlainAnswer words text status
     ⊎ (((f : Known) × (c : Command) × IsCommand words f c × TakesMemory f c) × (text ≡ refusal_line_of Memory) × (status ≡ 1))
 
+-- no two texts or statuses are P
+abbrev pub HasAtMostOne : (List ℕ → ℕ → Type 0) → Type 0
+HasAtMostOne P = (text other : List ℕ) (status ending : ℕ) → P text status → P other ending → (other ≡ text) × (ending ≡ status)
+
 -- all of the text was written, and its status is the result; or the writer failed, in this call, after a beginning of
 -- the text, and the result is 3
 abbrev pub IsWritten : Option (List ℕ) → Option (List ℕ) → ℕ → ℕ → List ℕ → ℕ → ℕ → Type 0

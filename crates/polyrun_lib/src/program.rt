@@ -1,8 +1,8 @@
 //! The answer to the words of a command line.
 
-ghost use Rattle.std.specs.Prelude.{◌≡◌, ◌≢◌, ◌⊎◌, ◌%◌, ◌<◌, ◌∷◌, ◌++◌, ℕ, List, length, map, IfOk, IfErr, IfSome, IfNone};
+ghost use Rattle.std.specs.Prelude.{◌≡◌, ◌≢◌, ◌⊎◌, ◌%◌, ◌∷◌, ◌++◌, ℕ, List, map, IfOk, IfErr, IfSome, IfNone};
 ghost use Rattle.std.specs.Prelude.{IsOkUnless};
-ghost use Rattle.std.specs.Prelude.{string_bytes, decimal};
+ghost use Rattle.std.specs.Prelude.{string_bytes};
 ghost use Rattle.ark_math.specs.Domain.{HasNoSize, IsDomain};
 ghost use Rattle.ark_math.specs.Univariate.{of_list, nothing, IsQuotient};
 ghost use Rattle.ark_base.specs.Element.{number};
@@ -11,14 +11,14 @@ ghost use Rattle.polyrun_lib.specs.Commands.{Command as Asked, Spells, IsSpelled
 ghost use Rattle.polyrun_lib.specs.Commands.{transform_of, product_of, division_of, value_of, extension_of, size_for};
 ghost use Rattle.polyrun_lib.specs.Commands.{SpellExtended};
 ghost use Rattle.polyrun_lib.specs.Lines.{line_of};
-ghost use Rattle.polyrun_lib.specs.Answer.{Known, known_by, coefficients, IsCommand, MayAnswer, IsWritten};
-ghost use Rattle.polyrun_lib.specs.Check.{shown_row, MayCheck, MayWrite};
+ghost use Rattle.polyrun_lib.specs.Answer.{Known, known_by, coefficients, IsCommand, HasAtMostOne, MayAnswer, IsWritten};
+ghost use Rattle.polyrun_lib.specs.Check.{IsAnswer, MayWrite};
 ghost use Rattle.polyrun_lib.specs.Outcome.{IsOutcome, IsOutcomeOf};
 
 use crate::command::{Command, Direction, parse};
+use crate::laws::one_answer;
 use crate::lines::{line, refusal_line, usage_line};
-use crate::rows::check;
-use crate::vectors::{owned_rows, vectors_of};
+use crate::vectors::{check_vectors, vectors_of};
 use crate::words::list;
 use ark_base::{
     FftField, Field, Modulus5, Modulus433, Modulus65537, PolyError, PrimeField, PrimeModulus, Sink,
@@ -49,12 +49,16 @@ type Domain<M> = GeneralEvaluationDomain<PrimeField<M>>;
 /// - `size K`, the size of that domain,
 /// - `vectors`, what `check` writes for the field's own rows, with its status.
 pub fn run<W: Sink>(alloc: Global, words: &[String], out: &mut W) -> u8
-    ensures { (text : List ℕ) × (status : ℕ) × MayWrite (map string_bytes words.now) text status
+    ensures written { (text : List ℕ) × (status : ℕ) × MayWrite (map string_bytes words.now) text status
         × IsWritten (W.contents out.old) (W.contents out.new) (W.failures out.old) (W.failures out.new)
         text status result }
+
+    // There is no second answer.
+    ensures only { HasAtMostOne (IsAnswer (map string_bytes words.now)) }
 {
+    one_answer(words);
     match vectors_of(words) {
-        Some((field, rows)) => run_vectors(alloc, field, rows, out),
+        Some((field, rows)) => check_vectors(alloc, field, rows, out),
         None => run_command(alloc, words, out),
     }
 }
@@ -69,19 +73,6 @@ fn run_command<W: Sink>(alloc: Global, words: &[String], out: &mut W) -> u8
         Some(Ok(text)) => write(out, text.as_str(), 0),
         Some(Err(error)) => write(out, refusal_line(error), 1),
         None => write(out, usage_line(), 2),
-    }
-}
-
-/// Writes what `check` writes for these rows of a field, and gives its status.
-fn run_vectors<W: Sink>(alloc: Global, field: u64, rows: &[(&[&str], &str)], out: &mut W) -> u8
-    requires { 0 < length rows.now }
-    ensures { (text : List ℕ) × (status : ℕ) × MayCheck (decimal field) (map shown_row rows.now) text status
-        × IsWritten (W.contents out.old) (W.contents out.new) (W.failures out.old) (W.failures out.new)
-        text status result }
-{
-    match owned_rows(alloc, rows) {
-        Ok(rows) => check(alloc, field, &rows, out),
-        Err(_) => write(out, refusal_line(PolyError::Memory), 1),
     }
 }
 

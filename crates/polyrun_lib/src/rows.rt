@@ -1,10 +1,11 @@
 //! What is said of rows of words and texts, a line for each.
 
-ghost use Rattle.std.specs.Prelude.{◌≡◌, ◌↔◌, ℕ, List, ◌∷◌, map, IfOk, IsTrue, string_bytes, decimal};
-ghost use Rattle.polyrun_lib.specs.Lines.{ended, row_line_of};
-ghost use Rattle.polyrun_lib.specs.Answer.{IsWritten};
-ghost use Rattle.polyrun_lib.specs.Check.{row_of, IsVectors, IsVerdict, MayCheck};
+ghost use Rattle.std.specs.Prelude.{◌≡◌, ◌↔◌, ℕ, List, map, IfOk, IfErr, IsTrue, string_bytes, decimal};
+ghost use Rattle.polyrun_lib.specs.Lines.{ended, refusal_line_of};
+ghost use Rattle.polyrun_lib.specs.Answer.{HasAtMostOne, IsWritten};
+ghost use Rattle.polyrun_lib.specs.Check.{row_of, IsVectors, IsVerdict, HasLine, EndsAt, IsChecked, MayCheck};
 
+use crate::laws::one_check;
 use crate::lines::{refusal_line, row_line, usage_line};
 use crate::program::{answer_in, write};
 use ark_base::{PolyError, Sink};
@@ -18,26 +19,61 @@ use std::alloc::{AllocError, Global};
 /// always bad. Each line's memory is taken before that line is written: where it is refused, the lines before stand, and
 /// the error's line follows.
 pub fn check<W: Sink>(alloc: Global, field: u64, rows: &[(Vec<String>, String)], out: &mut W) -> u8
-    ensures { (text : List ℕ) × (status : ℕ) × MayCheck (decimal field) (map row_of rows.now) text status
+    ensures written { (text : List ℕ) × (status : ℕ) × MayCheck (decimal field) (map row_of rows.now) text status
         × IsWritten (W.contents out.old) (W.contents out.new) (W.failures out.old) (W.failures out.new)
         text status result }
+
+    // There are no other verdicts.
+    ensures only { HasAtMostOne (IsChecked (decimal field) (map row_of rows.now)) }
 {
+    one_check(field, rows);
     let mut status = 0;
     for (i, (words, text)) in rows.iter().enumerate() {
-        let Ok(is_good) = is_good(alloc, field, words, text.as_str()) else {
-            return write(out, refusal_line(PolyError::Memory), 1);
-        };
-        let Ok(line) = row_line(alloc, i as u64 + 1, is_good) else {
-            return write(out, refusal_line(PolyError::Memory), 1);
-        };
-        if write(out, line.as_str(), 0) == 3 {
-            return 3;
-        }
-        if !is_good {
-            status = 1;
+        match check_row(alloc, field, i as u64 + 1, words, text.as_str(), out) {
+            Ok(is_good) => {
+                if !is_good {
+                    status = 1;
+                }
+            }
+            Err(ended) => return ended,
         }
     }
     status
+}
+
+/// Writes a row's line, and tells whether the row is good. Where memory for the line is refused, or the writer fails, no
+/// line comes after it, and the error is the status.
+pub fn check_row<W: Sink>(
+    alloc: Global,
+    field: u64,
+    number: u64,
+    words: &[String],
+    text: &str,
+    out: &mut W,
+) -> Result<bool, u8>
+    ensures line { IfOk result (HasLine (decimal field) (map string_bytes words.now, text.now) number
+        (W.contents out.old) (W.contents out.new) (W.failures out.old) (W.failures out.new)) }
+    ensures end { IfErr result (EndsAt (decimal field) (map string_bytes words.now, text.now) number
+        (W.contents out.old) (W.contents out.new) (W.failures out.old) (W.failures out.new)) }
+{
+    let Ok(is_good) = is_good(alloc, field, words, text) else {
+        return Err(refuse(out));
+    };
+    let Ok(line) = row_line(alloc, number, is_good) else {
+        return Err(refuse(out));
+    };
+    if write(out, line.as_str(), 0) == 3 {
+        return Err(3);
+    }
+    Ok(is_good)
+}
+
+/// Writes that memory was refused, and gives the status.
+pub fn refuse<W: Sink>(out: &mut W) -> u8
+    ensures { IsWritten (W.contents out.old) (W.contents out.new) (W.failures out.old) (W.failures out.new)
+        (refusal_line_of PolyError.Memory) 1 result }
+{
+    write(out, refusal_line(PolyError::Memory), 1)
 }
 
 /// Whether a row is good. An answer for which memory was refused is neither.

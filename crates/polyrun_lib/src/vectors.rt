@@ -1,9 +1,12 @@
 //! The rows of each field.
 
-ghost use Rattle.std.specs.Prelude.{◌≡◌, ℕ, List, map, IfOk, IfSome, IfNone, string_bytes, decimal};
+ghost use Rattle.std.specs.Prelude.{◌≡◌, ℕ, List, map, IfOk, IfErr, IfSome, IfNone, string_bytes, decimal};
+ghost use Rattle.polyrun_lib.specs.Answer.{IsWritten};
 ghost use Rattle.polyrun_lib.specs.Vectors.{Row};
-ghost use Rattle.polyrun_lib.specs.Check.{row_of, shown_row, AsksVectors};
+ghost use Rattle.polyrun_lib.specs.Check.{shown_row, AsksVectors, HasLine, EndsAt, MayCheck};
 
+use crate::rows::{check_row, refuse};
+use ark_base::Sink;
 use std::alloc::{AllocError, Global};
 
 /// The words after the field, and what the program writes for them but for the newline at its end.
@@ -65,18 +68,50 @@ pub fn vectors_of(words: &[String]) -> Option<(u64, &'static [Vector])>
     }
 }
 
-/// The rows with words of their own.
-pub fn owned_rows(
+/// Writes what `check` writes for these rows, and gives its status. A row's words are copied only when its turn has come,
+/// so that where memory is refused, the lines before stand.
+pub fn check_vectors<W: Sink>(
     alloc: Global,
+    field: u64,
     rows: &[(&[&str], &str)],
-) -> Result<Vec<(Vec<String>, String)>, AllocError>
-    ensures { IfOk result (λ owned. map row_of owned.items ≡ map shown_row rows.now) }
+    out: &mut W,
+) -> u8
+    ensures { (text : List ℕ) × (status : ℕ) × MayCheck (decimal field) (map shown_row rows.now) text status
+        × IsWritten (W.contents out.old) (W.contents out.new) (W.failures out.old) (W.failures out.new)
+        text status result }
 {
-    let mut owned = Vec::new(alloc);
-    for row in rows {
-        owned.push((owned_words(alloc, row.0)?, row.1.to_string(alloc)?))?;
+    let mut status = 0;
+    for (i, (words, text)) in rows.iter().enumerate() {
+        match check_vector(alloc, field, i as u64 + 1, words, text, out) {
+            Ok(is_good) => {
+                if !is_good {
+                    status = 1;
+                }
+            }
+            Err(ended) => return ended,
+        }
     }
-    Ok(owned)
+    status
+}
+
+/// Writes a row's line, and tells whether the row is good. Where no line comes after it, the error is the status.
+fn check_vector<W: Sink>(
+    alloc: Global,
+    field: u64,
+    number: u64,
+    words: &[&str],
+    text: &str,
+    out: &mut W,
+) -> Result<bool, u8>
+    ensures line { IfOk result (HasLine (decimal field) (map (λ word. word.now) words.now, text.now) number
+        (W.contents out.old) (W.contents out.new) (W.failures out.old) (W.failures out.new)) }
+    ensures end { IfErr result (EndsAt (decimal field) (map (λ word. word.now) words.now, text.now) number
+        (W.contents out.old) (W.contents out.new) (W.failures out.old) (W.failures out.new)) }
+{
+    match owned_words(alloc, words) {
+        Ok(words) => check_row(alloc, field, number, &words, text, out),
+        Err(_) => Err(refuse(out)),
+    }
 }
 
 /// The words with memory of their own.

@@ -19,6 +19,10 @@ use Rattle.ark_math.proofs.Polynomials.Cube.{pow_twice, sum_below-pairs, weight-
 abbrev pub bound : {F : Type 0} → FieldOn F → (ℕ → F) → F → ℕ → F
 bound K t x c = K.plus (t (2 * c)) (K.times x (minus K (t (2 * c + 1)) (t (2 * c))))
 
+-- the last of n + 1 variables bound to x: its value at b, from those at b and at 2 ^ n + b
+abbrev pub last_bound : {F : Type 0} → FieldOn F → ℕ → (ℕ → F) → F → ℕ → F
+last_bound K n t x b = K.plus (t b) (K.times x (minus K (t (2 ^ n + b)) (t b)))
+
 -- what is left of the entry (index, value) when the first variables are bound to p
 abbrev pub windowed : {F : Type 0} → FieldOn F → List F → ℕ × F → ℕ × F
 windowed K p e = (e.0 / 2 ^ length p, K.times e.1 (weight K p (e.0 % 2 ^ length p)))
@@ -121,6 +125,21 @@ module _ {F : Type 0} (K : FieldOn F) (N : IsField K) where
       extension-same (opposite K t) (scaled K (K.negated K.one) t) x (λ b l. ring1 K N (λ v. (negative v, negative unit ⊗ v)) refl (t b))
       ∙ extension-scaled (K.negated K.one) t x
       ∙ ring1 K N (λ v. (negative unit ⊗ v, negative v)) refl (extension K t x)
+
+  -- a point's last item is bound to the last variable
+  pub extension-last : (t : ℕ → F) (p : List F) (x : F) → extension K t (p ++ x ∷ []) ≡ extension K (last_bound K (length p) t x) p
+  extension-last t p x =
+      let upper : ℕ → F = λ b. t (2 ^ length p + b) in
+      let low : fixed K t p 0 ≡ extension K t p = sym (extension-fixed t p) in
+      let high : fixed K t p 1 ≡ extension K upper p =
+      extension-same (λ b. t (1 * 2 ^ length p + b)) upper p (λ b l. let e : 1 * 2 ^ length p + b ≡ 2 ^ length p + b = omega arith in ap t e) in
+      extension-append t p (x ∷ [])
+      ∙ extension-cons (fixed K t p) x []
+      ∙ extension-nil (bound K (fixed K t p) x)
+      ∙ ap₂ (λ u v. K.plus u (K.times x (minus K v u))) low high
+      ∙ sym (extension-added t (scaled K x (difference K upper t)) p
+      ∙ ap (K.plus (extension K t p)) (extension-scaled x (difference K upper t) p
+      ∙ ap (K.times x) (extension-added upper (opposite K t) p ∙ ap (K.plus (extension K upper p)) (extension-opposite t p))))
 
   pub fixed-nothing : (p : List F) → fixed K (nothing K) p ≡ nothing K
   fixed-nothing p = fun_ext (λ c. extension-nothing p)

@@ -1,18 +1,18 @@
 -- Each table's extension is the value of a multilinear polynomial, by the list of its terms.
-use Rattle.std.proofs.Common.{◌≡◌, ◌≢◌, ℕ, zero, suc, ◌+◌, ◌*◌, ◌<◌, ◌≤◌, ◌^◌, All, List, [], ◌∷◌, ◌++◌, length, get_or, map, sym, ◌∙◌, ap, ap₂, refl, subst, arith, ⊎_elim}
-use Rattle.std.proofs.lemmas.Bool.{cases_eq}
+use Rattle.std.proofs.Common.{◌≡◌, ℕ, zero, suc, ◌+◌, ◌*◌, ◌<◌, ◌^◌, if◌then◌else◌, All, List, [], ◌∷◌, ◌++◌, length, get_or, map, sym, ◌∙◌, ap, ap₂, refl, subst, arith}
 use Rattle.std.proofs.lemmas.List.Elements.{All-append, All-map, All-cons}
 use Rattle.ark_math.specs.Field.{FieldOn, IsField, minus}
 use Rattle.ark_math.specs.Module.{itself, item, tabulate}
-use Rattle.ark_math.specs.Term.{power_of, term_value}
+use Rattle.ark_math.specs.Term.{term_value}
 use Rattle.ark_math.specs.Multivariate.{of_terms, sum_at, IsValueAt}
-use Rattle.ark_math.specs.Multilinear.{extension, fixed, IsMultilinear}
+use Rattle.ark_math.specs.Multilinear.{bit, corner, extension, fixed, IsSquareFree, IsMultilinear}
 use Rattle.ark_math.proofs.Algebra.Solve.{unit, nought, ◌⊕◌, ◌⊖◌, ◌⊗◌}
 use Rattle.ark_math.proofs.Algebra.Ring.{ring1, ring3, ring4}
 use Rattle.ark_math.proofs.Lists.Tabulated.{length-tabulate, tabulate-push, is_tabulated}
-use Rattle.ark_math.proofs.Polynomials.Terms.{power_of-append, power_of-same, power_of-other, term_value-append}
+use Rattle.ark_math.proofs.Polynomials.Terms.{term_value-append}
+use Rattle.ark_math.proofs.Polynomials.SquareFree.{square_free-nil, square_free-wider, square_free-push}
 use Rattle.ark_math.proofs.Polynomials.Multivariate.{of_terms-present, sum_at-append}
-use Rattle.ark_math.proofs.Polynomials.Multilinear.{extension-nil, extension-same, extension-append, extension-added, extension-opposite}
+use Rattle.ark_math.proofs.Polynomials.Multilinear.{extension-nil, extension-same, extension-append, extension-added, extension-opposite, extension-corner}
 
 -- the terms with one variable more in each
 abbrev with_variable : {F : Type 0} → ℕ → List (F × List (ℕ × ℕ)) → List (F × List (ℕ × ℕ))
@@ -27,45 +27,19 @@ abbrev pub multilinear_terms : {F : Type 0} → FieldOn F → ℕ → (ℕ → F
 multilinear_terms K zero t = (t 0, []) ∷ []
 multilinear_terms K (suc m) t = multilinear_terms K m t ++ with_variable m (multilinear_terms K m (growth K m t))
 
--- variables below m, each at most once
-abbrev IsOnce : ℕ → List (ℕ × ℕ) → Type 0
-IsOnce m ps = (v : ℕ) → (power_of ps v ≤ 1) × (0 < power_of ps v → v < m)
-
-once_more : (m : ℕ) (ps : List (ℕ × ℕ)) → IsOnce m ps → IsOnce (suc m) (ps ++ (m, 1) ∷ [])
-once_more m ps h v =
-    let all = power_of-append ps ((m, 1) ∷ []) v in
-    let few = (h v).0 in
-    ⊎_elim
-    (λ (e : m ≡ v).
-    let one = power_of-same (m, 1) [] v e in
-    let nil : power_of [] v ≡ 0 = refl in
-    ⊎_elim
-    (λ (z : power_of ps v ≡ 0). (omega arith, λ l. omega arith))
-    (λ (s : power_of ps v ≢ 0). let k = (h v).1 (omega arith) in absurd (omega arith))
-    (cases_eq (power_of ps v) 0))
-    (λ (ne : m ≢ v).
-    let none = power_of-other (m, 1) [] v ne in
-    let nil : power_of [] v ≡ 0 = refl in
-    let same : power_of (ps ++ (m, 1) ∷ []) v ≡ power_of ps v = omega arith in
-    (omega arith, λ l. let k = (h v).1 (omega arith) in omega arith))
-    (cases_eq m v)
-
-once_wider : (m : ℕ) (ps : List (ℕ × ℕ)) → IsOnce m ps → IsOnce (suc m) ps
-once_wider m ps h v = ((h v).0, λ l. let k = (h v).1 l in omega arith)
-
 module _ {F : Type 0} (K : FieldOn F) (N : IsField K) where
-  terms_once : (m : ℕ) (t : ℕ → F) → All (λ c. IsOnce m c.1) (multilinear_terms K m t)
-  terms_once zero t = All-cons (λ c. IsOnce 0 c.1) (t 0, []) [] (λ v. (omega arith, λ l. absurd (omega arith))) (λ k d l. absurd (omega arith))
-  terms_once (suc m) t =
-      All-append (λ c. IsOnce (suc m) c.1) (multilinear_terms K m t) (with_variable m (multilinear_terms K m (growth K m t)))
-      (λ k d l. once_wider m (get_or (multilinear_terms K m t) k d).1 (terms_once m t k d l))
-      (All-map (λ c. IsOnce (suc m) c.1) (λ c. (c.0, c.1 ++ (m, 1) ∷ [])) (multilinear_terms K m (growth K m t))
-      (λ k d l. once_more m (get_or (multilinear_terms K m (growth K m t)) k d).1 (terms_once m (growth K m t) k d l)))
+  terms_square_free : (m : ℕ) (t : ℕ → F) → All (λ c. IsSquareFree m c.1) (multilinear_terms K m t)
+  terms_square_free zero t = All-cons (λ c. IsSquareFree 0 c.1) (t 0, []) [] (square_free-nil 0) (λ k d l. absurd (omega arith))
+  terms_square_free (suc m) t =
+      All-append (λ c. IsSquareFree (suc m) c.1) (multilinear_terms K m t) (with_variable m (multilinear_terms K m (growth K m t)))
+      (λ k d l. square_free-wider m (get_or (multilinear_terms K m t) k d).1 (terms_square_free m t k d l))
+      (All-map (λ c. IsSquareFree (suc m) c.1) (λ c. (c.0, c.1 ++ (m, 1) ∷ [])) (multilinear_terms K m (growth K m t))
+      (λ k d l. square_free-push m (get_or (multilinear_terms K m (growth K m t)) k d).1 (terms_square_free m (growth K m t) k d l)))
 
   pub terms_multilinear : (m : ℕ) (t : ℕ → F) → IsMultilinear K m (of_terms K (multilinear_terms K m t))
-  terms_multilinear m t u some v =
+  terms_multilinear m t u some =
       let r = of_terms-present K N (multilinear_terms K m t) u some in
-      subst (λ s. (power_of s v ≤ 1) × (0 < power_of s v → v < m)) (ap (λ c. c.1) r.3 ∙ r.4) (terms_once m t r.0 r.1 r.2 v)
+      subst (IsSquareFree m) (ap (λ c. c.1) r.3 ∙ r.4) (terms_square_free m t r.0 r.1 r.2)
 
   sum_at-with_variable : (v : ℕ) (cs : List (F × List (ℕ × ℕ))) (x : List F) → sum_at K (with_variable v cs) x ≡ K.times (get_or x v K.zero) (sum_at K cs x)
   sum_at-with_variable v [] x = ring1 K N (λ y. (nought, y ⊗ nought)) refl (get_or x v K.zero)
@@ -103,3 +77,9 @@ module _ {F : Type 0} (K : FieldOn F) (N : IsField K) where
     refl,
     ap (extension K t) (is_tabulated K.zero x m (item (itself K) x) e (λ i l. refl)) ∙ sym (terms_value m t x),
   )
+
+  -- at a corner it is what the table has there
+  pub terms_at_corner : (m : ℕ) (t : ℕ → F) (c : ℕ) → c < 2 ^ m → IsValueAt K (of_terms K (multilinear_terms K m t)) (corner K m c) (t c)
+  terms_at_corner m t c l =
+      subst (IsValueAt K (of_terms K (multilinear_terms K m t)) (corner K m c)) (extension-corner K N t m c l)
+      (terms_value_at m t (corner K m c) (length-tabulate m (λ i. if bit c i then K.one else K.zero)))

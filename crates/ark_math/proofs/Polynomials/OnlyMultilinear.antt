@@ -14,6 +14,7 @@ use Rattle.ark_math.proofs.Algebra.Ring.{ring1, ring2, ring3, ring4, ring5}
 use Rattle.ark_math.proofs.Lists.Tabulated.{length-tabulate, get_or-tabulate, is_tabulated}
 use Rattle.ark_math.proofs.Polynomials.Terms.{same_term-same, cases_term, power_of-same, power_of-other}
 use Rattle.ark_math.proofs.Polynomials.Multivariate.{without, length-without, of_terms-without_same, of_terms-without_other, sum_at-without, one_value_at}
+use Rattle.ark_math.proofs.Polynomials.SquareFree.{square_free-few}
 use Rattle.ark_math.proofs.Polynomials.Cube.{bit-even, bit-odd, corner-suc}
 use Rattle.ark_math.proofs.Polynomials.Multilinear.{bound, extension-same, extension-nil, extension-cons, extension-added, extension-scaled, extension-opposite}
 
@@ -207,6 +208,6 @@ module _ {F : Type 0} (K : FieldOn F) (N : IsField K) where
     only_multilinear a t x y multilinear values e h =
         let cs = h.0 in
         h.2
-        ∙ only_affine m (sum_at K cs) (sum_at_affine (length cs) cs (omega arith) (λ u some v. (multilinear u (λ z. some (ap (λ f. f u) h.1 ∙ z)) v).0)) x e
+        ∙ only_affine m (sum_at K cs) (sum_at_affine (length cs) cs (omega arith) (λ u some v. square_free-few m u v (multilinear u (λ z. some (ap (λ f. f u) h.1 ∙ z))))) x e
         ∙ extension-same K N (λ b. sum_at K cs (corner K m b)) t x
         (λ b l. one_value_at K N a (corner K m b) (sum_at K cs (corner K m b)) (t b) (cs, h.1, refl) (values b (subst (λ n. b < 2 ^ n) e l)))

@@ -8,9 +8,10 @@ use Rattle.std.specs.Cmp.Lexicographic.{pointwise}
 use mathlib.Core.Path.{fun_ext}
 use Rattle.ark_math.specs.Field.{FieldOn, IsField}
 use Rattle.ark_math.specs.Univariate.{monomial, IsBelow, of_list, of_pairs, IsSparse}
-use Rattle.ark_math.specs.Multilinear.{Table, zero_table, table_sum, table_opposite, table_scaled, AreAddable, extension, written, IsConcat}
+use Rattle.ark_math.specs.Multilinear.{Table, zero_table, table_sum, table_opposite, table_scaled, AreAddable, extension, weight, written, IsConcat}
 use Rattle.ark_math.proofs.Algebra.Groups.{itself_is_module, scale_zero, zero_plus}
-use Rattle.ark_math.proofs.Algebra.Solve.{nought, negative}
+use Rattle.ark_math.proofs.Algebra.Regrouped.{sum_below-single}
+use Rattle.ark_math.proofs.Algebra.Solve.{nought, negative, ◌⊗◌}
 use Rattle.ark_math.proofs.Algebra.Ring.{ring1}
 use Rattle.ark_math.proofs.Domains.Costs.{one_log2}
 use Rattle.ark_math.proofs.Polynomials.Univariate.{coefficients_are_module, monomial-same, monomial-other}
@@ -136,6 +137,13 @@ written-absent d (p ∷ ps) b h =
 
 pub written-below : {F : Type 0} (K : FieldOn F) (n : ℕ) (ps : List (ℕ × F)) → All (λ p. p.0 < n) ps → IsBelow K n (written K.zero ps)
 written-below K n ps h i l = written-absent K.zero ps i (λ k d b e. let m = h k d b in omega arith)
+
+-- the value at a point where one pair alone is written
+pub extension-entry : {F : Type 0} (K : FieldOn F) (N : IsField K) (i : ℕ) (v : F) (x : List F) → i < 2 ^ length x → extension K (written K.zero ((i, v) ∷ [])) x ≡ K.times v (weight K x i)
+extension-entry K N i v x l =
+    sum_below-single (itself_is_module K N) (2 ^ length x) i (λ b. K.times (written K.zero ((i, v) ∷ []) b) (weight K x b)) l
+    (λ b _ ne. ap (λ u. K.times u (weight K x b)) (cond-false (i == b) v K.zero (ne_eqb i b (λ e. ne (sym e)))) ∙ ring1 K N (λ w. (nought ⊗ w, nought)) refl (weight K x b))
+    ∙ ap (λ u. K.times u (weight K x i)) (cond-true (i == i) v K.zero (eq-eqb i i refl))
 
 -- pairs of which no two are for one place are their sum
 pub of_pairs_written : {F : Type 0} (K : FieldOn F) (N : IsField K) (ps : List (ℕ × F)) → AllPairs (λ p q. p.0 ≢ q.0) ps → of_pairs K ps ≡ written K.zero ps

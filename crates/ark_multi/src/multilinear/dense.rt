@@ -1,18 +1,18 @@
 //! Multilinear extensions by all their values.
 
-ghost use Rattle.std.specs.Prelude.{◌≡◌, ◌≢◌, ◌↔◌, ◌⊎◌, ◌<◌, ◌≤◌, ◌-◌, ◌^◌, ◌==◌, ℕ, List, length, map, max, set};
-ghost use Rattle.std.specs.Prelude.{slice_index_or, if◌then◌else◌};
+ghost use Rattle.std.specs.Prelude.{◌≡◌, ◌≢◌, ◌↔◌, ◌⊎◌, ◌<◌, ◌≤◌, ◌-◌, ◌^◌, ◌==◌, ℕ, List};
+ghost use Rattle.std.specs.Prelude.{flat_map, if◌then◌else◌, length, max, min, set};
 ghost use Rattle.std.specs.Prelude.{IfErr, IfOk, IfSome, IsOkUnless, IsSome, IsTrue, OnErr, OnOk};
 ghost use Rattle.std.specs.Slice.Iter.{iter_rest};
 ghost use Rattle.std.specs.Iterator.Adapters.{IterYieldsInOrder};
-ghost use Rattle.ark_math.specs.Multilinear.{AreAddable, AreWindows, extension, exchanged, fixed};
+ghost use Rattle.ark_math.specs.Multilinear.{AreAddable, AreWindows, IsConcat, extension, exchanged, fixed};
 ghost use Rattle.ark_math.specs.Multilinear.{zero_table, table_sum, table_opposite, table_scaled};
-ghost use Rattle.ark_math.specs.Module.{tabulate};
 ghost use Rattle.ark_math.specs.Univariate.{of_list};
 
 use crate::multilinear::MultilinearExtension;
-use ark_base::{Field, PolyError, Polynomial};
+use ark_base::{Field, PolyError, Polynomial, log2};
 use ark_coeffs::dense::{add_each, add_scaled, scale_each, subtract_each};
+use ark_coeffs::draws::push_drawn;
 use ark_lists::tables::{fixed_table, relabel_table, value_of_table};
 use rand::Rng;
 use std::alloc::{AllocError, Global};
@@ -23,7 +23,7 @@ use std::slice::Iter;
 /// A multilinear extension by all the values of its table, in the order of their indices.
 #[derive(Drop)]
 #[derive_where(PartialEq, Eq, Hash; F)]
-pub struct DenseMultilinearExtension<F: Field> {
+pub struct DenseMultilinearExtension<F> {
     evaluations: Vec<F>,
     num_vars: usize,
     ghost whole: { length evaluations.items ≡ 2 ^ num_vars },
@@ -31,7 +31,9 @@ pub struct DenseMultilinearExtension<F: Field> {
 }
 
 impl<F: Field> Clone for DenseMultilinearExtension<F> {
-    ghost is_clone = { λ p q. (q.num_vars ≡ p.num_vars) × (q.evaluations.items ≡ p.evaluations.items) };
+    ghost use Rattle.ark_multi.specs.Extensions.{dense_table};
+
+    ghost is_clone = { λ p q. dense_table F.field q ≡ dense_table F.field p };
 
     fn clone(&self) -> Result<Self, AllocError> {
         Ok(DenseMultilinearExtension {
@@ -43,20 +45,17 @@ impl<F: Field> Clone for DenseMultilinearExtension<F> {
 
 impl<F: Field> Debug for DenseMultilinearExtension<F> {
     fn fmt<W: Write>(&self, f: &mut Formatter<W>) -> fmt::Result {
-        write!(f, "DenseML(nv = {}, evaluations = [", self.num_vars)?;
-        for value in self.evaluations.iter().take(4) {
+        let (num_vars, len) = (self.num_vars, self.evaluations.len());
+        write!(f, "DenseML(nv = {num_vars}, evaluations = [")?;
+        for value in self.iter().take(4) {
             write!(f, "{value:?} ")?;
         }
-        let end = if self.evaluations.len() < 4 {
-            "])"
-        } else {
-            "...])"
-        };
-        write!(f, "{end}")
+        f.write_str(if len < 4 { "])" } else { "...])" })
     }
 }
 
 impl<F: Field> Polynomial<F> for DenseMultilinearExtension<F> {
+    ghost use Rattle.ark_multi.specs.Extensions.{dense_table};
     ghost use Rattle.ark_math.specs.Multilinear.{Table};
     ghost use Rattle.ark_math.proofs.Polynomials.Tables.{AreAddable-zero, AreAddable-comm};
     ghost use Rattle.ark_math.proofs.Polynomials.Tables.{AreAddable-opposite, AreAddable-scaled};
@@ -64,18 +63,18 @@ impl<F: Field> Polynomial<F> for DenseMultilinearExtension<F> {
     ghost use Rattle.ark_math.proofs.Polynomials.Tables.{table_scaled-one, table_scaled-times};
     ghost use Rattle.ark_math.proofs.Polynomials.Tables.{table_scaled-plus, table_scaled-sum, table_scaled-zero};
     ghost use Rattle.ark_math.proofs.Polynomials.Tables.{value_of-sum, value_of-opposite, value_of-scaled};
-    ghost use Rattle.ark_lists.proofs.DenseTables.{equal_tables, same_length};
+    ghost use Rattle.ark_lists.proofs.DenseTables.{equal_tables, listed, same_length};
     ghost use Rattle.std.proofs.Common.{◌∙◌, ap, ap₂, refl, sym};
 
     type Point = Vec<F>;
 
     ghost Meaning = { Table F };
 
-    ghost meaning = { λ p. record { variables = p.num_vars; value = of_list F.field p.evaluations.items } };
+    ghost meaning = { dense_table F.field };
 
     ghost has_degree = { λ a d. d ≡ a.variables };
 
-    ghost variables = { λ p. p.num_vars };
+    ghost variables = { λ p. (dense_table F.field p).variables };
 
     ghost fits = { λ n x. length x.items ≡ n };
 
@@ -113,7 +112,10 @@ impl<F: Field> Polynomial<F> for DenseMultilinearExtension<F> {
     }
 
     fn is_zero(&self) -> bool {
-        self.num_vars == 0 && self.evaluations[0].is_zero()
+        if self.num_vars > 0 {
+            return false;
+        }
+        self.evaluations[0].is_zero()
     }
 
     fn addable(&self, other: &Self) -> bool {
@@ -139,19 +141,17 @@ impl<F: Field> Polynomial<F> for DenseMultilinearExtension<F> {
     fn add_assign(&mut self, alloc: Global, other: &Self) -> Result<(), PolyError> {
         if self.num_vars == other.num_vars {
             add_each(self.evaluations.as_mut_slice(), &other.evaluations);
-        } else if self.is_zero() {
-            *self = other.clone()?;
+            return Ok(());
         }
-        Ok(())
+        self.add_to_zero(alloc, F::one(), other)
     }
 
     fn sub_assign(&mut self, alloc: Global, other: &Self) -> Result<(), PolyError> {
         if self.num_vars == other.num_vars {
             subtract_each(self.evaluations.as_mut_slice(), &other.evaluations);
-        } else if self.is_zero() {
-            *self = other.neg(alloc)?;
+            return Ok(());
         }
-        Ok(())
+        self.add_to_zero(alloc, -F::one(), other)
     }
 
     fn add_assign_scaled(
@@ -162,19 +162,17 @@ impl<F: Field> Polynomial<F> for DenseMultilinearExtension<F> {
     ) -> Result<(), PolyError> {
         if self.num_vars == other.num_vars {
             add_scaled(self.evaluations.as_mut_slice(), factor, &other.evaluations);
-        } else if self.is_zero() {
-            *self = other.multiple(alloc, factor)?;
+            return Ok(());
         }
-        Ok(())
+        self.add_to_zero(alloc, factor, other)
     }
 
     ghost equality_law = { λ a b. equal_tables F.field F.eq F.equality_law a.evaluations.items b.evaluations.items
         a.num_vars b.num_vars a.whole b.whole };
 
-    ghost clone_law = { λ a b same. ap₂ {A = ℕ} {B = List F} (λ n v. record { variables = n; value = of_list F.field v })
-        same.0 same.1 };
+    ghost clone_law = { λ a b same. same };
 
-    ghost clone_variables = { λ a b same. same.0 };
+    ghost clone_variables = { λ a b same. ap (λ t. t.variables) same };
 
     ghost fits_max = { λ m n x left right. same_length m n x.items left right };
 
@@ -216,12 +214,13 @@ impl<F: Field> Polynomial<F> for DenseMultilinearExtension<F> {
 }
 
 impl<F: Field> MultilinearExtension<F> for DenseMultilinearExtension<F> {
+    ghost use Rattle.ark_multi.specs.Extensions.{dense_table};
     ghost use Rattle.ark_math.specs.Multilinear.{Table};
     ghost use Rattle.ark_math.specs.Univariate.{IsBelow};
     ghost use Rattle.std.proofs.Common.{refl};
     ghost use Rattle.ark_lists.proofs.DenseTables.{list_below};
 
-    ghost table = { λ p. record { variables = p.num_vars; value = of_list F.field p.evaluations.items } };
+    ghost table = { dense_table F.field };
 
     fn num_vars(&self) -> usize {
         self.num_vars
@@ -236,10 +235,11 @@ impl<F: Field> MultilinearExtension<F> for DenseMultilinearExtension<F> {
         requires { num_vars < 64 }
         ensures some { IfOk result IsSome }
         ensures variables { IfOk result (λ drawn. IfSome drawn (λ p.
-            ⟦<DenseMultilinearExtension<F> as Polynomial<F>>⟧.variables p ≡ num_vars)) }
+            (dense_table F.field p).variables ≡ num_vars)) }
         ensures memory { IsOkUnless result PolyError.Memory }
     {
-        let evaluations = drawn_values(alloc, 1 << num_vars, rng)?;
+        let mut evaluations = Vec::with_capacity(alloc, 1 << num_vars)?;
+        push_drawn(&mut evaluations, 1 << num_vars, rng)?;
         Ok(Some(DenseMultilinearExtension {
             evaluations,
             num_vars,
@@ -292,22 +292,39 @@ impl<F: Field> MultilinearExtension<F> for DenseMultilinearExtension<F> {
     ghost addable_law = { λ a b. (λ h. h, λ h. h) };
 }
 
-/// So many drawn values. Memory is taken once, before any draw.
-fn drawn_values<F: Field, R: Rng>(
-    alloc: Global,
-    count: usize,
-    rng: &mut R,
-) -> Result<Vec<F>, AllocError>
-    ensures { IfOk result (λ v. length v.items ≡ count) }
+/// How many values these have together, or `usize::MAX` where there are more.
+fn total_len<F: Field>(polys: &[DenseMultilinearExtension<F>]) -> usize
+    ensures { result ≡ min usize.MAX (length (flat_map (λ p. p.evaluations.items) polys.now)) }
 {
-    let mut values = Vec::with_capacity(alloc, count)?;
-    for _ in 0..count {
-        values.push(F::rand(rng))?;
+    let mut total: usize = 0;
+    for poly in polys {
+        total = total.saturating_add(poly.evaluations.len());
     }
+    total
+}
+
+/// The values of these, one list after the other, then zeros up to this length. Memory is taken once.
+fn joined_values<F: Field>(
+    alloc: Global,
+    polys: &[DenseMultilinearExtension<F>],
+    len: usize,
+) -> Result<Vec<F>, AllocError>
+    requires { length (flat_map (λ p. p.evaluations.items) polys.now) ≤ len }
+    ensures values { IfOk result (λ v. of_list F.field v.items
+        ≡ of_list F.field (flat_map (λ p. p.evaluations.items) polys.now)) }
+    ensures len { IfOk result (λ v. length v.items ≡ len) }
+{
+    let mut values = Vec::with_capacity(alloc, len)?;
+    for poly in polys {
+        values.extend_from_slice(&poly.evaluations)?;
+    }
+    values.resize(len, F::zero())?;
     Ok(values)
 }
 
 impl<F: Field> DenseMultilinearExtension<F> {
+    ghost use Rattle.ark_multi.specs.Extensions.{dense_table, dense_values, values_of};
+
     /// The extension of a copy of these values, `2^num_vars` of them, in the order of their indices.
     pub fn from_evaluations_slice(
         alloc: Global,
@@ -316,10 +333,8 @@ impl<F: Field> DenseMultilinearExtension<F> {
     ) -> Result<Self, PolyError>
         requires few { num_vars < 64 }
         requires whole { length evaluations.now ≡ 2 ^ num_vars }
-        ensures variables { IfOk result (λ p.
-            (⟦<DenseMultilinearExtension<F> as MultilinearExtension<F>>⟧.table p).variables ≡ num_vars) }
-        ensures values { IfOk result (λ p.
-            (⟦<DenseMultilinearExtension<F> as MultilinearExtension<F>>⟧.table p).value
+        ensures variables { IfOk result (λ p. (dense_table F.field p).variables ≡ num_vars) }
+        ensures values { IfOk result (λ p. (dense_table F.field p).value
             ≡ of_list F.field evaluations.now) }
         ensures memory { IsOkUnless result PolyError.Memory }
     {
@@ -331,9 +346,8 @@ impl<F: Field> DenseMultilinearExtension<F> {
     pub fn from_evaluations_vec(num_vars: usize, evaluations: Vec<F>) -> Self
         requires few { num_vars < 64 }
         requires whole { length evaluations.items ≡ 2 ^ num_vars }
-        ensures variables { (⟦<DenseMultilinearExtension<F> as MultilinearExtension<F>>⟧.table result).variables ≡ num_vars }
-        ensures values { (⟦<DenseMultilinearExtension<F> as MultilinearExtension<F>>⟧.table result).value
-            ≡ of_list F.field evaluations.items }
+        ensures variables { (dense_table F.field result).variables ≡ num_vars }
+        ensures values { (dense_table F.field result).value ≡ of_list F.field evaluations.items }
     {
         DenseMultilinearExtension {
             evaluations,
@@ -341,11 +355,26 @@ impl<F: Field> DenseMultilinearExtension<F> {
         }
     }
 
+    /// The extension of all these tables, one after the other, then zeros up to a power of two: of the value zero, of
+    /// no variables, where there are none. `Overflow` exactly where that power is past `2^63`, judged before memory.
+    pub fn concat(alloc: Global, polys: &[Self]) -> Result<Self, PolyError>
+        ensures values { IfOk result (λ p. IsConcat F.field (dense_values F.field polys.now)
+            (dense_table F.field p)) }
+        ensures overflow { (result ≡ Err PolyError.Overflow)
+            ↔ (2 ^ 63 < length (flat_map (λ v. v) (dense_values F.field polys.now))) }
+        ensures errors { IfErr result (λ e. (e ≡ PolyError.Memory) ⊎ (e ≡ PolyError.Overflow)) }
+    {
+        let num_vars = log2(total_len(polys)) as usize;
+        if num_vars >= 64 {
+            return Err(PolyError::Overflow);
+        }
+        let evaluations = joined_values(alloc, polys, 1 << num_vars)?;
+        Ok(DenseMultilinearExtension::from_evaluations_vec(num_vars, evaluations))
+    }
+
     /// The values, in the order of their indices.
     pub fn iter(&self) -> Iter<'_, F>
-        ensures values { iter_rest result ≡ tabulate
-            (2 ^ (⟦<DenseMultilinearExtension<F> as MultilinearExtension<F>>⟧.table self.now).variables)
-            (⟦<DenseMultilinearExtension<F> as MultilinearExtension<F>>⟧.table self.now).value }
+        ensures values { iter_rest result ≡ values_of (dense_table F.field self.now) }
         ensures runs { IterYieldsInOrder F }
     {
         self.evaluations.iter()
@@ -353,40 +382,32 @@ impl<F: Field> DenseMultilinearExtension<F> {
 
     /// Exchanges the `k` variables from `a` on with the `k` from `b` on, by exchanging values. Takes no memory.
     pub fn relabel_in_place(&mut self, a: usize, b: usize, k: usize)
-        requires { AreWindows
-            (⟦<DenseMultilinearExtension<F> as MultilinearExtension<F>>⟧.table self.old).variables a b k }
-        ensures values { (x : List F)
-            → length x ≡ (⟦<DenseMultilinearExtension<F> as MultilinearExtension<F>>⟧.table self.old).variables
-            → extension F.field (⟦<DenseMultilinearExtension<F> as MultilinearExtension<F>>⟧.table self.new).value x
-            ≡ extension F.field (⟦<DenseMultilinearExtension<F> as MultilinearExtension<F>>⟧.table self.old).value
-            (exchanged F.field x a b k) }
-        ensures variables { (⟦<DenseMultilinearExtension<F> as MultilinearExtension<F>>⟧.table self.new).variables
-            ≡ (⟦<DenseMultilinearExtension<F> as MultilinearExtension<F>>⟧.table self.old).variables }
+        requires { AreWindows (dense_table F.field self.old).variables a b k }
+        ensures values { (x : List F) → length x ≡ (dense_table F.field self.old).variables
+            → extension F.field (dense_table F.field self.new).value x
+            ≡ extension F.field (dense_table F.field self.old).value (exchanged F.field x a b k) }
+        ensures variables { (dense_table F.field self.new).variables
+            ≡ (dense_table F.field self.old).variables }
     {
         relabel_table(self.evaluations.as_mut_slice(), a, b, k);
     }
 
     /// Replaces the value at this index, one of the first `2^num_vars`.
     pub fn set(&mut self, index: usize, value: F)
-        requires { index
-            < 2 ^ (⟦<DenseMultilinearExtension<F> as MultilinearExtension<F>>⟧.table self.old).variables }
-        ensures variables { (⟦<DenseMultilinearExtension<F> as MultilinearExtension<F>>⟧.table self.new).variables
-            ≡ (⟦<DenseMultilinearExtension<F> as MultilinearExtension<F>>⟧.table self.old).variables }
-        ensures values { (i : ℕ)
-            → (⟦<DenseMultilinearExtension<F> as MultilinearExtension<F>>⟧.table self.new).value i
-            ≡ (if index == i then value
-            else (⟦<DenseMultilinearExtension<F> as MultilinearExtension<F>>⟧.table self.old).value i) }
+        requires { index < 2 ^ (dense_table F.field self.old).variables }
+        ensures variables { (dense_table F.field self.new).variables
+            ≡ (dense_table F.field self.old).variables }
+        ensures values { (i : ℕ) → (dense_table F.field self.new).value i
+            ≡ (if index == i then value else (dense_table F.field self.old).value i) }
     {
         self.evaluations[index] = value;
     }
 
     /// The multiple by the factor: zero of no variables where the factor is zero.
     pub fn mul_scalar(&self, alloc: Global, factor: F) -> Result<Self, PolyError>
-        ensures multiple { factor ≢ F.field.zero → IfOk result (λ p.
-            ⟦<DenseMultilinearExtension<F> as MultilinearExtension<F>>⟧.table p ≡ table_scaled F.field factor
-            (⟦<DenseMultilinearExtension<F> as MultilinearExtension<F>>⟧.table self.now)) }
-        ensures zero { factor ≡ F.field.zero → IfOk result (λ p.
-            ⟦<DenseMultilinearExtension<F> as MultilinearExtension<F>>⟧.table p ≡ zero_table F.field) }
+        ensures multiple { factor ≢ F.field.zero → IfOk result (λ p. dense_table F.field p
+            ≡ table_scaled F.field factor (dense_table F.field self.now)) }
+        ensures zero { factor ≡ F.field.zero → IfOk result (λ p. dense_table F.field p ≡ zero_table F.field) }
         ensures memory { IsOkUnless result PolyError.Memory }
     {
         if factor.is_zero() {
@@ -397,11 +418,9 @@ impl<F: Field> DenseMultilinearExtension<F> {
 
     /// The multiple by the factor, in place. After an error it has the value that it had.
     pub fn mul_assign(&mut self, alloc: Global, factor: F) -> Result<(), PolyError>
-        ensures multiple { factor ≢ F.field.zero → OnOk result (
-            ⟦<DenseMultilinearExtension<F> as MultilinearExtension<F>>⟧.table self.new ≡ table_scaled F.field factor
-            (⟦<DenseMultilinearExtension<F> as MultilinearExtension<F>>⟧.table self.old)) }
-        ensures zero { factor ≡ F.field.zero → OnOk result (
-            ⟦<DenseMultilinearExtension<F> as MultilinearExtension<F>>⟧.table self.new ≡ zero_table F.field) }
+        ensures multiple { factor ≢ F.field.zero → OnOk result (dense_table F.field self.new
+            ≡ table_scaled F.field factor (dense_table F.field self.old)) }
+        ensures zero { factor ≡ F.field.zero → OnOk result (dense_table F.field self.new ≡ zero_table F.field) }
         ensures kept { OnErr result (self.new ≡ self.old) }
         ensures memory { IsOkUnless result PolyError.Memory }
     {
@@ -409,10 +428,27 @@ impl<F: Field> DenseMultilinearExtension<F> {
         Ok(())
     }
 
+    /// Adds a multiple of another, where one of the two is zero of no variables.
+    fn add_to_zero(&mut self, alloc: Global, factor: F, other: &Self) -> Result<(), PolyError>
+        requires addable { AreAddable F.field (dense_table F.field self.old) (dense_table F.field other.now) }
+        requires apart { (dense_table F.field self.old).variables
+            ≢ (dense_table F.field other.now).variables }
+        ensures sum { OnOk result (dense_table F.field self.new
+            ≡ table_sum F.field (dense_table F.field self.old)
+            (table_scaled F.field factor (dense_table F.field other.now))) }
+        ensures kept { OnErr result (self.new ≡ self.old) }
+        ensures memory { IsOkUnless result PolyError.Memory }
+    {
+        if self.is_zero() {
+            *self = other.multiple(alloc, factor)?;
+        }
+        Ok(())
+    }
+
     /// All values times the factor, which keeps the variables.
     fn multiple(&self, alloc: Global, factor: F) -> Result<Self, PolyError>
-        ensures multiple { IfOk result (λ p. ⟦<DenseMultilinearExtension<F> as Polynomial<F>>⟧.meaning p
-            ≡ table_scaled F.field factor (⟦<DenseMultilinearExtension<F> as Polynomial<F>>⟧.meaning self.now)) }
+        ensures multiple { IfOk result (λ p. dense_table F.field p
+            ≡ table_scaled F.field factor (dense_table F.field self.now)) }
         ensures memory { IsOkUnless result PolyError.Memory }
     {
         let mut multiple = self.clone()?;
@@ -422,11 +458,13 @@ impl<F: Field> DenseMultilinearExtension<F> {
 }
 
 impl<F: Field> Index<usize> for DenseMultilinearExtension<F> {
+    ghost use Rattle.ark_multi.specs.Extensions.{dense_table};
+
     type Output = F;
 
-    ghost can_index = { λ p i. i < 2 ^ p.num_vars };
+    ghost can_index = { λ p i. i < 2 ^ (dense_table F.field p).variables };
 
-    ghost index_gives = { λ p i x. x ≡ slice_index_or p.evaluations.items i x };
+    ghost index_gives = { λ p i x. x ≡ (dense_table F.field p).value i };
 
     /// The value at this index, one of the first `2^num_vars`.
     fn index(&self, index: usize) -> &F {

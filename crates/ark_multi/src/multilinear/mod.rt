@@ -8,10 +8,12 @@ ghost use Rattle.ark_math.specs.Multilinear.{AreAddable, AreWindows, exchanged, 
 ghost use Rattle.ark_math.specs.Univariate.{IsBelow, of_list};
 
 mod dense;
+mod sparse;
 
 use ark_base::{Field, PolyError, Polynomial};
 pub use dense::DenseMultilinearExtension;
 use rand::Rng;
+pub use sparse::SparseMultilinearExtension;
 use std::alloc::Global;
 
 /// The multilinear extension of a table: the polynomial in `num_vars` variables, with no power above one, that has the

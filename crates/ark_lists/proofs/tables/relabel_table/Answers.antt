@@ -8,15 +8,15 @@ use Rattle.ark_math.proofs.Polynomials.Exchanged.{exchanged_index, exchanged_ind
 use Rattle.ark_math.proofs.Polynomials.Multilinear.{extension-same}
 use Rattle.ark_lists.proofs.TableLists.{exchanged_below, exchanged_below-inside, exchanged_below-swap, exchanged_below-kept}
 use Rattle.ark_lists.proofs.tables.relabel_table.Goals as goal
-use Rattle.ark_lists.proofs.tables.relabel_table.Goals.{then-a-b-via-then-a-b, then-a-b-via-else-a-b+then-k-eq0, then-i-j, else-i-j}
+use Rattle.ark_lists.proofs.tables.relabel_table.Goals.{then-k-eq0-via-else-k-eq0+then-a-b, then-k-eq0-via-then-k-eq0, then-i-j, else-i-j}
 
-pub returns-then-a-b : goal.returns-then-a-b
-returns-then-a-b g c x whole windows =
+pub returns-then-k-eq0 : goal.returns-then-k-eq0
+returns-then-k-eq0 g c x whole windows =
     let K = g.F.Field.field in
     let t = of_list K c.args.table.now in
-    let still : (n : ℕ) → exchanged_index n c.args.a c.args.b c.args.k ≡ n = λ n. elim c.then-a-b.branch [
-      | then-a-b-via-then-a-b w ↦ ap (λ b. exchanged_index n c.args.a b c.args.k) (sym w.if-a-b.true) ∙ exchanged_index-same n c.args.a c.args.k
-      | then-a-b-via-else-a-b+then-k-eq0 w ↦ ap (exchanged_index n c.args.a c.args.b) w.if-k-eq0.true ∙ exchanged_index-none n c.args.a c.args.b
+    let still : (n : ℕ) → exchanged_index n c.args.a c.args.b c.args.k ≡ n = λ n. elim c.then-k-eq0.branch [
+      | then-k-eq0-via-else-k-eq0+then-a-b w ↦ ap (λ b. exchanged_index n c.args.a b c.args.k) (sym w.if-a-b.true) ∙ exchanged_index-same n c.args.a c.args.k
+      | then-k-eq0-via-then-k-eq0 w ↦ ap (exchanged_index n c.args.a c.args.b) w.if-k-eq0.true ∙ exchanged_index-none n c.args.a c.args.b
     ] in
     ap (λ f. extension K f x) (fun_ext (λ n. ap t (sym (still n))))
     ∙ extension-exchanged K g.met.F.Field.field_laws (length x) c.args.a c.args.b c.args.k windows t x refl

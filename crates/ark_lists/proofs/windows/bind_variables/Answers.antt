@@ -1,9 +1,8 @@
 use Rattle.std.proofs.Common.{◌≡◌, ◌++◌, length, rules, sym, ap, ap₂, ◌∙◌, arith}
-use Rattle.std.proofs.lemmas.List.{take-append-drop}
+use Rattle.std.proofs.lemmas.List.{nil_from_length, take-append-drop}
 use Rattle.ark_math.specs.Multilinear.{fixed}
 use Rattle.ark_math.specs.Univariate.{of_pairs}
 use Rattle.ark_math.proofs.Polynomials.Multilinear.{fixed-nil, fixed-append}
-use Rattle.ark_lists.proofs.HeldTables.{no_items}
 use Rattle.ark_lists.proofs.windows.bind_variables.Goals as goal
 
 pub bind-preserved : goal.bind-preserved
@@ -30,4 +29,4 @@ returns-clause-values g c =
     let K = g.F.Field.field in
     let t = of_pairs K c.bind.bound.items in
     let none : length c.bind.left.now ≡ 0 = search rules in
-    sym (fixed-nil K g.met.F.Field.field_laws t) ∙ ap (fixed K t) (sym (no_items c.bind.left.now none)) ∙ c.bind.invariant.2
+    sym (fixed-nil K g.met.F.Field.field_laws t) ∙ ap (fixed K t) (sym (nil_from_length c.bind.left.now none)) ∙ c.bind.invariant.2

@@ -1,10 +1,10 @@
 use Rattle.std.proofs.Common.{◌≡◌, take}
 use Rattle.ark_math.specs.Multilinear.{fixed}
-use Rattle.ark_math.specs.Univariate.{of_pairs}
+use Rattle.ark_math.specs.Univariate.{of_pairs, added, monomial}
 use Rattle.ark_lists.specs.Held.{held}
 use Rattle.ark_lists.proofs.windows.bind_window.Given as goal
 
 abbrev pub invariant-loop-i : goal.invariant-loop-i
 invariant-loop-i g l =
     let K = g.F.Field.field in
-    held K l.table ≡ fixed K (of_pairs K (take l.i l.entries)) l.point
+    added K (held K l.table) (monomial K l.index l.sum) ≡ fixed K (of_pairs K (take l.i l.entries)) l.point

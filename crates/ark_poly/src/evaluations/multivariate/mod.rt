@@ -1,4 +1,6 @@
 //! Multilinear polynomials by their values.
 
 pub use ark_multi::multilinear;
-pub use ark_multi::multilinear::{DenseMultilinearExtension, MultilinearExtension};
+pub use ark_multi::multilinear::{
+    DenseMultilinearExtension, MultilinearExtension, SparseMultilinearExtension,
+};

@@ -1,0 +1,2 @@
+-- What contracts see of this crate's own types.
+pub mod Extensions

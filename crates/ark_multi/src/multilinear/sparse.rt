@@ -1,0 +1,403 @@
+//! Multilinear extensions by the values that aren't zero.
+
+ghost use Rattle.std.specs.Prelude.{◌≡◌, ◌≢◌, ◌<◌, ◌≤◌, ◌-◌, ◌/◌, ◌^◌, ◌==◌, ℕ, List, length, max};
+ghost use Rattle.std.specs.Prelude.{All, IfOk, IfSome, IsNone, IsOkUnless, IsSome};
+ghost use Rattle.std.specs.Slice.Iter.{iter_rest};
+ghost use Rattle.std.specs.Iterator.Adapters.{IterYieldsInOrder};
+ghost use Rattle.ark_math.specs.Multilinear.{AreAddable, extension, written};
+ghost use Rattle.ark_math.specs.Multilinear.{zero_table, table_sum, table_opposite, table_scaled};
+ghost use Rattle.ark_math.specs.Univariate.{IsSparse, of_list, of_pairs};
+
+use crate::multilinear::{DenseMultilinearExtension, MultilinearExtension};
+use ark_base::{Field, PolyError, Polynomial};
+use ark_coeffs::sparse::sum_of_terms;
+use ark_lists::draws::drawn_entries;
+use ark_lists::windows::{
+    bind_variables, relabel_entries, value_at, values_of_entries, written_entries,
+};
+use rand::Rng;
+use std::alloc::{AllocError, Global};
+use std::fmt::{self, Debug, Formatter, Write};
+use std::ops::Index;
+use std::slice::Iter;
+
+/// A multilinear extension by the entries of its table that aren't zero: pairs of index and value, the indices rising.
+#[derive(Drop)]
+#[derive_where(PartialEq, Eq, Hash; F)]
+pub struct SparseMultilinearExtension<F: Field> {
+    evaluations: Vec<(usize, F)>,
+    num_vars: usize,
+    // What an index without an entry shows.
+    #[derive_where(skip(EqHashOrd))]
+    zero: F,
+    ghost sparse: { IsSparse F.field evaluations.items },
+    ghost within: { All (λ e. e.0 < 2 ^ num_vars) evaluations.items },
+    ghost few: { num_vars < 64 },
+    ghost nothing: { zero ≡ F.field.zero },
+}
+
+impl<F: Field> Clone for SparseMultilinearExtension<F> {
+    ghost use Rattle.ark_multi.specs.Extensions.{sparse_table};
+
+    ghost is_clone = { λ p q. sparse_table F.field q ≡ sparse_table F.field p };
+
+    fn clone(&self) -> Result<Self, AllocError> {
+        Ok(SparseMultilinearExtension {
+            evaluations: self.evaluations.clone()?,
+            num_vars: self.num_vars,
+            zero: self.zero,
+        })
+    }
+}
+
+impl<F: Field> Debug for SparseMultilinearExtension<F> {
+    fn fmt<W: Write>(&self, f: &mut Formatter<W>) -> fmt::Result {
+        let (num_vars, len) = (self.num_vars, self.evaluations.len());
+        write!(
+            f,
+            "SparseMultilinearPolynomial(num_vars = {num_vars}, evaluations = ["
+        )?;
+        for entry in self.iter().take(8) {
+            write!(f, "{entry:?} ")?;
+        }
+        f.write_str(if len <= 8 { "])" } else { "...])" })
+    }
+}
+
+impl<F: Field> Polynomial<F> for SparseMultilinearExtension<F> {
+    ghost use Rattle.ark_multi.specs.Extensions.{sparse_table};
+    ghost use Rattle.ark_math.specs.Multilinear.{Table};
+    ghost use Rattle.ark_math.proofs.Polynomials.Tables.{AreAddable-zero, AreAddable-comm};
+    ghost use Rattle.ark_math.proofs.Polynomials.Tables.{AreAddable-opposite, AreAddable-scaled};
+    ghost use Rattle.ark_math.proofs.Polynomials.Tables.{table_sum-zero, table_sum-comm, table_sum-assoc};
+    ghost use Rattle.ark_math.proofs.Polynomials.Tables.{table_scaled-one, table_scaled-times};
+    ghost use Rattle.ark_math.proofs.Polynomials.Tables.{table_scaled-plus, table_scaled-sum, table_scaled-zero};
+    ghost use Rattle.ark_math.proofs.Polynomials.Tables.{value_of-sum, value_of-opposite, value_of-scaled};
+    ghost use Rattle.ark_lists.proofs.DenseTables.{same_length};
+    ghost use Rattle.ark_lists.proofs.SparseTables.{equal_entries};
+    ghost use Rattle.std.proofs.Common.{◌∙◌, ap, ap₂, refl, sym};
+
+    type Point = Vec<F>;
+
+    ghost Meaning = { Table F };
+
+    ghost meaning = { sparse_table F.field };
+
+    ghost has_degree = { λ a d. d ≡ a.variables };
+
+    ghost variables = { λ p. (sparse_table F.field p).variables };
+
+    ghost fits = { λ n x. length x.items ≡ n };
+
+    ghost has_value = { λ a x y. y ≡ extension F.field a.value x.items };
+
+    ghost addable = { AreAddable F.field };
+
+    ghost zero = { zero_table F.field };
+
+    ghost sum = { table_sum F.field };
+
+    ghost negated = { table_opposite F.field };
+
+    ghost scaled = { table_scaled F.field };
+
+    fn degree(&self) -> usize {
+        self.num_vars
+    }
+
+    fn point_fits(&self, point: &Vec<F>) -> bool {
+        point.len() == self.num_vars
+    }
+
+    fn evaluate(&self, alloc: Global, point: &Vec<F>) -> Result<F, PolyError> {
+        let left = bind_variables(alloc, &self.evaluations, point)?;
+        Ok(*value_at(&left, 0, &self.zero))
+    }
+
+    fn zero(alloc: Global) -> Result<Self, PolyError> {
+        Ok(SparseMultilinearExtension {
+            evaluations: Vec::new(alloc),
+            num_vars: 0,
+            zero: F::zero(),
+        })
+    }
+
+    fn is_zero(&self) -> bool {
+        if self.num_vars > 0 {
+            return false;
+        }
+        self.evaluations.is_empty()
+    }
+
+    fn addable(&self, other: &Self) -> bool {
+        self.num_vars == other.num_vars || self.is_zero() || other.is_zero()
+    }
+
+    fn add(&self, alloc: Global, other: &Self) -> Result<Self, PolyError> {
+        self.plus_multiple(alloc, F::one(), other)
+    }
+
+    fn sub(&self, alloc: Global, other: &Self) -> Result<Self, PolyError> {
+        self.plus_multiple(alloc, -F::one(), other)
+    }
+
+    fn neg(&self, alloc: Global) -> Result<Self, PolyError> {
+        SparseMultilinearExtension::zero(alloc)?.sub(alloc, self)
+    }
+
+    // The three in place make the sum, and then put it in place of the old value.
+    fn add_assign(&mut self, alloc: Global, other: &Self) -> Result<(), PolyError> {
+        *self = self.add(alloc, other)?;
+        Ok(())
+    }
+
+    fn sub_assign(&mut self, alloc: Global, other: &Self) -> Result<(), PolyError> {
+        *self = self.sub(alloc, other)?;
+        Ok(())
+    }
+
+    fn add_assign_scaled(
+        &mut self,
+        alloc: Global,
+        factor: F,
+        other: &Self,
+    ) -> Result<(), PolyError> {
+        *self = self.plus_multiple(alloc, factor, other)?;
+        Ok(())
+    }
+
+    ghost equality_law = { λ a b. equal_entries F.field F.field_laws F.eq F.equality_law
+        a.evaluations.items b.evaluations.items a.num_vars b.num_vars a.sparse b.sparse };
+
+    ghost clone_law = { λ a b same. same };
+
+    ghost clone_variables = { λ a b same. ap (λ t. t.variables) same };
+
+    ghost fits_max = { λ m n x left right. same_length m n x.items left right };
+
+    ghost degree_zero = { refl };
+
+    ghost degree_law = { λ a d e left right. left ∙ sym right };
+
+    ghost value_law = { λ a x y z left right. left ∙ sym right };
+
+    ghost addable_zero = { AreAddable-zero F.field F.field_laws };
+
+    ghost addable_comm = { AreAddable-comm F.field F.field_laws };
+
+    ghost addable_negated = { AreAddable-opposite F.field F.field_laws };
+
+    ghost addable_scaled = { AreAddable-scaled F.field F.field_laws };
+
+    ghost sum_zero = { table_sum-zero F.field F.field_laws };
+
+    ghost sum_comm = { λ a b addable. table_sum-comm F.field F.field_laws a b };
+
+    ghost sum_assoc = { λ a b c left right. table_sum-assoc F.field F.field_laws a b c };
+
+    ghost scaled_one = { table_scaled-one F.field F.field_laws };
+
+    ghost scaled_times = { table_scaled-times F.field F.field_laws };
+
+    ghost scaled_plus = { table_scaled-plus F.field F.field_laws };
+
+    ghost scaled_sum = { λ c a b addable. table_scaled-sum F.field F.field_laws c a b };
+
+    ghost scaled_zero = { table_scaled-zero F.field F.field_laws };
+
+    ghost value_sum = { λ a b x y z addable. value_of-sum F.field F.field_laws a b x.items y z };
+
+    ghost value_negated = { λ a x. value_of-opposite F.field F.field_laws a x.items };
+
+    ghost value_scaled = { λ c a x. value_of-scaled F.field F.field_laws c a x.items };
+}
+
+impl<F: Field> MultilinearExtension<F> for SparseMultilinearExtension<F> {
+    ghost use Rattle.ark_multi.specs.Extensions.{sparse_table};
+    ghost use Rattle.std.proofs.Common.{refl};
+    ghost use Rattle.ark_math.proofs.Polynomials.Tables.{pairs_below};
+
+    ghost table = { sparse_table F.field };
+
+    fn num_vars(&self) -> usize {
+        self.num_vars
+    }
+
+    /// At most `2^(num_vars / 2)` values of a drawn extension aren't zero.
+    fn rand<R: Rng>(
+        alloc: Global,
+        num_vars: usize,
+        rng: &mut R,
+        tries: usize,
+    ) -> Result<Option<Self>, PolyError>
+        requires { num_vars < 64 }
+        ensures variables { IfOk result (λ drawn. IfSome drawn (λ p.
+            (sparse_table F.field p).variables ≡ num_vars)) }
+        ensures entries { IfOk result (λ drawn. IfSome drawn (λ p.
+            (es : List (ℕ × F)) × (length es ≤ 2 ^ (num_vars / 2)) × IsSparse F.field es
+            × (of_pairs F.field es ≡ (sparse_table F.field p).value))) }
+        ensures spent { tries ≡ 0 → IfOk result IsNone }
+        ensures memory { IsOkUnless result PolyError.Memory }
+    {
+        SparseMultilinearExtension::rand_with_config(
+            alloc,
+            num_vars,
+            1 << (num_vars / 2),
+            rng,
+            tries,
+        )
+    }
+
+    fn relabel(&self, alloc: Global, a: usize, b: usize, k: usize) -> Result<Self, PolyError> {
+        Ok(SparseMultilinearExtension {
+            evaluations: relabel_entries(alloc, self.num_vars, &self.evaluations, a, b, k)?,
+            num_vars: self.num_vars,
+            zero: self.zero,
+        })
+    }
+
+    fn fix_variables(&self, alloc: Global, point: &[F]) -> Result<Self, PolyError> {
+        Ok(SparseMultilinearExtension {
+            evaluations: bind_variables(alloc, &self.evaluations, point)?,
+            num_vars: self.num_vars - point.len(),
+            zero: self.zero,
+        })
+    }
+
+    fn to_evaluations(&self, alloc: Global) -> Result<Vec<F>, PolyError> {
+        values_of_entries(alloc, 1 << self.num_vars, &self.evaluations)
+    }
+
+    ghost table_of = { λ a. a };
+
+    ghost table_law = { λ p. refl };
+
+    ghost one_to_one = { λ a b same. same };
+
+    ghost variables_law = { λ p. refl };
+
+    ghost few = { λ p. p.few };
+
+    ghost below = { λ p. pairs_below F.field F.field_laws (2 ^ p.num_vars) p.evaluations.items p.within };
+
+    ghost table_of_zero = { refl };
+
+    ghost table_of_sum = { λ a b. refl };
+
+    ghost table_of_negated = { λ a. refl };
+
+    ghost table_of_scaled = { λ c a. refl };
+
+    ghost degree_table = { λ a d. (λ h. h, λ h. h) };
+
+    ghost value_table = { λ a x y. (λ h. h, λ h. h) };
+
+    ghost fits_law = { λ n x. (λ h. h, λ h. h) };
+
+    ghost addable_law = { λ a b. (λ h. h, λ h. h) };
+}
+
+impl<F: Field> SparseMultilinearExtension<F> {
+    ghost use Rattle.ark_multi.specs.Extensions.{dense_table, sparse_table};
+
+    /// The extension of the table that holds these pairs of index and value, and zero elsewhere. The indices are below
+    /// `2^num_vars`, in any order; the last pair of an index wins.
+    pub fn from_evaluations(
+        alloc: Global,
+        num_vars: usize,
+        evaluations: &[(usize, F)],
+    ) -> Result<Self, PolyError>
+        requires few { num_vars < 64 }
+        requires within { All (λ e. e.0 < 2 ^ num_vars) evaluations.now }
+        ensures variables { IfOk result (λ p. (sparse_table F.field p).variables ≡ num_vars) }
+        ensures values { IfOk result (λ p. (sparse_table F.field p).value
+            ≡ written F.field.zero evaluations.now) }
+        ensures memory { IsOkUnless result PolyError.Memory }
+    {
+        Ok(SparseMultilinearExtension {
+            evaluations: written_entries(alloc, evaluations)?,
+            num_vars,
+            zero: F::zero(),
+        })
+    }
+
+    /// One of `num_vars` variables, below 64, with drawn values at `entries` drawn indices, at most `2^num_vars`, and
+    /// zero elsewhere. For each index at most `tries` are drawn until one is new; `None` where these are spent.
+    pub fn rand_with_config<R: Rng>(
+        alloc: Global,
+        num_vars: usize,
+        entries: usize,
+        rng: &mut R,
+        tries: usize,
+    ) -> Result<Option<Self>, PolyError>
+        requires few { num_vars < 64 }
+        requires enough { entries ≤ 2 ^ num_vars }
+        ensures variables { IfOk result (λ drawn. IfSome drawn (λ p.
+            (sparse_table F.field p).variables ≡ num_vars)) }
+        ensures entries { IfOk result (λ drawn. IfSome drawn (λ p.
+            (es : List (ℕ × F)) × (length es ≤ entries) × IsSparse F.field es × (of_pairs F.field es
+            ≡ (sparse_table F.field p).value))) }
+        ensures spent { tries ≡ 0 → 0 < entries → IfOk result IsNone }
+        ensures unasked { entries ≡ 0 → IfOk result IsSome }
+        ensures memory { IsOkUnless result PolyError.Memory }
+    {
+        let Some(evaluations) = drawn_entries(alloc, num_vars, entries, rng, tries)? else {
+            return Ok(None);
+        };
+        Ok(Some(SparseMultilinearExtension {
+            evaluations,
+            num_vars,
+            zero: F::zero(),
+        }))
+    }
+
+    /// The dense extension of the same table.
+    pub fn to_dense_multilinear_extension(
+        &self,
+        alloc: Global,
+    ) -> Result<DenseMultilinearExtension<F>, PolyError>
+        ensures same { IfOk result (λ p. dense_table F.field p ≡ sparse_table F.field self.now) }
+        ensures memory { IsOkUnless result PolyError.Memory }
+    {
+        let evaluations = self.to_evaluations(alloc)?;
+        Ok(DenseMultilinearExtension::from_evaluations_vec(self.num_vars, evaluations))
+    }
+
+    /// The values that aren't zero, each with its index before it, by rising indices.
+    pub fn iter(&self) -> Iter<'_, (usize, F)>
+        ensures sparse { IsSparse F.field (iter_rest result) }
+        ensures values { of_pairs F.field (iter_rest result) ≡ (sparse_table F.field self.now).value }
+        ensures runs { IterYieldsInOrder (ℕ × F) }
+    {
+        self.evaluations.iter()
+    }
+
+    /// The sum with a multiple of another, the zeros dropped.
+    fn plus_multiple(&self, alloc: Global, factor: F, other: &Self) -> Result<Self, PolyError>
+        ensures sum { IfOk result (λ p. sparse_table F.field p ≡ table_sum F.field
+            (sparse_table F.field self.now) (table_scaled F.field factor (sparse_table F.field other.now))) }
+        ensures memory { IsOkUnless result PolyError.Memory }
+    {
+        Ok(SparseMultilinearExtension {
+            evaluations: sum_of_terms(alloc, &self.evaluations, factor, &other.evaluations)?,
+            num_vars: self.num_vars.max(other.num_vars),
+            zero: self.zero,
+        })
+    }
+}
+
+impl<F: Field> Index<usize> for SparseMultilinearExtension<F> {
+    ghost use Rattle.ark_multi.specs.Extensions.{sparse_table};
+    ghost use Rattle.std.proofs.Common.{refl};
+
+    type Output = F;
+
+    ghost can_index = { λ _ _. Unit {0} };
+
+    ghost index_gives = { λ p i x. x ≡ (sparse_table F.field p).value i };
+
+    /// The value at this index; zero at any index that has no entry.
+    fn index(&self, index: usize) -> &F {
+        value_at(&self.evaluations, index, &self.zero)
+    }
+}
