@@ -8,8 +8,8 @@ use std::alloc::Global;
 use std::fmt::Debug;
 use std::hash::Hash;
 
-/// A polynomial over a field, in any number of variables. Two of them are equal exactly where the polynomials that
-/// they denote are.
+/// A polynomial over a field, in any number of variables. Two of them are equal exactly where what they denote is: the
+/// polynomial, with a multilinear extension its number of variables too.
 ///
 /// A form may keep a number of variables that is no part of the polynomial; then a point fits by this number alone, and
 /// a sum keeps the greater one. Two polynomials can be added where their forms have a sum of the same kind.
@@ -43,7 +43,7 @@ pub trait Polynomial<F: Field>: Clone + Debug + Hash + Eq + Drop {
     // A multiple; that by zero may keep the variables.
     ghost scaled: { F → Meaning → Meaning };
 
-    /// The total degree; 0 for zero.
+    /// The total degree; 0 for zero. A multilinear extension answers its number of variables.
     fn degree(&self) -> usize
         ensures { has_degree (meaning self.now) result };
 
@@ -63,7 +63,7 @@ pub trait Polynomial<F: Field>: Clone + Debug + Hash + Eq + Drop {
         ensures variables { IfOk result (λ p. variables p ≡ 0) }
         ensures memory { IsOkUnless result PolyError.Memory };
 
-    /// Whether it is the zero polynomial.
+    /// Whether it equals `zero`. A multilinear extension of zeros with variables doesn't.
     fn is_zero(&self) -> bool
         ensures { IsTrue result ↔ (meaning self.now ≡ zero) };
 

@@ -1,5 +1,5 @@
 -- Tables as lists of all their values.
-use Rattle.std.proofs.Common.{◌≡◌, ◌≢◌, ℕ, ◌-◌, ◌+◌, ◌*◌, ◌≤◌, ◌^◌, ◌==◌, ◌&&◌, ⊎_elim, max, Bool, Decides, List, length, get_or, refl, sym, ◌∙◌, ap, ap₂, arith}
+use Rattle.std.proofs.Common.{◌≡◌, ◌≢◌, ℕ, ◌-◌, ◌^◌, ◌==◌, ◌&&◌, ⊎_elim, max, Bool, Decides, List, length, get_or, refl, sym, ◌∙◌, ap, ap₂, arith}
 use mathlib.Core.Path.{fun_ext}
 use Rattle.std.specs.Cmp.{unsigned_Decides}
 use Rattle.std.proofs.lemmas.Bool.{cases_eq}
@@ -7,15 +7,12 @@ use Rattle.std.proofs.lemmas.Bool.Decides.{Decides-and}
 use Rattle.std.proofs.lemmas.List.{get_or_read}
 use Rattle.std.proofs.lemmas.Slice.Eq.{slice_eq-Decides}
 use Rattle.std.specs.Cmp.Lexicographic.{pointwise}
-use Rattle.std.proofs.lemmas.Nat.{pow-add}
-use Rattle.ark_math.specs.Field.{FieldOn, IsField}
+use Rattle.ark_math.specs.Field.{FieldOn}
 use Rattle.ark_math.specs.Module.{tabulate}
-use Rattle.ark_math.specs.Multilinear.{Table, zero_table, table_sum, table_opposite, table_scaled, AreAddable}
+use Rattle.ark_math.specs.Multilinear.{Table, zero_table}
 use Rattle.ark_math.specs.Univariate.{IsBelow, of_list}
-use Rattle.ark_math.proofs.Algebra.Solve.{unit, negative, ◌⊗◌}
-use Rattle.ark_math.proofs.Algebra.Ring.{ring1}
 use Rattle.ark_math.proofs.Lists.Tabulated.{is_tabulated}
-use Rattle.ark_math.proofs.Polynomials.Tables.{same_table, same_values, table_sum-zero, table_sum-comm}
+use Rattle.ark_math.proofs.Polynomials.Tables.{same_table, same_values}
 use Rattle.ark_math.proofs.Polynomials.UnivariateLists.{of_list-past}
 
 -- the table with these values
@@ -59,21 +56,3 @@ decides_zero {F = F} K v n x b whole none is decides =
       λ e. is_zero_table K v n x whole none is (decides.0 e),
       λ e. decides.1 (get_or_read v 0 x (omega arith) is K.zero ∙ ap (λ (t : Table F). t.value 0) e),
     )
-
-pub pow_rest : (m j : ℕ) → j ≤ m → 2 ^ (m - j) * 2 ^ j ≡ 2 ^ m
-pow_rest m j l = let e : (m - j) + j ≡ m = omega arith in sym (pow-add 2 (m - j) j) ∙ ap (λ k. 2 ^ k) e
-
-module _ {F : Type 0} (K : FieldOn F) (N : IsField K) where
-  -- a sum with zero of no variables
-  pub left_zero : (a b c : Table F) → a ≡ zero_table K → c ≡ b → c ≡ table_sum K a b
-  left_zero a b c z e = e ∙ sym (table_sum-zero K N b) ∙ table_sum-comm K N b (zero_table K) ∙ ap (λ t. table_sum K t b) (sym z)
-
-  pub right_zero : (a b : Table F) → AreAddable K a b → a.variables ≢ b.variables → a ≢ zero_table K → a ≡ table_sum K a b
-  right_zero a b addable differ some = ⊎_elim
-      (λ (e : a.variables ≡ b.variables). absurd (differ e))
-      (λ k. ⊎_elim (λ (e : a ≡ zero_table K). absurd (some e)) (λ (e : b ≡ zero_table K). sym (ap (table_sum K a) e ∙ table_sum-zero K N a)) k)
-      addable
-
-  pub opposite_scaled : (a : Table F) → table_scaled K (K.negated K.one) a ≡ table_opposite K a
-  opposite_scaled a = same_table (table_scaled K (K.negated K.one) a) (table_opposite K a) refl
-      (fun_ext (λ i. ring1 K N (λ v. (negative unit ⊗ v, negative v)) refl (a.value i)))

@@ -2,7 +2,7 @@
 use Rattle.std.proofs.Common.{◌≡◌, ◌≢◌, ℕ, ◌+◌, ◌/◌, ◌%◌, ◌<◌, ◌≤◌, ◌^◌, List, [], ◌∷◌, length, get_or, set, take, nat_eq, Some, Result, Ok, Err, IfOk, IfErr, unwrap_or, ◌==◌, if◌then◌else◌, sym, ◌∙◌, ap, ap₂, refl, subst, arith, eq-eqb, ne_eqb, ⊎_elim}
 use mathlib.Core.Path.{fun_ext}
 use Rattle.std.specs.Cmp.{nat_eq_equiv}
-use Rattle.std.specs.List.{All, IsDistinct}
+use Rattle.std.specs.List.{IsDistinct}
 use Rattle.std.specs.Map.{lookup, keys_of}
 use Rattle.std.specs.declared.hash.FoldHasher.{FoldHasher}
 use Rattle.std.specs.declared.hash.BuildHasherDefault.{BuildHasherDefault}
@@ -155,7 +155,3 @@ module _ {F : Type 0} (K : FieldOn F) (N : IsField K) where
           let up : (get_or es k d).0 < (get_or es i d).0 = s.rising k i d short l in
           let here : e ≡ get_or es i d = get_or_read es i e l is d in
           omega (arith, same, ap (λ t. t.0) early, ap (λ t. t.0) here))
-
--- what holds of each item holds of one
-pub item_of : {X : Type 0} (P : X → Type 0) (xs : List X) (i : ℕ) (x : X) → All P xs → i < length xs → x ≡ get_or xs i x → P x
-item_of P xs i x h l is = subst P (sym is) (h i x l)

@@ -11,7 +11,6 @@ use Rattle.std.proofs.lemmas.Cmp.{nat_eq_equiv}
 use Rattle.std.proofs.lemmas.List.{get_or-map}
 use Rattle.std.proofs.lemmas.Map.Entries.{length-keys_of}
 use Rattle.std.proofs.lemmas.Map.Made.{IsDistinct-from_AllPairs, length-le_from_is_member}
-use Rattle.std.proofs.lemmas.Bool.Decides.{Decides-and}
 use Rattle.ark_math.specs.Field.{FieldOn, IsField}
 use Rattle.ark_math.specs.Multilinear.{Table, zero_table, written, fixed}
 use Rattle.ark_math.specs.Univariate.{IsBelow, IsSparse, of_pairs, added, scaled}
@@ -19,7 +18,7 @@ use Rattle.ark_math.proofs.Algebra.Groups.{itself_is_module, zero_plus}
 use Rattle.ark_math.proofs.Algebra.Powers.{times_zero}
 use Rattle.ark_math.proofs.Polynomials.Multilinear.{fixed-below}
 use Rattle.ark_math.proofs.Polynomials.Univariate.{monomial-other}
-use Rattle.ark_math.proofs.Polynomials.Tables.{same_table, moved_pairs, pairs_below, sparse_below, written-below}
+use Rattle.ark_math.proofs.Polynomials.Tables.{same_table, table_Decides, moved_pairs, pairs_below, sparse_below, written-below}
 use Rattle.ark_math.proofs.Polynomials.UnivariatePairs.{of_pairs-first, tail_sparse, sparse_Decides, sparse_none_Decides}
 
 -- the table with these entries
@@ -29,11 +28,7 @@ stored K n es = record { variables = n; value = of_pairs K es }
 module _ {F : Type 0} (K : FieldOn F) (N : IsField K) where
   -- a test of entries and numbers of variables is one of tables
   pub equal_entries : (eq : F → F → Bool) → ((a b : F) → Decides (eq a b) (a ≡ b)) → (p q : List (ℕ × F)) (m n : ℕ) → IsSparse K p → IsSparse K q → Decides (pointwise (λ x y. (x.0 == y.0) && eq x.1 y.1) p q && (m == n)) (stored K m p ≡ stored K n q)
-  equal_entries eq decides p q m n left right =
-      let both = Decides-and (pointwise (λ x y. (x.0 == y.0) && eq x.1 y.1) p q) (m == n) (sparse_Decides K N decides p q left right) (unsigned_Decides m n) in (
-        λ e. let h = both.0 e in same_table (stored K m p) (stored K n q) h.1 h.0,
-        λ e. both.1 (ap (λ t. t.value) e, ap (λ t. t.variables) e),
-      )
+  equal_entries eq decides p q m n left right = table_Decides (sparse_Decides K N decides p q left right) (unsigned_Decides m n)
 
   -- entries that were written
   pub written_within : (es ps : List (ℕ × F)) (n : ℕ) → IsSparse K es → of_pairs K es ≡ written K.zero ps → All (λ e. e.0 < n) ps → All (λ e. e.0 < n) es

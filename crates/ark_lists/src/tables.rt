@@ -60,7 +60,7 @@ fn bind_first<F: Field>(table: &mut Vec<F>, x: F)
 
 /// What is left of a table when its first variables are bound to the point's items, in a list of its own. Each variable
 /// halves the table, and takes one product for each pair of values; the first is bound on the way into the list, which
-/// takes no more than half the memory of the table.
+/// takes half the memory of the table. Of a point without items it is a copy.
 pub fn fixed_table<F: Field>(alloc: Global, table: &[F], point: &[F]) -> Result<Vec<F>, AllocError>
     requires { (n : ℕ) × (n * 2 ^ length point.now ≡ length table.now) }
     ensures values { IfOk result (λ t. of_list F.field t.items

@@ -35,7 +35,7 @@ fn double_weights<F: Field>(weights: &mut Vec<F>, item: F) -> Result<(), PolyErr
     Ok(())
 }
 
-/// How much the value at each corner counts at a point, by one product for each two corners.
+/// How much the value at each corner counts at a point: one product for each corner but the first.
 pub fn weights<F: Field>(alloc: Global, point: &[F]) -> Result<Vec<F>, PolyError>
     requires { length point.now < 64 }
     ensures length { IfOk result (λ w. length w.items ≡ 2 ^ length point.now) }
@@ -108,8 +108,9 @@ pub fn bind_window<F: Field>(
     sorted_entries(alloc, table)
 }
 
-/// What is left when the first variables are bound to the point, in windows of as many variables as the number of
-/// entries has bits: then a window's weights are about as many as the entries.
+/// What is left when the first variables are bound to the point, in windows of w variables, of which the last may have
+/// fewer: w is the binary logarithm of the number of entries, rounded up, and at least 1. So a window has fewer than
+/// twice as many weights as there are entries, or two.
 pub fn bind_variables<F: Field>(
     alloc: Global,
     entries: &[(usize, F)],

@@ -34,12 +34,16 @@ extension K t x = sum_below (itself K) (2 ^ length x) (λ b. K.times (t b) (weig
 abbrev pub fixed : {F : Type 0} → FieldOn F → (ℕ → F) → List F → ℕ → F
 fixed K t p c = extension K (λ b. t (c * 2 ^ length p + b)) p
 
+-- the variable that stands at l when the k variables from a on and the k from b on are exchanged
+abbrev pub place : ℕ → ℕ → ℕ → ℕ → ℕ
+place a b k l = if nat_le a l && nat_lt l (a + k) then (l - a) + b else (if nat_le b l && nat_lt l (b + k) then (l - b) + a else l)
+
 -- x with its k items from a on and its k items from b on exchanged
 abbrev pub exchanged : {F : Type 0} → FieldOn F → List F → ℕ → ℕ → ℕ → List F
-exchanged K x a b k = tabulate (length x) (λ i. item (itself K) x
-    (if nat_le a i && nat_lt i (a + k) then (i - a) + b else (if nat_le b i && nat_lt i (b + k) then (i - b) + a else i)))
+exchanged K x a b k = tabulate (length x) (λ i. item (itself K) x (place a b k i))
 
--- windows that can be exchanged among m variables: the same one, an empty one, or two that end in order
+-- windows that can be exchanged among m variables: the same one, an empty one, or two of which the first ends where the
+-- second starts or before, and the second where the variables end or before
 abbrev pub AreWindows : ℕ → ℕ → ℕ → ℕ → Type 0
 AreWindows m a b k = (a ≡ b) ⊎ (k ≡ 0) ⊎ ((a + k ≤ b) × (b + k ≤ m)) ⊎ ((b + k ≤ a) × (a + k ≤ m))
 

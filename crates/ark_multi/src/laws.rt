@@ -1,9 +1,10 @@
 //! Laws, as contracts of functions that callers can cite.
 
 ghost use Rattle.std.specs.Prelude.{◌≡◌, ◌↔◌, ◌<◌, ◌^◌, ◌++◌, ℕ, List, length, IfOk, IsOkUnless};
-ghost use Rattle.ark_math.specs.Term.{IsAbove};
 ghost use Rattle.std.specs.Prelude.{if◌then◌else◌};
-ghost use Rattle.ark_math.specs.Multilinear.{AreWindows, IsMultilinear, bit, corner, exchanged, extension};
+ghost use Rattle.ark_math.specs.Module.{itself, item};
+ghost use Rattle.ark_math.specs.Multilinear.{AreWindows, IsMultilinear, bit, corner, exchanged, extension, place};
+ghost use Rattle.ark_math.specs.Term.{IsAbove};
 ghost use Rattle.ark_math.specs.Multivariate.{IsValueAt};
 
 use crate::multilinear::MultilinearExtension;
@@ -28,15 +29,15 @@ pub fn graded_order(s: &SparseTerm, t: &SparseTerm) -> Ordering
 /// The value of a multilinear extension at the corner with this index: the table's value there.
 pub fn value_at_corner<F: Field, E: MultilinearExtension<F>>(
     alloc: Global,
-    table: &E,
+    poly: &E,
     index: usize,
 ) -> Result<F, PolyError>
-    requires { index < 2 ^ E.variables table.now }
-    ensures value { IfOk result (λ y. y ≡ (E.table table.now).value index) }
+    requires { index < 2 ^ E.variables poly.now }
+    ensures value { IfOk result (λ y. y ≡ (E.table poly.now).value index) }
     ensures memory { IsOkUnless result PolyError.Memory }
 {
-    let point = corner_point(alloc, table.num_vars(), index)?;
-    table.evaluate(alloc, &point)
+    let point = corner_point(alloc, poly.num_vars(), index)?;
+    poly.evaluate(alloc, &point)
 }
 
 // Its item i is one where bit i of the index is set, and zero elsewhere.
@@ -67,70 +68,108 @@ fn bit_of<F: Field>(index: usize, variable: usize) -> F
 /// that has the table's values at the corners; and there is one such polynomial, and no second one.
 pub fn only_multilinear<F: Field, E: MultilinearExtension<F>>(
     alloc: Global,
-    table: &E,
+    poly: &E,
     point: &Vec<F>,
 ) -> Result<F, PolyError>
-    requires { length point.now.items ≡ E.variables table.now }
-    ensures only { IfOk result (λ y. (a : List (ℕ × ℕ) → F) → IsMultilinear F.field (E.variables table.now) a
-        → ((b : ℕ) → b < 2 ^ E.variables table.now
-        → IsValueAt F.field a (corner F.field (E.variables table.now) b) ((E.table table.now).value b))
+    requires { length point.now.items ≡ E.variables poly.now }
+    ensures only { IfOk result (λ y. (a : List (ℕ × ℕ) → F) → IsMultilinear F.field (E.variables poly.now) a
+        → ((b : ℕ) → b < 2 ^ E.variables poly.now
+        → IsValueAt F.field a (corner F.field (E.variables poly.now) b) ((E.table poly.now).value b))
         → (z : F) → IsValueAt F.field a point.now.items z → z ≡ y) }
-    ensures some { IfOk result (λ y. (a : List (ℕ × ℕ) → F) × IsMultilinear F.field (E.variables table.now) a
-        × ((b : ℕ) → b < 2 ^ E.variables table.now
-        → IsValueAt F.field a (corner F.field (E.variables table.now) b) ((E.table table.now).value b))
+    ensures some { IfOk result (λ y. (a : List (ℕ × ℕ) → F) × IsMultilinear F.field (E.variables poly.now) a
+        × ((b : ℕ) → b < 2 ^ E.variables poly.now
+        → IsValueAt F.field a (corner F.field (E.variables poly.now) b) ((E.table poly.now).value b))
         × IsValueAt F.field a point.now.items y) }
-    ensures one { (a b : List (ℕ × ℕ) → F) → IsMultilinear F.field (E.variables table.now) a
-        → IsMultilinear F.field (E.variables table.now) b
-        → ((c : ℕ) → c < 2 ^ E.variables table.now
-        → IsValueAt F.field a (corner F.field (E.variables table.now) c) ((E.table table.now).value c))
-        → ((c : ℕ) → c < 2 ^ E.variables table.now
-        → IsValueAt F.field b (corner F.field (E.variables table.now) c) ((E.table table.now).value c))
+    ensures one { (a b : List (ℕ × ℕ) → F) → IsMultilinear F.field (E.variables poly.now) a
+        → IsMultilinear F.field (E.variables poly.now) b
+        → ((c : ℕ) → c < 2 ^ E.variables poly.now
+        → IsValueAt F.field a (corner F.field (E.variables poly.now) c) ((E.table poly.now).value c))
+        → ((c : ℕ) → c < 2 ^ E.variables poly.now
+        → IsValueAt F.field b (corner F.field (E.variables poly.now) c) ((E.table poly.now).value c))
         → a ≡ b }
     ensures memory { IsOkUnless result PolyError.Memory }
 {
-    table.evaluate(alloc, point)
+    poly.evaluate(alloc, point)
 }
 
-/// The value of a multilinear extension at a point, at once and with the first variables bound before the others: they
-/// are equal.
+/// The value of a multilinear extension at `first` followed by `others`, at once and with the first variables bound
+/// before the others: they are equal.
 pub fn values_with_bound_variables<F: Field, E: MultilinearExtension<F>>(
     alloc: Global,
-    table: &E,
+    poly: &E,
     first: &[F],
     others: &Vec<F>,
-    whole: &Vec<F>,
 ) -> Result<(F, F), PolyError>
-    requires whole { whole.now.items ≡ first.now ++ others.now.items }
-    requires fits { length whole.now.items ≡ E.variables table.now }
-    ensures value { IfOk result (λ y. y.0 ≡ extension F.field (E.table table.now).value whole.now.items) }
+    requires fits { length (first.now ++ others.now.items) ≡ E.variables poly.now }
+    ensures value { IfOk result (λ y. y.0
+        ≡ extension F.field (E.table poly.now).value (first.now ++ others.now.items)) }
     ensures same { IfOk result (λ y. y.1 ≡ y.0) }
     ensures memory { IsOkUnless result PolyError.Memory }
 {
-    let rest = table.fix_variables(alloc, first)?;
-    Ok((table.evaluate(alloc, whole)?, rest.evaluate(alloc, others)?))
+    let mut whole = Vec::from_slice(alloc, first)?;
+    whole.extend_from_slice(others)?;
+    let rest = poly.fix_variables(alloc, first)?;
+    Ok((
+        poly.evaluate(alloc, &whole)?,
+        rest.evaluate(alloc, others)?,
+    ))
 }
 
-/// The value of a multilinear extension at a point with items exchanged, and that at the point of the extension with
-/// these variables exchanged: they are equal.
+/// The value of a multilinear extension at a point with the `k` items from `a` on and the `k` from `b` on exchanged, and
+/// that at the point of the extension with these variables exchanged: they are equal.
 pub fn values_with_exchanged_variables<F: Field, E: MultilinearExtension<F>>(
     alloc: Global,
-    table: &E,
+    poly: &E,
     a: usize,
     b: usize,
     k: usize,
     point: &Vec<F>,
-    turned: &Vec<F>,
 ) -> Result<(F, F), PolyError>
-    requires windows { AreWindows (E.variables table.now) a b k }
-    requires fits { length point.now.items ≡ E.variables table.now }
-    requires turned { turned.now.items ≡ exchanged F.field point.now.items a b k }
-    ensures value { IfOk result (λ y. y.0 ≡ extension F.field (E.table table.now).value turned.now.items) }
+    requires windows { AreWindows (E.variables poly.now) a b k }
+    requires fits { length point.now.items ≡ E.variables poly.now }
+    ensures value { IfOk result (λ y. y.0
+        ≡ extension F.field (E.table poly.now).value (exchanged F.field point.now.items a b k)) }
     ensures same { IfOk result (λ y. y.1 ≡ y.0) }
     ensures memory { IsOkUnless result PolyError.Memory }
 {
-    let relabelled = table.relabel(alloc, a, b, k)?;
+    let turned = exchanged_point(alloc, point, a, b, k)?;
+    let relabelled = poly.relabel(alloc, a, b, k)?;
     Ok((
-        table.evaluate(alloc, turned)?,
+        poly.evaluate(alloc, &turned)?,
         relabelled.evaluate(alloc, point)?,
     ))
+}
+
+// The point with the items of two windows exchanged.
+fn exchanged_point<F: Field>(
+    alloc: Global,
+    point: &[F],
+    a: usize,
+    b: usize,
+    k: usize,
+) -> Result<Vec<F>, PolyError>
+    requires { AreWindows (length point.now) a b k }
+    ensures exchanged { IfOk result (λ x. x.items ≡ exchanged F.field point.now a b k) }
+    ensures memory { IsOkUnless result PolyError.Memory }
+{
+    let mut turned = Vec::with_capacity(alloc, point.len())?;
+    for variable in 0..point.len() {
+        turned.push(exchanged_item(point, a, b, k, variable))?;
+    }
+    Ok(turned)
+}
+
+// The item that a variable gets where those of two windows are exchanged.
+fn exchanged_item<F: Field>(point: &[F], a: usize, b: usize, k: usize, variable: usize) -> F
+    requires windows { AreWindows (length point.now) a b k }
+    requires within { variable < length point.now }
+    ensures { result ≡ item (itself F.field) point.now (place a b k variable) }
+{
+    if a <= variable && variable - a < k {
+        point[variable - a + b]
+    } else if b <= variable && variable - b < k {
+        point[variable - b + a]
+    } else {
+        point[variable]
+    }
 }

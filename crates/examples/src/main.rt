@@ -27,7 +27,7 @@ use module::{Point, points_of_curve};
 use selector::selector;
 use std::alloc::Global;
 use std::io::Print;
-use sum_check::first_round;
+use sum_check::{first_round, next_claim};
 use there_and_back::there_and_back;
 
 fn main(rt: HostRuntime) -> anyhow::Result<()> {
@@ -45,7 +45,13 @@ fn main(rt: HostRuntime) -> anyhow::Result<()> {
     let items = over_sixteen(alloc, [1, 2, 3, 4].map(F65537::from))?;
     print_list(&rt, alloc, "over sixteen elements and back", &items)?;
     let [low, high] = round(alloc, [1, 2, 3, 4].map(F65537::from))?;
-    print_list(&rt, alloc, "first round of a sum-check", &[low, high])?;
+    let claim = next_claim(low, high, F65537::from(5));
+    print_list(
+        &rt,
+        alloc,
+        "first round of a sum-check, and the next claim",
+        &[low, high, claim],
+    )?;
     let counts = counts_at(alloc, [2, 3].map(F65537::from))?;
     print_list(
         &rt,

@@ -1,6 +1,7 @@
-//! The first round of a sum-check over the values of a table.
+//! The first round of a sum-check over the values of a table, and what is claimed of the next one.
 
-ghost use Rattle.std.specs.Prelude.{◌≡◌, ◌-◌, ◌<◌, ◌^◌, [], ◌∷◌, length, IfOk};
+ghost use Rattle.std.specs.Prelude.{◌≡◌, ◌-◌, ◌<◌, ◌^◌, ℕ, [], ◌∷◌, length, IfOk};
+ghost use Rattle.ark_math.specs.Field.{minus};
 ghost use Rattle.ark_math.specs.Module.{itself, sum_below};
 ghost use Rattle.ark_math.specs.Multilinear.{fixed};
 ghost use Rattle.ark_math.specs.Univariate.{of_list};
@@ -16,6 +17,10 @@ pub fn first_round<F: Field, E: MultilinearExtension<F>>(
     table: &E,
 ) -> Result<(F, F), PolyError>
     requires variables { 0 < E.variables table.now }
+    ensures zero { IfOk result (λ g. g.0 ≡ sum_below (itself F.field) (2 ^ (E.variables table.now - 1))
+        (fixed F.field (E.table table.now).value (F.field.zero ∷ []))) }
+    ensures one { IfOk result (λ g. g.1 ≡ sum_below (itself F.field) (2 ^ (E.variables table.now - 1))
+        (fixed F.field (E.table table.now).value (F.field.one ∷ []))) }
     ensures claim { IfOk result (λ g. F.field.plus g.0 g.1
         ≡ sum_below (itself F.field) (2 ^ E.variables table.now) (E.table table.now).value) }
 {
@@ -23,6 +28,18 @@ pub fn first_round<F: Field, E: MultilinearExtension<F>>(
         sum_over_others(alloc, table, F::zero())?,
         sum_over_others(alloc, table, F::one())?,
     ))
+}
+
+/// What is claimed of the next round, where the prover sent these two numbers and the verifier has drawn `x`: the value at
+/// `x` of the line through them. Of an honest prover's numbers it is the sum over the other variables where the first one
+/// is `x`.
+pub fn next_claim<F: Field>(low: F, high: F, x: F) -> F
+    ensures line { result ≡ F.field.plus low (F.field.times x (minus F.field high low)) }
+    ensures honest { (n : ℕ) (t : ℕ → F) → low ≡ sum_below (itself F.field) n (fixed F.field t (F.field.zero ∷ []))
+        → high ≡ sum_below (itself F.field) n (fixed F.field t (F.field.one ∷ []))
+        → result ≡ sum_below (itself F.field) n (fixed F.field t (x ∷ [])) }
+{
+    low + x * (high - low)
 }
 
 /// The sum over the other variables where the first one is `x`: the polynomial of the round, at `x`.

@@ -120,3 +120,7 @@ module _ {X : Type 0} (f : X → ℕ) (xs : List X) (i d : ℕ) (x : X) (l : i <
       let same = r.4 in
       (r.0, r.1, omega (arith, in_front, length_push (take i xs) x), get_or_append_left (take i xs) (x ∷ []) r.1 r.0 in_front ∙ r.3, omega (arith, same, m)))
       (cases_lt d (f x)))
+
+-- what holds of each item holds of one
+pub item_of : {X : Type 0} (P : X → Type 0) (xs : List X) (i : ℕ) (x : X) → All P xs → i < length xs → x ≡ get_or xs i x → P x
+item_of P xs i x h l is = subst P (sym is) (h i x l)

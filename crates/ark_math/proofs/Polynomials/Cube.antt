@@ -2,7 +2,7 @@
 use Rattle.std.proofs.Common.{◌≡◌, ℕ, zero, suc, ◌+◌, ◌*◌, ◌/◌, ◌%◌, ◌^◌, ◌<◌, Bool, true, false, if◌then◌else◌, List, [], ◌∷◌, ◌++◌, length, sym, ◌∙◌, ap, ap₂, refl, subst, arith, shr-shr, pow-suc, pow_pos, div-add-mod', ⊎_elim, ◌≤◌, ◌-◌, eqb, eq-eqb, ne_eqb}
 use Rattle.std.proofs.lemmas.Bool.{cases_Bool, cases_lt, eqb-true, eqb-false}
 use Rattle.std.proofs.lemmas.List.{length_push}
-use Rattle.std.proofs.lemmas.Nat.{div-mul-add, mod_below}
+use Rattle.std.proofs.lemmas.Nat.{div-mul-add, mod_below, pow-add}
 use Rattle.ark_math.specs.Field.{FieldOn, IsField, minus}
 use Rattle.ark_math.specs.Module.{ModuleOn, IsModule, itself, sum_below, item}
 use Rattle.ark_math.specs.Multilinear.{bit, corner, product_below, weight}
@@ -13,6 +13,10 @@ use Rattle.ark_math.proofs.Lists.Tabulated.{tabulate-suc, tabulate-same}
 
 pub pow_twice : (n : ℕ) → 2 ^ suc n ≡ 2 * 2 ^ n
 pow_twice n = let e = pow-suc 2 n in omega arith
+
+-- the exponents of a product that is a power of two
+pub pow_rest : (m j : ℕ) → j ≤ m → 2 ^ (m - j) * 2 ^ j ≡ 2 ^ m
+pow_rest m j l = let e : (m - j) + j ≡ m = omega arith in sym (pow-add 2 (m - j) j) ∙ ap (λ k. 2 ^ k) e
 
 pub bit-suc : (b i : ℕ) → bit b (suc i) ≡ bit (b / 2) i
 bit-suc b i =

@@ -5,16 +5,12 @@ use Rattle.std.proofs.lemmas.Nat.{mod_below}
 use Rattle.ark_math.specs.Field.{FieldOn, IsField}
 use Rattle.ark_math.specs.Module.{itself, item, tabulate}
 use Rattle.ark_math.specs.Univariate.{of_pairs}
-use Rattle.ark_math.specs.Multilinear.{bit, corner, extension, exchanged, AreWindows}
+use Rattle.ark_math.specs.Multilinear.{bit, corner, extension, exchanged, place, AreWindows}
 use Rattle.ark_math.proofs.Lists.Tabulated.{tabulate-same, get_or-tabulate}
 use Rattle.ark_math.proofs.Polynomials.Cube.{bit-low, bit-high, bit-past, equal_bits, below_by_bits}
 use Rattle.ark_math.proofs.Polynomials.Multilinear.{extension-same, extension-corner}
 use Rattle.ark_math.proofs.Polynomials.Tables.{moved_pairs}
 use Rattle.ark_math.proofs.Polynomials.OnlyMultilinear.{length-corner, only_affine, extension-affine, reordered-affine}
-
--- the variable that stands at l when the k variables from i on and those from j on are exchanged
-abbrev pub place : ℕ → ℕ → ℕ → ℕ → ℕ
-place i j k l = if nat_le i l && nat_lt l (i + k) then (l - i) + j else (if nat_le j l && nat_lt l (j + k) then (l - j) + i else l)
 
 -- the number in the k bits from i on
 abbrev pub part : ℕ → ℕ → ℕ → ℕ

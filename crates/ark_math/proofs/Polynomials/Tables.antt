@@ -1,17 +1,14 @@
 -- Laws of tables: their sums, opposites and multiples, and the values of these; tables that are written pair by pair.
 use Rattle.std.proofs.Common.{◌≡◌, ◌≢◌, ℕ, suc, ◌<◌, ◌≤◌, ◌^◌, ◌==◌, ◌&&◌, inl, inr, Bool, Decides, if◌then◌else◌, All, AllPairs, List, [], ◌∷◌, ◌++◌, length, get_or, map, flat_map, sym, ◌∙◌, ap, ap₂, refl, arith, ⊎_elim, ext_get_or}
-use Rattle.std.proofs.lemmas.Bool.{cases_eq, cases_lt, cases_order, cond-true, cond-false, eq-eqb, ne_eqb}
+use Rattle.std.proofs.lemmas.Bool.{cases_eq, cases_lt, cond-true, cond-false, eq-eqb, ne_eqb}
 use Rattle.std.proofs.lemmas.Bool.Decides.{Decides-and}
-use Rattle.std.proofs.lemmas.Nat.{pow_below}
-use Rattle.std.proofs.lemmas.Slice.Eq.{slice_eq-Decides}
-use Rattle.std.specs.Cmp.Lexicographic.{pointwise}
 use mathlib.Core.Path.{fun_ext}
 use Rattle.ark_math.specs.Field.{FieldOn, IsField}
 use Rattle.ark_math.specs.Univariate.{monomial, IsBelow, of_list, of_pairs, IsSparse}
 use Rattle.ark_math.specs.Multilinear.{Table, zero_table, table_sum, table_opposite, table_scaled, AreAddable, extension, weight, written, IsConcat}
 use Rattle.ark_math.proofs.Algebra.Groups.{itself_is_module, scale_zero, zero_plus}
 use Rattle.ark_math.proofs.Algebra.Regrouped.{sum_below-single}
-use Rattle.ark_math.proofs.Algebra.Solve.{nought, negative, ◌⊗◌}
+use Rattle.ark_math.proofs.Algebra.Solve.{nought, unit, negative, ◌⊗◌}
 use Rattle.ark_math.proofs.Algebra.Ring.{ring1}
 use Rattle.ark_math.proofs.Domains.Costs.{one_log2}
 use Rattle.ark_math.proofs.Polynomials.Univariate.{coefficients_are_module, monomial-same, monomial-other}
@@ -30,6 +27,10 @@ module _ {F : Type 0} (K : FieldOn F) (N : IsField K) where
 
   pub table_scaled-zero : (c : F) → table_scaled K c (zero_table K) ≡ zero_table K
   table_scaled-zero c = same_table (table_scaled K c (zero_table K)) (zero_table K) refl (fun_ext (λ b. scale_zero (itself_is_module K N) c))
+
+  pub table_opposite-scaled : (a : Table F) → table_scaled K (K.negated K.one) a ≡ table_opposite K a
+  table_opposite-scaled a = same_table (table_scaled K (K.negated K.one) a) (table_opposite K a) refl
+      (fun_ext (λ b. ring1 K N (λ x. (negative unit ⊗ x, negative x)) refl (a.value b)))
 
   pub table_sum-zero : (a : Table F) → table_sum K a (zero_table K) ≡ a
   table_sum-zero a = same_table (table_sum K a (zero_table K)) a (omega arith) ((coefficients_are_module K N).plus_zero a.value)
@@ -75,6 +76,16 @@ module _ {F : Type 0} (K : FieldOn F) (N : IsField K) where
       ⊎_elim (λ (e : a.variables ≡ b.variables). inl e)
       (λ k. ⊎_elim (λ (e : a ≡ zero_table K). inr (inl e)) (λ (e : b ≡ zero_table K). inr (inr (ap (table_scaled K c) e ∙ table_scaled-zero c))) k) h
 
+  -- a sum with zero of no variables
+  pub left_zero : (a b c : Table F) → a ≡ zero_table K → c ≡ b → c ≡ table_sum K a b
+  left_zero a b c z e = e ∙ sym (table_sum-zero b) ∙ table_sum-comm b (zero_table K) ∙ ap (λ t. table_sum K t b) (sym z)
+
+  pub right_zero : (a b : Table F) → AreAddable K a b → a.variables ≢ b.variables → a ≢ zero_table K → a ≡ table_sum K a b
+  right_zero a b addable differ some = ⊎_elim
+      (λ (e : a.variables ≡ b.variables). absurd (differ e))
+      (λ k. ⊎_elim (λ (e : a ≡ zero_table K). absurd (some e)) (λ (e : b ≡ zero_table K). sym (ap (table_sum K a) e ∙ table_sum-zero a)) k)
+      addable
+
   -- ---- values
 
   pub value_of-sum : (a b : Table F) (x : List F) (y z : F) → y ≡ extension K a.value x → z ≡ extension K b.value x → K.plus y z ≡ extension K (table_sum K a b).value x
@@ -93,26 +104,10 @@ same_values K c d e f = ext_get_or K.zero c d e (λ i l. ap (λ a. a i) f)
 -- ---- equality
 
 -- a test of both parts
-pub table_Decides : {F : Type 0} {m n : ℕ} {a b : ℕ → F} {s t : Bool} → Decides s (m ≡ n) → Decides t (a ≡ b) → Decides (s && t) (◌≡◌ {A = Table F} (record { variables = m; value = a }) (record { variables = n; value = b }))
-table_Decides {m = m} {n = n} {a = a} {b = b} {s = s} {t = t} left right =
+pub table_Decides : {F : Type 0} {a b : ℕ → F} {m n : ℕ} {s t : Bool} → Decides s (a ≡ b) → Decides t (m ≡ n) → Decides (s && t) (◌≡◌ {A = Table F} (record { variables = m; value = a }) (record { variables = n; value = b }))
+table_Decides {a = a} {b = b} {m = m} {n = n} {s = s} {t = t} left right =
     let both = Decides-and s t left right in
-    (λ h. let e = both.0 h in same_table (record { variables = m; value = a }) (record { variables = n; value = b }) e.0 e.1, λ e. both.1 (ap (λ t. t.variables) e, ap (λ t. t.value) e))
-
--- a power of two is one of one exponent
-pub same_power : (m n : ℕ) → 2 ^ m ≡ 2 ^ n → m ≡ n
-same_power m n e = ⊎_elim
-    (λ (h : m ≡ n). h)
-    (λ h. ⊎_elim
-    (λ (l : m < n). let p = pow_below m n l in absurd (omega arith))
-    (λ (l : n < m). let p = pow_below n m l in absurd (omega arith)) h)
-    (cases_order m n)
-
--- lists of all values, one for each corner
-pub values_Decides : {F : Type 0} (K : FieldOn F) {eq : F → F → Bool} → ((a b : F) → Decides (eq a b) (a ≡ b)) → (m n : ℕ) (c d : List F) → length c ≡ 2 ^ m → length d ≡ 2 ^ n
-    → Decides (pointwise eq c d) (◌≡◌ {A = Table F} (record { variables = m; value = of_list K c }) (record { variables = n; value = of_list K d }))
-values_Decides K decides m n c d e f =
-    let same = slice_eq-Decides decides c d _ refl in
-    (λ h. let g = same.0 h in same_table (record { variables = m; value = of_list K c }) (record { variables = n; value = of_list K d }) (same_power m n (sym e ∙ ap length g ∙ f)) (ap (of_list K) g), λ g. same.1 (same_values K c d (e ∙ ap (λ t. 2 ^ t.variables) g ∙ sym f) (ap (λ t. t.value) g)))
+    (λ h. let e = both.0 h in same_table (record { variables = m; value = a }) (record { variables = n; value = b }) e.1 e.0, λ e. both.1 (ap (λ t. t.value) e, ap (λ t. t.variables) e))
 
 -- ---- written pair by pair
 
@@ -122,12 +117,6 @@ written-append d (p ∷ ps) qs b = written-append (if p.0 == b then p.1 else d) 
 
 pub written-push : {F : Type 0} (d : F) (ps : List (ℕ × F)) (p : ℕ × F) (b : ℕ) → written d (ps ++ p ∷ []) b ≡ (if p.0 == b then p.1 else written d ps b)
 written-push d ps p b = written-append d ps (p ∷ []) b
-
-pub written-push_same : {F : Type 0} (d : F) (ps : List (ℕ × F)) (p : ℕ × F) → written d (ps ++ p ∷ []) p.0 ≡ p.1
-written-push_same d ps p = written-push d ps p p.0 ∙ cond-true (p.0 == p.0) p.1 (written d ps p.0) (eq-eqb p.0 p.0 refl)
-
-pub written-push_other : {F : Type 0} (d : F) (ps : List (ℕ × F)) (p : ℕ × F) (b : ℕ) → p.0 ≢ b → written d (ps ++ p ∷ []) b ≡ written d ps b
-written-push_other d ps p b ne = written-push d ps p b ∙ cond-false (p.0 == b) p.1 (written d ps b) (ne_eqb p.0 b ne)
 
 -- what no pair is for stays
 pub written-absent : {F : Type 0} (d : F) (ps : List (ℕ × F)) (b : ℕ) → All (λ p. p.0 ≢ b) ps → written d ps b ≡ d

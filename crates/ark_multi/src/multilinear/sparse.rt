@@ -314,8 +314,9 @@ impl<F: Field> SparseMultilinearExtension<F> {
             ≡ written F.field.zero evaluations.now) }
         ensures memory { IsOkUnless result PolyError.Memory }
     {
+        let entries = written_entries(alloc, evaluations)?;
         Ok(SparseMultilinearExtension {
-            evaluations: written_entries(alloc, evaluations)?,
+            evaluations: entries,
             num_vars,
             zero: F::zero(),
         })

@@ -2,7 +2,8 @@ use Rattle.std.proofs.Common.{◌<◌, length, subst, ap, sym, ◌∙◌, length
 use Rattle.std.proofs.lemmas.List.{length-replicate}
 use Rattle.ark_math.specs.Univariate.{of_list}
 use Rattle.ark_math.proofs.Polynomials.UnivariateLists.{of_list-replicate}
-use Rattle.ark_lists.proofs.HeldTables.{item_of, listed_more}
+use Rattle.ark_math.proofs.Lists.Lists.{item_of}
+use Rattle.ark_lists.proofs.HeldTables.{listed_more}
 use Rattle.ark_lists.proofs.windows.values_of_entries.Goals as goal
 
 pub loop-i-init : goal.loop-i-init

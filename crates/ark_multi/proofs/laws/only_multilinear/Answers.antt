@@ -13,7 +13,7 @@ returns-clause-only g c =
     let K = g.F.Field.field in
     let N = g.met.F.Field.field_laws in
     let E = g.met.E.MultilinearExtension in
-    let p = c.args.table.now in
+    let p = c.args.poly.now in
     let x = c.args.point.now in
     let t = g.E.MultilinearExtension.table p in
     IfOk-weaker c.evaluate.result _ _
@@ -27,7 +27,7 @@ returns-clause-some g c =
     let K = g.F.Field.field in
     let N = g.met.F.Field.field_laws in
     let E = g.met.E.MultilinearExtension in
-    let p = c.args.table.now in
+    let p = c.args.poly.now in
     let x = c.args.point.now in
     let m = g.E.Polynomial.variables p in
     let t = g.E.MultilinearExtension.table p in
@@ -45,4 +45,4 @@ returns-clause-some g c =
 pub returns-clause-one : goal.returns-clause-one
 returns-clause-one g c =
     same_multilinear g.F.Field.field g.met.F.Field.field_laws (λ s. decided (g.F.PartialEq.eq s g.F.Field.field.zero) (g.met.F.Field.equality_law s g.F.Field.field.zero))
-    (g.E.Polynomial.variables c.args.table.now) (g.E.MultilinearExtension.table c.args.table.now).value
+    (g.E.Polynomial.variables c.args.poly.now) (g.E.MultilinearExtension.table c.args.poly.now).value

@@ -11,11 +11,12 @@ returns g c =
     let m = g.E.Polynomial.variables c.args.table.now - 1 in
     let some = c.requires.variables in
     let whole : suc m ≡ g.E.Polynomial.variables c.args.table.now = omega (arith, some) in
+    let low : c.in_ok-sum_over_others.field-0 ≡ sum_below (itself K) (2 ^ m) (fixed K t (K.zero ∷ [])) =
+    c.in_ok-sum_over_others.ensures.sum ∙ ap (λ x. sum_below (itself K) (2 ^ m) (fixed K t (x ∷ []))) (c.zero.ensures ∙ g.met.F.Field.zero_law) in
+    let high : c.in_ok-sum_over_others-2.field-0 ≡ sum_below (itself K) (2 ^ m) (fixed K t (K.one ∷ [])) =
+    c.in_ok-sum_over_others-2.ensures.sum ∙ ap (λ x. sum_below (itself K) (2 ^ m) (fixed K t (x ∷ []))) (c.one.ensures ∙ g.met.F.Field.one_law) in
     record {
-      claim =
-          ap₂ K.plus
-          (c.in_ok-sum_over_others.ensures.sum ∙ ap (λ x. sum_below (itself K) (2 ^ m) (fixed K t (x ∷ []))) (c.zero.ensures ∙ g.met.F.Field.zero_law))
-          (c.in_ok-sum_over_others-2.ensures.sum ∙ ap (λ x. sum_below (itself K) (2 ^ m) (fixed K t (x ∷ []))) (c.one.ensures ∙ g.met.F.Field.one_law))
-          ∙ sym (cube_sum K g.met.F.Field.field_laws m t)
-          ∙ ap (λ n. sum_below (itself K) (2 ^ n) t) whole;
+      zero = low;
+      one = high;
+      claim = ap₂ K.plus low high ∙ sym (cube_sum K g.met.F.Field.field_laws m t) ∙ ap (λ n. sum_below (itself K) (2 ^ n) t) whole;
     }

@@ -1,5 +1,5 @@
 use Rattle.std.proofs.Common.{◌≡◌, ◌*◌, ◌-◌, ◌^◌, length, sym, ap, ◌∙◌, arith}
-use Rattle.ark_lists.proofs.DenseTables.{pow_rest}
+use Rattle.ark_math.proofs.Polynomials.Cube.{pow_rest}
 use Rattle.ark_lists.proofs.TableLists.{pow_left}
 use Rattle.ark_multi.proofs.multilinear.dense.DenseMultilinearExtensionMultilinearExtension.fix_variables.Goals as goal
 

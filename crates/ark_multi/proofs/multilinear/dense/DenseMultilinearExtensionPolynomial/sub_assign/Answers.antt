@@ -1,6 +1,6 @@
 use Rattle.std.proofs.Common.{◌≡◌, OnOk, subst, ap, ◌∙◌}
 use Rattle.ark_math.specs.Multilinear.{table_scaled, table_sum}
-use Rattle.ark_lists.proofs.DenseTables.{opposite_scaled}
+use Rattle.ark_math.proofs.Polynomials.Tables.{table_opposite-scaled}
 use Rattle.ark_multi.specs.Extensions.{dense_table}
 use Rattle.ark_multi.proofs.multilinear.dense.DenseMultilinearExtensionPolynomial.sub_assign.Goals as goal
 
@@ -11,5 +11,5 @@ returns-clause-difference g c =
     let a = dense_table K c.args.self.now in
     let b = dense_table K c.args.other.now in
     subst (λ t. OnOk c.add_to_zero.result (dense_table K c.add_to_zero.new.self ≡ table_sum K a t))
-    (ap (λ f. table_scaled K f b) (F.neg_law _ _ c.neg.ensures ∙ ap K.negated (c.one.ensures ∙ F.one_law)) ∙ opposite_scaled K F.field_laws b)
+    (ap (λ f. table_scaled K f b) (F.neg_law _ _ c.neg.ensures ∙ ap K.negated (c.one.ensures ∙ F.one_law)) ∙ table_opposite-scaled K F.field_laws b)
     c.add_to_zero.ensures.sum

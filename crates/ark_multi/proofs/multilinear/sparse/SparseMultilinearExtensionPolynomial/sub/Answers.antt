@@ -1,7 +1,7 @@
 use Rattle.std.proofs.Common.{ap, ◌∙◌}
 use Rattle.ark_math.specs.Multilinear.{table_sum, table_scaled}
 use Rattle.ark_math.proofs.Outcomes.Results.{IfOk_more}
-use Rattle.ark_lists.proofs.DenseTables.{opposite_scaled}
+use Rattle.ark_math.proofs.Polynomials.Tables.{table_opposite-scaled}
 use Rattle.ark_lists.proofs.SparseTables.{stored}
 use Rattle.ark_multi.proofs.multilinear.sparse.SparseMultilinearExtensionPolynomial.sub.Goals as goal
 
@@ -13,5 +13,5 @@ returns-clause-difference g c =
     let b = stored K c.args.other.now.num_vars c.args.other.now.evaluations.items in
     let negative = F.neg_law _ _ c.neg.ensures ∙ ap K.negated (c.one.ensures ∙ F.one_law) in
     IfOk_more c.plus_multiple.result
-    (λ p e. e ∙ ap (table_sum K a) (ap (λ f. table_scaled K f b) negative ∙ opposite_scaled K F.field_laws b))
+    (λ p e. e ∙ ap (table_sum K a) (ap (λ f. table_scaled K f b) negative ∙ table_opposite-scaled K F.field_laws b))
     c.plus_multiple.ensures.sum
