@@ -1,5 +1,5 @@
 -- Tables as lists of all their values.
-use Rattle.std.proofs.Common.{◌≡◌, ◌≢◌, ℕ, ◌-◌, ◌^◌, ◌==◌, ◌&&◌, ⊎_elim, max, Bool, Decides, List, length, get_or, refl, sym, ◌∙◌, ap, ap₂, arith}
+use Rattle.std.proofs.Common.{◌≡◌, ◌≢◌, ℕ, ◌^◌, ◌==◌, ◌&&◌, ⊎_elim, max, Bool, Decides, List, length, get_or, refl, sym, ◌∙◌, ap, ap₂, arith}
 use mathlib.Core.Path.{fun_ext}
 use Rattle.std.specs.Cmp.{unsigned_Decides}
 use Rattle.std.proofs.lemmas.Bool.{cases_eq}

@@ -4,5 +4,5 @@ use Rattle.ark_multi.proofs.laws.values_with_exchanged_variables.Goals as goal
 
 pub evaluate-requires : goal.evaluate-requires
 evaluate-requires g c =
-    (g.met.E.MultilinearExtension.fits_law _ c.args.turned.now).1
-    (ap length c.requires.turned ∙ length-tabulate _ _ ∙ c.requires.fits)
+    (g.met.E.MultilinearExtension.fits_law _ c.in_ok-turned.turned).1
+    (ap length c.in_ok-turned.ensures.exchanged ∙ length-tabulate _ _ ∙ ap length c.deref.ensures.value ∙ c.requires.fits)
