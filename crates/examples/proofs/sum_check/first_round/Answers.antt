@@ -1,4 +1,4 @@
-use Rattle.std.proofs.Common.{◌≡◌, ℕ, suc, ◌-◌, ◌^◌, [], ◌∷◌, ◌∙◌, sym, ap, ap₂, arith}
+use Rattle.std.proofs.Common.{◌≡◌, suc, ◌-◌, ◌^◌, [], ◌∷◌, ◌∙◌, sym, ap, ap₂, arith}
 use Rattle.ark_math.specs.Module.{itself, sum_below}
 use Rattle.ark_math.specs.Multilinear.{fixed}
 use Rattle.ark_math.proofs.Polynomials.Multilinear.{cube_sum}
