@@ -59,6 +59,28 @@ fn values_shown_and_replaced(rt: HostRuntime) -> Result<(), Fail> {
     Ok(())
 }
 
+// Whether its values are these numbers, in this order.
+fn lists<F: Field>(p: &DenseMultilinearExtension<F>, table: &[u64]) -> bool {
+    let mut same = p.iter().count() == table.len();
+    for (value, number) in p.iter().zip(table) {
+        same = same && *value == F::from(*number);
+    }
+    same
+}
+
+fn table_is_listed<F: Field>(alloc: Global, table: &[u64]) -> Result<bool, PolyError> {
+    Ok(lists(&dense::<F>(alloc, table)?, table))
+}
+
+#[test]
+fn values_in_the_order_of_their_indices(rt: HostRuntime) -> Result<(), Fail> {
+    let tables: [&[u64]; 4] = [&[0], &[4], &[2, 1], &[0, 3, 3, 1, 4, 0, 1, 2]];
+    for table in tables {
+        assert!(rt; table_is_listed::<F5>(rt.alloc(), table)?);
+    }
+    Ok(())
+}
+
 fn has_multiple<F: Field>(
     alloc: Global,
     table: &[u64],

@@ -8,6 +8,8 @@ mod dense;
 #[cfg(test)]
 mod drawn;
 #[cfg(test)]
+mod laws;
+#[cfg(test)]
 mod rows;
 #[cfg(test)]
 mod sparse;

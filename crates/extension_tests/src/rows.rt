@@ -111,6 +111,21 @@ fn gives<F: Field, E: MultilinearExtension<F>>(
     has_table(alloc, &p, answer)
 }
 
+// Whether the dense extension gives it in place.
+fn gives_in_place<F: Field>(
+    alloc: Global,
+    table: &[u64],
+    (a, b, k): Windows,
+    answer: &[u64],
+) -> Result<bool, PolyError> {
+    let mut p = dense::<F>(alloc, table)?;
+    if !p.relabel_fits(a, b, k) {
+        return Ok(false);
+    }
+    p.relabel_in_place(a, b, k);
+    has_table(alloc, &p, answer)
+}
+
 fn table_gives<F: Field>(
     alloc: Global,
     table: &[u64],
@@ -119,7 +134,8 @@ fn table_gives<F: Field>(
 ) -> Result<bool, PolyError> {
     Ok(
         gives(alloc, &dense::<F>(alloc, table)?, windows, answer)?
-            && gives(alloc, &sparse::<F>(alloc, table)?, windows, answer)?,
+            && gives(alloc, &sparse::<F>(alloc, table)?, windows, answer)?
+            && gives_in_place::<F>(alloc, table, windows, answer)?,
     )
 }
 

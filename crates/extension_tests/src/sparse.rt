@@ -347,6 +347,30 @@ fn as_many_entries_drawn_as_asked(rt: HostRuntime) -> Result<(), Fail> {
     Ok(())
 }
 
+fn draws_at_least<F: Field>(
+    alloc: Global,
+    rng: &mut Pcg64,
+    (num_vars, entries): (usize, usize),
+    least: usize,
+) -> Result<bool, PolyError> {
+    let Some(p) = drawn_with::<F>(alloc, rng, (num_vars, entries), TRIES)? else {
+        return Ok(false);
+    };
+    Ok(p.iter().count() >= least && is_sparse(&p))
+}
+
+// Of the values that are drawn one may be zero, which isn't stored.
+#[test]
+fn entries_drawn_at_places_that_differ(rt: HostRuntime) -> Result<(), Fail> {
+    let mut rng = Pcg64::new(55, 1);
+    for _ in 0..20 {
+        assert!(rt; draws_at_least::<F65537>(rt.alloc(), &mut rng, (6, 10), 9)?);
+    }
+    assert!(rt; draws_at_least::<F65537>(rt.alloc(), &mut rng, (6, 64), 63)?);
+    assert!(rt; draws_at_least::<F65537>(rt.alloc(), &mut rng, (63, 40), 39)?);
+    Ok(())
+}
+
 fn draws_nothing_without_tries<F: Field>(
     alloc: Global,
     rng: &mut Pcg64,
