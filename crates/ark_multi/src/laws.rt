@@ -109,10 +109,7 @@ pub fn values_with_bound_variables<F: Field, E: MultilinearExtension<F>>(
     let mut whole = Vec::from_slice(alloc, first)?;
     whole.extend_from_slice(others)?;
     let rest = poly.fix_variables(alloc, first)?;
-    Ok((
-        poly.evaluate(alloc, &whole)?,
-        rest.evaluate(alloc, others)?,
-    ))
+    Ok((poly.evaluate(alloc, &whole)?, rest.evaluate(alloc, others)?))
 }
 
 /// The value of a multilinear extension at a point with the `k` items from `a` on and the `k` from `b` on exchanged, and
