@@ -35,7 +35,8 @@ pub fn first_round<F: Field, E: MultilinearExtension<F>>(
 /// is `x`.
 pub fn next_claim<F: Field>(low: F, high: F, x: F) -> F
     ensures line { result ≡ F.field.plus low (F.field.times x (minus F.field high low)) }
-    ensures honest { (n : ℕ) (t : ℕ → F) → low ≡ sum_below (itself F.field) n (fixed F.field t (F.field.zero ∷ []))
+    ensures honest { (n : ℕ) (t : ℕ → F)
+        → low ≡ sum_below (itself F.field) n (fixed F.field t (F.field.zero ∷ []))
         → high ≡ sum_below (itself F.field) n (fixed F.field t (F.field.one ∷ []))
         → result ≡ sum_below (itself F.field) n (fixed F.field t (x ∷ [])) }
 {

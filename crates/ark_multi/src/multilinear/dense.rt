@@ -420,7 +420,8 @@ impl<F: Field> DenseMultilinearExtension<F> {
     pub fn mul_assign(&mut self, alloc: Global, factor: F) -> Result<(), PolyError>
         ensures multiple { factor ≢ F.field.zero → OnOk result (dense_table F.field self.new
             ≡ table_scaled F.field factor (dense_table F.field self.old)) }
-        ensures zero { factor ≡ F.field.zero → OnOk result (dense_table F.field self.new ≡ zero_table F.field) }
+        ensures zero { factor ≡ F.field.zero
+            → OnOk result (dense_table F.field self.new ≡ zero_table F.field) }
         ensures kept { OnErr result (self.new ≡ self.old) }
         ensures memory { IsOkUnless result PolyError.Memory }
     {
