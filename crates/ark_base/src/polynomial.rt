@@ -98,7 +98,8 @@ pub trait Polynomial<F: Field>: Clone + Debug + Hash + Eq + Drop {
         requires { addable (meaning self.old) (meaning other.now) }
         ensures sum { OnOk result (meaning self.new ≡ sum (meaning self.old) (meaning other.now)) }
         ensures kept { OnErr result (self.new ≡ self.old) }
-        ensures variables { OnOk result (variables self.new ≡ max (variables self.old) (variables other.now)) }
+        ensures variables { OnOk result (variables self.new
+            ≡ max (variables self.old) (variables other.now)) }
         ensures memory { IsOkUnless result PolyError.Memory };
 
     /// Subtracts one that it can be added to, in place. After an error it has the value that it had; a point that fits
@@ -108,7 +109,8 @@ pub trait Polynomial<F: Field>: Clone + Debug + Hash + Eq + Drop {
         ensures difference { OnOk result (meaning self.new
             ≡ sum (meaning self.old) (negated (meaning other.now))) }
         ensures kept { OnErr result (self.new ≡ self.old) }
-        ensures variables { OnOk result (variables self.new ≡ max (variables self.old) (variables other.now)) }
+        ensures variables { OnOk result (variables self.new
+            ≡ max (variables self.old) (variables other.now)) }
         ensures memory { IsOkUnless result PolyError.Memory };
 
     /// Adds a multiple of one that it can be added to, in place. After an error it has the value that it had; a point
@@ -118,7 +120,8 @@ pub trait Polynomial<F: Field>: Clone + Debug + Hash + Eq + Drop {
         ensures sum { OnOk result (meaning self.new
             ≡ sum (meaning self.old) (scaled factor (meaning other.now))) }
         ensures kept { OnErr result (self.new ≡ self.old) }
-        ensures variables { OnOk result (variables self.new ≡ max (variables self.old) (variables other.now)) }
+        ensures variables { OnOk result (variables self.new
+            ≡ max (variables self.old) (variables other.now)) }
         ensures memory { IsOkUnless result PolyError.Memory };
 
     ghost equality_law: { (a b : Self) → Decides (Self.eq a b) (meaning a ≡ meaning b) };

@@ -17,8 +17,8 @@ use std::default::Default;
 use std::marker::PhantomData;
 use std::ops::{Add, AddAssign, Mul, MulAssign, Neg, Sub, SubAssign};
 
-/// A prime below 2^32 and its constants. A field is added by one impl, whose fact `modulus` is a few computed
-/// checks.
+/// A prime below 2^32 and its constants. A field is added by one impl with two facts: `modulus` is a few computed checks,
+/// and `together` the same line for every field.
 pub trait PrimeModulus {
     ghost MODULUS: { ℕ };
 

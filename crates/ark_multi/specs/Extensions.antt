@@ -11,7 +11,8 @@ use Rattle.ark_multi.specs.declared.multilinear.sparse.SparseMultilinearExtensio
 abbrev pub dense_table : {F : Type 0} → FieldOn F → DenseMultilinearExtension F → Table F
 dense_table K p = record { variables = p.num_vars; value = of_list K p.evaluations.items }
 
--- the table of which a sparse extension holds the entries that aren't zero
+-- the table of which a sparse extension holds the entries that aren't zero; what its type keeps of the field, in the
+-- unnamed arguments, is no part of it
 abbrev pub sparse_table : {F : Type 0} {a b c d e f g h i j k l m n o p q : _} → FieldOn F → SparseMultilinearExtension F a b c d e f g h i j k l m n o p q → Table F
 sparse_table K s = record { variables = s.num_vars; value = of_pairs K s.evaluations.items }
 

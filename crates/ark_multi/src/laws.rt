@@ -3,7 +3,8 @@
 ghost use Rattle.std.specs.Prelude.{◌≡◌, ◌↔◌, ◌<◌, ◌^◌, ◌++◌, ℕ, List, length, IfOk, IsOkUnless};
 ghost use Rattle.std.specs.Prelude.{if◌then◌else◌};
 ghost use Rattle.ark_math.specs.Module.{itself, item};
-ghost use Rattle.ark_math.specs.Multilinear.{AreWindows, IsMultilinear, bit, corner, exchanged, extension, place};
+ghost use Rattle.ark_math.specs.Multilinear.{AreWindows, IsMultilinear, bit, corner, exchanged, extension, fixed};
+ghost use Rattle.ark_math.specs.Multilinear.{place};
 ghost use Rattle.ark_math.specs.Term.{IsAbove};
 ghost use Rattle.ark_math.specs.Multivariate.{IsValueAt};
 
@@ -27,6 +28,8 @@ pub fn graded_order(s: &SparseTerm, t: &SparseTerm) -> Ordering
 }
 
 /// The value of a multilinear extension at the corner with this index: the table's value there.
+///
+/// It takes as long as `evaluate`, and memory for a point beside what that takes.
 pub fn value_at_corner<F: Field, E: MultilinearExtension<F>>(
     alloc: Global,
     poly: &E,
@@ -66,6 +69,8 @@ fn bit_of<F: Field>(index: usize, variable: usize) -> F
 
 /// The value of a multilinear extension at a point, which is that of every polynomial of terms with no power above one
 /// that has the table's values at the corners; and there is one such polynomial, and no second one.
+///
+/// It takes as long as `evaluate`, and as much memory.
 pub fn only_multilinear<F: Field, E: MultilinearExtension<F>>(
     alloc: Global,
     poly: &E,
@@ -94,6 +99,8 @@ pub fn only_multilinear<F: Field, E: MultilinearExtension<F>>(
 
 /// The value of a multilinear extension at `first` followed by `others`, at once and with the first variables bound
 /// before the others: they are equal.
+///
+/// It takes as long as `evaluate` and `fix_variables`, and memory for a point beside what these take.
 pub fn values_with_bound_variables<F: Field, E: MultilinearExtension<F>>(
     alloc: Global,
     poly: &E,
@@ -103,6 +110,8 @@ pub fn values_with_bound_variables<F: Field, E: MultilinearExtension<F>>(
     requires fits { length (first.now ++ others.now.items) ≡ E.variables poly.now }
     ensures value { IfOk result (λ y. y.0
         ≡ extension F.field (E.table poly.now).value (first.now ++ others.now.items)) }
+    ensures bound { IfOk result (λ y. y.1
+        ≡ extension F.field (fixed F.field (E.table poly.now).value first.now) others.now.items) }
     ensures same { IfOk result (λ y. y.1 ≡ y.0) }
     ensures memory { IsOkUnless result PolyError.Memory }
 {
@@ -114,6 +123,8 @@ pub fn values_with_bound_variables<F: Field, E: MultilinearExtension<F>>(
 
 /// The value of a multilinear extension at a point with the `k` items from `a` on and the `k` from `b` on exchanged, and
 /// that at the point of the extension with these variables exchanged: they are equal.
+///
+/// It takes as long as twice `evaluate` and `relabel`, and memory for a point beside what these take.
 pub fn values_with_exchanged_variables<F: Field, E: MultilinearExtension<F>>(
     alloc: Global,
     poly: &E,

@@ -1,4 +1,4 @@
-//! Polynomials in several variables.
+//! Terms, polynomials in several variables, and multilinear extensions.
 #![tactic(auto)]
 
 pub mod laws;

@@ -94,8 +94,8 @@ pub trait DenseMVPolynomial<F: Field>: Polynomial<F, Point = Vec<F>> {
     ghost degree_coefficients: { (a : Self.Polynomial.Meaning) (d : ℕ) → Self.has_degree a d
         ↔ IsTotalDegree F.field (coefficients a) d };
 
-    ghost value_coefficients: { (a : Self.Polynomial.Meaning) (x : Vec F Global) (y : F) → Self.has_value a x y
-        ↔ IsValueAt F.field (coefficients a) x.items y };
+    ghost value_coefficients: { (a : Self.Polynomial.Meaning) (x : Vec F Global) (y : F)
+        → Self.has_value a x y ↔ IsValueAt F.field (coefficients a) x.items y };
 
     ghost fits_law: { (n : ℕ) (x : Vec F Global) → Self.fits n x ↔ (n ≤ length x.items) };
 

@@ -14,6 +14,10 @@ use crate::polynomial::univariate::{DenseOrSparsePolynomial, DensePolynomial, Sp
 use crate::polynomial::{DenseUVPolynomial, Polynomial};
 use ark_base::{FftField, Field, PolyError};
 use ark_coeffs::dense::sum_of_products;
+pub use ark_multi::laws::{
+    graded_order, only_multilinear, value_at_corner, values_with_bound_variables,
+    values_with_exchanged_variables,
+};
 use std::alloc::Global;
 
 /// The product by `mul` and the one by `naive_mul`: they have the same coefficients, and are equal by `==`. An
@@ -29,6 +33,8 @@ pub fn both_products<F: FftField>(
         ≡ product F.field (of_list F.field left.now) (of_list F.field right.now)) }
     ensures same { IfOk result (λ p. p.0 ≡ p.1) }
     ensures equal { IfOk result (λ p. IsTrue (⟦<DensePolynomial<F> as PartialEq>⟧.eq p.0 p.1)) }
+    ensures errors { IfErr result (λ e. (e ≡ PolyError.Memory) ⊎ (e ≡ PolyError.NoDomain)
+        ⊎ (e ≡ PolyError.Overflow)) }
 {
     let fast = left.mul(alloc, right)?;
     let naive = left.naive_mul(alloc, right)?;
@@ -159,7 +165,7 @@ pub fn values_of_all_forms<F: FftField, D: EvaluationDomain<F>>(
     Ok((
         dense.evaluate_over_domain_by_ref(alloc, domain)?,
         sparse.evaluate_over_domain_by_ref(alloc, domain)?,
-        DenseOrSparsePolynomial::evaluate_over_domain(either, alloc, domain)?,
+        either.evaluate_over_domain(alloc, domain)?,
     ))
 }
 

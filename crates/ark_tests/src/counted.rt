@@ -122,7 +122,8 @@ fn counted_over_one(rt: HostRuntime) -> Result<(), Fail> {
 
 // The mixed subgroup of this size.
 fn mixed<F: FftField>(size: usize) -> Result<MixedRadixEvaluationDomain<F>, PolyError>
-    ensures { IfOk result (λ d. (⟦<MixedRadixEvaluationDomain<F> as EvaluationDomain<F>>⟧.domain d).size ≡ size) }
+    ensures { IfOk result (λ d.
+        (⟦<MixedRadixEvaluationDomain<F> as EvaluationDomain<F>>⟧.domain d).size ≡ size) }
 {
     subgroup(size)
 }

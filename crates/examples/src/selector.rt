@@ -1,6 +1,6 @@
 //! A table that is one at one place: what chooses a value in a multilinear protocol.
 
-ghost use Rattle.std.specs.Prelude.{◌≡◌, ◌<◌, ◌^◌, length, IfOk};
+ghost use Rattle.std.specs.Prelude.{◌≡◌, ◌<◌, ◌^◌, length, IfOk, IsOkUnless};
 ghost use Rattle.ark_math.specs.Multilinear.{weight};
 
 use ark_base::{Field, PolyError};
@@ -13,7 +13,8 @@ use std::alloc::Global;
 pub fn selector<F: Field>(alloc: Global, index: usize, point: &Vec<F>) -> Result<F, PolyError>
     requires few { length point.now.items < 64 }
     requires within { index < 2 ^ length point.now.items }
-    ensures { IfOk result (λ y. y ≡ weight F.field point.now.items index) }
+    ensures value { IfOk result (λ y. y ≡ weight F.field point.now.items index) }
+    ensures memory { IsOkUnless result PolyError.Memory }
 {
     let mut entries = Vec::new(alloc);
     entries.push((index, F::one()))?;

@@ -1,6 +1,6 @@
 //! The first round of a sum-check over the values of a table, and what is claimed of the next one.
 
-ghost use Rattle.std.specs.Prelude.{◌≡◌, ◌-◌, ◌<◌, ◌^◌, ℕ, [], ◌∷◌, length, IfOk};
+ghost use Rattle.std.specs.Prelude.{◌≡◌, ◌-◌, ◌<◌, ◌^◌, ℕ, [], ◌∷◌, length, IfOk, IsOkUnless};
 ghost use Rattle.ark_math.specs.Field.{minus};
 ghost use Rattle.ark_math.specs.Module.{itself, sum_below};
 ghost use Rattle.ark_math.specs.Multilinear.{fixed};
@@ -23,6 +23,7 @@ pub fn first_round<F: Field, E: MultilinearExtension<F>>(
         (fixed F.field (E.table table.now).value (F.field.one ∷ []))) }
     ensures claim { IfOk result (λ g. F.field.plus g.0 g.1
         ≡ sum_below (itself F.field) (2 ^ E.variables table.now) (E.table table.now).value) }
+    ensures memory { IsOkUnless result PolyError.Memory }
 {
     Ok((
         sum_over_others(alloc, table, F::zero())?,
@@ -52,6 +53,7 @@ pub fn sum_over_others<F: Field, E: MultilinearExtension<F>>(
     requires variables { 0 < E.variables table.now }
     ensures sum { IfOk result (λ y. y ≡ sum_below (itself F.field) (2 ^ (E.variables table.now - 1))
         (fixed F.field (E.table table.now).value (x ∷ []))) }
+    ensures memory { IsOkUnless result PolyError.Memory }
 {
     let mut first = Vec::new(alloc);
     first.push(x)?;

@@ -1,7 +1,7 @@
 //! What the dense extension alone has.
 
 use crate::building::{dense, elements, has_table, value};
-use crate::drawn::{drawn, drawn_point};
+use crate::drawn::{drawn, drawn_point, exchanged};
 use ark_base::{F5, F65537, Field, PolyError, Polynomial};
 use ark_multi::multilinear::{DenseMultilinearExtension, MultilinearExtension};
 use rand_pcg::Pcg64;
@@ -106,6 +106,89 @@ fn multiples(rt: HostRuntime) -> Result<(), Fail> {
     for (table, factor, multiple) in rows {
         assert!(rt; has_multiple::<F65537>(rt.alloc(), table, factor, multiple)?);
     }
+    Ok(())
+}
+
+// Whether factors one, `factor` and zero in a row, in place, give the same, the multiple and zero.
+fn scales_in_place<F: Field>(
+    alloc: Global,
+    p: &DenseMultilinearExtension<F>,
+    factor: F,
+    multiple: &DenseMultilinearExtension<F>,
+) -> Result<bool, PolyError> {
+    let mut scaled = p.clone()?;
+    scaled.mul_assign(alloc, F::one())?;
+    let kept = scaled == *p;
+    scaled.mul_assign(alloc, factor)?;
+    let same = scaled == *multiple;
+    scaled.mul_assign(alloc, F::zero())?;
+    Ok(kept && same && scaled.is_zero())
+}
+
+// Whether a draw's multiple, new and in place, has the multiple of its value at a drawn point.
+fn draw_has_multiples<F: Field>(alloc: Global, rng: &mut Pcg64) -> Result<bool, PolyError> {
+    let Some(p) = drawn::<F, DenseMultilinearExtension<F>>(alloc, rng, 10, 0)? else {
+        return Ok(false);
+    };
+    let factor = F::rand(rng);
+    let multiple = p.mul_scalar(alloc, factor)?;
+    let point = drawn_point(alloc, rng, 10)?;
+    let (Some(x), Some(y)) = (value(alloc, &p, &point)?, value(alloc, &multiple, &point)?) else {
+        return Ok(false);
+    };
+    Ok(y == factor * x && scales_in_place(alloc, &p, factor, &multiple)?)
+}
+
+#[test]
+fn multiples_of_draws(rt: HostRuntime) -> Result<(), Fail> {
+    let mut rng = Pcg64::new(71, 1);
+    for _ in 0..20 {
+        assert!(rt; draw_has_multiples::<F65537>(rt.alloc(), &mut rng)?);
+    }
+    Ok(())
+}
+
+// Exchanges two windows of variables in place, and of the point's items, where that can be done.
+fn exchange<F: Field>(
+    alloc: Global,
+    p: &mut DenseMultilinearExtension<F>,
+    point: &mut Vec<F>,
+    (a, b, k): (usize, usize, usize),
+) -> Result<bool, PolyError> {
+    if !p.relabel_fits(a, b, k) {
+        return Ok(false);
+    }
+    p.relabel_in_place(a, b, k);
+    *point = exchanged(alloc, point, (a, b, k))?;
+    Ok(true)
+}
+
+// Whether a draw keeps its value at a drawn point when windows are exchanged in place in both, six times in a row.
+fn draw_keeps_its_value<F: Field>(alloc: Global, rng: &mut Pcg64) -> Result<bool, PolyError> {
+    let Some(mut p) = drawn::<F, DenseMultilinearExtension<F>>(alloc, rng, 10, 0)? else {
+        return Ok(false);
+    };
+    let mut point = drawn_point(alloc, rng, 10)?;
+    let answer = value(alloc, &p, &point)?;
+    let mut right = true;
+    for windows in [
+        (4, 4, 3),
+        (0, 1, 1),
+        (9, 3, 1),
+        (1, 5, 4),
+        (8, 2, 2),
+        (0, 7, 3),
+    ] {
+        right = right && exchange(alloc, &mut p, &mut point, windows)?;
+        right = right && value(alloc, &p, &point)? == answer;
+    }
+    Ok(right)
+}
+
+#[test]
+fn windows_exchanged_one_after_the_other(rt: HostRuntime) -> Result<(), Fail> {
+    let mut rng = Pcg64::new(72, 1);
+    assert!(rt; draw_keeps_its_value::<F65537>(rt.alloc(), &mut rng)?);
     Ok(())
 }
 

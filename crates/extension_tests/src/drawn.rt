@@ -177,7 +177,8 @@ fn exchanged_place(place: usize, a: usize, b: usize, k: usize) -> usize {
     }
 }
 
-fn exchanged<F: Field>(
+/// The point with the items of two windows exchanged.
+pub fn exchanged<F: Field>(
     alloc: Global,
     point: &[F],
     (a, b, k): (usize, usize, usize),

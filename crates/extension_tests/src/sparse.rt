@@ -522,6 +522,7 @@ fn sums_of_draws(rt: HostRuntime) -> Result<(), Fail> {
         assert!(rt; draws_have_sums::<F65537>(rt.alloc(), &mut rng, num_vars)?);
         assert!(rt; draws_have_sums::<F5>(rt.alloc(), &mut rng, num_vars)?);
     }
+    assert!(rt; draws_have_sums::<F65537>(rt.alloc(), &mut rng, 18)?);
     Ok(())
 }
 

@@ -80,6 +80,18 @@ fn equality_and_hash_ignore_the_number_of_variables(rt: HostRuntime) -> Result<(
     Ok(())
 }
 
+// Whether copies of the polynomial's terms make it again.
+fn is_made_of_copies<F: Field, T: Term>(
+    alloc: Global,
+    p: &SparsePolynomial<F, T>,
+) -> Result<bool, PolyError> {
+    let (num_vars, terms) = (p.num_vars(), p.terms());
+    if !terms.iter().all(|term| term.1.is_within(num_vars)) {
+        return Ok(false);
+    }
+    Ok(SparsePolynomial::from_coefficients_slice(alloc, num_vars, terms)? == *p)
+}
+
 // Whether these terms gather to those.
 fn gathers<T: Term>(
     alloc: Global,
@@ -87,7 +99,11 @@ fn gathers<T: Term>(
     gathered: Terms<'_>,
 ) -> Result<bool, PolyError> {
     let p: SparsePolynomial<F5, T> = polynomial(alloc, 4, terms)?;
-    Ok(has_terms(&p, gathered) && p.is_zero() == gathered.is_empty())
+    Ok(
+        has_terms(&p, gathered)
+            && p.is_zero() == gathered.is_empty()
+            && is_made_of_copies(alloc, &p)?,
+    )
 }
 
 #[test]
@@ -117,6 +133,6 @@ fn debug_texts(rt: HostRuntime) -> Result<(), Fail> {
         &[(3, &[]), (2, &[(1, 2)])],
     )?;
     let text = format!(in rt.alloc(); "{p:?}")?;
-    assert!(rt; text.as_str().contains(" * x_1^2"));
+    assert_eq!(rt; text.as_str(), "\n3\n2  * x_1^2");
     Ok(())
 }

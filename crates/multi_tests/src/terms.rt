@@ -1,12 +1,13 @@
 use crate::building::{Powers, elements, hash_of, term};
 use crate::lexicographic::LexicographicTerm;
 use ark_base::{F5, F65537, Field, PolyError};
+use ark_multi::laws::graded_order;
 use ark_multi::multivariate::{SparseTerm, Term};
 use std::alloc::Global;
 use std::cmp::Ordering;
 use std::test::Fail;
 
-// Whether the term of the powers has these pairs, and these vars, powers and degree.
+// Whether the term of the powers has these pairs and their degree, and is constant where there are none.
 fn is_collected<T: Term>(
     alloc: Global,
     powers: Powers<'_>,
@@ -125,6 +126,9 @@ fn great_powers_are_compared(rt: HostRuntime) -> Result<(), Fail> {
     let other: SparseTerm = term(rt.alloc(), &[(0, 1), (1, usize::MAX - 1)])?;
     assert!(rt; great.cmp(&other) == Ordering::Greater);
     assert!(rt; other < great);
+    assert!(rt; graded_order(&great, &other) == Ordering::Greater);
+    assert!(rt; graded_order(&other, &great) == Ordering::Less);
+    assert!(rt; graded_order(&other, &other) == Ordering::Equal);
     Ok(())
 }
 

@@ -8,9 +8,13 @@ mod conversions;
 #[cfg(test)]
 mod division;
 #[cfg(test)]
+mod drawn;
+#[cfg(test)]
 mod evaluations;
 #[cfg(test)]
 mod fast_division;
+#[cfg(test)]
+mod forms;
 #[cfg(test)]
 mod places;
 #[cfg(test)]

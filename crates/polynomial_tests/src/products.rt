@@ -214,8 +214,8 @@ fn products_with_vanishing_polynomials(rt: HostRuntime) -> Result<(), Fail> {
     Ok(())
 }
 
-// Whether the values are the polynomial's at the elements of their domain.
-fn are_at_elements<F: FftField, D: EvaluationDomain<F>>(
+/// Whether the values are the polynomial's at the elements of their domain.
+pub fn are_at_elements<F: FftField, D: EvaluationDomain<F>>(
     alloc: Global,
     values: &Evaluations<F, D>,
     p: &DensePolynomial<F>,

@@ -44,6 +44,7 @@ type Domain<M> = GeneralEvaluationDomain<PrimeField<M>>;
 ///   with the offset `H`: of a power of two where there is one, and otherwise of a mixed size,
 /// - `mul LIST LIST`, the product of the polynomials with these coefficients, by transforms over that domain for the
 ///   product's length,
+/// - `div LIST LIST`, the quotient and the remainder of the first polynomial by the second, a line each,
 /// - `eval LIST X`, the value at `X` of the polynomial with these coefficients,
 /// - `mle N LIST POINT`, the value at `POINT` of the multilinear extension of the `2^N` items of `LIST`,
 /// - `size K`, the size of that domain,

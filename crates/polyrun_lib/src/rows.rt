@@ -19,7 +19,8 @@ use std::alloc::{AllocError, Global};
 /// always bad. Each line's memory is taken before that line is written: where it is refused, the lines before stand, and
 /// the error's line follows.
 pub fn check<W: Sink>(alloc: Global, field: u64, rows: &[(Vec<String>, String)], out: &mut W) -> u8
-    ensures written { (text : List ℕ) × (status : ℕ) × MayCheck (decimal field) (map row_of rows.now) text status
+    ensures written { (text : List ℕ) × (status : ℕ)
+        × MayCheck (decimal field) (map row_of rows.now) text status
         × IsWritten (W.contents out.old) (W.contents out.new) (W.failures out.old) (W.failures out.new)
         text status result }
 

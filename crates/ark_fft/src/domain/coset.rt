@@ -43,6 +43,10 @@ pub struct Coset<F: FftField> {
 }
 
 impl<F: FftField> Clone for Coset<F> {
+    ghost is_clone = { λ a b. b ≡ a };
+
+    ghost is_infallible = { λ _. Unit {0} };
+
     fn clone(&self) -> Result<Self, AllocError> {
         Ok(*self)
     }

@@ -167,8 +167,8 @@ impl<F: Field> Polynomial<F> for DenseMultilinearExtension<F> {
         self.add_to_zero(alloc, factor, other)
     }
 
-    ghost equality_law = { λ a b. equal_tables F.field F.eq F.equality_law a.evaluations.items b.evaluations.items
-        a.num_vars b.num_vars a.whole b.whole };
+    ghost equality_law = { λ a b. equal_tables F.field F.eq F.equality_law a.evaluations.items
+        b.evaluations.items a.num_vars b.num_vars a.whole b.whole };
 
     ghost clone_law = { λ a b same. same };
 

@@ -31,8 +31,8 @@ pub trait MultilinearExtension<F: Field>: Polynomial<F, Point = Vec<F>> {
     fn num_vars(&self) -> usize
         ensures { result ≡ Self.variables self.now };
 
-    /// One of `num_vars` variables, below 64, with drawn values. `None` where a form that draws places runs out of the
-    /// draws that it may try for one.
+    /// One of `num_vars` variables, below 64, with drawn values. A form that draws indices too tries each at most
+    /// `tries` times, and answers `None` where none of these is new.
     fn rand<R: Rng>(
         alloc: Global,
         num_vars: usize,

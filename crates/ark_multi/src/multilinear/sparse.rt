@@ -322,8 +322,9 @@ impl<F: Field> SparseMultilinearExtension<F> {
         })
     }
 
-    /// One of `num_vars` variables, below 64, with drawn values at `entries` drawn indices, at most `2^num_vars`, and
-    /// zero elsewhere. For each index at most `tries` are drawn until one is new; `None` where these are spent.
+    /// One of `num_vars` variables, below 64, with drawn values at drawn indices, and zero elsewhere. `entries`, at most
+    /// `2^num_vars`, says how many indices are drawn; a value that is drawn as zero is not stored. For each index at
+    /// most `tries` are drawn until one is new; `None` where these are spent.
     pub fn rand_with_config<R: Rng>(
         alloc: Global,
         num_vars: usize,

@@ -20,9 +20,10 @@ pub trait DenseUVPolynomial<F: Field>: Polynomial<F, Point = F> {
     // What `coeffs()` shows.
     ghost listed: { Self → List F };
 
-    /// The polynomial with a copy of these coefficients.
+    /// The polynomial with a copy of these coefficients, without zeros at their end.
     fn from_coefficients_slice(alloc: Global, coeffs: &[F]) -> Result<Self, PolyError>
         ensures coefficients { IfOk result (λ p. of_list F.field (listed p) ≡ of_list F.field coeffs.now) }
+        ensures trimmed { IfOk result (λ p. IsTrimmed F.field (listed p)) }
         ensures memory { IsOkUnless result PolyError.Memory };
 
     /// The polynomial with these coefficients, without zeros at their end. Takes no memory.

@@ -1,4 +1,4 @@
-use Rattle.std.proofs.Common.{◌≡◌, Ok, refl, subst}
+use Rattle.std.proofs.Common.{Ok, refl, subst}
 use Rattle.ark_math.proofs.Outcomes.Results.{ok_none}
 use Rattle.ark_math.proofs.Polynomials.Quotients.{IsDivision, same_division}
 use Rattle.ark_poly.specs.DenseOrSparse.{denoted}

@@ -1,7 +1,6 @@
-use Rattle.std.proofs.Common.{ap, ap₂, sym, subst, ◌∙◌}
+use Rattle.std.proofs.Common.{ap₂, sym, subst, ◌∙◌}
 use Rattle.ark_math.specs.Points.{AreValues}
 use Rattle.ark_math.proofs.OverDomains.PlaceValues.{one_list_of_values}
-use Rattle.ark_poly.specs.DenseOrSparse.{denoted}
 use Rattle.ark_poly.proofs.laws.values_of_all_forms.Goals as goal
 
 pub returns-clause-sparse : goal.returns-clause-sparse
@@ -21,8 +20,7 @@ returns-clause-either g c =
     let d = g.D.EvaluationDomain.domain c.args.domain in
     let dense = c.in_ok-evaluate_over_domain_by_ref in
     let either = c.in_ok-evaluate_over_domain in
-    let values = either.ensures.values in
     ap₂ (λ evals domain. record { evals = evals; domain = domain })
     (one_list_of_values K g.met.F.Field.field_laws d _ either.field-0.evals dense.field-0.evals
-    (subst (λ a. AreValues K d a either.field-0.evals) (ap (denoted K) values.1 ∙ c.requires.either) values.2) dense.ensures.values)
+    (subst (λ a. AreValues K d a either.field-0.evals) c.requires.either either.ensures.values) dense.ensures.values)
     (either.ensures.domain ∙ sym dense.ensures.domain)

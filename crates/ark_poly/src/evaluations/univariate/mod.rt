@@ -129,8 +129,10 @@ impl<F: FftField, D: EvaluationDomain<F>> Evaluations<F, D> {
     pub fn interpolate_by_ref(&self, alloc: Global) -> Result<DensePolynomial<F>, PolyError>
         ensures values { IfOk result (λ p. AreValues F.field (D.domain self.now.domain) (of_list F.field p)
             self.now.evals) }
-        ensures below { IfOk result (λ p. IsBelow F.field (D.domain self.now.domain).size (of_list F.field p)) }
-        ensures only { IfOk result (λ p. (other : ℕ → F) → IsBelow F.field (D.domain self.now.domain).size other
+        ensures below { IfOk result (λ p.
+            IsBelow F.field (D.domain self.now.domain).size (of_list F.field p)) }
+        ensures only { IfOk result (λ p. (other : ℕ → F)
+            → IsBelow F.field (D.domain self.now.domain).size other
             → AreValues F.field (D.domain self.now.domain) other self.now.evals
             → other ≡ of_list F.field p) }
         ensures memory { IsOkUnless result PolyError.Memory }

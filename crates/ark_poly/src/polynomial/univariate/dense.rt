@@ -420,7 +420,7 @@ impl<F: Field> DensePolynomial<F> {
         subtract_terms_trimmed(&mut self.coeffs, other.coeffs())
     }
 
-    /// The quotient, without the remainder. Zero divided by anything is zero; otherwise `ZeroDivisor` exactly for a zero
+    /// The only quotient, without the remainder. Zero divided by anything is zero; otherwise `ZeroDivisor` exactly for a zero
     /// divisor, judged before memory is asked for.
     ///
     /// For each coefficient of the quotient there is one pass over the divisor's, on one copy of this polynomial's.
@@ -428,6 +428,8 @@ impl<F: Field> DensePolynomial<F> {
         ensures quotient { IfOk result (λ q. of_list F.field divisor.now ≢ nothing F.field → (r : ℕ → F)
             × IsQuotient F.field (of_list F.field self.now) (of_list F.field divisor.now)
             (of_list F.field q) r) }
+        ensures only { IfOk result (λ p. (q r : ℕ → F) → IsQuotient F.field (of_list F.field self.now)
+            (of_list F.field divisor.now) q r → q ≡ of_list F.field p) }
         ensures zero { IfOk result (λ q. of_list F.field self.now ≡ nothing F.field
             → of_list F.field q ≡ nothing F.field) }
         ensures zero_divisor { (result ≡ Err PolyError.ZeroDivisor)

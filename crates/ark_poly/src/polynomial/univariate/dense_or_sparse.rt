@@ -176,17 +176,17 @@ impl<'a, F: FftField> DenseOrSparsePolynomial<'a, F> {
     /// The values at the elements of the domain of a polynomial in either form, its own or a borrowed one: no
     /// coefficient is cut off. A dense one of its own is reduced and transformed in place; else there is memory for the
     /// values, and for a copy of a borrowed dense one, beside what a transform takes.
-    pub fn evaluate_over_domain<P: Into<Self>, D: EvaluationDomain<F>>(
-        poly: P,
+    pub fn evaluate_over_domain<D: EvaluationDomain<F>>(
+        self,
         alloc: Global,
         domain: D,
     ) -> Result<Evaluations<F, D>, PolyError>
-        ensures values { IfOk result (λ v. (p : DenseOrSparsePolynomial F) × P.converts poly p
-            × AreValues F.field (D.domain domain) (denoted F.field p) v.evals) }
+        ensures values { IfOk result (λ v.
+            AreValues F.field (D.domain domain) (denoted F.field self.entry) v.evals) }
         ensures domain { IfOk result (λ v. v.domain ≡ domain) }
         ensures memory { IsOkUnless result PolyError.Memory }
     {
-        match poly.into() {
+        match self {
             SPolynomial(p) => p.evaluate_over_domain_by_ref(alloc, domain),
             DPolynomial(Cow::Borrowed(p)) => p.evaluate_over_domain_by_ref(alloc, domain),
             DPolynomial(Cow::Owned(p)) => p.evaluate_over_domain(alloc, domain),

@@ -1,7 +1,7 @@
 //! Division of long dense polynomials by products through transforms.
 
 ghost use Rattle.std.specs.Prelude.{◌≡◌, ◌≢◌, ◌↔◌, ◌+◌, ◌-◌, ◌<◌, ◌≤◌, ◌⊎◌, length, IfOk, IfErr};
-ghost use Rattle.std.specs.Prelude.{ℕ, IfSome, IsNone, IsOkUnless};
+ghost use Rattle.std.specs.Prelude.{ℕ, None, IfSome, IsNone, IsOkUnless};
 ghost use Rattle.ark_math.specs.Series.{AgreeBelow, past, reversed as backwards, unity};
 ghost use Rattle.ark_math.specs.Univariate.{of_list, nothing, difference, product, IsBelow, IsQuotient};
 
@@ -20,29 +20,30 @@ const SHORT_DIVISOR: usize = 512;
 const SHORT_QUOTIENT: usize = 128;
 
 impl<F: FftField> DensePolynomial<F> {
-    /// Quotient and remainder by products through transforms, for long operands. There is no other such pair. Zero by
-    /// zero gives two zeros, and `None` comes exactly for any other dividend by zero.
+    /// Quotient and remainder by products through transforms, for long operands: what `divide_with_q_and_r` answers. A
+    /// zero dividend gives two zeros, whatever the divisor; otherwise `None` exactly for a zero divisor, judged before
+    /// memory is asked for.
     ///
     /// It takes two products for each time that the inverse series gets twice as long, one for the quotient and one for
-    /// the remainder, and memory for what these take. Where the divisor or the quotient has few coefficients, and where
-    /// the field lacks a domain for one of the products, it divides by passes: one over the divisor's
-    /// coefficients for each one of the quotient's, and memory for the quotient and the dividend. A missing domain may
-    /// come up only after the first products, whose cost is then added.
+    /// the remainder, and memory for what these take. Where the divisor or the quotient is short, and where the field
+    /// has no domain for one of the products, it divides as `divide_with_q_and_r` does: for each coefficient of the
+    /// quotient one pass over the divisor's, and memory for the quotient and a copy of the dividend. That a domain is
+    /// missing may be seen only after the first products; their time is then spent in vain.
     pub fn divide_by_transforms(
         &self,
         alloc: Global,
         divisor: &Self,
     ) -> Result<Option<(Self, Self)>, PolyError>
-        ensures division { IfOk result (λ o. IfSome o (λ p. 0 < length divisor.now → IsQuotient F.field
-            (of_list F.field self.now) (of_list F.field divisor.now) (of_list F.field p.0)
-            (of_list F.field p.1))) }
+        ensures quotient { IfOk result (λ o. IfSome o (λ p. of_list F.field divisor.now ≢ nothing F.field
+            → IsQuotient F.field (of_list F.field self.now) (of_list F.field divisor.now)
+            (of_list F.field p.0) (of_list F.field p.1))) }
         ensures only { IfOk result (λ o. IfSome o (λ p. (q r : ℕ → F) → IsQuotient F.field
             (of_list F.field self.now) (of_list F.field divisor.now) q r
             → (q ≡ of_list F.field p.0) × (r ≡ of_list F.field p.1))) }
-        ensures zeros { IfOk result (λ o. IfSome o (λ p. length divisor.now ≡ 0 →
-            (of_list F.field p.0 ≡ nothing F.field) × (of_list F.field p.1 ≡ nothing F.field))) }
-        ensures none { IfOk result (λ o. IsNone o ↔ (of_list F.field self.now ≢ nothing F.field)
-            × (length divisor.now ≡ 0)) }
+        ensures zeros { IfOk result (λ o. IfSome o (λ p. of_list F.field self.now ≡ nothing F.field
+            → (of_list F.field p.0 ≡ nothing F.field) × (of_list F.field p.1 ≡ nothing F.field))) }
+        ensures none { (result ≡ Ok None) ↔ (of_list F.field self.now ≢ nothing F.field)
+            × (of_list F.field divisor.now ≡ nothing F.field) }
         ensures memory { IsOkUnless result PolyError.Memory }
     {
         if let Some(inverted) = divisor.leading_inverse() {
@@ -58,7 +59,7 @@ impl<F: FftField> DensePolynomial<F> {
     fn leading_inverse(&self) -> Option<F>
         ensures some { IfSome result (λ y. F.field.times (of_list F.field self.now (length self.now - 1)) y
             ≡ F.field.one) }
-        ensures none { IsNone result ↔ (length self.now ≡ 0) }
+        ensures none { IsNone result ↔ (of_list F.field self.now ≡ nothing F.field) }
     {
         self.coeffs().last()?.inverse()
     }

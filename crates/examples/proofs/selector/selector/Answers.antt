@@ -5,8 +5,8 @@ use Rattle.ark_math.proofs.Algebra.Groups.{one_times}
 use Rattle.ark_math.proofs.Polynomials.Tables.{extension-entry}
 use Rattle.examples.proofs.selector.selector.Goals as goal
 
-pub returns : goal.returns
-returns g c =
+pub returns-clause-value : goal.returns-clause-value
+returns-clause-value g c =
     let K = g.F.Field.field in
     let N = g.met.F.Field.field_laws in
     let x = c.args.point.now.items in

@@ -4,19 +4,27 @@ use Rattle.ark_math.specs.Multilinear.{fixed}
 use Rattle.ark_math.proofs.Polynomials.Multilinear.{cube_sum}
 use Rattle.examples.proofs.sum_check.first_round.Goals as goal
 
-pub returns : goal.returns
-returns g c =
+pub returns-clause-zero : goal.returns-clause-zero
+returns-clause-zero g c =
+    let K = g.F.Field.field in
+    let t = (g.E.MultilinearExtension.table c.args.table.now).value in
+    let m = g.E.Polynomial.variables c.args.table.now - 1 in
+    c.in_ok-sum_over_others.ensures.sum ∙ ap (λ x. sum_below (itself K) (2 ^ m) (fixed K t (x ∷ []))) (c.zero.ensures ∙ g.met.F.Field.zero_law)
+
+pub returns-clause-one : goal.returns-clause-one
+returns-clause-one g c =
+    let K = g.F.Field.field in
+    let t = (g.E.MultilinearExtension.table c.args.table.now).value in
+    let m = g.E.Polynomial.variables c.args.table.now - 1 in
+    c.in_ok-sum_over_others-2.ensures.sum ∙ ap (λ x. sum_below (itself K) (2 ^ m) (fixed K t (x ∷ []))) (c.one.ensures ∙ g.met.F.Field.one_law)
+
+pub returns-clause-claim : goal.returns-clause-claim
+returns-clause-claim g c =
     let K = g.F.Field.field in
     let t = (g.E.MultilinearExtension.table c.args.table.now).value in
     let m = g.E.Polynomial.variables c.args.table.now - 1 in
     let some = c.requires.variables in
     let whole : suc m ≡ g.E.Polynomial.variables c.args.table.now = omega (arith, some) in
-    let low : c.in_ok-sum_over_others.field-0 ≡ sum_below (itself K) (2 ^ m) (fixed K t (K.zero ∷ [])) =
-    c.in_ok-sum_over_others.ensures.sum ∙ ap (λ x. sum_below (itself K) (2 ^ m) (fixed K t (x ∷ []))) (c.zero.ensures ∙ g.met.F.Field.zero_law) in
-    let high : c.in_ok-sum_over_others-2.field-0 ≡ sum_below (itself K) (2 ^ m) (fixed K t (K.one ∷ [])) =
-    c.in_ok-sum_over_others-2.ensures.sum ∙ ap (λ x. sum_below (itself K) (2 ^ m) (fixed K t (x ∷ []))) (c.one.ensures ∙ g.met.F.Field.one_law) in
-    record {
-      zero = low;
-      one = high;
-      claim = ap₂ K.plus low high ∙ sym (cube_sum K g.met.F.Field.field_laws m t) ∙ ap (λ n. sum_below (itself K) (2 ^ n) t) whole;
-    }
+    ap₂ K.plus (returns-clause-zero g c) (returns-clause-one g c)
+    ∙ sym (cube_sum K g.met.F.Field.field_laws m t)
+    ∙ ap (λ n. sum_below (itself K) (2 ^ n) t) whole
