@@ -182,7 +182,11 @@ impl Trial for TwiceAsLong {
         let mut rng = Pcg64::new(69, 1);
         let mut right = true;
         for _ in 0..2 {
-            let p = some::<F>(alloc, &mut rng, self.size.saturating_mul(2).saturating_add(1))?;
+            let p = some::<F>(
+                alloc,
+                &mut rng,
+                self.size.saturating_mul(2).saturating_add(1),
+            )?;
             let values = p.evaluate_over_domain_by_ref(alloc, domain)?;
             right = right && are_at_elements(alloc, &values, &p);
         }
