@@ -61,9 +61,16 @@ fn opposites_and_differences(rt: HostRuntime) -> Result<(), Fail> {
     Ok(())
 }
 
+// The polynomial of degree 0 with this coefficient, or zero.
+fn constant_of<F: Field>(alloc: Global, value: F) -> Result<DensePolynomial<F>, PolyError> {
+    let mut coeffs = Vec::with_capacity(alloc, 1)?;
+    coeffs.push(value)?;
+    Ok(DensePolynomial::from_coefficients_vec(coeffs))
+}
+
 // Whether the multiple of a dense polynomial is its product with the constant.
 fn is_product_with_constant<F: Field>(alloc: Global, p: &DensePolynomial<F>, factor: F) -> bool {
-    let Ok(constant) = DensePolynomial::from_coefficients_slice(alloc, &[factor]) else {
+    let Ok(constant) = constant_of(alloc, factor) else {
         return false;
     };
     let Ok(multiple) = p.mul_scalar(alloc, factor) else {
@@ -74,9 +81,12 @@ fn is_product_with_constant<F: Field>(alloc: Global, p: &DensePolynomial<F>, fac
 
 // The same of its sparse form.
 fn is_sparse_product<F: Field>(alloc: Global, p: &DensePolynomial<F>, factor: F) -> bool {
+    let Ok(constant) = constant_of(alloc, factor) else {
+        return false;
+    };
     let (Ok(p), Ok(constant)) = (
         SparsePolynomial::from_dense(alloc, p),
-        SparsePolynomial::from_coefficients_slice(alloc, &[(0, factor)]),
+        SparsePolynomial::from_dense(alloc, &constant),
     ) else {
         return false;
     };
