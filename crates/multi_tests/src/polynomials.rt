@@ -133,6 +133,8 @@ fn debug_texts(rt: HostRuntime) -> Result<(), Fail> {
         &[(3, &[]), (2, &[(1, 2)])],
     )?;
     let text = format!(in rt.alloc(); "{p:?}")?;
-    assert_eq!(rt; text.as_str(), "\n3\n2  * x_1^2");
+    let (three, two) = (F5::from(3), F5::from(2));
+    let expected = format!(in rt.alloc(); "\n{three:?}\n{two:?}  * x_1^2")?;
+    assert_eq!(rt; text.as_str(), expected.as_str());
     Ok(())
 }
