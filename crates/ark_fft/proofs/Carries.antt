@@ -1,7 +1,6 @@
 -- One more than an index whose bits are read backwards: the ones before its first zero are carried.
 use Rattle.std.proofs.Common.{◌≡◌, ℕ, zero, suc, ◌+◌, ◌-◌, ◌*◌, ◌/◌, ◌%◌, ◌^◌, ◌<◌, ◌≤◌, ◌∙◌, ap, ⊎_elim, arith}
 use Rattle.std.proofs.lemmas.Bool.{cases_lt}
-use Rattle.std.proofs.lemmas.Nat.{pow_pos}
 use Rattle.ark_fft.specs.Halves.{reversed}
 use Rattle.ark_fft.proofs.Reversal.{pow_suc, reversed_below, reversed_even, reversed_odd}
 
@@ -13,12 +12,6 @@ pub record IsCarried (n i left bit : ℕ) : Type 0 where
   pub bit_is : bit ≡ 2 ^ k
   pub left_is : left ≡ reversed (suc k) p
   pub same : reversed n (i + 1) ≡ reversed (suc k) (p + 1)
-
-pub carried_first : (n i left bit : ℕ) → i + 1 < 2 ^ n → bit ≡ 2 ^ (n - 1) → left ≡ reversed n i → IsCarried n i left bit
-carried_first zero i left bit h b l = absurd (omega arith)
-carried_first (suc k) i left bit h b l =
-    let e : suc k - 1 ≡ k = omega arith in
-    record { k = k; p = i; fits = h; bit_is = b ∙ ap (λ t. 2 ^ t) e; left_is = l; same = λ j. reversed (suc k) (i + 1) }
 
 more : (n i left bit k p : ℕ) → p + 1 < 2 ^ k → bit ≡ 2 ^ k → left ≡ 2 ^ k + reversed k p → reversed n (i + 1) ≡ reversed k (p + 1) → IsCarried n i (left - bit) (bit / 2)
 more n i left bit zero p h b l s = absurd (omega arith)
@@ -66,6 +59,3 @@ carried_last n i left bit c below =
     omega (arith, l, r, c.bit_is))
     (λ (o : 1 ≤ p % 2). absurd (omega (arith, c.bit_is, c.left_is, odd_left k p h o, below)))
     (cases_lt (p % 2) 1)
-
-pub bit_positive : (n i left bit : ℕ) → IsCarried n i left bit → 0 < bit
-bit_positive n i left bit c = rw c.bit_is (pow_pos c.k)

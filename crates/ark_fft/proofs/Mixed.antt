@@ -105,9 +105,6 @@ stepped_more w0 w1 w2 r b p n q e f g =
     let k : (r + 1) * (b * (n / q)) ≡ r * (b * (n / q)) + b * (n / q) = omega arith in
     omega arith
 
-pub nothing_counted : (w o x : ℕ) → o ≡ 0 → w ≡ w + o * x
-nothing_counted w o x e = let f : o * x ≡ 0 = ap (λ t. t * x) e ∙ omega arith in omega arith
-
 -- the butterflies of q parts of n items are those of q * n items
 pub level_butterflies : (l q n x : ℕ) → n ≡ 2 ^ l * x → q * (l * n / 2) ≡ l * (q * n) / 2
 level_butterflies zero q n x e =

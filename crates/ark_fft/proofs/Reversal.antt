@@ -1,8 +1,7 @@
 -- Reading an index's bits backwards.
 use Rattle.std.proofs.Common.{◌≡◌, ℕ, zero, suc, ◌+◌, ◌-◌, ◌*◌, ◌/◌, ◌%◌, ◌^◌, ◌<◌, ◌≤◌, sym, ◌∙◌, ap, subst, ⊎_elim, refl, arith}
 use Rattle.std.proofs.lemmas.Bool.{cases_lt}
-use Rattle.std.proofs.lemmas.Nat.{pow_pos, div-mul-add}
-use Rattle.std.proofs.Math.Pow.{pow_mono}
+use Rattle.std.proofs.lemmas.Nat.{pow_pos}
 use Rattle.std.specs.Int.{reverse_bits_onto}
 use Rattle.std.proofs.lemmas.Bool.Decides.{nat_tests}
 use Rattle.ark_fft.specs.Halves.{reversed}
@@ -114,30 +113,3 @@ reverse_bits_onto-is (suc k) n a l =
     let r = reversed_lowest k n l in
     let twice : a * 2 ^ suc k ≡ a * 2 ^ k + a * 2 ^ k = rw (pow_suc k) (omega arith) in
     h ∙ omega arith
-
-reversed_wider : (k j n : ℕ) → n < 2 ^ k → reversed (j + k) n ≡ reversed k n * 2 ^ j
-reversed_wider k zero n l =
-    let e : 0 + k ≡ k = omega arith in
-    ap (λ t. reversed t n) e ∙ omega arith
-reversed_wider k (suc j) n l =
-    let e : suc j + k ≡ suc (j + k) = omega arith in
-    let h = reversed_wider k j n l in
-    let le : k ≤ j + k = omega arith in
-    let m : 2 ^ k ≤ 2 ^ (j + k) = pow_mono le in
-    let b : n < 2 ^ (j + k) = omega arith in
-    let twice : reversed k n * 2 ^ suc j ≡ reversed k n * 2 ^ j + reversed k n * 2 ^ j = rw (pow_suc j) (omega arith) in
-    ap (λ t. reversed t n) e ∙ (reversed_low (j + k) n b ∙ omega arith)
-
-reversed_shifted : (k j b n : ℕ) → j + k ≡ b → n < 2 ^ k → reversed b n / 2 ^ j ≡ reversed k n
-reversed_shifted k j b n e l =
-    let m : reversed b n ≡ reversed k n * 2 ^ j + 0 = ap (λ t. reversed t n) (sym e) ∙ (reversed_wider k j n l ∙ omega arith) in
-    ap (λ t. t / 2 ^ j) m ∙ div-mul-add (reversed k n) (2 ^ j) 0 (pow_pos j)
-
--- the lowest k bits of n, from the reversal of all b of them
-pub shifted_reversal : (k b n : ℕ) → k ≤ b → n < 2 ^ k → reverse_bits_onto b n 0 / 2 ^ (b - k) ≡ reversed k n
-shifted_reversal k b n le l =
-    let m : 2 ^ k ≤ 2 ^ b = pow_mono le in
-    let i : n < 2 ^ b = omega arith in
-    let e : b - k + k ≡ b = omega arith in
-    let z : 0 * 2 ^ b + reversed b n ≡ reversed b n = omega arith in
-    ap (λ t. t / 2 ^ (b - k)) (reverse_bits_onto-is b n 0 i ∙ z) ∙ reversed_shifted k (b - k) b n e l

@@ -1,7 +1,7 @@
 -- Weights of the corners at a point, doubled item by item.
 use Rattle.std.proofs.Common.{◌≡◌, ◌≢◌, ℕ, suc, ◌+◌, ◌-◌, ◌*◌, ◌<◌, ◌≤◌, ◌^◌, List, [], ◌∷◌, ◌++◌, length, set, length-set, sym, ◌∙◌, ap, refl, arith, ⊎_elim}
-use Rattle.std.proofs.lemmas.Bool.{cases_eq, cases_lt}
-use Rattle.std.proofs.lemmas.List.{length_push, get_or_push, get_or_append_left, get_or-set_same, get_or-set_other}
+use Rattle.std.proofs.lemmas.Bool.{cases_lt}
+use Rattle.std.proofs.lemmas.List.{length_push, get_or_append_left}
 use Rattle.ark_math.specs.Field.{FieldOn, IsField, minus}
 use Rattle.ark_math.specs.Multilinear.{weight}
 use Rattle.ark_math.specs.Univariate.{of_list}
@@ -22,35 +22,6 @@ pub record AreWeights {F : Type 0} (K : FieldOn F) (p ws : List F) : Type 0 wher
   pub values : (b : ℕ) → b < 2 ^ length p → of_list K ws b ≡ weight K p b
 
 module _ {F : Type 0} (K : FieldOn F) where
-  pub IsDoubling-begin : (x : F) (ws : List F) → IsDoubling K x ws ws 0
-  IsDoubling-begin x ws = record {
-    whole = omega arith;
-    low = λ b l. absurd (omega arith);
-    rest = λ b l m. refl;
-    high = λ b l. absurd (omega arith);
-  }
-
-  pub IsDoubling-next : (x : F) (ws vs : List F) (i : ℕ) (l h : F) → IsDoubling K x ws vs i → i < length ws → h ≡ K.times (of_list K ws i) x → l ≡ minus K (of_list K ws i) h → IsDoubling K x ws (set vs i l ++ h ∷ []) (i + 1)
-  IsDoubling-next x ws vs i l h d inside is_high is_low = record {
-    whole = omega (arith, d.whole, length_push us h, kept);
-    low = λ b s. ⊎_elim
-        (λ (e : b ≡ i).
-        within b (omega (arith, d.whole))
-        ∙ ap (of_list K us) e
-        ∙ get_or-set_same vs i l K.zero (omega (arith, d.whole))
-        ∙ is_low ∙ ap (minus K (of_list K ws i)) is_high
-        ∙ ap (λ k. minus K (of_list K ws k) (K.times (of_list K ws k) x)) (sym e))
-        (λ (ne : b ≢ i). within b (omega (arith, d.whole)) ∙ get_or-set_other vs i b l K.zero ne ∙ d.low b (below b ne s))
-        (cases_eq b i);
-    rest = λ b s m. within b (omega (arith, d.whole)) ∙ get_or-set_other vs i b l K.zero (λ e. omega arith) ∙ d.rest b (omega arith) m;
-    high = λ b s. ⊎_elim
-        (λ (e : b ≡ i).
-        get_or_push us h K.zero (length ws + b) (omega (arith, d.whole, kept)) ∙ is_high ∙ ap (λ k. K.times (of_list K ws k) x) (sym e))
-        (λ (ne : b ≢ i).
-        within (length ws + b) (let m = below b ne s in omega (arith, d.whole))
-        ∙ get_or-set_other vs i (length ws + b) l K.zero (λ e. omega arith)
-        ∙ d.high b (below b ne s))
-        (cases_eq b i);
   } where
     us : List F
     us = set vs i l

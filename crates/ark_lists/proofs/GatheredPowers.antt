@@ -1,28 +1,10 @@
 -- The powers of like variables summed up, of pairs whose variables don't fall.
-use Rattle.std.proofs.Common.{◌≡◌, ◌≢◌, ℕ, ◌+◌, ◌<◌, ◌≤◌, ◌^◌, ◌==◌, Bool, true, false, List, [], ◌∷◌, ◌++◌, length, get_or, take, if◌then◌else◌, sym, ◌∙◌, ap, refl, subst, arith}
+use Rattle.std.proofs.Common.{◌≡◌, ◌≢◌, ℕ, ◌+◌, ◌<◌, ◌≤◌, ◌==◌, Bool, true, false, List, length, get_or, take, if◌then◌else◌, sym, ap, refl, subst, arith}
 use Rattle.std.specs.List.{All}
 use Rattle.std.specs.List.Sorted.{IsNonDecreasingBy}
-use Rattle.std.proofs.lemmas.List.{get_or_default, take_all}
-use Rattle.std.proofs.lemmas.List.Elements.{All-push}
-use Rattle.std.proofs.lemmas.List.Quantifiers.{all_pairs_push}
-use Rattle.std.proofs.lemmas.List.Sums.{sum_by_push, sum_by_more, sum_by-take-le}
+use Rattle.std.proofs.lemmas.List.{get_or_default}
+use Rattle.std.proofs.lemmas.List.Sums.{sum_by_more}
 use Rattle.ark_math.specs.Term.{IsTerm, power_of, total_degree}
-
--- one more power of a variable above
-pub term_push : (c : List (ℕ × ℕ)) (v n : ℕ) → IsTerm c → All (λ p. p.0 < v) c → 0 < n → total_degree c + n < 2 ^ 64 → IsTerm (c ++ (v, n) ∷ [])
-term_push c v n h below pos fits = record {
-  rising = all_pairs_push (λ p q. p.0 < q.0) c (v, n) h.rising (λ k d l. below k d l);
-  some = All-push (λ p. 0 < p.1) c (v, n) h.some pos;
-  fits = subst (λ t. t < 2 ^ 64) (sym (sum_by_push (λ p. p.1) c (v, n))) fits;
-}
-
-pub below_push : (c : List (ℕ × ℕ)) (v n next : ℕ) → All (λ p. p.0 < v) c → v < next → All (λ p. p.0 < next) (c ++ (v, n) ∷ [])
-below_push c v n next below up =
-    All-push (λ p. p.0 < next) c (v, n)
-    (λ k d l.
-    let b : (get_or c k d).0 < v = below k d l in
-    omega arith)
-    up
 
 pub if_plus : (b : Bool) (m n : ℕ) → (if b then m + n else 0) ≡ (if b then m else 0) + (if b then n else 0)
 if_plus true m n = refl
@@ -39,21 +21,6 @@ pub record IsGathered (ps c : List (ℕ × ℕ)) (i v n : ℕ) : Type 0 where
   pub powers : (u : ℕ) → power_of c u + (if v == u then n else 0) ≡ power_of (take i ps) u
   pub total : total_degree c + n ≡ total_degree (take i ps)
   pub next : (k : ℕ) (d : ℕ × ℕ) → i ≤ k → k < length ps → v ≤ (get_or ps k d).0
-
-pub none_gathered : (ps : List (ℕ × ℕ)) → IsGathered ps [] 0 0 0
-none_gathered ps = record {
-  term = record {
-    rising = λ i j d a l. absurd (omega arith);
-    some = λ k d l. absurd (omega arith);
-    fits = omega arith;
-  };
-  below = λ k d l. absurd (omega arith);
-  powers = λ u.
-      let none = if_zero (0 == u) 0 refl in
-      omega arith;
-  total = refl;
-  next = λ k d a l. omega arith;
-}
 
 -- one more pair of the same variable
 gathered_same : (ps c : List (ℕ × ℕ)) (i v n : ℕ) → IsGathered ps c i v n → i < length ps → (get_or ps i (0, 0)).0 ≡ v → IsGathered ps c (i + 1) v (n + (get_or ps i (0, 0)).1)
@@ -95,17 +62,6 @@ gathered_next ps c e i v n h rises l ne term powers total below =
           let u : x.0 ≡ (get_or ps i d).0 = ap (λ t. t.0) (get_or_default ps i (0, 0) d l) in
           omega arith;
     }
-
--- all of it
-pub gathered_all : (ps c e : List (ℕ × ℕ)) (i v n u : ℕ) → IsGathered ps c i v n → length ps ≤ i → power_of e u ≡ power_of c u + (if v == u then n else 0) → power_of e u ≡ power_of ps u
-gathered_all ps c e i v n u h l is = is ∙ h.powers u ∙ ap (λ t. power_of t u) (take_all i ps l)
-
--- what is gathered is within the whole
-pub gathered_fits : (ps c : List (ℕ × ℕ)) (i v n : ℕ) → IsGathered ps c i v n → total_degree ps < 2 ^ 64 → total_degree c + n < 2 ^ 64
-gathered_fits ps c i v n h fits =
-    let total = h.total in
-    let part : total_degree (take i ps) ≤ total_degree ps = sum_by-take-le (λ p. p.1) ps i in
-    omega (arith, fits)
 
 -- the two ways of a turn of the loop
 pub gathered_step_same : (ps c e : List (ℕ × ℕ)) (i v n w m : ℕ) → IsGathered ps c i v n → i < length ps → (get_or ps i (0, 0)).0 ≡ v → e ≡ c → w ≡ v → m ≡ n → IsGathered ps e (i + 1) w (m + (get_or ps i (0, 0)).1)

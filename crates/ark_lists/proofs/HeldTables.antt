@@ -62,16 +62,6 @@ module _ {F : Type 0} (K : FieldOn F) (N : IsField K) where
   put_other : (m n : Values F) (k b : ℕ) (v : F) → Updates nat_eq m n k (Some v) → k ≢ b → held K n b ≡ held K m b
   put_other m n k b v h ne = ap (λ o. unwrap_or o K.zero) (h.2 b (ne_eqb k b ne))
 
-  -- a value is added to
-  pub held-added : (m n : Values F) (k : ℕ) (v c : F) → Updates nat_eq m n k (Some v) → v ≡ K.plus (held K m k) c → held K n ≡ added K (held K m) (monomial K k c)
-  held-added m n k v c h e = fun_ext (λ b. ⊎_elim
-      (λ (same : k ≡ b).
-      subst (λ t. held K n t ≡ K.plus (held K m t) (monomial K k c t)) same
-      (put_same m n k v h ∙ e ∙ ap (K.plus (held K m k)) (sym (monomial-same K k c))))
-      (λ (ne : k ≢ b).
-      put_other m n k b v h ne ∙ sym (ap (K.plus (held K m b)) (monomial-other K k c b ne) ∙ N.plus_zero (held K m b)))
-      (cases_eq k b))
-
   -- a pair is written
   pub held-written : (m n : Values F) (ps : List (ℕ × F)) (i : ℕ) (p : ℕ × F) → i < length ps → p ≡ get_or ps i p → held K m ≡ written K.zero (take i ps) → Updates nat_eq m n p.0 (Some p.1) → held K n ≡ written K.zero (take (i + 1) ps)
   held-written m n ps i p l is e h = fun_ext (λ b.

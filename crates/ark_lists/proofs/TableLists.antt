@@ -25,12 +25,6 @@ pow_left a n i j le e =
     e ∙ ap (λ m. n * 2 ^ m) (sym k) ∙ ap (λ m. n * m) (pow-add 2 (j - i) i) ∙ sym (mul_assoc n (2 ^ (j - i)) (2 ^ i)) in
     sym (mul-div_cancel a (pow_pos i)) ∙ ap (λ m. m / 2 ^ i) whole ∙ mul-div_cancel (n * 2 ^ (j - i)) (pow_pos i)
 
-pub one_left : (a i : ℕ) → a * 2 ^ i ≡ 2 ^ i → a ≡ 1
-one_left a i e =
-    let none : i - i ≡ 0 = omega arith in
-    let once : 2 ^ i ≡ 1 * 2 ^ i = omega arith in
-    pow_left a 1 i i (omega arith) (e ∙ once) ∙ ap (λ k. 1 * 2 ^ k) none
-
 -- a table is even as long as a variable is left
 pub even_left : (a n i j h : ℕ) → i < j → a * 2 ^ i ≡ h → n * 2 ^ j ≡ h → a ≡ 2 * (a / 2)
 even_left a n i j h l e f =

@@ -4,7 +4,7 @@ use Rattle.std.specs.Prelude.{Option, Vec}
 use Rattle.std.specs.List.{concat}
 use Rattle.std.specs.Io.KnownBytes.{Appends}
 use denote.Ref.{Bor}
-use Rattle.std.proofs.KnownBytes.{Appends-nil, Appends-trans}
+use Rattle.std.proofs.KnownBytes.{Appends-trans}
 use Rattle.std.proofs.lemmas.List.{append_cancel_right, length-map, length-take, take_more, take_all}
 use Rattle.std.proofs.lemmas.List.Folds.{concat-append}
 use Rattle.ark_base.specs.Transfer.{AppendsBeginning}
@@ -74,9 +74,6 @@ pub record IsUnderWay (field : List ℕ) (rows : List Row) (i status : ℕ) (old
   pub appends : Appends old now (lines_text verdicts)
   pub kept : failures_now ≡ failures_old
   pub ends : status ≡ status_of verdicts
-
-pub under_way-start : (field : List ℕ) (rows : List Row) (old : Option (List ℕ)) (failures : ℕ) → IsUnderWay field rows 0 0 old old failures failures
-under_way-start field rows old failures = record { verdicts = []; are = tt; appends = Appends-nil old; kept = refl; ends = refl }
 
 -- what is to be shown of `check`
 abbrev pub IsDone : List ℕ → List Row → Option (List ℕ) → Option (List ℕ) → ℕ → ℕ → ℕ → Type 0
@@ -158,23 +155,7 @@ done-ended field rows i row status old now next failures_old failures_now failur
     (rw (lines_more field rows i way.verdicts good below way.are) (AppendsBeginning-after old now next (lines_text way.verdicts) (row_line_of (i + 1) good) way.appends failed.2))
     (failed.3 ∙ ap (λ n. n + 1) way.kept))
 
--- each row has its line
-pub done-all : (field : List ℕ) (rows : List Row) (i status : ℕ) (old now : Option (List ℕ)) (failures_old failures_now : ℕ)
-    → IsUnderWay field rows i status old now failures_old failures_now → i ≡ length rows → IsDone field rows old now failures_old failures_now status
-done-all field rows i status old now failures_old failures_now way e = (
-  lines_text way.verdicts,
-  status,
-  inl (way.verdicts, subst (λ l. AreVerdicts field l way.verdicts) (take_all i rows (omega (arith, e))) way.are, refl, way.ends),
-  inl (way.appends, way.kept, refl),
-)
-
 -- ---- one line
-
--- all of it was written
-pub has_line : (field : List ℕ) (row : Row) (n : ℕ) (good : Bool) (line : List ℕ) (old new : Option (List ℕ)) (failures_old failures_new result : ℕ) → IsVerdict field row good → line ≡ row_line_of n good
-    → IsWritten old new failures_old failures_new line 0 result → result ≢ 3 → HasLine field row n old new failures_old failures_new good
-has_line field row n good line old new failures_old failures_new result verdict is (inl written) whole = (verdict, subst (Appends old new) is written.0, written.1)
-has_line field row n good line old new failures_old failures_new result verdict is (inr failed) whole = absurd (whole failed.2)
 
 -- the writer failed
 pub ends_failed : (field : List ℕ) (row : Row) (n : ℕ) (good : Bool) (line : List ℕ) (old new : Option (List ℕ)) (failures_old failures_new result : ℕ) → IsVerdict field row good → line ≡ row_line_of n good
@@ -183,10 +164,6 @@ ends_failed field row n good line old new failures_old failures_new result verdi
 ends_failed field row n good line old new failures_old failures_new result verdict is (inr failed) e = inr (good, verdict, subst (AppendsBeginning old new) is failed.0, failed.1, refl)
 
 -- ---- a verdict
-
--- the command is `vectors`
-pub verdict-vectors : (field : List ℕ) (words : List (List ℕ)) (text : List ℕ) (is : Bool) → IsTrue is ↔ IsVectors words → is ≡ true → IsVerdict field (words, text) false
-verdict-vectors field words text is tells e = inl (tells.0 e, refl)
 
 -- the answer of other words
 verdict-answer : (field word : List ℕ) (words : List (List ℕ)) (text answer line : List ℕ) (status : ℕ) (is good : Bool) → IsTrue is ↔ IsVectors words → is ≡ false → word ≡ field → IsPlainAnswer (word ∷ words) answer status

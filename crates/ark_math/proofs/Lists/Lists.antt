@@ -1,12 +1,11 @@
 -- Lists through a meaning of their items: reads and writes, order, tests, the greatest number of an item.
-use Rattle.std.proofs.Common.{◌≡◌, ◌≢◌, ℕ, zero, suc, Bool, Decides, All, AllPairs, Any, max, drop, refl, ◌+◌, ◌<◌, ◌≤◌, List, [], ◌∷◌, ◌++◌, length, get_or, set, take, replicate, map, sym, ◌∙◌, ap, ap₂, subst, ⊎_elim, arith, get_or-set_same, get_or-set_other}
-use Rattle.std.proofs.lemmas.List.{map-set, map-append, get_or-map, get_or_append_left, get_or-append-add, length-map, length_push, take_more}
+use Rattle.std.proofs.Common.{◌≡◌, ◌≢◌, ℕ, zero, suc, Bool, Decides, All, AllPairs, drop, refl, ◌+◌, ◌<◌, ◌≤◌, List, [], ◌∷◌, ◌++◌, length, get_or, set, take, replicate, map, sym, ◌∙◌, ap, ap₂, subst, ⊎_elim, arith, get_or-set_same, get_or-set_other}
+use Rattle.std.proofs.lemmas.List.{map-set, map-append, get_or-map, get_or_append_left, get_or-append-add, length-map}
 use Rattle.std.specs.Cmp.Lexicographic.{pointwise}
-use Rattle.std.proofs.lemmas.Bool.{cases_eq, cases_lt, true≢false}
+use Rattle.std.proofs.lemmas.Bool.{cases_eq, true≢false}
 use Rattle.std.proofs.lemmas.Bool.Decides.{Decides-and}
-use Rattle.std.proofs.lemmas.List.Elements.{All-map, All-push}
+use Rattle.std.proofs.lemmas.List.Elements.{All-map}
 use Rattle.std.proofs.lemmas.List.Kept.{AllPairs-cons}
-use Rattle.std.proofs.lemmas.List.Quantifiers.{Any-push}
 use Rattle.std.proofs.Math.Seq.{take-append_seam}
 
 module _ {X M : Type 0} (m : X → M) (z : M) where
@@ -97,29 +96,6 @@ pointwise-Decides_map f h (x ∷ xs) [] = (λ e. absurd (true≢false (sym e)), 
 pointwise-Decides_map {E = E} f h (x ∷ xs) (y ∷ ys) =
     let both = Decides-and (E x y) (pointwise E xs ys) (h x y) (pointwise-Decides_map f h xs ys) in
     (λ e. let p = both.0 e in ap₂ (λ t ts. t ∷ ts) p.0 p.1, λ e. both.1 (ap (λ ts. get_or ts 0 (f x)) e, ap (drop 1) e))
-
--- the greatest number of an item, as a loop finds it from 0
-module _ {X : Type 0} (f : X → ℕ) (xs : List X) (i d : ℕ) (x : X) (l : i < length xs) (e : x ≡ get_or xs i x) where
-  next_taken : take (i + 1) xs ≡ take i xs ++ x ∷ []
-  next_taken = take_more xs i x l ∙ ap (λ y. take i xs ++ y ∷ []) (sym e)
-
-  pub All-max_more : All (λ y. f y ≤ d) (take i xs) → All (λ y. f y ≤ max d (f x)) (take (i + 1) xs)
-  All-max_more h =
-      let P = λ (y : X). f y ≤ max d (f x) in
-      subst (All P) (sym next_taken) (All-push P (take i xs) x (λ k y b. let m = h k y b in omega (arith, m)) (omega arith))
-
-  pub Any-max_more : (0 < d → Any (λ y. f y ≡ d) (take i xs)) → 0 < max d (f x) → Any (λ y. f y ≡ max d (f x)) (take (i + 1) xs)
-  Any-max_more h b =
-      let P = λ (y : X). f y ≡ max d (f x) in
-      subst (Any P) (sym next_taken)
-      (⊎_elim
-      (λ (m : d < f x). Any-push P (take i xs) x (omega arith))
-      (λ (m : f x ≤ d).
-      let r = h (omega arith) in
-      let in_front = r.2 in
-      let same = r.4 in
-      (r.0, r.1, omega (arith, in_front, length_push (take i xs) x), get_or_append_left (take i xs) (x ∷ []) r.1 r.0 in_front ∙ r.3, omega (arith, same, m)))
-      (cases_lt d (f x)))
 
 -- what holds of each item holds of one
 pub item_of : {X : Type 0} (P : X → Type 0) (xs : List X) (i : ℕ) (x : X) → All P xs → i < length xs → x ≡ get_or xs i x → P x

@@ -1,17 +1,13 @@
 -- The vanishing polynomial of a domain: its coefficients, and remainders by it.
-use Rattle.std.proofs.Common.{◌≡◌, ◌≢◌, ℕ, ◌+◌, ◌<◌, List, [], ◌∷◌, length, sym, ◌∙◌, ap, refl, subst}
-use mathlib.Core.Path.{fun_ext}
+use Rattle.std.proofs.Common.{◌≡◌, ◌≢◌, ℕ, ◌+◌, ◌<◌, List, length, sym, ◌∙◌, ap, refl, subst}
 use Rattle.ark_math.specs.Field.{FieldOn, IsField, power}
 use Rattle.ark_math.specs.Module.{tabulate}
 use Rattle.ark_math.specs.Root.{HasOrder}
 use Rattle.ark_math.specs.Domain.{Domain, element}
-use Rattle.ark_math.specs.Univariate.{added, product, monomial, IsBelow, IsDegree, IsQuotient, IsValue, value_below, of_list, of_pairs}
+use Rattle.ark_math.specs.Univariate.{added, product, IsBelow, IsQuotient, IsValue, value_below, of_list}
 use Rattle.ark_math.specs.Points.{vanishing, AreValues}
 use Rattle.ark_math.proofs.Algebra.Groups.{itself_is_module, zero_plus}
 use Rattle.ark_math.proofs.Algebra.Powers.{times_zero}
-use Rattle.ark_math.proofs.Algebra.Solve.{◌⊕◌, ◌⊖◌, nought, negative}
-use Rattle.ark_math.proofs.Algebra.Ring.{ring2}
-use Rattle.ark_math.proofs.Polynomials.Univariate.{monomial-opposite}
 use Rattle.ark_math.proofs.Polynomials.Binomials.{binomial-below, binomial-leading}
 use Rattle.ark_math.proofs.Polynomials.UnivariateValues.{one_value, has_value, value-added}
 use Rattle.ark_math.proofs.Polynomials.UnivariateProducts.{product-below, value-product}
@@ -25,15 +21,6 @@ module _ {F : Type 0} (K : FieldOn F) (N : IsField K) (d : Domain F) where
 
   pub vanishing-leading : 0 < d.size → vanishing K d d.size ≡ K.one
   vanishing-leading = binomial-leading K N d.size (power K d.offset d.size)
-
-  pub vanishing-degree : 0 < d.size → IsDegree K (vanishing K d) d.size
-  vanishing-degree l = record { rest = vanishing-below; leading = λ _ e. N.one_not_zero (sym (vanishing-leading l) ∙ e) }
-
-  -- as pairs
-  pub vanishing-pairs : of_pairs K ((0, K.negated (power K d.offset d.size)) ∷ (d.size, K.one) ∷ []) ≡ vanishing K d
-  vanishing-pairs = fun_ext (λ i.
-      ap (λ t. K.plus (t i) (K.plus (monomial K d.size K.one i) K.zero)) (monomial-opposite K N 0 (power K d.offset d.size))
-      ∙ ring2 K N (λ x y. (negative x ⊕ (y ⊕ nought), y ⊖ x)) refl (monomial K 0 (power K d.offset d.size) i) (monomial K d.size K.one i))
 
   remainder_below : (a q r : ℕ → F) → 0 < d.size → IsQuotient K a (vanishing K d) q r → IsBelow K d.size r
   remainder_below a q r l h =

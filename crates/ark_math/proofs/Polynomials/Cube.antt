@@ -1,7 +1,6 @@
 -- Bits of an index, corners of the cube, and how much each corner counts at a point.
-use Rattle.std.proofs.Common.{◌≡◌, ℕ, zero, suc, ◌+◌, ◌*◌, ◌/◌, ◌%◌, ◌^◌, ◌<◌, Bool, true, false, if◌then◌else◌, List, [], ◌∷◌, ◌++◌, length, sym, ◌∙◌, ap, ap₂, refl, subst, arith, shr-shr, pow-suc, pow_pos, div-add-mod', ⊎_elim, ◌≤◌, ◌-◌, eqb, eq-eqb, ne_eqb}
-use Rattle.std.proofs.lemmas.Bool.{cases_Bool, cases_lt, eqb-true, eqb-false}
-use Rattle.std.proofs.lemmas.List.{length_push}
+use Rattle.std.proofs.Common.{◌≡◌, ℕ, zero, suc, ◌+◌, ◌*◌, ◌/◌, ◌%◌, ◌^◌, ◌<◌, Bool, true, false, if◌then◌else◌, List, [], ◌∷◌, ◌++◌, length, sym, ◌∙◌, ap, ap₂, refl, arith, shr-shr, pow-suc, pow_pos, div-add-mod', ⊎_elim, ◌≤◌, ◌-◌, eqb, eq-eqb, ne_eqb}
+use Rattle.std.proofs.lemmas.Bool.{cases_Bool, eqb-true, eqb-false}
 use Rattle.std.proofs.lemmas.Nat.{div-mul-add, mod_below, pow-add}
 use Rattle.ark_math.specs.Field.{FieldOn, IsField, minus}
 use Rattle.ark_math.specs.Module.{ModuleOn, IsModule, itself, sum_below, item}
@@ -135,9 +134,6 @@ module _ {F : Type 0} (K : FieldOn F) (N : IsField K) where
 
   -- ---- weights
 
-  pub weight-nil : (b : ℕ) → weight K [] b ≡ K.one
-  weight-nil b = refl
-
   pub weight-cons : (x : F) (p : List F) (b : ℕ) → weight K (x ∷ p) b ≡ K.times (side K (bit b 0) x) (weight K p (b / 2))
   weight-cons x p b =
       product_below-first (length p) (λ i. side K (bit b i) (item (itself K) (x ∷ p) i))
@@ -187,25 +183,6 @@ module _ {F : Type 0} (K : FieldOn F) (N : IsField K) where
       let f : (2 ^ length p + c) / 2 ^ length p ≡ 1 = ap (λ k. k / 2 ^ length p) e ∙ div-mul-add 1 (2 ^ length p) c l in
       weight-append p (x ∷ []) (2 ^ length p + c)
       ∙ ap₂ K.times (ap (weight K p) e ∙ weight-low p 1 c) (ap (weight K (x ∷ [])) f ∙ weight_one x 1)
-
-  -- a list of weights doubled for one item more
-  pub weights_doubled : (p : List F) (x : F) (n : ℕ) (f g : ℕ → F) → n ≡ 2 ^ length p → ((b : ℕ) → b < n → f b ≡ weight K p b) → ((b : ℕ) → b < n → g b ≡ K.times (f b) (minus K K.one x)) → ((b : ℕ) → b < n → g (n + b) ≡ K.times (f b) x)
-      → (b : ℕ) → b < 2 ^ length (p ++ x ∷ []) → g b ≡ weight K (p ++ x ∷ []) b
-  weights_doubled p x n f g e h low high b l =
-      let twice = pow_twice (length p) in
-      let k : length (p ++ x ∷ []) ≡ suc (length p) = omega (arith, length_push p x) in
-      let m : b < 2 ^ suc (length p) = subst (λ j. b < 2 ^ j) k l in
-      ⊎_elim
-      (λ (a : b < n). low b a ∙ ap (λ w. K.times w (minus K K.one x)) (h b a) ∙ sym (weight-push_low p x b (omega arith)))
-      (λ (a : n ≤ b).
-      let c : b - n < n = omega arith in
-      let i : b ≡ n + (b - n) = omega arith in
-      ap g i
-      ∙ high (b - n) c
-      ∙ ap (λ w. K.times w x) (h (b - n) c)
-      ∙ sym (weight-push_high p x (b - n) (omega arith))
-      ∙ ap (λ j. weight K (p ++ x ∷ []) j) (omega arith))
-      (cases_lt b n)
 
   -- ---- corners
 

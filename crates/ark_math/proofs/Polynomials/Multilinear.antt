@@ -1,11 +1,11 @@
 -- Multilinear extensions: one variable bound after the other, sums and multiples of tables, values at the corners.
-use Rattle.std.proofs.Common.{◌≡◌, ◌≢◌, ℕ, zero, suc, ◌+◌, ◌-◌, ◌*◌, ◌/◌, ◌%◌, ◌^◌, ◌<◌, ◌≤◌, true, false, if◌then◌else◌, List, [], ◌∷◌, ◌++◌, length, map, sym, ◌∙◌, ap, ap₂, refl, subst, arith, ⊎_elim, pow_pos, div-add-mod'}
+use Rattle.std.proofs.Common.{◌≡◌, ◌≢◌, ℕ, zero, suc, ◌+◌, ◌-◌, ◌*◌, ◌/◌, ◌%◌, ◌^◌, ◌<◌, ◌≤◌, true, false, if◌then◌else◌, List, [], ◌∷◌, ◌++◌, length, sym, ◌∙◌, ap, ap₂, refl, subst, arith, ⊎_elim, pow_pos, div-add-mod'}
 use Rattle.std.proofs.lemmas.Nat.{mod_below, same_from_place, div-mul-add}
 use Rattle.std.proofs.lemmas.Bool.{cases_eq, cases_Bool, eqb-true, eqb-false}
 use mathlib.Core.Path.{fun_ext}
 use Rattle.ark_math.specs.Field.{FieldOn, IsField, minus}
 use Rattle.ark_math.specs.Module.{IsModule, itself, sum_below}
-use Rattle.ark_math.specs.Univariate.{nothing, added, difference, opposite, scaled, monomial, of_pairs, IsBelow}
+use Rattle.ark_math.specs.Univariate.{nothing, added, difference, opposite, scaled, monomial, IsBelow}
 use Rattle.ark_math.specs.Multilinear.{bit, corner, weight, extension, fixed}
 use Rattle.ark_math.proofs.Algebra.Groups.{itself_is_module}
 use Rattle.ark_math.proofs.Algebra.Sums.{sum_below-same, sum_below-plus, sum_below-scale}
@@ -22,10 +22,6 @@ bound K t x c = K.plus (t (2 * c)) (K.times x (minus K (t (2 * c + 1)) (t (2 * c
 -- the last of n + 1 variables bound to x: its value at b, from those at b and at 2 ^ n + b
 abbrev pub last_bound : {F : Type 0} → FieldOn F → ℕ → (ℕ → F) → F → ℕ → F
 last_bound K n t x b = K.plus (t b) (K.times x (minus K (t (2 ^ n + b)) (t b)))
-
--- what is left of the entry (index, value) when the first variables are bound to p
-abbrev pub windowed : {F : Type 0} → FieldOn F → List F → ℕ × F → ℕ × F
-windowed K p e = (e.0 / 2 ^ length p, K.times e.1 (weight K p (e.0 % 2 ^ length p)))
 
 module _ {F : Type 0} (K : FieldOn F) (N : IsField K) where
   pub extension-same : (s t : ℕ → F) (x : List F) → ((b : ℕ) → b < 2 ^ length x → s b ≡ t b) → extension K s x ≡ extension K t x
@@ -64,9 +60,6 @@ module _ {F : Type 0} (K : FieldOn F) (N : IsField K) where
 
   pub fixed-one : (t : ℕ → F) (x : F) → fixed K t (x ∷ []) ≡ bound K t x
   fixed-one t x = fixed-cons t x [] ∙ fixed-nil (bound K t x)
-
-  pub fixed-head : (t : ℕ → F) (x : F) (p : List F) → fixed K t (x ∷ p) ≡ fixed K (fixed K t (x ∷ [])) p
-  fixed-head t x p = fixed-cons t x p ∙ ap (λ s. fixed K s p) (sym (fixed-one t x))
 
   pub fixed-append : (t : ℕ → F) (p q : List F) → fixed K t (p ++ q) ≡ fixed K (fixed K t p) q
   fixed-append t [] q = ap (λ s. fixed K s q) (sym (fixed-nil t))
@@ -147,12 +140,6 @@ module _ {F : Type 0} (K : FieldOn F) (N : IsField K) where
   pub fixed-added : (s t : ℕ → F) (p : List F) → fixed K (added K s t) p ≡ added K (fixed K s p) (fixed K t p)
   fixed-added s t p = fun_ext (λ c. extension-added (λ b. s (c * 2 ^ length p + b)) (λ b. t (c * 2 ^ length p + b)) p)
 
-  pub fixed-scaled : (k : F) (t : ℕ → F) (p : List F) → fixed K (scaled K k t) p ≡ scaled K k (fixed K t p)
-  fixed-scaled k t p = fun_ext (λ c. extension-scaled k (λ b. t (c * 2 ^ length p + b)) p)
-
-  pub fixed-opposite : (t : ℕ → F) (p : List F) → fixed K (opposite K t) p ≡ opposite K (fixed K t p)
-  fixed-opposite t p = fun_ext (λ c. extension-opposite (λ b. t (c * 2 ^ length p + b)) p)
-
   -- ---- tables of pairs
 
   -- one pair: its place, and its value weighted by its place in the window
@@ -184,11 +171,6 @@ module _ {F : Type 0} (K : FieldOn F) (N : IsField K) where
 
       none : (b c : ℕ) → i ≢ c * n + b → K.times (monomial K i v (c * n + b)) (weight K p b) ≡ K.zero
       none b c ne = ap (λ k. K.times k (weight K p b)) (monomial-other K i v (c * n + b) ne) ∙ ring1 K N (λ w. (nought ⊗ w, nought)) refl (weight K p b)
-
-  pub fixed-pairs : (es : List (ℕ × F)) (p : List F) → of_pairs K (map (windowed K p) es) ≡ fixed K (of_pairs K es) p
-  fixed-pairs [] p = sym (fixed-nothing p)
-  fixed-pairs (e ∷ es) p =
-      ap₂ (added K) (sym (fixed-monomial e.0 e.1 p)) (fixed-pairs es p) ∙ sym (fixed-added (monomial K e.0 e.1) (of_pairs K es) p)
 
   -- ---- at the corners
 

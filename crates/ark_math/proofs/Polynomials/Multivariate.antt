@@ -9,8 +9,8 @@ use Rattle.ark_math.specs.Univariate.{nothing, added, opposite, scaled}
 use Rattle.ark_math.specs.Multivariate.{same_term, single, of_terms, sum_at, IsValueAt, IsTotalDegree}
 use Rattle.ark_math.proofs.Algebra.Groups.{itself_is_module, zero_plus, scale_zero}
 use Rattle.ark_math.proofs.Algebra.Permuted.{total-permutation}
-use Rattle.ark_math.proofs.Algebra.Solve.{nought, negative, ◌⊕◌, ◌⊖◌, ◌⊗◌, ◌⊞◌}
-use Rattle.ark_math.proofs.Algebra.Ring.{ring1, ring2, ring2_by, ring3, ring4, ring5, module0_3}
+use Rattle.ark_math.proofs.Algebra.Solve.{nought, negative, ◌⊕◌, ◌⊖◌, ◌⊗◌}
+use Rattle.ark_math.proofs.Algebra.Ring.{ring1, ring2, ring2_by, ring3, ring4, ring5}
 use Rattle.ark_math.proofs.Polynomials.Univariate.{coefficients_are_module}
 use Rattle.ark_math.proofs.Polynomials.Terms.{same_term-Decides, same_term-same, same_term-other, cases_term}
 
@@ -91,13 +91,6 @@ module _ {F : Type 0} (K : FieldOn F) (N : IsField K) where
 
   pub of_terms-push : (cs : List (F × List (ℕ × ℕ))) (c : F × List (ℕ × ℕ)) → of_terms K (cs ++ c ∷ []) ≡ added K (of_terms K cs) (single K c.1 c.0)
   of_terms-push cs c = of_terms-append cs (c ∷ []) ∙ ap (added K (of_terms K cs)) ((coefficients_are_module K N).plus_zero (single K c.1 c.0))
-
-  -- a term put in anywhere is added
-  pub of_terms-between : (cs ds : List (F × List (ℕ × ℕ))) (c : F × List (ℕ × ℕ)) → of_terms K (cs ++ c ∷ ds) ≡ added K (single K c.1 c.0) (of_terms K (cs ++ ds))
-  of_terms-between cs ds c =
-      of_terms-append cs (c ∷ ds)
-      ∙ module0_3 N (coefficients_are_module K N) (λ p m q. (p ⊞ (m ⊞ q), m ⊞ (p ⊞ q))) refl (of_terms K cs) (single K c.1 c.0) (of_terms K ds)
-      ∙ ap (added K (single K c.1 c.0)) (sym (of_terms-append cs ds))
 
   -- in any order terms have one sum
   pub of_terms-permutation : (cs ds : List (F × List (ℕ × ℕ))) → IsPermutation cs ds → of_terms K ds ≡ of_terms K cs
@@ -255,15 +248,3 @@ module _ {F : Type 0} (K : FieldOn F) (N : IsField K) where
 
   pub IsValueAt-scaled : (c : F) (a : List (ℕ × ℕ) → F) (x : List F) (y : F) → IsValueAt K a x y → IsValueAt K (scaled K c a) x (K.times c y)
   IsValueAt-scaled c a x y h = (with_each (K.times c) h.0, of_terms-scaled c h.0 ∙ ap (scaled K c) h.1, ap (K.times c) h.2 ∙ sym (sum_at-scaled c h.0 x))
-
-  pub IsValueAt-nothing : (x : List F) → IsValueAt K (nothing K) x K.zero
-  IsValueAt-nothing x = ([], refl, refl)
-
-  -- one term more
-  pub IsValueAt-push : (cs : List (F × List (ℕ × ℕ))) (c : F × List (ℕ × ℕ)) (x : List F) (y : F) → IsValueAt K (of_terms K cs) x y → IsValueAt K (of_terms K (cs ++ c ∷ [])) x (K.plus y (K.times c.0 (term_value K c.1 x)))
-  IsValueAt-push cs c x y h =
-      let v = K.times c.0 (term_value K c.1 x) in (
-        h.0 ++ c ∷ [],
-        of_terms-push h.0 c ∙ ap (λ a. added K a (single K c.1 c.0)) h.1 ∙ sym (of_terms-push cs c),
-        ap (λ s. K.plus s v) h.2 ∙ sym (sum_at-push h.0 c x),
-      )

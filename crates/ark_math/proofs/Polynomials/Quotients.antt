@@ -106,14 +106,6 @@ module _ {F : Type 0} (K : FieldOn F) (N : IsField K) where
   has_quotient k m a d ne f h = reduced k 0 m a d (nothing K) a ne f (nothing-below K 0) h
       (sym (ap (λ t. added K t a) (nothing-product K N d) ∙ zero_plus (coefficients_are_module K N) a))
 
-  -- of what is below the divisor's degree the quotient is zero
-  pub short_quotient : (n : ℕ) (a d : ℕ → F) → d n ≢ K.zero → IsBelow K (n + 1) d → IsBelow K n a → IsQuotient K a d (nothing K) a
-  short_quotient n a d ne f h = record {
-    finite = (0, nothing-below K 0);
-    whole = sym (ap (λ t. added K t a) (nothing-product K N d) ∙ zero_plus (coefficients_are_module K N) a);
-    degree = (n, ne, f, h);
-  }
-
   -- with any divisor: two answers can't differ, where a zero dividend gives zeros, and no other is divided by zero
   one_answer : (a d q r p s : ℕ → F) → (d ≢ nothing K → IsQuotient K a d q r) → (d ≢ nothing K → IsQuotient K a d p s)
       → (a ≡ nothing K → (q ≡ nothing K) × (r ≡ nothing K)) → (a ≡ nothing K → (p ≡ nothing K) × (s ≡ nothing K))

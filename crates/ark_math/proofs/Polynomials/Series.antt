@@ -21,9 +21,6 @@ module _ {F : Type 0} (K : FieldOn F) where
       sum_below-same (itself K) (suc k) (λ i. K.times (a i) (c (k - i))) (λ i. K.times (b i) (d (k - i)))
       (λ i h. ap₂ K.times (f i (omega arith)) (g (k - i) (omega arith)))
 
-  pub agree-difference : (n : ℕ) (a b c d : ℕ → F) → AgreeBelow n a b → AgreeBelow n c d → AgreeBelow n (difference K a c) (difference K b d)
-  agree-difference n a b c d f g i l = ap₂ (minus K) (f i l) (g i l)
-
 module _ {F : Type 0} (K : FieldOn F) (N : IsField K) where
   -- where the first coefficients are zero, more of the product's are
   pub agree-nothing : (m n : ℕ) (a b : ℕ → F) → AgreeBelow m a (nothing K) → AgreeBelow n b (nothing K) → AgreeBelow (m + n) (product K a b) (nothing K)

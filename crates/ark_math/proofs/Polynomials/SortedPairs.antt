@@ -1,13 +1,13 @@
 -- Pairs of exponent and coefficient in rising order: that an order changes no sum, and the sums of like terms one by one.
-use Rattle.std.proofs.Common.{◌≡◌, ◌≢◌, ℕ, ◌+◌, ◌<◌, ◌≤◌, List, [], length, get_or, take, sym, ◌∙◌, ap, ap₂, refl, subst, arith}
+use Rattle.std.proofs.Common.{◌≡◌, ◌≢◌, ℕ, ◌+◌, ◌<◌, ◌≤◌, List, length, get_or, take, sym, ◌∙◌, ap, ap₂, refl, subst, arith}
 use Rattle.std.specs.List.{All}
 use Rattle.std.specs.List.Sorted.{IsPermutation, IsNonDecreasingBy}
-use Rattle.std.proofs.lemmas.List.{get_or_read, take_all}
+use Rattle.std.proofs.lemmas.List.{get_or_read}
 use Rattle.ark_math.specs.Field.{FieldOn, IsField}
-use Rattle.ark_math.specs.Univariate.{nothing, added, monomial, of_pairs, IsSparse}
+use Rattle.ark_math.specs.Univariate.{added, monomial, of_pairs, IsSparse}
 use Rattle.ark_math.proofs.Algebra.Permuted.{total-permutation}
 use Rattle.ark_math.proofs.Polynomials.Univariate.{coefficients_are_module}
-use Rattle.ark_math.proofs.Polynomials.UnivariatePairs.{of_pairs-push, take_next, monomial-added, monomial-zero, sparse-nil}
+use Rattle.ark_math.proofs.Polynomials.UnivariatePairs.{of_pairs-push, take_next, monomial-added, monomial-zero}
 
 module _ {F : Type 0} (K : FieldOn F) (N : IsField K) where
   -- in any order pairs have one sum
@@ -22,14 +22,6 @@ module _ {F : Type 0} (K : FieldOn F) (N : IsField K) where
     pub above : All (λ x. x.0 < n) c
     pub sum : added K (of_pairs K c) (monomial K n s) ≡ of_pairs K (take i p)
     pub next : (k : ℕ) (d : ℕ × F) → i ≤ k → k < length p → n ≤ (get_or p k d).0
-
-  pub nothing_merged : (p : List (ℕ × F)) → IsMerged p [] 0 0 K.zero
-  nothing_merged p = record {
-    sparse = sparse-nil K N;
-    above = λ k d l. absurd (omega arith);
-    sum = ap (added K (nothing K)) (monomial-zero K N 0) ∙ (coefficients_are_module {I = ℕ} K N).plus_zero (nothing K);
-    next = λ k d l m. omega arith;
-  }
 
   -- one more of the same exponent
   pub merged_more : (p c : List (ℕ × F)) (i n : ℕ) (s t : F) (x : ℕ × F) → IsMerged p c i n s → i < length p → x ≡ get_or p i x → x.0 ≡ n → t ≡ K.plus s x.1 → IsMerged p c (i + 1) n t
@@ -66,9 +58,6 @@ module _ {F : Type 0} (K : FieldOn F) (N : IsField K) where
             let u : x.0 ≡ (get_or p i d).0 = ap (λ v. v.0) t in
             omega arith;
       }
-
-  pub merged_all : (p c e : List (ℕ × F)) (i n : ℕ) (s : F) → IsMerged p c i n s → length p ≤ i → of_pairs K e ≡ added K (of_pairs K c) (monomial K n s) → of_pairs K e ≡ of_pairs K p
-  merged_all p c e i n s h l f = f ∙ h.sum ∙ ap (of_pairs K) (take_all i p l)
 
   -- the two ways of a turn of the loop
   pub merged_step_new : (p c e m : List (ℕ × F)) (i n k : ℕ) (s r t : F) (x : ℕ × F) → IsMerged p c i n s → IsNonDecreasingBy (λ y. y.0) p → i < length p → x ≡ get_or p i x → x.0 ≢ n → IsSparse K e → of_pairs K e ≡ added K (of_pairs K c) (monomial K n s) → ((b : ℕ) → n < b → All (λ y. y.0 < b) e) → m ≡ e → k ≡ x.0 → r ≡ K.zero → t ≡ K.plus r x.1 → IsMerged p m (i + 1) k t

@@ -13,7 +13,7 @@ use Rattle.std.proofs.lemmas.Option.{get_or_from_slice_get, slice_get_cases}
 use Rattle.std.proofs.lemmas.Fn.{always_returns_same}
 use Rattle.std.proofs.lemmas.List.{get_or_append_left, get_or_push, length_push, length-map, get_or-map, map_push, take_more}
 use Rattle.std.proofs.lemmas.List.Elements.{All-nil, All-cons, All-tail, All-push, All-more, All-weaker}
-use Rattle.std.proofs.lemmas.List.Quantifiers.{all_pairs_push, Any-push}
+use Rattle.std.proofs.lemmas.List.Quantifiers.{Any-push}
 use denote.Param.Members.{Mut}
 use denote.Ref.{Bor}
 use Rattle.ark_math.specs.Field.{FieldOn, IsField}
@@ -151,12 +151,6 @@ module _ {F T : Type 0} (K : FieldOn F) (N : IsField K) {cmp : T → T → Order
   pub rising-nil : AreRising K cmp []
   rising-nil = record { rising = λ i j d l m. absurd (omega arith); some = λ k d l. absurd (omega arith) }
 
-  pub rising-push : (cs : List (F × T)) (c : F × T) → AreRising K cmp cs → c.0 ≢ K.zero → All (λ d. cmp d.1 c.1 ≡ Less) cs → AreRising K cmp (cs ++ c ∷ [])
-  rising-push cs c h ne l = record {
-    rising = all_pairs_push (λ c d. cmp c.1 d.1 ≡ Less) cs c h.rising l;
-    some = All-push (λ c. c.0 ≢ K.zero) cs c h.some ne;
-  }
-
   pub rising_tail : (c : F × T) (cs : List (F × T)) → AreRising K cmp (c ∷ cs) → AreRising K cmp cs
   rising_tail c cs h = record { rising = later c cs h.rising; some = All-tail (λ c. c.0 ≢ K.zero) c cs h.some }
 
@@ -288,9 +282,6 @@ module _ {F T : Type 0} (K : FieldOn F) (N : IsField K) {cmp : T → T → Order
   pub pushed_upto : (cs : List (F × T)) (c : F × T) → All (λ d. cmp d.1 c.1 ≡ Less) cs → All (λ d. cmp d.1 c.1 ≢ Greater) (cs ++ c ∷ [])
   pushed_upto cs c h =
       All-push (λ d. cmp d.1 c.1 ≢ Greater) cs c (λ k d l. not_greater (get_or cs k d).1 c.1 (h k d l)) (tied_not_greater c.1 c.1 (o.tied c.1 c.1 refl))
-
-  pub all_upto : (cs : List (F × T)) (t : T) → All (λ d. cmp d.1 t ≡ Less) cs → All (λ d. cmp d.1 t ≢ Greater) cs
-  all_upto cs t h k d l = not_greater (get_or cs k d).1 t (h k d l)
 
   -- ---- like terms one after the other, from the back of a list that falls
 

@@ -1,12 +1,12 @@
 -- Laws of tables: their sums, opposites and multiples, and the values of these; tables that are written pair by pair.
-use Rattle.std.proofs.Common.{◌≡◌, ◌≢◌, ℕ, suc, ◌<◌, ◌≤◌, ◌^◌, ◌==◌, ◌&&◌, inl, inr, Bool, Decides, if◌then◌else◌, All, AllPairs, List, [], ◌∷◌, ◌++◌, length, get_or, map, flat_map, sym, ◌∙◌, ap, ap₂, refl, arith, ⊎_elim, ext_get_or}
+use Rattle.std.proofs.Common.{◌≡◌, ◌≢◌, ℕ, suc, ◌<◌, ◌≤◌, ◌^◌, ◌==◌, ◌&&◌, inl, inr, Bool, Decides, if◌then◌else◌, All, List, [], ◌∷◌, ◌++◌, length, get_or, map, flat_map, sym, ◌∙◌, ap, ap₂, refl, arith, ⊎_elim, ext_get_or}
 use Rattle.std.proofs.lemmas.Bool.{cases_eq, cases_lt, cond-true, cond-false, eq-eqb, ne_eqb}
 use Rattle.std.proofs.lemmas.Bool.Decides.{Decides-and}
 use mathlib.Core.Path.{fun_ext}
 use Rattle.ark_math.specs.Field.{FieldOn, IsField}
 use Rattle.ark_math.specs.Univariate.{monomial, IsBelow, of_list, of_pairs, IsSparse}
 use Rattle.ark_math.specs.Multilinear.{Table, zero_table, table_sum, table_opposite, table_scaled, AreAddable, extension, weight, written, IsConcat}
-use Rattle.ark_math.proofs.Algebra.Groups.{itself_is_module, scale_zero, zero_plus}
+use Rattle.ark_math.proofs.Algebra.Groups.{itself_is_module, scale_zero}
 use Rattle.ark_math.proofs.Algebra.Regrouped.{sum_below-single}
 use Rattle.ark_math.proofs.Algebra.Solve.{nought, unit, negative, ◌⊗◌}
 use Rattle.ark_math.proofs.Algebra.Ring.{ring1}
@@ -133,22 +133,6 @@ extension-entry K N i v x l =
     sum_below-single (itself_is_module K N) (2 ^ length x) i (λ b. K.times (written K.zero ((i, v) ∷ []) b) (weight K x b)) l
     (λ b _ ne. ap (λ u. K.times u (weight K x b)) (cond-false (i == b) v K.zero (ne_eqb i b (λ e. ne (sym e)))) ∙ ring1 K N (λ w. (nought ⊗ w, nought)) refl (weight K x b))
     ∙ ap (λ u. K.times u (weight K x i)) (cond-true (i == i) v K.zero (eq-eqb i i refl))
-
--- pairs of which no two are for one place are their sum
-pub of_pairs_written : {F : Type 0} (K : FieldOn F) (N : IsField K) (ps : List (ℕ × F)) → AllPairs (λ p q. p.0 ≢ q.0) ps → of_pairs K ps ≡ written K.zero ps
-of_pairs_written K N [] h = refl
-of_pairs_written K N (p ∷ ps) h = fun_ext (λ b. ⊎_elim
-    (λ (e : p.0 ≡ b).
-    let rest : All (λ q. q.0 ≢ b) ps = λ k d l f. h 0 (suc k) d (omega arith) (omega arith) (e ∙ sym f) in
-    ap₂ K.plus (ap (monomial K p.0 p.1) (sym e) ∙ monomial-same K p.0 p.1) (of_pairs-absent K N ps b rest)
-    ∙ N.plus_zero p.1
-    ∙ sym (written-absent p.1 ps b rest)
-    ∙ ap (λ v. written v ps b) (sym (cond-true (p.0 == b) p.1 K.zero (eq-eqb p.0 b e))))
-    (λ (ne : p.0 ≢ b).
-    ap₂ K.plus (monomial-other K p.0 p.1 b ne) (ap (λ f. f b) (of_pairs_written K N ps (λ i j d l m. h (suc i) (suc j) d (omega arith) (omega arith))))
-    ∙ zero_plus (itself_is_module K N) (written K.zero ps b)
-    ∙ ap (λ v. written v ps b) (sym (cond-false (p.0 == b) p.1 K.zero (ne_eqb p.0 b ne))))
-    (cases_eq p.0 b))
 
 -- ---- lists one after the other
 

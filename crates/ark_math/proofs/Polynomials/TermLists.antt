@@ -1,23 +1,23 @@
 -- Lists of (coefficient, term), where terms are of any kind that tells its list of (variable, power): one for each
 -- polynomial in strictly rising order. What loops make of such lists.
-use Rattle.std.proofs.Common.{◌≡◌, ◌≢◌, ℕ, suc, ◌+◌, ◌<◌, ◌≤◌, ◌⊎◌, Bool, ◌&&◌, ◌==◌, Decides, Ordering, Less, Equal, Greater, List, [], ◌∷◌, ◌++◌, map, length, get_or, take, All, AllPairs, Any, IsPermutation, sym, ◌∙◌, ap, ap₂, refl, arith, inl, inr, ⊎_elim}
+use Rattle.std.proofs.Common.{◌≡◌, ◌≢◌, ℕ, suc, ◌+◌, ◌<◌, ◌≤◌, ◌⊎◌, Bool, ◌&&◌, ◌==◌, Decides, Ordering, Less, Equal, Greater, List, [], ◌∷◌, ◌++◌, map, length, All, AllPairs, Any, IsPermutation, sym, ◌∙◌, ap, ap₂, refl, arith, inl, inr, ⊎_elim}
 use Rattle.std.specs.Cmp.{IsTotalOrder, Equal-is}
 use Rattle.std.specs.Cmp.Lexicographic.{pointwise}
 use Rattle.std.specs.Ordering.{ordering_reverse, is_eq}
 use Rattle.std.proofs.lemmas.Bool.{true≢false}
 use Rattle.std.proofs.lemmas.Bool.Decides.{Decides-eqb}
 use Rattle.std.proofs.lemmas.Cmp.{alike_right}
-use Rattle.std.proofs.lemmas.List.{length-map, get_or-map, map_push, take_more, nil_from_length}
+use Rattle.std.proofs.lemmas.List.{length-map, get_or-map, map_push, nil_from_length}
 use Rattle.std.proofs.lemmas.List.Elements.{All-tail, All-cons, All-map}
 use Rattle.std.proofs.lemmas.List.Sorted.{IsPermutation-map}
 use Rattle.ark_math.specs.Field.{FieldOn, IsField}
-use Rattle.ark_math.specs.Term.{total_degree, term_value}
+use Rattle.ark_math.specs.Term.{total_degree}
 use Rattle.ark_math.specs.Univariate.{nothing, added}
-use Rattle.ark_math.specs.Multivariate.{single, of_terms, sum_at, IsTotalDegree}
+use Rattle.ark_math.specs.Multivariate.{single, of_terms, IsTotalDegree}
 use Rattle.ark_math.proofs.Algebra.Groups.{cancel_left, pair_Decides}
 use Rattle.ark_math.proofs.Lists.Lists.{AllPairs-map, pointwise-Decides_map}
 use Rattle.ark_math.proofs.Polynomials.Univariate.{coefficients_are_module}
-use Rattle.ark_math.proofs.Polynomials.Multivariate.{with_each, sum_at-push, single-zero, single-added, of_terms-push, of_terms-permutation, of_terms-absent, of_terms-first, of_terms_degree}
+use Rattle.ark_math.proofs.Polynomials.Multivariate.{of_terms-push, of_terms-permutation, of_terms-absent, of_terms-first, of_terms_degree}
 
 -- each coefficient with its term's list
 abbrev pub keyed : {F T : Type 0} → (T → List (ℕ × ℕ)) → List (F × T) → List (F × List (ℕ × ℕ))
@@ -128,50 +128,11 @@ module _ {F T : Type 0} (K : FieldOn F) (N : IsField K) (key : T → List (ℕ �
 
   -- ---- order
 
-  -- lists of the same terms are sorted alike
-  pub sorted_like : (cs ds : List (F × T)) → map (λ c. key c.1) cs ≡ map (λ c. key c.1) ds → AllPairs (λ c d. below c.1 d.1) cs → AllPairs (λ c d. below c.1 d.1) ds
-  sorted_like cs ds e h i j d l m =
-      let long : length cs ≡ length ds = sym (length-map cs (λ c. key c.1)) ∙ ap length e ∙ length-map ds (λ c. key c.1) in
-      let k : j < length cs = omega arith in
-      let at = λ (n : ℕ) (a : n < length cs) (b : n < length ds).
-      sym (get_or-map (λ c. key c.1) cs n d [] a) ∙ ap (λ t. get_or t n []) e ∙ get_or-map (λ c. key c.1) ds n d [] b in
-      order.left _ _ _ (at i (omega arith) (omega arith)) (order.right _ _ _ (at j k m) (h i j d l k))
-
 -- ---- what loops make
 
 module _ {F T : Type 0} (K : FieldOn F) (N : IsField K) (key : T → List (ℕ × ℕ)) where
   pub keyed-push : (cs : List (F × T)) (c : F × T) → of_terms K (keyed key (cs ++ c ∷ [])) ≡ added K (of_terms K (keyed key cs)) (single K (key c.1) c.0)
   keyed-push cs c = ap (of_terms K) (map_push (λ c. (c.0, key c.1)) cs c) ∙ of_terms-push K N (keyed key cs) (c.0, key c.1)
 
-  -- a coefficient added onto that of the last item, which has its term
-  pub keyed-onto_last : (cs : List (F × T)) (c d : F × T) (s : F) → key c.1 ≡ key d.1 → s ≡ K.plus c.0 d.0 → of_terms K (keyed key (cs ++ (s, c.1) ∷ [])) ≡ added K (of_terms K (keyed key (cs ++ c ∷ []))) (single K (key d.1) d.0)
-  keyed-onto_last cs c d s e f =
-      keyed-push cs (s, c.1)
-      ∙ ap (added K (of_terms K (keyed key cs))) (ap (single K (key c.1)) f ∙ sym (single-added K N (key c.1) c.0 d.0))
-      ∙ sym ((coefficients_are_module K N).plus_assoc (of_terms K (keyed key cs)) (single K (key c.1) c.0) (single K (key c.1) d.0))
-      ∙ ap₂ (λ a t. added K a (single K t d.0)) (sym (keyed-push cs c)) e
-
-  -- without a coefficient nothing is added
-  pub keyed-zero : (cs : List (F × T)) (c : F × T) → c.0 ≡ K.zero → of_terms K (keyed key (cs ++ c ∷ [])) ≡ of_terms K (keyed key cs)
-  keyed-zero cs c e =
-      keyed-push cs c
-      ∙ ap (added K (of_terms K (keyed key cs))) (ap (single K (key c.1)) e ∙ single-zero K N (key c.1))
-      ∙ (coefficients_are_module K N).plus_zero (of_terms K (keyed key cs))
-
   pub keyed-permutation : (cs ds : List (F × T)) → IsPermutation cs ds → of_terms K (keyed key ds) ≡ of_terms K (keyed key cs)
   keyed-permutation cs ds h = of_terms-permutation K N (keyed key cs) (keyed key ds) (IsPermutation-map (λ c. (c.0, key c.1)) cs ds h)
-
-  -- the first items, and the next one
-  pub keyed-take : (cs : List (F × T)) (i : ℕ) (c : F × T) → i < length cs → c ≡ get_or cs i c → of_terms K (keyed key (take (i + 1) cs)) ≡ added K (of_terms K (keyed key (take i cs))) (single K (key c.1) c.0)
-  keyed-take cs i c l e = ap (λ ds. of_terms K (keyed key ds)) (take_more cs i c l ∙ ap (λ d. take i cs ++ d ∷ []) (sym e)) ∙ keyed-push (take i cs) c
-
-  -- the first items at a point, and the next one
-  pub sum_at-keyed_take : (cs : List (F × T)) (i : ℕ) (c : F × T) (x : List F) → i < length cs → c ≡ get_or cs i c → sum_at K (keyed key (take (i + 1) cs)) x ≡ K.plus (sum_at K (keyed key (take i cs)) x) (K.times c.0 (term_value K (key c.1) x))
-  sum_at-keyed_take cs i c x l e =
-      ap (λ ds. sum_at K (keyed key ds) x) (take_more cs i c l ∙ ap (λ d. take i cs ++ d ∷ []) (sym e))
-      ∙ ap (λ ds. sum_at K ds x) (map_push (λ c. (c.0, key c.1)) (take i cs) c)
-      ∙ sum_at-push K N (keyed key (take i cs)) (c.0, key c.1) x
-
-pub keyed-with_each : {F T : Type 0} (key : T → List (ℕ × ℕ)) (f : F → F) (cs : List (F × T)) → map (λ c. (f c.0, key c.1)) cs ≡ with_each f (keyed key cs)
-keyed-with_each key f [] = refl
-keyed-with_each key f (c ∷ cs) = ap (λ ds. (f c.0, key c.1) ∷ ds) (keyed-with_each key f cs)

@@ -1,18 +1,14 @@
 -- Terms by their lists: when two are the same, and powers and degrees of lists joined or put in another order.
-use Rattle.std.proofs.Common.{◌≡◌, ◌≢◌, ℕ, zero, suc, ◌+◌, ◌<◌, ◌≤◌, ◌⊎◌, true, false, List, [], ◌∷◌, ◌++◌, length, get_or, Decides, All, ◌==◌, if◌then◌else◌, IsPermutation, sym, ◌∙◌, ap, ap₂, refl, arith, inl, inr, ⊎_elim, eqb}
+use Rattle.std.proofs.Common.{◌≡◌, ◌≢◌, ℕ, zero, suc, ◌+◌, ◌<◌, ◌≤◌, ◌⊎◌, true, false, List, [], ◌∷◌, ◌++◌, get_or, Decides, All, ◌==◌, if◌then◌else◌, sym, ◌∙◌, ap, ap₂, refl, arith, inl, inr, ⊎_elim, eqb}
 use Rattle.std.proofs.lemmas.Bool.{cases_eq, cases_order, cases_Bool, cond-true, cond-false, eq-eqb, ne_eqb, false_from_ne_true}
 use Rattle.std.proofs.lemmas.Bool.Decides.{Decides-eqb, not_from_Decides}
 use Rattle.std.proofs.lemmas.Slice.Eq.{slice_eq-Decides}
-use Rattle.std.proofs.lemmas.List.Elements.{All-head, All-tail, All-cons, All-append}
-use Rattle.std.proofs.lemmas.List.Sums.{sum_by-cons, sum_by-append}
-use Rattle.std.proofs.lemmas.List.Sorted.{sum_by-IsPermutation, All-permutation}
+use Rattle.std.proofs.lemmas.List.Elements.{All-head, All-tail}
+use Rattle.std.proofs.lemmas.List.Sums.{sum_by-cons}
 use Rattle.ark_math.specs.Field.{FieldOn, IsField, power}
 use Rattle.ark_math.specs.Term.{power_of, total_degree, term_value, IsTerm, IsWithin}
 use Rattle.ark_math.specs.Multivariate.{same_term}
 use Rattle.ark_math.proofs.Algebra.Groups.{pair_Decides, one_times}
-use Rattle.ark_math.proofs.Algebra.Powers.{power-add}
-use Rattle.ark_math.proofs.Algebra.Solve.{◌⊗◌}
-use Rattle.ark_math.proofs.Algebra.Ring.{ring3}
 
 -- ---- one term or two
 
@@ -44,12 +40,6 @@ module _ (p : ℕ × ℕ) (ps : List (ℕ × ℕ)) (v : ℕ) where
       ∙ ap (λ n. n + power_of ps v) (cond-false (eqb p.0 v) p.1 0 (ne_eqb p.0 v ne))
       ∙ omega arith
 
-pub power_of-append : (ps qs : List (ℕ × ℕ)) (v : ℕ) → power_of (ps ++ qs) v ≡ power_of ps v + power_of qs v
-power_of-append ps qs v = sum_by-append (λ q. if q.0 == v then q.1 else 0) ps qs
-
-pub power_of-permutation : (ps qs : List (ℕ × ℕ)) (v : ℕ) → IsPermutation ps qs → power_of qs v ≡ power_of ps v
-power_of-permutation ps qs v h = sum_by-IsPermutation (λ q. if q.0 == v then q.1 else 0) ps qs h
-
 pub power_of-absent : (ps : List (ℕ × ℕ)) (v : ℕ) → All (λ p. p.0 ≢ v) ps → power_of ps v ≡ 0
 power_of-absent [] v h = refl
 power_of-absent (p ∷ ps) v h =
@@ -58,43 +48,10 @@ power_of-absent (p ∷ ps) v h =
 pub total_degree-cons : (p : ℕ × ℕ) (ps : List (ℕ × ℕ)) → total_degree (p ∷ ps) ≡ p.1 + total_degree ps
 total_degree-cons p ps = sum_by-cons (λ q. q.1) p ps
 
-pub total_degree-append : (ps qs : List (ℕ × ℕ)) → total_degree (ps ++ qs) ≡ total_degree ps + total_degree qs
-total_degree-append ps qs = sum_by-append (λ q. q.1) ps qs
-
-pub total_degree-permutation : (ps qs : List (ℕ × ℕ)) → IsPermutation ps qs → total_degree qs ≡ total_degree ps
-total_degree-permutation ps qs h = sum_by-IsPermutation (λ q. q.1) ps qs h
-
-pub power_of-le-total_degree : (ps : List (ℕ × ℕ)) (v : ℕ) → power_of ps v ≤ total_degree ps
-power_of-le-total_degree [] v = omega arith
-power_of-le-total_degree (p ∷ ps) v =
-    let h = power_of-le-total_degree ps v in
-    let t = total_degree-cons p ps in
-    ⊎_elim
-    (λ (e : p.0 ≡ v). let s = power_of-same p ps v e in omega (arith, h, t, s))
-    (λ (ne : p.0 ≢ v). let s = power_of-other p ps v ne in omega (arith, h, t, s))
-    (cases_eq p.0 v)
-
 -- ---- variables below a bound
 
 pub IsWithin-more : (m n : ℕ) (ps : List (ℕ × ℕ)) → m ≤ n → IsWithin m ps → IsWithin n ps
 IsWithin-more m n ps l h k d b = let s = h k d b in omega (arith, l, s)
-
-pub IsWithin-append : (n : ℕ) (ps qs : List (ℕ × ℕ)) → IsWithin n ps → IsWithin n qs → IsWithin n (ps ++ qs)
-IsWithin-append n ps qs g h = All-append (λ p. p.0 < n) ps qs g h
-
-pub IsWithin-permutation : (n : ℕ) (ps qs : List (ℕ × ℕ)) → IsPermutation ps qs → IsWithin n ps → IsWithin n qs
-IsWithin-permutation n ps qs h w = All-permutation (λ p. p.0 < n) ps qs h w
-
--- past the bound no variable has a power
-pub power_of-past : (n : ℕ) (ps : List (ℕ × ℕ)) (v : ℕ) → IsWithin n ps → n ≤ v → power_of ps v ≡ 0
-power_of-past n ps v h l = power_of-absent ps v (λ k d b e. let s = h k d b in omega (arith, l, s, e))
-
--- some bound
-bound_of : (ps : List (ℕ × ℕ)) → (n : ℕ) × IsWithin n ps
-bound_of [] = (0, λ k d l. absurd (omega arith))
-bound_of (p ∷ ps) =
-    let r = bound_of ps in
-    (suc (p.0 + r.0), All-cons (λ q. q.0 < suc (p.0 + r.0)) p ps (omega arith) (IsWithin-more r.0 (suc (p.0 + r.0)) ps (omega arith) r.1))
 
 -- ---- what is made of the powers, however they are gathered
 
@@ -130,39 +87,10 @@ module _ {M : Type 0} (join : M → M → M) (none : M) (assoc : (a b c : M) →
       ∙ turn (part n (power_of ps n)) (part p.0 p.1) (total_below n ps))
       (cases_eq p.0 n)
 
-  total_below-all : (n : ℕ) (ps : List (ℕ × ℕ)) → IsWithin n ps → total_below n ps ≡ total ps
-  total_below-all n [] h = total_below-nil n ∙ sym start
-  total_below-all n (p ∷ ps) h =
-      total_below-cons n p ps (All-head (λ q. q.0 < n) p ps h)
-      ∙ ap (join (part p.0 p.1)) (total_below-all n ps (All-tail (λ q. q.0 < n) p ps h))
-      ∙ sym (step p ps)
-
   total_below-same : (n : ℕ) (ps qs : List (ℕ × ℕ)) → ((v : ℕ) → power_of ps v ≡ power_of qs v) → total_below n ps ≡ total_below n qs
   unfolding total_below
   total_below-same zero ps qs h = refl
   total_below-same (suc n) ps qs h = ap₂ join (ap (part n) (h n)) (total_below-same n ps qs h)
-
-  pub same_total : (ps qs : List (ℕ × ℕ)) → ((v : ℕ) → power_of ps v ≡ power_of qs v) → total ps ≡ total qs
-  same_total ps qs h =
-      let a = bound_of ps in
-      let b = bound_of qs in
-      let n = a.0 + b.0 in
-      sym (total_below-all n ps (IsWithin-more a.0 n ps (omega arith) a.1))
-      ∙ total_below-same n ps qs h
-      ∙ total_below-all n qs (IsWithin-more b.0 n qs (omega arith) b.1)
-
-pub same_total_degree : (ps qs : List (ℕ × ℕ)) → ((v : ℕ) → power_of ps v ≡ power_of qs v) → total_degree ps ≡ total_degree qs
-same_total_degree =
-    same_total (λ a b. a + b) 0 (λ a b c. omega arith) (λ a b c. omega arith) (λ a. omega arith) (λ v n. n) (λ v. refl) (λ v m n. refl) total_degree refl total_degree-cons
-
-pub same_term_value : {F : Type 0} (K : FieldOn F) → IsField K → (x : List F) (ps qs : List (ℕ × ℕ)) → ((v : ℕ) → power_of ps v ≡ power_of qs v) → term_value K ps x ≡ term_value K qs x
-same_term_value K N x =
-    let item = λ (v : ℕ). get_or x v K.zero in
-    same_total K.times K.one N.times_assoc
-    (λ a b c. ring3 K N (λ a b c. (a ⊗ (b ⊗ c), b ⊗ (a ⊗ c))) refl a b c)
-    (one_times K N)
-    (λ v n. power K (item v) n) (λ v. refl) (λ v m n. power-add K N (item v) m n)
-    (λ ps. term_value K ps x) refl (λ p ps. refl)
 
 pub term_value-append : {F : Type 0} (K : FieldOn F) → IsField K → (x : List F) (ps qs : List (ℕ × ℕ)) → term_value K (ps ++ qs) x ≡ K.times (term_value K ps x) (term_value K qs x)
 term_value-append K N x [] qs = sym (one_times K N (term_value K qs x))
@@ -195,15 +123,6 @@ module _ (p : ℕ × ℕ) (ps : List (ℕ × ℕ)) (h : IsTerm (p ∷ ps)) where
   pub power_of-before : (v : ℕ) → v < p.0 → power_of (p ∷ ps) v ≡ 0
   power_of-before v l =
       power_of-other p ps v (λ e. omega arith) ∙ power_of-absent ps v (λ k d b e. let m = after_first k d b in omega (arith, m, e, l))
-
--- the power of a pair in it is its variable's
-pub power_of-at : (ps : List (ℕ × ℕ)) (k : ℕ) (d : ℕ × ℕ) → IsTerm ps → k < length ps → power_of ps (get_or ps k d).0 ≡ (get_or ps k d).1
-power_of-at [] k d h l = absurd (omega arith)
-power_of-at (p ∷ ps) zero d h l = power_of-first p ps h
-power_of-at (p ∷ ps) (suc k) d h l =
-    let q = get_or ps k d in
-    let m = after_first p ps h k d (omega arith) in
-    power_of-other p ps q.0 (λ e. omega (arith, m, e)) ∙ power_of-at ps k d (IsTerm-tail p ps h) (omega arith)
 
 -- terms are told by their powers
 pub same_powers : (ps qs : List (ℕ × ℕ)) → IsTerm ps → IsTerm qs → ((v : ℕ) → power_of ps v ≡ power_of qs v) → ps ≡ qs

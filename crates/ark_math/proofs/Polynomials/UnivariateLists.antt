@@ -1,10 +1,10 @@
 -- What dense lists denote, and lists whose last item isn't zero.
-use Rattle.std.proofs.Common.{◌≡◌, ◌≢◌, ℕ, ◌+◌, ◌-◌, ◌<◌, ◌≤◌, List, [], ◌∷◌, ◌++◌, length, get_or, set, take, map, replicate, Bool, Decides, ◌==◌, sym, ◌∙◌, ap, refl, subst, arith, ⊎_elim, ◌⊎◌, inl, inr, get_or-set_same, get_or-set_other}
+use Rattle.std.proofs.Common.{◌≡◌, ◌≢◌, ℕ, ◌+◌, ◌-◌, ◌<◌, ◌≤◌, List, [], ◌∷◌, ◌++◌, length, get_or, set, take, replicate, Bool, Decides, ◌==◌, sym, ◌∙◌, ap, refl, subst, arith, ⊎_elim, ◌⊎◌, inl, inr, get_or-set_same, get_or-set_other}
 use mathlib.Core.Path.{fun_ext}
 use Rattle.std.proofs.lemmas.Bool.{cases_eq, cases_lt}
 use Rattle.std.proofs.lemmas.Slice.Eq.{slice_eq-Decides}
 use Rattle.std.specs.Cmp.Lexicographic.{pointwise}
-use Rattle.std.proofs.lemmas.List.{take_all, get_or-append-add, get_or_past, get_or-take, get_or-map, get_or_push, get_or_append_left, length_push, length-map, length-take, length-take-le, length-replicate, ext_get_or, get_or-replicate}
+use Rattle.std.proofs.lemmas.List.{take_all, get_or-append-add, get_or_past, get_or_push, get_or_append_left, length_push, length-replicate, ext_get_or, get_or-replicate}
 use Rattle.std.proofs.lemmas.Bool.Decides.{Decides-eqb}
 use Rattle.ark_math.specs.Field.{FieldOn}
 use Rattle.ark_math.specs.Univariate.{nothing, IsBelow, IsDegree, of_list, IsTrimmed}
@@ -29,37 +29,6 @@ module _ {F : Type 0} (K : FieldOn F) where
       (λ (l : i < n). get_or-replicate n i K.zero K.zero l)
       (λ (l : n ≤ i). of_list-past (replicate n K.zero) i (let e = length-replicate n K.zero in omega arith))
       (cases_lt i n))
-
-  pub of_list-push : (c : List F) (x : F) (i : ℕ) → i ≢ length c → of_list K (c ++ x ∷ []) i ≡ of_list K c i
-  of_list-push c x i ne =
-      ⊎_elim
-      (λ (l : i < length c). get_or_append_left c (x ∷ []) K.zero i l)
-      (λ (l : length c ≤ i).
-      let m : length (c ++ x ∷ []) ≤ i = omega (arith, length_push c x) in
-      of_list-past (c ++ x ∷ []) i m ∙ sym (of_list-past c i l))
-      (cases_lt i (length c))
-
-  -- a zero at the end changes nothing
-  pub of_list-push_zero : (c : List F) (x : F) → x ≡ K.zero → of_list K (c ++ x ∷ []) ≡ of_list K c
-  of_list-push_zero c x z = fun_ext (λ i. ⊎_elim
-      (λ (e : i ≡ length c). get_or_push c x K.zero i (sym e) ∙ z ∙ sym (of_list-past c i (omega arith)))
-      (λ (ne : i ≢ length c). of_list-push c x i ne)
-      (cases_eq i (length c)))
-
-  -- nor do zeros that are cut off
-  pub of_list-take : (c : List F) (n : ℕ) → IsBelow K n (of_list K c) → of_list K (take n c) ≡ of_list K c
-  of_list-take c n b = fun_ext (λ i. ⊎_elim
-      (λ (l : i < n). get_or-take n c i K.zero l)
-      (λ (l : n ≤ i). of_list-past (take n c) i (let e = length-take n c in omega arith) ∙ sym (b i l))
-      (cases_lt i n))
-
-  pub of_list-map : (f : F → F) (c : List F) → f K.zero ≡ K.zero → of_list K (map f c) ≡ (λ i. f (of_list K c i))
-  of_list-map f c e = fun_ext (λ i. ⊎_elim
-      (λ (l : i < length c). get_or-map f c i K.zero K.zero l)
-      (λ (l : length c ≤ i).
-      let m : length (map f c) ≤ i = omega (arith, length-map c f) in
-      of_list-past (map f c) i m ∙ sym (ap f (of_list-past c i l) ∙ e))
-      (cases_lt i (length c)))
 
   -- cut or filled up to n
   pub of_list-padded : (c : List F) (n k : ℕ) (x : F) → length c ≤ n → x ≡ K.zero → of_list K (take n c ++ replicate k x) ≡ of_list K c
@@ -122,27 +91,8 @@ module _ {F : Type 0} (K : FieldOn F) where
   pub trimmed_degree : (c : List F) → IsTrimmed K c → IsDegree K (of_list K c) (length c - 1)
   trimmed_degree c t = record { rest = λ i l. of_list-past c i (omega arith); leading = λ l. t (omega arith) }
 
-  -- a last item that isn't zero is the leading coefficient
-  pub degree-push : (c : List F) (x : F) (d : ℕ) → length c ≡ d → x ≢ K.zero → IsDegree K (of_list K (c ++ x ∷ [])) d
-  degree-push c x d e ne =
-      let last : length (c ++ x ∷ []) - 1 ≡ d = omega (arith, length_push c x) in
-      subst (IsDegree K (of_list K (c ++ x ∷ []))) last (trimmed_degree (c ++ x ∷ []) (trimmed-push c x ne))
-
   pub trimmed_degree_is : (c : List F) (d : ℕ) → IsTrimmed K c → IsDegree K (of_list K c) d → d ≡ length c - 1
   trimmed_degree_is c d t h = one_degree K (of_list K c) d (length c - 1) h (trimmed_degree c t)
-
-  pub trimmed-map : (f : F → F) (c : List F) → f K.zero ≡ K.zero → ((x : F) → f x ≡ K.zero → x ≡ K.zero) → IsTrimmed K c → IsTrimmed K (map f c)
-  trimmed-map f c e h t l g =
-      let k = length-map c f in
-      let last : length (map f c) - 1 ≡ length c - 1 = omega arith in
-      t (omega arith) (h (of_list K c (length c - 1)) (sym (ap (λ a. a (length c - 1)) (of_list-map f c e)) ∙ sym (ap (of_list K (map f c)) last) ∙ g))
-
-  -- a list whose items are zero from n on, and not zero before that
-  pub trimmed-take : (c : List F) (n : ℕ) → n ≤ length c → (0 < n → of_list K c (n - 1) ≢ K.zero) → IsTrimmed K (take n c)
-  trimmed-take c n l h m e =
-      let k = length-take-le n c l in
-      let last : length (take n c) - 1 ≡ n - 1 = omega arith in
-      h (omega arith) (sym (get_or-take n c (n - 1) K.zero (omega arith)) ∙ sym (ap (of_list K (take n c)) last) ∙ e)
 
   -- a trimmed list with an item denotes no zero
   pub trimmed_some : (c : List F) → IsTrimmed K c → 0 < length c → of_list K c ≢ nothing K

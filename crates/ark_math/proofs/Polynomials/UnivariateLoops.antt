@@ -1,17 +1,14 @@
 -- What loops over two lists of coefficients compute.
-use Rattle.std.proofs.Common.{◌≡◌, ◌≢◌, ℕ, suc, ◌+◌, ◌-◌, ◌<◌, ◌≤◌, List, length, get_or, set, sym, ◌∙◌, ap, ap₂, subst, arith, ⊎_elim, cond}
+use Rattle.std.proofs.Common.{◌≡◌, ◌≢◌, ℕ, ◌+◌, ◌-◌, ◌<◌, ◌≤◌, List, length, get_or, set, sym, ◌∙◌, ap, ap₂, subst, arith, ⊎_elim, cond}
 use mathlib.Core.Path.{fun_ext}
 use Rattle.std.proofs.lemmas.Bool.{cases_eq, cases_lt, cond-true, cond-false, lt-ltb, le-ltb}
 use Rattle.std.specs.Prelude.{nat_lt}
 use Rattle.ark_math.specs.Field.{FieldOn, IsField}
-use Rattle.ark_math.specs.Module.{itself, sum_below}
-use Rattle.ark_math.specs.Univariate.{nothing, added, monomial, product, IsBelow, of_list, IsTrimmed}
-use Rattle.ark_math.proofs.Algebra.Groups.{itself_is_module, zero_plus, zero_scale}
-use Rattle.ark_math.proofs.Algebra.Powers.{zero_factor}
-use Rattle.ark_math.proofs.Algebra.Regrouped.{sum_below-past}
+use Rattle.ark_math.specs.Univariate.{nothing, added, monomial, product, IsBelow, of_list}
+use Rattle.ark_math.proofs.Algebra.Groups.{itself_is_module, zero_plus}
 use Rattle.ark_math.proofs.Polynomials.Univariate.{coefficients_are_module, monomial-same, monomial-other, same_below}
-use Rattle.ark_math.proofs.Polynomials.UnivariateLists.{of_list-past, of_list-set, of_list_is_below}
-use Rattle.ark_math.proofs.Polynomials.UnivariateProducts.{product-added, added-product, product-nothing, nothing-product, monomial-monomial, product-below, product_leading}
+use Rattle.ark_math.proofs.Polynomials.UnivariateLists.{of_list-set}
+use Rattle.ark_math.proofs.Polynomials.UnivariateProducts.{product-added, added-product, product-nothing, nothing-product, monomial-monomial}
 
 -- the coefficients below n, and zero from there on
 abbrev pub cut : {F : Type 0} → FieldOn F → ℕ → (ℕ → F) → ℕ → F
@@ -38,13 +35,6 @@ module _ {F : Type 0} (K : FieldOn F) where
 
   pub cut-all : (n : ℕ) (a : ℕ → F) → IsBelow K n a → cut K n a ≡ a
   cut-all n a b = same_below K n (cut K n a) a (cut-outside n a) b (cut-inside n a)
-
-  pub cut-other : (n : ℕ) (a : ℕ → F) (i : ℕ) → i ≢ n → cut K (n + 1) a i ≡ cut K n a i
-  cut-other n a i ne =
-      ⊎_elim
-      (λ (l : i < n). cut-inside (n + 1) a i (omega arith) ∙ sym (cut-inside n a i l))
-      (λ (l : n ≤ i). cut-outside (n + 1) a i (omega arith) ∙ sym (cut-outside n a i l))
-      (cases_lt i n)
 
   -- ---- one item after the other, by an operation
 
@@ -133,26 +123,3 @@ module _ {F : Type 0} (K : FieldOn F) (N : IsField K) where
       (λ k ne. rows-other a b i j k ne ∙ ap (λ t. t k) (sym e))
 
   -- ---- one coefficient after the other
-
-  -- of the factor's coefficients only the first m are wanted
-  pub product_within : (m : ℕ) (a b : ℕ → F) (k : ℕ) → IsBelow K m a → m ≤ suc k → product K a b k ≡ sum_below (itself K) m (λ i. K.times (a i) (b (k - i)))
-  product_within m a b k f l =
-      sum_below-past (itself_is_module K N) m (suc k) (λ i. K.times (a i) (b (k - i))) l
-      (λ i h _. ap (λ t. K.times t (b (k - i))) (f i h) ∙ zero_scale N (itself_is_module K N) (b (k - i)))
-
-  -- a list of m + n - 1 coefficients is all
-  pub product_listed : (m n : ℕ) (a b : ℕ → F) (c : List F) → IsBelow K m a → IsBelow K n b → length c ≡ m + n - 1 → ((k : ℕ) → k < m + n - 1 → get_or c k K.zero ≡ product K a b k) → of_list K c ≡ product K a b
-  product_listed m n a b c f g e h = of_list_is_below K c (product K a b) (m + n - 1) e (product-below K N m n a b f g) h
-
-  -- whose last one isn't zero, where those of the factors aren't
-  pub product_trimmed : (c d e : List F) → IsTrimmed K c → IsTrimmed K d → 0 < length c → 0 < length d → length e ≡ length c + length d - 1 → of_list K e ≡ product K (of_list K c) (of_list K d) → IsTrimmed K e
-  product_trimmed c d e s t l m n f _ z =
-      let i = length c - 1 in
-      let j = length d - 1 in
-      let last : i + j ≡ length e - 1 = omega arith in
-      t m
-      (zero_factor K N (of_list K c i) (of_list K d j) (s l)
-      (sym (product_leading K N i j (of_list K c) (of_list K d) (λ k h. of_list-past K c k (omega arith)) (λ k h. of_list-past K d k (omega arith)))
-      ∙ ap (λ u. u (i + j)) (sym f)
-      ∙ ap (of_list K e) last
-      ∙ z))

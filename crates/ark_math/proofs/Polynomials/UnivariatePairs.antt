@@ -10,14 +10,11 @@ use Rattle.ark_math.proofs.Algebra.Groups.{pair_Decides}
 use Rattle.std.proofs.lemmas.Slice.Eq.{slice_eq-Decides}
 use Rattle.std.proofs.lemmas.Option.{get_or_from_slice_get, slice_get_cases}
 use Rattle.std.proofs.lemmas.List.{length_push, get_or_push, get_or_append_left, get_or_default}
-use Rattle.std.proofs.lemmas.List.Quantifiers.{all_pairs_push}
 use Rattle.std.proofs.lemmas.List.Elements.{All-cons}
 use Rattle.std.proofs.lemmas.List.Kept.{AllPairs-cons}
 use Rattle.ark_math.specs.Field.{FieldOn, IsField, power}
 use Rattle.ark_math.specs.Univariate.{nothing, added, difference, monomial, IsDegree, IsValue, of_pairs, IsSparse}
 use Rattle.ark_math.proofs.Algebra.Groups.{itself_is_module, zero_plus, cancel_left}
-use Rattle.ark_math.proofs.Algebra.Solve.{◌⊞◌}
-use Rattle.ark_math.proofs.Algebra.Ring.{module0_3}
 use Rattle.ark_math.proofs.Polynomials.Univariate.{coefficients_are_module, monomial-same, monomial-other, monomial-opposite}
 use Rattle.ark_math.proofs.Polynomials.UnivariateValues.{value-added, value-monomial}
 
@@ -46,16 +43,6 @@ module _ {F : Type 0} (K : FieldOn F) (N : IsField K) where
 
   pub of_pairs-push : (p : List (ℕ × F)) (x : ℕ × F) → of_pairs K (p ++ x ∷ []) ≡ added K (of_pairs K p) (monomial K x.0 x.1)
   of_pairs-push p x = of_pairs-append p (x ∷ []) ∙ ap (added K (of_pairs K p)) ((coefficients_are_module K N).plus_zero (monomial K x.0 x.1))
-
-  -- a pair put in anywhere is added
-  pub of_pairs-between : (p q : List (ℕ × F)) (x : ℕ × F) → of_pairs K (p ++ x ∷ q) ≡ added K (monomial K x.0 x.1) (of_pairs K (p ++ q))
-  of_pairs-between p q x =
-      of_pairs-append p (x ∷ q)
-      ∙ module0_3 N (coefficients_are_module K N) (λ p m q. (p ⊞ (m ⊞ q), m ⊞ (p ⊞ q))) refl (of_pairs K p) (monomial K x.0 x.1) (of_pairs K q)
-      ∙ ap (added K (monomial K x.0 x.1)) (sym (of_pairs-append p q))
-
-  pub value-of_pairs_cons : (x : ℕ × F) (p : List (ℕ × F)) (y z : F) → IsValue K (of_pairs K p) y z → IsValue K (of_pairs K (x ∷ p)) y (K.plus (K.times (power K y x.0) x.1) z)
-  value-of_pairs_cons x p y z h = value-added K N (monomial K x.0 x.1) (of_pairs K p) y (K.times (power K y x.0) x.1) z (value-monomial K N x.0 x.1 y) h
 
   pub value-of_pairs_push : (x : ℕ × F) (p : List (ℕ × F)) (y z : F) → IsValue K (of_pairs K p) y z → IsValue K (of_pairs K (p ++ x ∷ [])) y (K.plus z (K.times (power K y x.0) x.1))
   value-of_pairs_push x p y z h =
@@ -118,15 +105,6 @@ module _ {F : Type 0} (K : FieldOn F) (N : IsField K) where
   sparse-cons x p ne l h = record {
     rising = AllPairs-cons (λ p q. p.0 < q.0) x p l h.rising;
     some = All-cons (λ y. y.1 ≢ K.zero) x p ne h.some;
-  }
-
-  pub sparse-push : (p : List (ℕ × F)) (x : ℕ × F) → IsSparse K p → x.1 ≢ K.zero → All (λ y. y.0 < x.0) p → IsSparse K (p ++ x ∷ [])
-  sparse-push p x h ne l = record {
-    rising = all_pairs_push (λ p q. p.0 < q.0) p x h.rising l;
-    some = λ k d m e. ⊎_elim
-        (λ (b : k < length p). h.some k d b (ap (λ t. t.1) (sym (get_or_append_left p (x ∷ []) d k b)) ∙ e))
-        (λ (b : length p ≤ k). let f : length p ≡ k = omega (arith, length_push p x) in ne (ap (λ t. t.1) (sym (get_or_push p x d k f)) ∙ e))
-        (cases_lt k (length p));
   }
 
   -- sparse lists are equal where they denote one polynomial

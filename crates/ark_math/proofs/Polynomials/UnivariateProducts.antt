@@ -10,7 +10,7 @@ use Rattle.ark_math.proofs.Algebra.Powers.{power-add, zero_factor}
 use Rattle.ark_math.proofs.Algebra.Sums.{sum_below-same, sum_below-plus, sum_below-scale}
 use Rattle.ark_math.proofs.Algebra.Regrouped.{sum_below-zero, sum_below-past, sum_below-single, sum_below-reversed, sum_below-triangle, sum_below-negated, sum_of_scalars}
 use Rattle.ark_math.proofs.Algebra.Solve.{◌⊗◌, negative}
-use Rattle.ark_math.proofs.Algebra.Ring.{ring2, ring3, ring4}
+use Rattle.ark_math.proofs.Algebra.Ring.{ring2, ring4}
 use Rattle.ark_math.proofs.Polynomials.Univariate.{monomial-same, monomial-other, IsBelow-more}
 
 module _ {F : Type 0} (K : FieldOn F) (N : IsField K) where
@@ -53,12 +53,6 @@ module _ {F : Type 0} (K : FieldOn F) (N : IsField K) where
       (λ i l. N.times_plus (a i) (b (k - i)) (c (k - i)))
       ∙ sum_below-plus whole (suc k) (λ i. K.times (a i) (b (k - i))) (λ i. K.times (a i) (c (k - i))))
 
-  pub product-scaled : (f : F) (a b : ℕ → F) → product K a (scaled K f b) ≡ scaled K f (product K a b)
-  product-scaled f a b = fun_ext (λ k.
-      sum_below-same (itself K) (suc k) (λ i. K.times (a i) (K.times f (b (k - i)))) (λ i. K.times f (K.times (a i) (b (k - i))))
-      (λ i l. ring3 K N (λ f a b. (a ⊗ (f ⊗ b), f ⊗ (a ⊗ b))) refl _ _ _)
-      ∙ sum_below-scale whole (suc k) f (λ i. K.times (a i) (b (k - i))))
-
   pub product-opposite : (a b : ℕ → F) → product K a (opposite K b) ≡ opposite K (product K a b)
   product-opposite a b = fun_ext (λ k.
       sum_below-same (itself K) (suc k) (λ i. K.times (a i) (K.negated (b (k - i)))) (λ i. K.negated (K.times (a i) (b (k - i))))
@@ -71,12 +65,6 @@ module _ {F : Type 0} (K : FieldOn F) (N : IsField K) where
   -- and from the left
   pub added-product : (a b c : ℕ → F) → product K (added K a b) c ≡ added K (product K a c) (product K b c)
   added-product a b c = product_comm (added K a b) c ∙ product-added c a b ∙ ap₂ (added K) (product_comm c a) (product_comm c b)
-
-  pub scaled-product : (f : F) (a b : ℕ → F) → product K (scaled K f a) b ≡ scaled K f (product K a b)
-  scaled-product f a b = product_comm (scaled K f a) b ∙ product-scaled f b a ∙ ap (scaled K f) (product_comm b a)
-
-  pub opposite-product : (a b : ℕ → F) → product K (opposite K a) b ≡ opposite K (product K a b)
-  opposite-product a b = product_comm (opposite K a) b ∙ product-opposite b a ∙ ap (opposite K) (product_comm b a)
 
   pub difference-product : (a b c : ℕ → F) → product K (difference K a b) c ≡ difference K (product K a c) (product K b c)
   difference-product a b c = product_comm (difference K a b) c ∙ product-difference c a b ∙ ap₂ (difference K) (product_comm c a) (product_comm c b)
