@@ -1,7 +1,7 @@
 -- Weights of the corners at a point, doubled item by item.
-use Rattle.std.proofs.Common.{◌≡◌, ◌≢◌, ℕ, suc, ◌+◌, ◌-◌, ◌*◌, ◌<◌, ◌≤◌, ◌^◌, List, [], ◌∷◌, ◌++◌, length, set, length-set, sym, ◌∙◌, ap, refl, arith, ⊎_elim}
+use Rattle.std.proofs.Common.{◌≡◌, ℕ, suc, ◌+◌, ◌-◌, ◌*◌, ◌<◌, ◌≤◌, ◌^◌, List, [], ◌∷◌, ◌++◌, length, sym, ◌∙◌, ap, refl, arith, ⊎_elim}
 use Rattle.std.proofs.lemmas.Bool.{cases_lt}
-use Rattle.std.proofs.lemmas.List.{length_push, get_or_append_left}
+use Rattle.std.proofs.lemmas.List.{length_push}
 use Rattle.ark_math.specs.Field.{FieldOn, IsField, minus}
 use Rattle.ark_math.specs.Multilinear.{weight}
 use Rattle.ark_math.specs.Univariate.{of_list}
@@ -20,20 +20,6 @@ pub record IsDoubling {F : Type 0} (K : FieldOn F) (x : F) (ws vs : List F) (i :
 pub record AreWeights {F : Type 0} (K : FieldOn F) (p ws : List F) : Type 0 where
   pub whole : length ws ≡ 2 ^ length p
   pub values : (b : ℕ) → b < 2 ^ length p → of_list K ws b ≡ weight K p b
-
-module _ {F : Type 0} (K : FieldOn F) where
-  } where
-    us : List F
-    us = set vs i l
-
-    kept : length us ≡ length vs
-    kept = length-set vs i l
-
-    within : (b : ℕ) → b < length vs → of_list K (us ++ h ∷ []) b ≡ of_list K us b
-    within b s = get_or_append_left us (h ∷ []) K.zero b (omega (arith, kept))
-
-    below : (b : ℕ) → b ≢ i → b < i + 1 → b < i
-    below b ne s = ⊎_elim (λ (m : b < i). m) (λ (m : i ≤ b). absurd (ne (omega arith))) (cases_lt b i)
 
 module _ {F : Type 0} (K : FieldOn F) (N : IsField K) where
   pub AreWeights-next : (p ws vs : List F) (x : F) → AreWeights K p ws → length vs ≡ 2 * length ws

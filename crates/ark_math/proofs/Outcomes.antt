@@ -1,4 +1,3 @@
 -- What code answers: tests that decide a fact, results.
-pub mod Pairs
 pub mod Results
 pub mod Tests

@@ -12,11 +12,8 @@ pub mod Multilinear
 pub mod MultilinearTerms
 pub mod Multivariate
 pub mod Quotients
-pub mod Reversed
 pub mod SameMultilinear
-pub mod Series
 pub mod SortedPairs
-pub mod SortedTerms
 pub mod SparseSums
 pub mod SquareFree
 pub mod Tables

@@ -23,14 +23,14 @@ domain_of kind size root offset = record { kind = kind; size = size; root = root
 abbrev pub element : {F : Type 0} → FieldOn F → Domain F → ℕ → F
 element K d i = K.times d.offset (power K d.root i)
 
--- the sizes of a kind: mixed ones only with a base
-abbrev pub IsSize : Adicity → Kind → ℕ → Type 0
-IsSize s radix2 n = (twos : ℕ) × Splits s n twos 0
-IsSize s mixed_radix n = IsSome s.odd × IsSupported s n
-
 -- the sizes with this power of the base
 abbrev pub IsSizeWith : Adicity → ℕ → ℕ → Type 0
 IsSizeWith s odds n = (twos : ℕ) × Splits s n twos odds
+
+-- the sizes of a kind: mixed ones only with a base
+abbrev pub IsSize : Adicity → Kind → ℕ → Type 0
+IsSize s radix2 n = IsSizeWith s 0 n
+IsSize s mixed_radix n = IsSome s.odd × IsSupported s n
 
 -- the domains that there are
 pub record IsDomain {F : Type 0} (K : FieldOn F) (s : Adicity) (root : ℕ → F) (d : Domain F) : Type 0 where

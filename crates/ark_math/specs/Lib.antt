@@ -11,9 +11,7 @@ pub mod Points
 pub mod Prime
 pub mod Root
 pub mod Rows
-pub mod Series
 pub mod Sizes
-pub mod SortedTerms
 pub mod Term
 pub mod Transform
 pub mod Univariate

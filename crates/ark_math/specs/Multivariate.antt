@@ -1,5 +1,5 @@
 -- Polynomials in several variables, by the coefficients of their terms. A term is its list of (variable, power).
-use Rattle.std.specs.Prelude.{◌≡◌, ◌≢◌, ℕ, ◌<◌, ◌≤◌, Bool, ◌==◌, ◌&&◌, List, [], ◌∷◌, if◌then◌else◌}
+use Rattle.std.specs.Prelude.{◌≡◌, ◌≢◌, ℕ, ◌<◌, ◌≤◌, Bool, ◌==◌, ◌&&◌, List, [], ◌∷◌, map, if◌then◌else◌}
 use Rattle.std.specs.Cmp.Lexicographic.{pointwise}
 use Rattle.ark_math.specs.Field.{FieldOn}
 use Rattle.ark_math.specs.Term.{total_degree, term_value}
@@ -17,6 +17,10 @@ single K t c u = if same_term t u then c else K.zero
 abbrev pub of_terms : {F : Type 0} → FieldOn F → List (F × List (ℕ × ℕ)) → List (ℕ × ℕ) → F
 of_terms K [] = nothing K
 of_terms K (c ∷ cs) = added K (single K c.1 c.0) (of_terms K cs)
+
+-- the same, where a term is of any type that tells its list
+abbrev pub of_listed : {F T : Type 0} → FieldOn F → (T → List (ℕ × ℕ)) → List (F × T) → List (ℕ × ℕ) → F
+of_listed K listed cs = of_terms K (map (λ c. (c.0, listed c.1)) cs)
 
 -- the sum of a list's parts at x
 abbrev pub sum_at : {F : Type 0} → FieldOn F → List (F × List (ℕ × ℕ)) → List F → F

@@ -1,2 +1,3 @@
--- What contracts see of this crate's own types.
+-- What contracts see of this crate's own types, and the words of the steps that merge terms.
 pub mod Extensions
+pub mod SortedTerms

@@ -8,7 +8,7 @@ use Rattle.std.proofs.lemmas.List.{take_all, get_or-append-add, get_or_past, get
 use Rattle.std.proofs.lemmas.Bool.Decides.{Decides-eqb}
 use Rattle.ark_math.specs.Field.{FieldOn}
 use Rattle.ark_math.specs.Univariate.{nothing, IsBelow, IsDegree, of_list, IsTrimmed}
-use Rattle.ark_math.proofs.Polynomials.Univariate.{same_below, one_degree}
+use Rattle.ark_math.proofs.Polynomials.Univariate.{one_degree}
 
 no_items : {F : Type 0} (c : List F) → length c ≡ 0 → c ≡ []
 no_items [] e = refl
@@ -20,9 +20,6 @@ module _ {F : Type 0} (K : FieldOn F) where
 
   pub of_list-below : (c : List F) → IsBelow K (length c) (of_list K c)
   of_list-below c i l = of_list-past c i l
-
-  pub of_list_is_below : (c : List F) (a : ℕ → F) (n : ℕ) → length c ≡ n → IsBelow K n a → ((i : ℕ) → i < n → get_or c i K.zero ≡ a i) → of_list K c ≡ a
-  of_list_is_below c a n e b h = same_below K n (of_list K c) a (subst (λ t. IsBelow K t (of_list K c)) e (of_list-below c)) b h
 
   pub of_list-replicate : (n : ℕ) → of_list K (replicate n K.zero) ≡ nothing K
   of_list-replicate n = fun_ext (λ i. ⊎_elim

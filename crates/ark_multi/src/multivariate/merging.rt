@@ -2,8 +2,8 @@
 
 ghost use Rattle.std.specs.Prelude.{◌≡◌, ◌≢◌, [], length, All, IfOk, OnOk, IfSome, IsNone, IsOkUnless};
 ghost use Rattle.std.specs.declared.cmp.Ordering.TheVariants.{Less, Greater};
-ghost use Rattle.ark_math.specs.Multivariate.{single, IsTotalDegree, IsValueAt};
-ghost use Rattle.ark_math.specs.SortedTerms.{of_listed, AreRising, IsLeast};
+ghost use Rattle.ark_math.specs.Multivariate.{single, IsTotalDegree, IsValueAt, of_listed};
+ghost use Rattle.ark_multi.specs.SortedTerms.{AreRising, IsLeastTerm};
 ghost use Rattle.ark_math.specs.Term.{IsWithin};
 ghost use Rattle.ark_math.specs.Univariate.{added, scaled};
 
@@ -74,7 +74,7 @@ fn least_term<'a, F: Field, T: Term>(
 ) -> Option<Least<'a, F, T>>
     requires left { AreRising F.field T.cmp left.now }
     requires right { AreRising F.field T.cmp right.now }
-    ensures least { IfSome result (λ l. IsLeast F.field T.cmp T.listed left.now factor right.now
+    ensures least { IfSome result (λ l. IsLeastTerm F.field T.cmp T.listed left.now factor right.now
         l.coefficient l.term.now l.left.now l.right.now) }
     ensures none { IsNone result → (left.now ≡ []) × (right.now ≡ []) }
 {

@@ -4,8 +4,8 @@ ghost use Rattle.std.specs.Prelude.{◌≡◌, ◌≢◌, ℕ, ◌≤◌, ◌<�
 ghost use Rattle.std.specs.Prelude.{IfOk, IsOk, OnOk, IsOkUnless};
 ghost use Rattle.std.specs.declared.cmp.Ordering.TheVariants.{Less};
 ghost use Rattle.ark_math.specs.Term.{IsWithin};
-ghost use Rattle.ark_math.specs.Multivariate.{of_terms, IsValueAt, IsTotalDegree};
-ghost use Rattle.ark_math.specs.SortedTerms.{of_listed, IsOnePower};
+ghost use Rattle.ark_math.specs.Multivariate.{of_terms, IsValueAt, IsTotalDegree, of_listed};
+ghost use Rattle.ark_multi.specs.SortedTerms.{IsOnePower};
 ghost use Rattle.ark_math.specs.Univariate.{nothing, added, opposite, scaled as multiple};
 
 use crate::multivariate::Term;

@@ -1,6 +1,6 @@
 use Rattle.std.proofs.Common.{length}
-use Rattle.ark_math.specs.SortedTerms.{of_listed}
-use Rattle.ark_math.proofs.Polynomials.SortedTerms.{IsGathering, term_order}
+use Rattle.ark_math.specs.Multivariate.{of_listed}
+use Rattle.ark_multi.proofs.SortedTerms.{IsGathering, term_order}
 use Rattle.ark_multi.proofs.multivariate.merging.gathered_terms.Given as goal
 
 abbrev pub invariant-loop-next : goal.invariant-loop-next

@@ -1,6 +1,6 @@
 use Rattle.std.proofs.Common.{◌≡◌, ◌∙◌, ap}
 use Rattle.std.specs.declared.cmp.Ordering.TheVariants.{Less, Equal, Greater}
-use Rattle.ark_math.proofs.Polynomials.SortedTerms.{term_order, least_left, least_right, least_both, least_less, least_greater, none_below}
+use Rattle.ark_multi.proofs.SortedTerms.{term_order, least_left, least_right, least_both, least_less, least_greater, none_below}
 use Rattle.ark_multi.proofs.multivariate.merging.least_term.Goals as goal
 
 pub returns-in-Less-clause-least : goal.returns-in-Less-clause-least

@@ -1,7 +1,7 @@
 use Rattle.std.proofs.Common.{refl, sym, subst}
-use Rattle.ark_math.specs.SortedTerms.{of_listed}
+use Rattle.ark_math.specs.Multivariate.{of_listed}
 use Rattle.ark_math.specs.Univariate.{added, scaled}
-use Rattle.ark_math.proofs.Polynomials.SortedTerms.{IsLeft, term_order, all_left, none_left, done_below, next_left}
+use Rattle.ark_multi.proofs.SortedTerms.{IsLeft, term_order, all_left, none_left, done_below, next_left}
 use Rattle.ark_multi.proofs.multivariate.merging.sum_of_terms.Goals as goal
 
 pub loop-least-init : goal.loop-least-init

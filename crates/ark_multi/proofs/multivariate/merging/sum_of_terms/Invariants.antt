@@ -1,7 +1,7 @@
 use Rattle.std.proofs.Common.{length, ◌+◌}
-use Rattle.ark_math.specs.SortedTerms.{of_listed}
+use Rattle.ark_math.specs.Multivariate.{of_listed}
 use Rattle.ark_math.specs.Univariate.{added, scaled}
-use Rattle.ark_math.proofs.Polynomials.SortedTerms.{IsLeft, term_order}
+use Rattle.ark_multi.proofs.SortedTerms.{IsLeft, term_order}
 use Rattle.ark_multi.proofs.multivariate.merging.sum_of_terms.Given as goal
 
 abbrev pub invariant-loop-least : goal.invariant-loop-least

@@ -1,6 +1,6 @@
 use Rattle.std.proofs.Common.{◌≡◌, ◌-◌, true, false, length, sym, ap, ◌∙◌}
 use Rattle.std.specs.List.{slice_get}
-use Rattle.ark_math.proofs.Polynomials.SortedTerms.{term_order, none_last, last_is, like_rising, like_below, like_sum, unlike_below, unlike_sum}
+use Rattle.ark_multi.proofs.SortedTerms.{term_order, none_last, last_is, like_rising, like_below, like_sum, unlike_below, unlike_sum}
 use Rattle.ark_multi.proofs.multivariate.merging.take_like.Goals.{in_default-via-in-Some+else-eq, in_default-via-in_default}
 use Rattle.ark_multi.proofs.multivariate.merging.take_like.Goals as goal
 

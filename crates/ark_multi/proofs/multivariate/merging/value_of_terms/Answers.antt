@@ -1,5 +1,5 @@
 use Rattle.std.proofs.Common.{ap, ◌∙◌}
-use Rattle.ark_math.proofs.Polynomials.SortedTerms.{term_order, value_next}
+use Rattle.ark_multi.proofs.SortedTerms.{term_order, value_next}
 use Rattle.ark_multi.proofs.multivariate.merging.value_of_terms.Goals as goal
 
 pub loop-term-preserved : goal.loop-term-preserved

@@ -1,8 +1,8 @@
 use Rattle.std.proofs.Common.{rules, ◌≡◌, ◌≤◌, max, sym, subst, ap₂, ◌∙◌}
 use Rattle.std.proofs.Math.Nat.{le-max_left, le-max_right}
-use Rattle.ark_math.specs.SortedTerms.{of_listed}
+use Rattle.ark_math.specs.Multivariate.{of_listed}
 use Rattle.ark_math.specs.Univariate.{added, scaled}
-use Rattle.ark_math.proofs.Polynomials.SortedTerms.{term_order, sum_within}
+use Rattle.ark_multi.proofs.SortedTerms.{term_order, sum_within}
 use Rattle.ark_multi.proofs.multivariate.sparse.SparsePolynomial.plus_multiple.Goals as goal
 
 pub invariant_of-result : goal.invariant_of-result

@@ -1,6 +1,6 @@
 use Rattle.std.proofs.Common.{refl}
 use Rattle.ark_math.specs.Term.{IsWithin}
-use Rattle.ark_math.proofs.Polynomials.SortedTerms.{term_order, keyed_clones, rising_like, All_like}
+use Rattle.ark_multi.proofs.SortedTerms.{term_order, keyed_clones, rising_like, All_like}
 use Rattle.ark_multi.proofs.multivariate.sparse.SparsePolynomialClone.clone.Goals as goal
 
 pub invariant_of-result : goal.invariant_of-result

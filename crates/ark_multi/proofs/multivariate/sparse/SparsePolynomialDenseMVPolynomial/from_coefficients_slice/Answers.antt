@@ -2,7 +2,7 @@ use Rattle.std.proofs.Common.{ap, ◌∙◌}
 use Rattle.ark_math.specs.Multivariate.{of_terms}
 use Rattle.ark_math.specs.Term.{IsWithin}
 use Rattle.ark_math.proofs.Outcomes.Results.{IfOk_more}
-use Rattle.ark_math.proofs.Polynomials.SortedTerms.{term_order, keyed_clones, All_like}
+use Rattle.ark_multi.proofs.SortedTerms.{term_order, keyed_clones, All_like}
 use Rattle.ark_multi.proofs.multivariate.sparse.SparsePolynomialDenseMVPolynomial.from_coefficients_slice.Goals as goal
 
 pub from_coefficients_vec-requires : goal.from_coefficients_vec-requires

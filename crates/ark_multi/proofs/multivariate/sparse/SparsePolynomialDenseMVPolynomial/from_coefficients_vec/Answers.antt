@@ -1,5 +1,5 @@
 use Rattle.ark_math.specs.Term.{IsWithin}
-use Rattle.ark_math.proofs.Polynomials.SortedTerms.{term_order, same_sum_All, cases_within}
+use Rattle.ark_multi.proofs.SortedTerms.{term_order, same_sum_All, cases_within}
 use Rattle.ark_multi.proofs.multivariate.sparse.SparsePolynomialDenseMVPolynomial.from_coefficients_vec.Goals as goal
 
 pub invariant_of-result : goal.invariant_of-result

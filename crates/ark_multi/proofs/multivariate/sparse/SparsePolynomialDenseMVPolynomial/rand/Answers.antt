@@ -1,7 +1,7 @@
 use Rattle.std.proofs.lemmas.List.Elements.{All-map}
-use Rattle.ark_math.specs.SortedTerms.{IsOnePower}
+use Rattle.ark_multi.specs.SortedTerms.{IsOnePower}
 use Rattle.ark_math.proofs.Outcomes.Results.{IfOk_more}
-use Rattle.ark_math.proofs.Polynomials.SortedTerms.{term_order, same_sum_All, cases_one_power}
+use Rattle.ark_multi.proofs.SortedTerms.{term_order, same_sum_All, cases_one_power}
 use Rattle.ark_multi.proofs.multivariate.sparse.SparsePolynomialDenseMVPolynomial.rand.Goals as goal
 
 pub returns-clause-terms : goal.returns-clause-terms

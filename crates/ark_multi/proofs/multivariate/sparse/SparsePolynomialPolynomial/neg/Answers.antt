@@ -1,5 +1,5 @@
 use Rattle.std.proofs.Common.{ap, ◌∙◌}
-use Rattle.ark_math.specs.SortedTerms.{of_listed}
+use Rattle.ark_math.specs.Multivariate.{of_listed}
 use Rattle.ark_math.specs.Univariate.{added, opposite}
 use Rattle.ark_math.proofs.Algebra.Groups.{zero_plus}
 use Rattle.ark_math.proofs.Outcomes.Results.{IfOk_more}

@@ -1,5 +1,5 @@
 use Rattle.std.proofs.Common.{ap, ◌∙◌}
-use Rattle.ark_math.specs.SortedTerms.{of_listed}
+use Rattle.ark_math.specs.Multivariate.{of_listed}
 use Rattle.ark_math.specs.Univariate.{added}
 use Rattle.ark_math.proofs.Outcomes.Results.{IfOk_more}
 use Rattle.ark_math.proofs.Polynomials.Univariate.{scaled-negated_one}

@@ -1,7 +1,7 @@
 use Rattle.std.proofs.Common.{◌≡◌, ◌+◌, ◌-◌, length, sym, ap, refl, subst, ◌∙◌, arith}
 use Rattle.ark_math.specs.Univariate.{of_list, IsBelow}
 use Rattle.ark_math.proofs.Outcomes.Results.{IfOk_both}
-use Rattle.ark_math.proofs.Polynomials.Reversed.{quotient_of_lengths, reversed-inside}
+use Rattle.ark_coeffs.proofs.Backwards.{quotient_of_lengths, backwards-inside}
 use Rattle.ark_math.proofs.Polynomials.UnivariateLists.{of_list-below}
 use Rattle.ark_poly.proofs.polynomial.univariate.dense.DensePolynomial.quotient_by_series.Goals as goal
 
@@ -39,6 +39,6 @@ inverse_series-requires-clause-first g c =
     let others = ap length c.coeffs-parts.ensures.same in
     let some = c.requires.some in
     let last : parts - 1 - 0 ≡ parts - 1 = omega arith in
-    ap (λ t. K.times t c.args.leading_inverted) (c.in_ok-backwards.ensures.same 0 (omega (arith, some, others)) ∙ reversed-inside K (parts - 1) a 0 (omega arith) ∙ ap a last)
+    ap (λ t. K.times t c.args.leading_inverted) (c.in_ok-backwards.ensures.same 0 (omega (arith, some, others)) ∙ backwards-inside K (parts - 1) a 0 (omega arith) ∙ ap a last)
     ∙ ap (λ t. K.times (a (t - 1)) c.args.leading_inverted) others
     ∙ c.requires.leading

@@ -1,6 +1,6 @@
 use Rattle.std.proofs.Common.{◌-◌, sym, ap, ◌∙◌, arith}
 use Rattle.ark_math.specs.Univariate.{of_list}
-use Rattle.ark_math.proofs.Polynomials.Reversed.{reversed-inside}
+use Rattle.ark_coeffs.proofs.Backwards.{backwards-inside}
 use Rattle.ark_math.proofs.Polynomials.UnivariateLists.{of_list-past}
 use Rattle.ark_poly.proofs.polynomial.univariate.dense.DensePolynomial.reversed.Goals as goal
 
@@ -11,7 +11,7 @@ returns-clause-same g c i l =
     ap (λ t. t i) c.from_coefficients_vec.ensures.coefficients
     ∙ c.in_ok-coeffs.ensures.same i l
     ∙ ap (λ t. of_list K t (c.args.degree - i)) c.coeffs.ensures.same
-    ∙ sym (reversed-inside K c.args.degree (of_list K c.args.self.now) i (omega (arith, l, few)))
+    ∙ sym (backwards-inside K c.args.degree (of_list K c.args.self.now) i (omega (arith, l, few)))
 
 pub returns-clause-below : goal.returns-clause-below
 returns-clause-below g c i l =

@@ -18,9 +18,9 @@ use denote.Param.Members.{Mut}
 use denote.Ref.{Bor}
 use Rattle.ark_math.specs.Field.{FieldOn, IsField}
 use Rattle.ark_math.specs.Univariate.{nothing, added, scaled}
-use Rattle.ark_math.specs.Multivariate.{single, sum_at}
+use Rattle.ark_math.specs.Multivariate.{single, sum_at, of_listed}
 use Rattle.ark_math.specs.Term.{IsTerm, IsWithin, term_value, total_degree}
-use Rattle.ark_math.specs.SortedTerms.{of_listed, AreRising, IsLeast, IsOnePower}
+use Rattle.ark_multi.specs.SortedTerms.{AreRising, IsLeastTerm, IsOnePower}
 use Rattle.ark_math.proofs.Algebra.Groups.{itself_is_module, zero_plus, plus_swap, scale_zero}
 use Rattle.ark_math.proofs.Polynomials.Univariate.{coefficients_are_module}
 use Rattle.ark_math.proofs.Polynomials.Multivariate.{single-same, single-other, single-zero, single-added, single-scaled, sum_at-push}
@@ -160,7 +160,7 @@ module _ {F T : Type 0} (K : FieldOn F) (N : IsField K) {cmp : T → T → Order
 
   -- ---- the least of two lists
 
-  pub least_left : (p q u : List (F × T)) (s : F) (c : F × T) → AreRising K cmp p → AreRising K cmp q → p ≡ c ∷ u → All (λ d. cmp c.1 d.1 ≡ Less) q → IsLeast K cmp listed p s q c.0 c.1 u q
+  pub least_left : (p q u : List (F × T)) (s : F) (c : F × T) → AreRising K cmp p → AreRising K cmp q → p ≡ c ∷ u → All (λ d. cmp c.1 d.1 ≡ Less) q → IsLeastTerm K cmp listed p s q c.0 c.1 u q
   least_left p q u s c l r e below =
       let h = subst (AreRising K cmp) e l in
       record {
@@ -175,7 +175,7 @@ module _ {F T : Type 0} (K : FieldOn F) (N : IsField K) {cmp : T → T → Order
         fewer = let n : length p ≡ suc (length u) = ap length e in omega arith;
       }
 
-  pub least_right : (p q v : List (F × T)) (s f : F) (c : F × T) → AreRising K cmp p → AreRising K cmp q → q ≡ c ∷ v → All (λ d. cmp c.1 d.1 ≡ Less) p → f ≡ K.times s c.0 → IsLeast K cmp listed p s q f c.1 p v
+  pub least_right : (p q v : List (F × T)) (s f : F) (c : F × T) → AreRising K cmp p → AreRising K cmp q → q ≡ c ∷ v → All (λ d. cmp c.1 d.1 ≡ Less) p → f ≡ K.times s c.0 → IsLeastTerm K cmp listed p s q f c.1 p v
   least_right p q v s f c l r e below is =
       let h = subst (AreRising K cmp) e r in
       let M = coefficients_are_module {I = List (ℕ × ℕ)} K N in
@@ -195,7 +195,7 @@ module _ {F T : Type 0} (K : FieldOn F) (N : IsField K) {cmp : T → T → Order
         fewer = let n : length q ≡ suc (length v) = ap length e in omega arith;
       }
 
-  pub least_both : (p q u v : List (F × T)) (s f : F) (c d : F × T) → AreRising K cmp p → AreRising K cmp q → p ≡ c ∷ u → q ≡ d ∷ v → cmp c.1 d.1 ≡ Equal → f ≡ K.plus c.0 (K.times s d.0) → IsLeast K cmp listed p s q f c.1 u v
+  pub least_both : (p q u v : List (F × T)) (s f : F) (c d : F × T) → AreRising K cmp p → AreRising K cmp q → p ≡ c ∷ u → q ≡ d ∷ v → cmp c.1 d.1 ≡ Equal → f ≡ K.plus c.0 (K.times s d.0) → IsLeastTerm K cmp listed p s q f c.1 u v
   least_both p q u v s f c d l r e g tie is =
       let h = subst (AreRising K cmp) e l in
       let k = subst (AreRising K cmp) g r in
@@ -217,11 +217,11 @@ module _ {F T : Type 0} (K : FieldOn F) (N : IsField K) {cmp : T → T → Order
       }
 
   -- the three ways of two lists that both have terms
-  pub least_less : (p q u v : List (F × T)) (s : F) (c d : F × T) → AreRising K cmp p → AreRising K cmp q → p ≡ c ∷ u → q ≡ d ∷ v → cmp c.1 d.1 ≡ Less → IsLeast K cmp listed p s q c.0 c.1 u q
+  pub least_less : (p q u v : List (F × T)) (s : F) (c d : F × T) → AreRising K cmp p → AreRising K cmp q → p ≡ c ∷ u → q ≡ d ∷ v → cmp c.1 d.1 ≡ Less → IsLeastTerm K cmp listed p s q c.0 c.1 u q
   least_less p q u v s c d l r e g less =
       least_left p q u s c l r e (subst (All (λ x. cmp c.1 x.1 ≡ Less)) (sym g) (below_first c.1 d v (subst (AreRising K cmp) g r) less))
 
-  pub least_greater : (p q u v : List (F × T)) (s f : F) (c d : F × T) → AreRising K cmp p → AreRising K cmp q → p ≡ c ∷ u → q ≡ d ∷ v → cmp c.1 d.1 ≡ Greater → f ≡ K.times s d.0 → IsLeast K cmp listed p s q f d.1 p v
+  pub least_greater : (p q u v : List (F × T)) (s f : F) (c d : F × T) → AreRising K cmp p → AreRising K cmp q → p ≡ c ∷ u → q ≡ d ∷ v → cmp c.1 d.1 ≡ Greater → f ≡ K.times s d.0 → IsLeastTerm K cmp listed p s q f d.1 p v
   least_greater p q u v s f c d l r e g greater is =
       let less : cmp d.1 c.1 ≡ Less = o.total.antisymm d.1 c.1 ∙ ap ordering_reverse greater in
       least_right p q v s f d l r g (subst (All (λ x. cmp d.1 x.1 ≡ Less)) (sym e) (below_first d.1 c u (subst (AreRising K cmp) e l) less)) is
@@ -259,10 +259,10 @@ module _ {F T : Type 0} (K : FieldOn F) (N : IsField K) {cmp : T → T → Order
       ∙ h.sum
 
   -- t, the next term, has a copy r
-  pub done_below : (a : List (ℕ × ℕ) → F) (s f : F) (c p q u v : List (F × T)) (t r : T) → IsLeft a s c p q → IsLeast K cmp listed p s q f t u v → listed r ≡ listed t → All (λ x. cmp x.1 r ≡ Less) c
+  pub done_below : (a : List (ℕ × ℕ) → F) (s f : F) (c p q u v : List (F × T)) (t r : T) → IsLeft a s c p q → IsLeastTerm K cmp listed p s q f t u v → listed r ≡ listed t → All (λ x. cmp x.1 r ≡ Less) c
   done_below a s f c p q u v t r h least e k d b = less_to t r (get_or c k d).1 (sym e) (least.least (get_or c k d).1 (h.below_left k d b) (h.below_right k d b))
 
-  pub next_left : (a : List (ℕ × ℕ) → F) (s f : F) (c b p q u v : List (F × T)) (t r : T) → IsLeft a s c p q → IsLeast K cmp listed p s q f t u v → listed r ≡ listed t → AreRising K cmp b → sum_of b ≡ added K (sum_of c) (single K (listed r) f) → All (λ x. cmp x.1 r ≢ Greater) b → IsLeft a s b u v
+  pub next_left : (a : List (ℕ × ℕ) → F) (s f : F) (c b p q u v : List (F × T)) (t r : T) → IsLeft a s c p q → IsLeastTerm K cmp listed p s q f t u v → listed r ≡ listed t → AreRising K cmp b → sum_of b ≡ added K (sum_of c) (single K (listed r) f) → All (λ x. cmp x.1 r ≢ Greater) b → IsLeft a s b u v
   next_left a s f c b p q u v t r h least e rising sum upto =
       let M = coefficients_are_module {I = List (ℕ × ℕ)} K N in
       record {

@@ -1,14 +1,11 @@
--- Lists of (coefficient, term), where a term is of any type that tells its list of (variable, power).
-use Rattle.std.specs.Prelude.{◌≡◌, ◌≢◌, ℕ, ◌+◌, ◌<◌, ◌≤◌, ◌⊎◌, List, [], ◌∷◌, map, length, All, AllPairs}
+-- Lists of (coefficient, term) in strictly rising order, where a term is of any type that tells its list of (variable,
+-- power): what the private steps of sums and of building say.
+use Rattle.std.specs.Prelude.{◌≡◌, ◌≢◌, ℕ, ◌+◌, ◌<◌, ◌≤◌, ◌⊎◌, List, [], ◌∷◌, length, All, AllPairs}
 use Rattle.std.specs.declared.cmp.Ordering.{Ordering}
 use Rattle.std.specs.declared.cmp.Ordering.TheVariants.{Less}
 use Rattle.ark_math.specs.Field.{FieldOn}
 use Rattle.ark_math.specs.Univariate.{added, scaled}
-use Rattle.ark_math.specs.Multivariate.{single, of_terms}
-
--- what such a list denotes
-abbrev pub of_listed : {F T : Type 0} → FieldOn F → (T → List (ℕ × ℕ)) → List (F × T) → List (ℕ × ℕ) → F
-of_listed K listed cs = of_terms K (map (λ c. (c.0, listed c.1)) cs)
+use Rattle.ark_math.specs.Multivariate.{single, of_listed}
 
 -- strictly rising terms with coefficients that aren't zero
 pub record AreRising {F T : Type 0} (K : FieldOn F) (cmp : T → T → Ordering) (cs : List (F × T)) : Type 0 where
@@ -16,7 +13,7 @@ pub record AreRising {F T : Type 0} (K : FieldOn F) (cmp : T → T → Ordering)
   pub some : All (λ c. c.0 ≢ K.zero) cs
 
 -- of the sum of p and s times q, c is the coefficient of the least term t, and the rest is that of u and s times v
-pub record IsLeast {F T : Type 0} (K : FieldOn F) (cmp : T → T → Ordering) (listed : T → List (ℕ × ℕ)) (p : List (F × T)) (s : F) (q : List (F × T)) (c : F) (t : T) (u v : List (F × T)) : Type 0 where
+pub record IsLeastTerm {F T : Type 0} (K : FieldOn F) (cmp : T → T → Ordering) (listed : T → List (ℕ × ℕ)) (p : List (F × T)) (s : F) (q : List (F × T)) (c : F) (t : T) (u v : List (F × T)) : Type 0 where
   pub left : AreRising K cmp u
   pub right : AreRising K cmp v
   pub below_left : All (λ d. cmp t d.1 ≡ Less) u

@@ -17,5 +17,5 @@ abbrev pub past : {F : Type 0} → ℕ → (ℕ → F) → ℕ → F
 past k a i = a (k + i)
 
 -- the coefficients up to m, the last one first
-abbrev pub reversed : {F : Type 0} → FieldOn F → ℕ → (ℕ → F) → ℕ → F
-reversed K m a i = if nat_lt i (m + 1) then a (m - i) else K.zero
+abbrev pub backwards : {F : Type 0} → FieldOn F → ℕ → (ℕ → F) → ℕ → F
+backwards K m a i = if nat_lt i (m + 1) then a (m - i) else K.zero
