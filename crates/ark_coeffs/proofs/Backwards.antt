@@ -3,7 +3,7 @@ use Rattle.std.proofs.Common.{◌≡◌, ◌≢◌, ℕ, zero, suc, ◌+◌, ◌
 use mathlib.Core.Path.{fun_ext}
 use Rattle.std.proofs.lemmas.Bool.{cases_lt, cases_eq}
 use Rattle.ark_math.specs.Field.{FieldOn, IsField, minus}
-use Rattle.ark_coeffs.specs.Series.{AgreeBelow, backwards, unity}
+use Rattle.ark_coeffs.specs.PowerSeries.{AgreeBelow, backwards, unity}
 use Rattle.ark_math.specs.Univariate.{nothing, added, difference, monomial, product, IsBelow, IsQuotient}
 use Rattle.ark_math.proofs.Algebra.Groups.{itself_is_module, zero_scale}
 use Rattle.ark_math.proofs.Algebra.Powers.{times_zero}
@@ -12,7 +12,7 @@ use Rattle.ark_math.proofs.Algebra.Ring.{module0_2}
 use Rattle.ark_math.proofs.Polynomials.Univariate.{coefficients_are_module, monomial-same, monomial-other, same_below, difference-below, nothing-below}
 use Rattle.ark_math.proofs.Polynomials.UnivariateLoops.{cut, cut-inside, cut-outside, cut-none, cut-all, cut-more}
 use Rattle.ark_math.proofs.Polynomials.UnivariateProducts.{product_assoc, product_comm, added-product, one-product, nothing-product, product-below, monomial-product_past, monomial-product_before}
-use Rattle.ark_coeffs.proofs.Series.{agree-product}
+use Rattle.ark_coeffs.proofs.PowerSeries.{agree-product}
 
 module _ {F : Type 0} (K : FieldOn F) where
   pub backwards-inside : (m : ℕ) (a : ℕ → F) (i : ℕ) → i ≤ m → backwards K m a i ≡ a (m - i)

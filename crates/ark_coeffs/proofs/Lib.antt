@@ -1,5 +1,5 @@
 -- What the proofs of the crate's functions share.
 pub mod Backwards
 pub mod Divisors
+pub mod PowerSeries
 pub mod Pushed
-pub mod Series

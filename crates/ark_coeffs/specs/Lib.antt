@@ -1,3 +1,3 @@
 -- What the contracts of divisions and of power series cite.
 pub mod Divisors
-pub mod Series
+pub mod PowerSeries

@@ -1,7 +1,7 @@
 //! Lists of the first coefficients of power series.
 
 ghost use Rattle.std.specs.Prelude.{◌≡◌, ℕ, ◌+◌, ◌-◌, ◌<◌, ◌≤◌, length, IfOk};
-ghost use Rattle.ark_coeffs.specs.Series.{AgreeBelow, past};
+ghost use Rattle.ark_coeffs.specs.PowerSeries.{AgreeBelow, past};
 ghost use Rattle.ark_math.specs.Univariate.{of_list, opposite};
 
 use ark_base::Field;

@@ -2,7 +2,7 @@
 
 ghost use Rattle.std.specs.Prelude.{◌≡◌, ◌≢◌, ◌↔◌, ◌+◌, ◌-◌, ◌<◌, ◌≤◌, ◌⊎◌, length, IfOk, IfErr};
 ghost use Rattle.std.specs.Prelude.{ℕ, None, IfSome, IsNone, IsOkUnless};
-ghost use Rattle.ark_coeffs.specs.Series.{AgreeBelow, past, backwards, unity};
+ghost use Rattle.ark_coeffs.specs.PowerSeries.{AgreeBelow, past, backwards, unity};
 ghost use Rattle.ark_math.specs.Univariate.{of_list, nothing, difference, product, IsBelow, IsQuotient};
 
 use crate::polynomial::univariate::DensePolynomial;

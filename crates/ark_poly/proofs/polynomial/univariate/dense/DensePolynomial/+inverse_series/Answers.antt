@@ -1,6 +1,6 @@
 use Rattle.std.proofs.Common.{◌≤◌, [], ◌∷◌, ◌++◌, ap, ◌∙◌, arith}
 use Rattle.ark_math.specs.Univariate.{of_list}
-use Rattle.ark_coeffs.proofs.Series.{inverse_constant}
+use Rattle.ark_coeffs.proofs.PowerSeries.{inverse_constant}
 use Rattle.ark_math.proofs.Polynomials.UnivariateLists.{of_list-past}
 use Rattle.ark_poly.proofs.polynomial.univariate.dense.DensePolynomial.+inverse_series.Goals as goal
 

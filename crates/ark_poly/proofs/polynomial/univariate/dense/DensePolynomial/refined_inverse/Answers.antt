@@ -1,6 +1,6 @@
 use Rattle.std.proofs.Common.{◌+◌, ap, ◌∙◌, arith}
 use Rattle.ark_math.specs.Univariate.{of_list, opposite}
-use Rattle.ark_coeffs.proofs.Series.{newton_step}
+use Rattle.ark_coeffs.proofs.PowerSeries.{newton_step}
 use Rattle.ark_math.proofs.Polynomials.UnivariateLists.{of_list-past}
 use Rattle.ark_poly.proofs.polynomial.univariate.dense.DensePolynomial.refined_inverse.Goals as goal
 

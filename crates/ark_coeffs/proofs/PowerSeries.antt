@@ -5,7 +5,7 @@ use mathlib.Core.Path.{fun_ext}
 use Rattle.std.proofs.lemmas.Bool.{cases_lt}
 use Rattle.ark_math.specs.Field.{FieldOn, IsField, minus}
 use Rattle.ark_math.specs.Module.{itself}
-use Rattle.ark_coeffs.specs.Series.{AgreeBelow, unity, past}
+use Rattle.ark_coeffs.specs.PowerSeries.{AgreeBelow, unity, past}
 use Rattle.ark_math.specs.Univariate.{nothing, added, difference, opposite, monomial, product, IsBelow}
 use Rattle.ark_math.proofs.Algebra.Groups.{itself_is_module, scale_zero, zero_scale, zero_plus}
 use Rattle.ark_math.proofs.Algebra.Sums.{sum_below-same}
