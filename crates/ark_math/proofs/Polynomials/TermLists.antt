@@ -125,7 +125,6 @@ module _ {F T : Type 0} (K : FieldOn F) (N : IsField K) (key : T → List (ℕ �
       let one : F × List (ℕ × ℕ) = (r.1.0, key r.1.1) in
       let long : length (keyed key cs) ≡ length cs = length-map cs (λ c. (c.0, key c.1)) in
       (r.0, one, omega (arith, b, long), get_or-map (λ c. (c.0, key c.1)) cs r.0 r.1 one b ∙ ap (λ c. (c.0, key c.1)) r.3, r.4))
-  -- ---- order
 
 -- ---- what loops make
 

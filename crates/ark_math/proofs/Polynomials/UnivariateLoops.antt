@@ -121,4 +121,3 @@ module _ {F : Type 0} (K : FieldOn F) (N : IsField K) where
       of_list-set K c (i + j) (K.plus (get_or c (i + j) K.zero) (K.times (a i) (b j))) (rows K a b i (j + 1)) l
       (rows-same a b i j ∙ ap (λ t. K.plus (t (i + j)) (K.times (a i) (b j))) (sym e))
       (λ k ne. rows-other a b i j k ne ∙ ap (λ t. t k) (sym e))
-  -- ---- one coefficient after the other
