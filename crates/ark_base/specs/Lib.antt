@@ -1,6 +1,6 @@
--- What a prime field's elements are, with their laws beside them; what writers do; how a transform moves the counts.
+-- What a prime field's elements are, with their laws beside them, and the words of the crate that this one shows again.
 pub mod Element
 pub mod ElementLaws
-pub mod IoSink
-pub mod Transfer
-pub mod Cost
+pub use Rattle.ark_traits.specs.Cost
+pub use Rattle.ark_traits.specs.IoSink
+pub use Rattle.ark_traits.specs.Transfer

@@ -9,7 +9,7 @@ ghost use Rattle.ark_math.specs.Univariate.{IsBelow, of_list, added, difference,
 ghost use Rattle.ark_math.specs.Univariate.{product, scaled};
 ghost use Rattle.ark_math.specs.Univariate.{IsTrimmed, IsValue};
 
-use ark_base::{Field, PolyError, batch_inversion};
+use ark_traits::{Field, PolyError, batch_inversion};
 use std::alloc::{AllocError, Global};
 
 /// How many coefficients there are up to the last that isn't zero.

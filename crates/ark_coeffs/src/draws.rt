@@ -3,7 +3,7 @@
 ghost use Rattle.std.specs.Prelude.{◌≡◌, ◌≢◌, ◌+◌, ◌<◌, length, OnOk, IfOk, IfSome, IsNone};
 ghost use Rattle.ark_math.specs.Univariate.{IsTrimmed};
 
-use ark_base::Field;
+use ark_traits::Field;
 use rand::Rng;
 use std::alloc::{AllocError, Global};
 

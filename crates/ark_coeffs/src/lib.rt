@@ -1,12 +1,6 @@
-//! Arithmetic of the lists of coefficients behind the forms of polynomials.
+//! Sums, differences, multiples and values of the lists behind the forms of polynomials: of coefficients, and of terms.
 #![tactic(auto)]
 
-pub mod conversions;
 pub mod dense;
-pub mod division;
 pub mod draws;
-pub mod lanes;
-pub mod products;
-pub mod rows;
-pub mod series;
 pub mod sparse;

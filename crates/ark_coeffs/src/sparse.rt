@@ -6,7 +6,7 @@ ghost use Rattle.std.specs.List.{All};
 ghost use Rattle.std.specs.List.Sorted.{IsNonDecreasingBy};
 ghost use Rattle.ark_math.specs.Univariate.{IsSparse, IsValue, of_pairs, added, monomial, opposite, scaled};
 
-use ark_base::{Field, PolyError};
+use ark_traits::{Field, PolyError};
 use std::alloc::Global;
 
 /// Adds a term of a higher degree than the others, unless it's zero.

@@ -19,8 +19,8 @@ use Rattle.ark_math.proofs.Transforms.Transforms.{AreShifted, is_transform}
 use Rattle.ark_math.proofs.Algebra.Groups.{zero_plus}
 use Rattle.ark_fft.proofs.Reversal.{pow_pred, reversed_below, reversed_twice}
 use Rattle.ark_math.proofs.Lists.Lists.{read_order}
-use Rattle.ark_base.specs.Cost.{GrowsByCost}
-use Rattle.ark_base.proofs.Cost.{mixed_cost}
+use Rattle.ark_traits.specs.Cost.{GrowsByCost}
+use Rattle.ark_traits.proofs.Cost.{mixed_cost}
 use Rattle.ark_math.proofs.Numbers.Factors.{part_size, parts_whole}
 
 -- half of a whole number of blocks of a power of two above one

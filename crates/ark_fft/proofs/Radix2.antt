@@ -14,8 +14,8 @@ use Rattle.ark_math.proofs.Roots.Orthogonal.{order_of_inverse}
 use Rattle.ark_math.proofs.Algebra.Powers.{power-one}
 use Rattle.ark_math.proofs.Algebra.Sums.{sum_below-same}
 use Rattle.ark_math.proofs.Transforms.Transforms.{AreShifted, is_transform}
-use Rattle.ark_base.specs.Cost.{GrowsByCost}
-use Rattle.ark_base.proofs.Cost.{radix2_cost}
+use Rattle.ark_traits.specs.Cost.{GrowsByCost}
+use Rattle.ark_traits.proofs.Cost.{radix2_cost}
 
 module _ {F M : Type 0} {K : FieldOn F} (V : ModuleOn F M) (N : IsField K) where
   -- a scaling by one value is one by its powers of one

@@ -15,8 +15,8 @@ use Rattle.ark_math.proofs.Algebra.Powers.{half_of_order}
 use Rattle.ark_math.proofs.Domains.Sizes.{log_of_short, log_within}
 use Rattle.ark_math.proofs.Lists.Lists.{read_fitted}
 use Rattle.ark_math.proofs.Transforms.Transforms.{AreShifted, is_transform, shifted_front, shifted_past}
-use Rattle.ark_base.specs.Cost.{GrowsByCost}
-use Rattle.ark_base.proofs.Cost.{radix2_cost}
+use Rattle.ark_traits.specs.Cost.{GrowsByCost}
+use Rattle.ark_traits.proofs.Cost.{radix2_cost}
 
 -- the fitted list, and its front once each item is scaled
 module _ {X : Type 0} (n len : ℕ) (fitted front : List X) (of_fitted : length fitted ≡ n) (short : len ≤ n / 4) (of_front : length front ≡ length (take len fitted)) where

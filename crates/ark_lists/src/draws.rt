@@ -4,8 +4,8 @@ ghost use Rattle.std.specs.Prelude.{◌≡◌, ◌<◌, ◌≤◌, ◌^◌, leng
 ghost use Rattle.std.specs.Prelude.{All, IfOk, IfSome, IsNone, IsOkUnless, IsSome};
 ghost use Rattle.ark_math.specs.Univariate.{IsSparse};
 
-use ark_base::{Field, PolyError};
 use ark_coeffs::sparse::gathered_terms;
+use ark_traits::{Field, PolyError};
 use rand::Rng;
 use std::alloc::Global;
 use std::collections::HashSet;

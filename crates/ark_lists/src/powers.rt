@@ -9,7 +9,7 @@ ghost use Rattle.ark_math.specs.Field.{power as raised};
 ghost use Rattle.ark_math.specs.Term.{IsTerm, IsWithin, power_of, term_value, total_degree};
 ghost use Rattle.ark_lists.specs.Graded.{graded_cmp, pair_cmp};
 
-use ark_base::{Field, PolyError};
+use ark_traits::{Field, PolyError};
 use std::alloc::Global;
 use std::cmp::Ordering;
 

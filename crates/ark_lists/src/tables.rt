@@ -5,7 +5,7 @@ ghost use Rattle.ark_math.specs.Multilinear.{AreWindows, exchanged, extension, f
 ghost use Rattle.ark_math.proofs.Polynomials.Exchanged.{exchanged_index};
 ghost use Rattle.ark_math.specs.Univariate.{added, difference, of_list, scaled};
 
-use ark_base::Field;
+use ark_traits::Field;
 use std::alloc::{AllocError, Global};
 
 /// Writes what is left of a table when its first variable is bound to `x` over a buffer of half the length: one product

@@ -10,9 +10,9 @@ ghost use Rattle.ark_math.proofs.Polynomials.Exchanged.{exchanged_index};
 ghost use Rattle.ark_lists.specs.Held.{held};
 
 use crate::tables::exchanged_bits;
-use ark_base::{Field, PolyError, log2};
 use ark_coeffs::dense::zeros;
 use ark_coeffs::sparse::gathered_terms;
+use ark_traits::{Field, PolyError, log2};
 use std::alloc::Global;
 use std::collections::HashMap;
 

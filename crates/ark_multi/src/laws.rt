@@ -10,7 +10,7 @@ ghost use Rattle.ark_math.specs.Multivariate.{IsValueAt};
 
 use crate::multilinear::MultilinearExtension;
 use crate::multivariate::{SparseTerm, Term};
-use ark_base::{Field, PolyError};
+use ark_traits::{Field, PolyError};
 use std::alloc::Global;
 use std::cmp::Ordering;
 

@@ -9,7 +9,7 @@ ghost use Rattle.ark_math.specs.Multivariate.{of_terms, IsTotalDegree, IsValueAt
 ghost use Rattle.ark_math.specs.Univariate.{nothing, added, opposite, scaled};
 
 use crate::multivariate::Term;
-use ark_base::{Field, PolyError, Polynomial};
+use ark_traits::{Field, PolyError, Polynomial};
 use rand::Rng;
 use std::alloc::Global;
 

@@ -1,3 +1,4 @@
--- What contracts see of this crate's own types.
-pub mod DenseOrSparse
-pub mod Values
+-- What contracts see of the values of the crates that this one shows again.
+pub use Rattle.ark_univariate.specs.DenseOrSparse
+pub use Rattle.ark_univariate.specs.Values
+pub use Rattle.ark_multi.specs.Extensions

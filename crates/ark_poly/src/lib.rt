@@ -1,4 +1,5 @@
-//! Domains with their transforms, evaluations over them, and polynomials.
+//! Domains with their transforms, evaluations over them, and polynomials in one and in several variables, at the paths
+//! that their users know.
 #![tactic(auto)]
 
 pub mod domain;

@@ -1,7 +1,7 @@
 //! Elements by their numbers, domains by their offsets, and hashes.
 
 use ark_base::{FftField, Field, PolyError};
-use ark_poly::EvaluationDomain;
+use ark_univariate::EvaluationDomain;
 use std::alloc::{AllocError, Global};
 use std::hash::{DefaultHasher, Hash, Hasher};
 

@@ -2,7 +2,7 @@
 
 use ark_base::{FftField, Field, PolyError, Work};
 use ark_fft::domain::radix2::plain::fft_plain;
-use ark_poly::EvaluationDomain;
+use ark_univariate::EvaluationDomain;
 use rand_core::Rng;
 use rand_pcg::Pcg64;
 use std::alloc::{AllocError, Global};

@@ -3,7 +3,7 @@
 //! Only `over_field` names concrete fields, since what names one is dear to check.
 
 use ark_base::{F5, F433, F65537, FftField, PolyError};
-use ark_poly::{
+use ark_univariate::{
     EvaluationDomain, GeneralEvaluationDomain, MixedRadixEvaluationDomain, Radix2EvaluationDomain,
 };
 use std::alloc::Global;

@@ -1,5 +1,5 @@
 use ark_base::{FftField, PolyError};
-use ark_poly::{
+use ark_univariate::{
     EvaluationDomain, GeneralEvaluationDomain, MixedRadixEvaluationDomain, Radix2EvaluationDomain,
 };
 use ark_trials::calls::{coset, listed};

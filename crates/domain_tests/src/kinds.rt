@@ -1,7 +1,7 @@
 // Transforms of every kind and at every size that a field with a base has.
 
 use ark_base::{FftField, Field, One, PolyError, Zero};
-use ark_poly::{EvaluationDomain, GeneralEvaluationDomain, MixedRadixEvaluationDomain};
+use ark_univariate::{EvaluationDomain, GeneralEvaluationDomain, MixedRadixEvaluationDomain};
 use ark_test_types::four::Four;
 use ark_trials::calls::coset;
 use ark_trials::plain::agrees;

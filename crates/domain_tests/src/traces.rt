@@ -3,7 +3,7 @@
 use crate::transforms::radix2_goes;
 use ark_base::{DomainCoeff, F433, F65537, FftField, PolyError, Work};
 use ark_fft::domain::radix2::plain::fft_plain;
-use ark_poly::{EvaluationDomain, MixedRadixEvaluationDomain, Radix2EvaluationDomain};
+use ark_univariate::{EvaluationDomain, MixedRadixEvaluationDomain, Radix2EvaluationDomain};
 use ark_test_types::traced::{Numbered, Products, Traced};
 use ark_trials::calls::coset;
 use std::alloc::{AllocError, Global};

@@ -1,6 +1,6 @@
 use ark_base::{DomainCoeff, FftField, Field, Lanes, PolyError, Work};
 use ark_fft::domain::radix2::fft::powers;
-use ark_poly::{EvaluationDomain, Radix2EvaluationDomain};
+use ark_univariate::{EvaluationDomain, Radix2EvaluationDomain};
 use ark_test_types::nothing::Nothing;
 use ark_trials::calls::{coset, elements, fft, has_numbers, ifft};
 use ark_trials::plain::{agrees, drawn, forward, has_plain_sums, inverse};

@@ -1,7 +1,7 @@
 //! Changes in place, alike for every form of polynomials, and what calls answer.
 
 use ark_base::Field;
-use ark_poly::Polynomial;
+use ark_univariate::Polynomial;
 use std::alloc::Global;
 
 /// What is done to a polynomial with another one.

@@ -4,8 +4,8 @@
 use crate::changes::gave;
 use crate::products::some;
 use ark_base::{F5, F65537, FftField, Field, PolyError};
-use ark_poly::univariate::{DensePolynomial, SparsePolynomial};
-use ark_poly::{DenseUVPolynomial, EvaluationDomain, Polynomial};
+use ark_univariate::univariate::{DensePolynomial, SparsePolynomial};
+use ark_univariate::{DenseUVPolynomial, EvaluationDomain, Polynomial};
 use ark_trials::calls::coset;
 use ark_trials::trials::{Trial, over_general};
 use rand_pcg::Pcg64;

@@ -2,7 +2,7 @@ ghost use Rattle.std.specs.Prelude.{◌≡◌, IfOk};
 
 use crate::changes::gave;
 use ark_base::{F5, FftField, PolyError};
-use ark_poly::{EvaluationDomain, Evaluations};
+use ark_univariate::{EvaluationDomain, Evaluations};
 use ark_trials::calls::{coset, elements, hash_of};
 use ark_trials::trials::{Trial, over_radix2};
 use std::alloc::Global;

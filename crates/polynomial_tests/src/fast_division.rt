@@ -3,8 +3,8 @@
 use crate::polynomials::{is, poly};
 use crate::products::some;
 use ark_base::{F5, F433, F65537, FftField, PolyError};
-use ark_poly::Polynomial;
-use ark_poly::univariate::DensePolynomial;
+use ark_univariate::Polynomial;
+use ark_univariate::univariate::DensePolynomial;
 use rand_pcg::Pcg64;
 use std::alloc::Global;
 use std::test::Fail;

@@ -3,9 +3,9 @@
 use crate::changes::gave;
 use crate::products::{are_at_elements, some};
 use ark_base::{F433, F65537, FftField, Field, PolyError};
-use ark_poly::laws::{divisions_of_all_forms, values_of_all_forms, values_of_both_forms};
-use ark_poly::univariate::{DenseOrSparsePolynomial, DensePolynomial, SparsePolynomial};
-use ark_poly::{EvaluationDomain, Evaluations, Polynomial};
+use ark_univariate::laws::{divisions_of_all_forms, values_of_all_forms, values_of_both_forms};
+use ark_univariate::univariate::{DenseOrSparsePolynomial, DensePolynomial, SparsePolynomial};
+use ark_univariate::{EvaluationDomain, Evaluations, Polynomial};
 use ark_trials::calls::coset;
 use ark_trials::trials::{Trial, over_general, over_radix2};
 use rand_pcg::Pcg64;

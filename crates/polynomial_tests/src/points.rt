@@ -1,8 +1,8 @@
 use crate::changes::gave;
 use crate::polynomials::is;
 use ark_base::{F5, F433, F65537, FftField, Field, PolyError};
-use ark_poly::univariate::{DensePolynomial, SparsePolynomial};
-use ark_poly::{DenseUVPolynomial, EvaluationDomain, Polynomial};
+use ark_univariate::univariate::{DensePolynomial, SparsePolynomial};
+use ark_univariate::{DenseUVPolynomial, EvaluationDomain, Polynomial};
 use ark_trials::calls::{coset, has_numbers, listed};
 use ark_trials::trials::{Trial, over_mixed, over_radix2};
 use std::alloc::{AllocError, Global};

@@ -1,7 +1,7 @@
 use crate::changes::gave;
 use ark_base::{F5, F433, F65537, FftField, Field, PolyError};
-use ark_poly::univariate::DensePolynomial;
-use ark_poly::{DenseUVPolynomial, EvaluationDomain, Evaluations, Polynomial};
+use ark_univariate::univariate::DensePolynomial;
+use ark_univariate::{DenseUVPolynomial, EvaluationDomain, Evaluations, Polynomial};
 use ark_trials::calls::{coset, elements, has_numbers, hash_of};
 use ark_trials::plain::{drawn, product};
 use ark_trials::trials::{Trial, over_radix2};

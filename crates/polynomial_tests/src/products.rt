@@ -3,9 +3,9 @@
 use crate::changes::{Change, gave, make_change};
 use crate::polynomials::{came_out, is, poly};
 use ark_base::{F5, F433, F65537, FftField, Field, PolyError};
-use ark_poly::laws::{both_products, degree_of_product, weighted_sum};
-use ark_poly::univariate::DensePolynomial;
-use ark_poly::{DenseUVPolynomial, EvaluationDomain, Evaluations, Polynomial};
+use ark_univariate::laws::{both_products, degree_of_product, weighted_sum};
+use ark_univariate::univariate::DensePolynomial;
+use ark_univariate::{DenseUVPolynomial, EvaluationDomain, Evaluations, Polynomial};
 use ark_trials::calls::coset;
 use ark_trials::plain::drawn;
 use ark_trials::trials::{Trial, over_mixed, over_radix2};

@@ -1,7 +1,7 @@
 use crate::changes::gave;
 use ark_base::{F5, Field, PolyError};
-use ark_poly::Polynomial;
-use ark_poly::univariate::SparsePolynomial;
+use ark_univariate::Polynomial;
+use ark_univariate::univariate::SparsePolynomial;
 use ark_trials::calls::hash_of;
 use std::alloc::{AllocError, Global};
 use std::string::String;

@@ -1,8 +1,8 @@
 use crate::changes::{Change, gave, make_change};
 use crate::sparse::{Terms, has_terms, sparse};
 use ark_base::{F5, F65537, Field, PolyError};
-use ark_poly::univariate::{DensePolynomial, SparsePolynomial};
-use ark_poly::{DenseUVPolynomial, Polynomial};
+use ark_univariate::univariate::{DensePolynomial, SparsePolynomial};
+use ark_univariate::{DenseUVPolynomial, Polynomial};
 use ark_trials::plain::drawn;
 use rand_core::Rng;
 use rand_pcg::Pcg64;

@@ -8,12 +8,12 @@ use Rattle.std.proofs.KnownBytes.{Appends-trans}
 use Rattle.std.proofs.lemmas.List.{append_cancel_right, length-map, length-take, take_more, take_all}
 use Rattle.std.proofs.lemmas.List.Folds.{concat-append}
 use Rattle.ark_base.specs.Transfer.{AppendsBeginning}
-use Rattle.ark_base.proofs.Transfer.{AppendsBeginning-more, AppendsBeginning-after}
-use Rattle.ark_base.specs.declared.error.PolyError.{PolyError}
+use Rattle.ark_traits.proofs.Transfer.{AppendsBeginning-more, AppendsBeginning-after}
+use Rattle.ark_traits.specs.declared.error.PolyError.{PolyError}
 use Rattle.std.specs.declared.string.String.{String}
 use Rattle.std.specs.declared.alloc.Global.{Global}
 use Rattle.std.proofs.lemmas.Slice.Eq.{bytes_eq-Decides}
-use Rattle.ark_base.specs.declared.error.PolyError.TheVariants.{Memory}
+use Rattle.ark_traits.specs.declared.error.PolyError.TheVariants.{Memory}
 use Rattle.polyrun_lib.specs.Lines.{ended, row_line_of, refusal_line_of, usage_text}
 use Rattle.polyrun_lib.specs.Answer.{Known, IsCommand, IsPlainAnswer, IsWritten}
 use Rattle.polyrun_lib.specs.Commands.{Command}

@@ -5,7 +5,7 @@ use Rattle.std.proofs.lemmas.Bool.{eqb-false}
 use Rattle.std.proofs.lemmas.List.{take_all}
 use Rattle.polyrun_lib.specs.declared.command.Direction.{Direction}
 use Rattle.polyrun_lib.specs.declared.command.Direction.TheVariants.{Forward, Inverse}
-use Rattle.ark_base.specs.declared.error.PolyError.{PolyError}
+use Rattle.ark_traits.specs.declared.error.PolyError.{PolyError}
 use Rattle.polyrun_lib.specs.Lines.{refusal_line_of, usage_text}
 use Rattle.polyrun_lib.specs.Answer.{Known, IsCommand, MayAnswer}
 use Rattle.polyrun_lib.specs.Outcome.{MayRefuse}

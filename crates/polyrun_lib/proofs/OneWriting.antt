@@ -14,7 +14,7 @@ use Rattle.ark_math.proofs.Polynomials.Trimmed.{trim-same}
 use Rattle.ark_math.proofs.Polynomials.UnivariateLists.{same_trimmed}
 use Rattle.ark_math.proofs.Transforms.Carried.{Carries, carried, power-carried, of_list-carried, product-carried, IsInverse-carried}
 use Rattle.ark_math.proofs.Transforms.Inverses.{one_inverse}
-use Rattle.ark_base.specs.declared.error.PolyError.{PolyError}
+use Rattle.ark_traits.specs.declared.error.PolyError.{PolyError}
 use Rattle.ark_base.specs.declared.prime_field.PrimeField.{PrimeField}
 use Rattle.ark_base.specs.declared.prime_field.PrimeModulus.{Ghosts}
 use Rattle.ark_base.specs.Element.{Shown, adicity, prime_field, prime_root, residue_of, generator_of, number}

@@ -21,8 +21,8 @@ use Rattle.std.specs.Prelude.{IsErr}
 use Rattle.std.proofs.lemmas.Result.{IfOk-from_err}
 use Rattle.std.specs.declared.string.String.{String}
 use Rattle.std.specs.declared.alloc.Global.{Global}
-use Rattle.ark_base.specs.declared.error.PolyError.{PolyError}
-use Rattle.ark_base.specs.declared.error.PolyError.TheVariants.{Memory}
+use Rattle.ark_traits.specs.declared.error.PolyError.{PolyError}
+use Rattle.ark_traits.specs.declared.error.PolyError.TheVariants.{Memory}
 use Rattle.ark_base.specs.Element.{Shown, adicity, prime_field, prime_root, residue_of, generator_of, number}
 use Rattle.ark_base.specs.ElementLaws.{prime_field_laws, prime_module_laws, prime_roots, same_from_value}
 use Rattle.polyrun_lib.specs.Lines.{line_of}

@@ -10,8 +10,8 @@ use Rattle.ark_math.specs.Transform.{transform, value_at, IsInverse}
 use Rattle.ark_math.specs.NormalForms.{trim}
 use Rattle.ark_math.specs.Univariate.{of_list, product, IsTrimmed, IsQuotient}
 use Rattle.ark_math.specs.Multilinear.{extension}
-use Rattle.ark_base.specs.declared.error.PolyError.{PolyError}
-use Rattle.ark_base.specs.declared.error.PolyError.TheVariants.{Memory, NoDomain, ZeroDivisor}
+use Rattle.ark_traits.specs.declared.error.PolyError.{PolyError}
+use Rattle.ark_traits.specs.declared.error.PolyError.TheVariants.{Memory, NoDomain, ZeroDivisor}
 use Rattle.ark_base.specs.Transfer.{AppendsBeginning}
 use Rattle.polyrun_lib.specs.declared.command.Direction.{Direction}
 use Rattle.polyrun_lib.specs.declared.command.Direction.TheVariants.{Forward, Inverse}

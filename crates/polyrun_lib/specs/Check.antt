@@ -5,7 +5,7 @@ use Rattle.std.specs.Io.KnownBytes.{Appends}
 use Rattle.ark_base.specs.Transfer.{AppendsBeginning}
 use Rattle.std.specs.declared.alloc.Global.{Global}
 use denote.Ref.{Bor}
-use Rattle.ark_base.specs.declared.error.PolyError.TheVariants.{Memory}
+use Rattle.ark_traits.specs.declared.error.PolyError.TheVariants.{Memory}
 use Rattle.polyrun_lib.specs.Lines.{ended, row_line_of, refusal_line_of}
 use Rattle.polyrun_lib.specs.Answer.{IsPlainAnswer, MayAnswer, IsWritten}
 use Rattle.polyrun_lib.specs.Vectors.{Row, HasRows}

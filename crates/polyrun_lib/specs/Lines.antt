@@ -1,8 +1,8 @@
 -- The lines that are written.
 use Rattle.std.specs.Prelude.{ℕ, Bool, true, false, List, [], ◌∷◌, ◌++◌, map, decimal, codes}
 use Rattle.polyrun_lib.specs.Words.{joined}
-use Rattle.ark_base.specs.declared.error.PolyError.{PolyError}
-use Rattle.ark_base.specs.declared.error.PolyError.TheVariants.{Memory, NoDomain, Overflow, ForeignSubdomain, ZeroDivisor, NotSparse}
+use Rattle.ark_traits.specs.declared.error.PolyError.{PolyError}
+use Rattle.ark_traits.specs.declared.error.PolyError.TheVariants.{Memory, NoDomain, Overflow, ForeignSubdomain, ZeroDivisor, NotSparse}
 
 -- a text and the newline that ends it
 abbrev pub ended : List ℕ → List ℕ

@@ -2,8 +2,8 @@
 use Rattle.std.specs.Prelude.{◌≡◌, ℕ, ◌⊎◌, List, Result, MatchResult, string_bytes}
 use Rattle.std.specs.declared.string.String.{String}
 use Rattle.std.specs.declared.alloc.Global.{Global}
-use Rattle.ark_base.specs.declared.error.PolyError.{PolyError}
-use Rattle.ark_base.specs.declared.error.PolyError.TheVariants.{Memory}
+use Rattle.ark_traits.specs.declared.error.PolyError.{PolyError}
+use Rattle.ark_traits.specs.declared.error.PolyError.TheVariants.{Memory}
 use Rattle.polyrun_lib.specs.Commands.{Command}
 use Rattle.polyrun_lib.specs.Answer.{Known, Gives, Refuses, TakesMemory, IsCommand}
 

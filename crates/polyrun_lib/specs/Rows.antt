@@ -5,7 +5,7 @@ use Rattle.std.proofs.Common.{refl, sym, subst, inr, true≢false, lit<, lit≤,
 use Rattle.std.proofs.Math.Nat.{pow-le-pow_right, lt_of_le_of_lt, not-le_of_lt}
 use Rattle.ark_math.specs.Domain.{radix2, mixed_radix, IsSize}
 use Rattle.ark_math.proofs.Domains.Sizes.{power_lt, size_power}
-use Rattle.ark_base.specs.declared.error.PolyError.TheVariants.{NoDomain}
+use Rattle.ark_traits.specs.declared.error.PolyError.TheVariants.{NoDomain}
 use Rattle.polyrun_lib.specs.declared.command.Direction.TheVariants.{Forward, Inverse}
 use Rattle.polyrun_lib.specs.Words.{IsNumber, IsList}
 use Rattle.polyrun_lib.specs.Lines.{line_of}

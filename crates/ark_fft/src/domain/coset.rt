@@ -6,7 +6,7 @@ ghost use Rattle.std.proofs.Props.{props};
 ghost use Rattle.ark_math.specs.Root.{Splits};
 ghost use Rattle.ark_math.specs.Domain.{IsExponentOfTwo};
 
-use ark_base::FftField;
+use ark_traits::FftField;
 use std::alloc::AllocError;
 
 /// The elements `offset * group_gen^i` of a supported size. All else follows from the size and the offset.

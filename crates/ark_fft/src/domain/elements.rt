@@ -1,6 +1,6 @@
 //! The elements of a domain, one after the other.
 
-use ark_base::FftField;
+use ark_traits::FftField;
 
 /// The elements of a domain in order, and then the end.
 #[derive(Drop)]

@@ -10,10 +10,10 @@ ghost use Rattle.ark_math.specs.Multilinear.{zero_table, table_sum, table_opposi
 ghost use Rattle.ark_math.specs.Univariate.{of_list};
 
 use crate::multilinear::MultilinearExtension;
-use ark_base::{Field, PolyError, Polynomial, log2};
 use ark_coeffs::dense::{add_each, add_scaled, scale_each, subtract_each};
 use ark_coeffs::draws::push_drawn;
 use ark_lists::tables::{fixed_table, relabel_table, value_of_table};
+use ark_traits::{Field, PolyError, Polynomial, log2};
 use rand::Rng;
 use std::alloc::{AllocError, Global};
 use std::fmt::{self, Debug, Formatter, Write};

@@ -10,7 +10,7 @@ ghost use Rattle.ark_math.specs.Univariate.{IsBelow, of_list};
 mod dense;
 mod sparse;
 
-use ark_base::{Field, PolyError, Polynomial};
+use ark_traits::{Field, PolyError, Polynomial};
 pub use dense::DenseMultilinearExtension;
 use rand::Rng;
 pub use sparse::SparseMultilinearExtension;

@@ -9,12 +9,12 @@ ghost use Rattle.ark_math.specs.Multilinear.{zero_table, table_sum, table_opposi
 ghost use Rattle.ark_math.specs.Univariate.{IsSparse, of_list, of_pairs};
 
 use crate::multilinear::{DenseMultilinearExtension, MultilinearExtension};
-use ark_base::{Field, PolyError, Polynomial};
 use ark_coeffs::sparse::sum_of_terms;
 use ark_lists::draws::drawn_entries;
 use ark_lists::windows::{
     bind_variables, relabel_entries, value_at, values_of_entries, written_entries,
 };
+use ark_traits::{Field, PolyError, Polynomial};
 use rand::Rng;
 use std::alloc::{AllocError, Global};
 use std::fmt::{self, Debug, Formatter, Write};

@@ -8,7 +8,7 @@ ghost use Rattle.ark_math.specs.Term.{IsWithin};
 ghost use Rattle.ark_math.specs.Univariate.{added, scaled};
 
 use crate::multivariate::Term;
-use ark_base::{Field, PolyError};
+use ark_traits::{Field, PolyError};
 use std::alloc::Global;
 use std::cmp::Ordering;
 

@@ -8,7 +8,7 @@ mod merging;
 mod sparse;
 mod sparse_term;
 
-use ark_base::{Field, PolyError};
+use ark_traits::{Field, PolyError};
 pub use sparse::SparsePolynomial;
 pub use sparse_term::SparseTerm;
 use std::alloc::Global;

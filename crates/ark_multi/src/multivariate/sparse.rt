@@ -11,7 +11,7 @@ ghost use Rattle.ark_math.specs.Univariate.{nothing, added, opposite, scaled as 
 use crate::multivariate::Term;
 use crate::multivariate::merging::{degree_of_terms, gathered_terms, sum_of_terms, value_of_terms};
 use crate::polynomial::DenseMVPolynomial;
-use ark_base::{Field, PolyError, Polynomial};
+use ark_traits::{Field, PolyError, Polynomial};
 use rand::Rng;
 use std::alloc::{AllocError, Global};
 use std::fmt::{self, Debug, Formatter, Write};

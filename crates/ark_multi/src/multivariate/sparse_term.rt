@@ -12,8 +12,8 @@ ghost use Rattle.ark_lists.specs.Graded.{graded_cmp};
 ghost use Rattle.ark_lists.proofs.GradedOrder.{graded_partial, graded_ties, graded_total, same_term_Decides};
 
 use crate::multivariate::Term;
-use ark_base::{Field, PolyError};
 use ark_lists::powers::{collected_powers, compared_powers, total_power, value_of_powers};
+use ark_traits::{Field, PolyError};
 use std::alloc::{AllocError, Global};
 use std::cmp::Ordering;
 use std::fmt::{self, Debug, Formatter, Write};

@@ -1,4 +1,5 @@
 //! Polynomials by their values.
 
 pub mod multivariate;
-pub mod univariate;
+
+pub use ark_univariate::evaluations::univariate;

@@ -9,12 +9,12 @@ ghost use Rattle.ark_fft.specs.Halves.{reversed, ArePowers};
 ghost use Rattle.ark_fft.specs.Mixed.{IsPowerTable, joined};
 ghost use Rattle.ark_math.specs.Module.{ModuleOn, item, sum_below};
 ghost use Rattle.ark_math.specs.Cost.{forward, inverse};
-ghost use Rattle.ark_base.specs.Cost.{GrowsByCost};
+ghost use Rattle.ark_traits.specs.Cost.{GrowsByCost};
 
 use crate::domain::coset::Coset;
 use crate::domain::mixed_radix::size::odd_base;
 use crate::domain::radix2::fft::{bit_reverse, halves, powers, scale_by_powers};
-use ark_base::{DomainCoeff, FftField, PolyError, Work};
+use ark_traits::{DomainCoeff, FftField, PolyError, Work};
 use std::alloc::Global;
 
 /// The sum of the parts' values at one place, times the powers of the factor, by Horner's rule. The last part's is at

@@ -4,7 +4,7 @@ ghost use Rattle.std.specs.Prelude.{◌≡◌, ◌↔◌, ℕ, ◌≤◌, IfSome
 ghost use Rattle.ark_math.specs.Domain.{mixed_radix, IsLeast, HasNone, IsSize, IsSizeWith};
 ghost use Rattle.ark_math.specs.Root.{Splits, odd_base, odd_most};
 
-use ark_base::FftField;
+use ark_traits::FftField;
 
 /// The field's odd base and its greatest exponent.
 pub(crate) fn odd_base<F: FftField>() -> Option<(u32, u32)>

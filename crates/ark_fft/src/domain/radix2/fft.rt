@@ -8,10 +8,10 @@ ghost use Rattle.ark_math.specs.Transform.{dft_at, transform, IsInverse, IsOnlyI
 ghost use Rattle.ark_fft.specs.Halves.{reversed, ArePowers, IsHalfTable, AreLevels};
 ghost use Rattle.ark_math.specs.Module.{ModuleOn, item};
 ghost use Rattle.ark_math.specs.Cost.{forward, inverse};
-ghost use Rattle.ark_base.specs.Cost.{GrowsByCost};
+ghost use Rattle.ark_traits.specs.Cost.{GrowsByCost};
 
 use crate::domain::coset::Coset;
-use ark_base::{DomainCoeff, FftField, PolyError, Work};
+use ark_traits::{DomainCoeff, FftField, PolyError, Work};
 use std::alloc::{AllocError, Global};
 use std::mem;
 

@@ -7,7 +7,7 @@ ghost use Rattle.ark_math.specs.Module.{item};
 ghost use Rattle.ark_math.specs.Transform.{transform, value_at};
 
 use crate::domain::coset::Coset;
-use ark_base::{DomainCoeff, FftField, PolyError, Work};
+use ark_traits::{DomainCoeff, FftField, PolyError, Work};
 use std::alloc::Global;
 
 /// The value of a list at a point, term by term.

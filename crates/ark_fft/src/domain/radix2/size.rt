@@ -4,7 +4,7 @@ ghost use Rattle.std.specs.Prelude.{◌≡◌, ℕ, ◌↔◌, IfSome, IsNone};
 ghost use Rattle.ark_math.specs.Domain.{radix2, IsLeast, IsSize};
 ghost use Rattle.ark_math.specs.Root.{Splits};
 
-use ark_base::FftField;
+use ark_traits::FftField;
 
 /// The least supported power of two at or above `num_coeffs`, with its logarithm.
 pub fn least_size<F: FftField>(num_coeffs: usize) -> Option<(usize, u32)>

@@ -4,7 +4,7 @@ use Rattle.std.proofs.Math.Nat.{pow-le-pow_right}
 use Rattle.std.proofs.lemmas.Bool.{cases_lt}
 use Rattle.std.proofs.lemmas.List.Folds.{flat_map-map}
 use mathlib.Core.Path.{fun_ext}
-use Rattle.ark_base.specs.declared.error.PolyError.TheVariants.{Memory, Overflow}
+use Rattle.ark_traits.specs.declared.error.PolyError.TheVariants.{Memory, Overflow}
 use Rattle.ark_math.proofs.Outcomes.Results.{no_other_error}
 use Rattle.ark_math.specs.Cost.{IsLog2Up}
 use Rattle.ark_math.specs.Field.{FieldOn}

@@ -1,0 +1,3 @@
+-- Lemmas of this crate, beside those of `ark_math`.
+pub mod Cost
+pub mod Transfer

@@ -1,0 +1,11 @@
+use Rattle.std.proofs.Common.{ap}
+use Rattle.std.specs.Option.{is_some}
+use Rattle.ark_math.specs.Domain.{mixed_radix}
+use Rattle.ark_math.proofs.Domains.MixedSizes.{mixed_none}
+use Rattle.ark_univariate.proofs.domain.mixed_radix.MixedRadixEvaluationDomainEvaluationDomain.compute_size_of_domain.Goals as goal
+
+pub returns-in_err-size-clause-none : goal.returns-in_err-size-clause-none
+returns-in_err-size-clause-none g c = ((λ none. mixed_none g.F.FftField.adicity c.args.num_coeffs c.in_err-size.ensures.none), (λ none. ap is_some c.from_residual.ensures))
+
+pub returns-clause-none : goal.returns-clause-none
+returns-clause-none g c = ((λ h. cc), λ none. absurd (none mixed_radix _ c.in_ok-size.ensures.least))

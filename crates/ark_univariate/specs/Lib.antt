@@ -1,0 +1,3 @@
+-- What contracts see of this crate's own types.
+pub mod DenseOrSparse
+pub mod Values

@@ -1,0 +1,153 @@
+//! Domains of either kind.
+
+ghost use Rattle.std.specs.Prelude.{◌≡◌};
+ghost use Rattle.ark_math.specs.Domain.{radix2, mixed_radix, IsGeneral};
+ghost use Rattle.ark_univariate.specs.declared.domain.general.GeneralEvaluationDomain.TheVariants.{Radix2};
+ghost use Rattle.ark_univariate.specs.declared.domain.general.GeneralEvaluationDomain.TheVariants.{MixedRadix};
+
+pub use crate::domain::utils::Elements;
+use crate::domain::{EvaluationDomain, MixedRadixEvaluationDomain, Radix2EvaluationDomain};
+use ark_fft::domain::Coset;
+use ark_traits::{DomainCoeff, FftField, PolyError, Work};
+use std::alloc::{AllocError, Global};
+
+/// A domain of either kind: for a number of coefficients the radix 2 domain wherever there is one, even where a mixed
+/// one would be smaller, and otherwise the mixed radix domain.
+#[derive_where(Copy, Debug, PartialEq, Eq, Hash; F)]
+pub enum GeneralEvaluationDomain<F: FftField> {
+    /// A domain whose size is a power of two.
+    Radix2(Radix2EvaluationDomain<F>),
+    /// A domain whose size is a power of two times a power of the field's odd base.
+    MixedRadix(MixedRadixEvaluationDomain<F>),
+}
+
+impl<F: FftField> Clone for GeneralEvaluationDomain<F> {
+    ghost is_clone = { λ a b. b ≡ a };
+
+    ghost is_infallible = { λ _. Unit {0} };
+
+    fn clone(&self) -> Result<Self, AllocError> {
+        Ok(*self)
+    }
+}
+
+/// The same expression over the domain of either variant.
+macro_rules! over_both {
+    ($value:expr, $domain:ident => $result:expr) => {
+        match $value {
+            GeneralEvaluationDomain::Radix2($domain) => $result,
+            GeneralEvaluationDomain::MixedRadix($domain) => $result,
+        }
+    };
+}
+
+impl<F: FftField> EvaluationDomain<F> for GeneralEvaluationDomain<F> {
+    ghost use Rattle.ark_math.proofs.Domains.Domains.{same_domain, other_kind, radix2_is_not_mixed};
+    ghost use Rattle.ark_math.proofs.Domains.Domains.{radix2_domain, mixed_domain};
+    ghost use Rattle.ark_math.proofs.Domains.GeneralSizes.{general_sizes, one_general_size};
+    ghost use Rattle.std.proofs.Common.{sym};
+
+    type Elements = GeneralElements<F>;
+
+    ghost domain = { elim [
+      | Radix2 d ↦ ⟦<Radix2EvaluationDomain<F> as EvaluationDomain<F>>⟧.domain d
+      | MixedRadix d ↦ ⟦<MixedRadixEvaluationDomain<F> as EvaluationDomain<F>>⟧.domain d
+    ] };
+
+    ghost chooses = { IsGeneral F.adicity };
+
+    fn new(num_coeffs: usize) -> Option<Self> {
+        if let Some(even) = Radix2EvaluationDomain::new(num_coeffs) {
+            return Some(GeneralEvaluationDomain::Radix2(even));
+        }
+        let mixed = MixedRadixEvaluationDomain::new(num_coeffs)?;
+        Some(GeneralEvaluationDomain::MixedRadix(mixed))
+    }
+
+    fn get_coset(&self, offset: F) -> Option<Self> {
+        Some(match self {
+            GeneralEvaluationDomain::Radix2(even) => {
+                GeneralEvaluationDomain::Radix2(even.get_coset(offset)?)
+            }
+            GeneralEvaluationDomain::MixedRadix(mixed) => {
+                GeneralEvaluationDomain::MixedRadix(mixed.get_coset(offset)?)
+            }
+        })
+    }
+
+    fn compute_size_of_domain(num_coeffs: usize) -> Option<usize> {
+        match Radix2EvaluationDomain::<F>::compute_size_of_domain(num_coeffs) {
+            Some(size) => Some(size),
+            None => MixedRadixEvaluationDomain::<F>::compute_size_of_domain(num_coeffs),
+        }
+    }
+
+    fn coset(&self) -> &Coset<F> {
+        over_both!(self, domain => domain.coset())
+    }
+
+    fn elements(&self) -> GeneralElements<F> {
+        over_both!(self, domain => GeneralElements(domain.elements()))
+    }
+
+    fn fft_counted<T: DomainCoeff<F>>(
+        &self,
+        alloc: Global,
+        coeffs: &mut Vec<T>,
+        work: &mut Work,
+    ) -> Result<(), PolyError> {
+        over_both!(self, domain => domain.fft_counted(alloc, coeffs, work))
+    }
+
+    fn ifft_counted<T: DomainCoeff<F>>(
+        &self,
+        alloc: Global,
+        evals: &mut Vec<T>,
+        work: &mut Work,
+    ) -> Result<(), PolyError> {
+        over_both!(self, domain => domain.ifft_counted(alloc, evals, work))
+    }
+
+    ghost lawful = { elim [
+      | Radix2 d ↦ radix2_domain F.field F.adicity F.root F.equality_law d.coset.splits d.even d.coset.root_is d.coset.offset_not_zero
+      | MixedRadix d ↦ mixed_domain F.field F.adicity F.root F.equality_law d.coset.splits d.based d.coset.root_is d.coset.offset_not_zero
+    ] };
+
+    ghost equality = { elim [
+      | Radix2 a ↦ elim [
+        | Radix2 b ↦ same_domain radix2 F.root F.equality_law a.coset.root_is b.coset.root_is
+        | MixedRadix b ↦ other_kind _ _ radix2_is_not_mixed
+      ]
+      | MixedRadix a ↦ elim [
+        | Radix2 b ↦ other_kind _ _ (λ e. radix2_is_not_mixed (sym e))
+        | MixedRadix b ↦ same_domain mixed_radix F.root F.equality_law a.coset.root_is b.coset.root_is
+      ]
+    ] };
+
+    ghost clone_law = { λ a b e. e };
+
+    ghost clones_law = { λ a. tt };
+
+    ghost sizes = { general_sizes F.adicity };
+
+    ghost one_size = { one_general_size F.adicity };
+}
+
+/// The elements of a domain of either kind in order, and then the end.
+#[derive(Drop)]
+pub struct GeneralElements<F: FftField>(Elements<F>);
+
+impl<F: FftField> Iterator for GeneralElements<F> {
+    ghost use Rattle.ark_fft.specs.Elements.{left};
+    ghost use Rattle.std.specs.Iterator.{YieldsFirst, item_count};
+
+    type Item = F;
+
+    ghost next_gives = { YieldsFirst (λ e. left F.field e.0) };
+
+    ghost remaining = { item_count (λ e. left F.field e.0) };
+
+    fn next(&mut self) -> Option<F> {
+        self.0.next()
+    }
+}

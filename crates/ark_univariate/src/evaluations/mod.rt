@@ -1,0 +1,3 @@
+//! Polynomials by their values.
+
+pub mod univariate;

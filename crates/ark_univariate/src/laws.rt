@@ -1,0 +1,204 @@
+//! Laws of calls together, as contracts that callers may cite.
+
+ghost use Rattle.std.specs.Prelude.{◌≡◌, ◌≢◌, ◌↔◌, ℕ, ◌+◌, List, IsTrue, IfOk, IfErr, IsOkUnless, ◌⊎◌};
+ghost use Rattle.std.specs.Prelude.{IfSome, IsOk};
+ghost use Rattle.ark_math.specs.Module.{itself, sum_below};
+ghost use Rattle.ark_math.specs.Points.{AreValues, AreWeights};
+ghost use Rattle.ark_univariate.specs.DenseOrSparse.{denoted};
+ghost use Rattle.ark_math.specs.Univariate.{IsBelow, IsDegree, IsTrimmed, IsValue, nothing, of_list};
+ghost use Rattle.ark_math.specs.Univariate.{of_pairs, product};
+
+use crate::domain::EvaluationDomain;
+use crate::evaluations::univariate::Evaluations;
+use crate::polynomial::univariate::{DenseOrSparsePolynomial, DensePolynomial, SparsePolynomial};
+use crate::polynomial::{DenseUVPolynomial, Polynomial};
+use ark_coeffs::dense::sum_of_products;
+use ark_traits::{FftField, Field, PolyError};
+use std::alloc::Global;
+
+/// The product by `mul` and the one by `naive_mul`: they have the same coefficients, and are equal by `==`. An
+/// error is that of one of them.
+///
+/// It takes as long as both.
+pub fn both_products<F: FftField>(
+    alloc: Global,
+    left: &DensePolynomial<F>,
+    right: &DensePolynomial<F>,
+) -> Result<(DensePolynomial<F>, DensePolynomial<F>), PolyError>
+    ensures product { IfOk result (λ p. of_list F.field p.0
+        ≡ product F.field (of_list F.field left.now) (of_list F.field right.now)) }
+    ensures same { IfOk result (λ p. p.0 ≡ p.1) }
+    ensures equal { IfOk result (λ p. IsTrue (⟦<DensePolynomial<F> as PartialEq>⟧.eq p.0 p.1)) }
+    ensures errors { IfErr result (λ e. (e ≡ PolyError.Memory) ⊎ (e ≡ PolyError.NoDomain)
+        ⊎ (e ≡ PolyError.Overflow)) }
+{
+    let fast = left.mul(alloc, right)?;
+    let naive = left.naive_mul(alloc, right)?;
+    // Both are trimmed, and so no other list denotes them.
+    fast.coeffs();
+    naive.coeffs();
+    Ok((fast, naive))
+}
+
+/// The degree of the product of two polynomials, neither of them zero: the sum of their degrees.
+///
+/// It takes as long as `mul`.
+pub fn degree_of_product<F: FftField>(
+    alloc: Global,
+    left: &DensePolynomial<F>,
+    right: &DensePolynomial<F>,
+) -> Result<usize, PolyError>
+    requires left { of_list F.field left.now ≢ nothing F.field }
+    requires right { of_list F.field right.now ≢ nothing F.field }
+    ensures sum { IfOk result (λ d. (m n : ℕ) → IsDegree F.field (of_list F.field left.now) m
+        → IsDegree F.field (of_list F.field right.now) n → d ≡ m + n) }
+    ensures errors { IfErr result (λ e. (e ≡ PolyError.Memory) ⊎ (e ≡ PolyError.NoDomain)) }
+{
+    let product = left.mul(alloc, right)?;
+    Ok(product.degree())
+}
+
+/// The sum of the values times the weights at `tau`: the value at `tau` of the polynomial that `interpolate`
+/// gives.
+///
+/// It takes a product for each value beside the weights.
+pub fn weighted_sum<F: FftField, D: EvaluationDomain<F>>(
+    alloc: Global,
+    values: &Evaluations<F, D>,
+    tau: F,
+) -> Result<F, PolyError>
+    ensures sum { IfOk result (λ y. (l : List F) → AreWeights F.field (D.domain values.now.domain) tau l
+        → y ≡ sum_below (itself F.field) (D.domain values.now.domain).size
+        (λ i. F.field.times (of_list F.field l i) (of_list F.field values.now.evals i))) }
+    ensures value { IfOk result (λ y. (a : ℕ → F) → IsBelow F.field (D.domain values.now.domain).size a
+        → AreValues F.field (D.domain values.now.domain) a values.now.evals → IsValue F.field a tau y) }
+    ensures memory { IsOkUnless result PolyError.Memory }
+{
+    let weights = values
+        .domain()
+        .evaluate_all_lagrange_coefficients(alloc, tau)?;
+    Ok(sum_of_products(&weights, values.evals()))
+}
+
+/// A sparse polynomial made dense and sparse again: the same value. `Overflow` exactly where its degree is
+/// `usize::MAX`.
+///
+/// It takes memory for the coefficients up to the degree.
+pub fn dense_and_back<F: Field>(
+    alloc: Global,
+    sparse: &SparsePolynomial<F>,
+) -> Result<SparsePolynomial<F>, PolyError>
+    ensures same { IfOk result (λ p. p ≡ sparse.now) }
+    ensures overflow { (result ≡ Err PolyError.Overflow)
+        ↔ IsDegree F.field (of_pairs F.field sparse.now) usize.MAX }
+    ensures errors { IfErr result (λ e. (e ≡ PolyError.Memory) ⊎ (e ≡ PolyError.Overflow)) }
+{
+    let dense = DensePolynomial::from_sparse(alloc, sparse)?;
+    let back = SparsePolynomial::from_dense(alloc, &dense)?;
+    // Both are sparse, and so no other list denotes them.
+    sparse.coeffs();
+    back.coeffs();
+    Ok(back)
+}
+
+/// A dense polynomial made sparse and dense again: the same value.
+///
+/// It takes memory for the terms and for the coefficients.
+pub fn sparse_and_back<F: Field>(
+    alloc: Global,
+    dense: &DensePolynomial<F>,
+) -> Result<DensePolynomial<F>, PolyError>
+    ensures same { IfOk result (λ p. p ≡ dense.now) }
+    ensures memory { IsOkUnless result PolyError.Memory }
+{
+    // Both are trimmed, and so no other list denotes them.
+    dense.coeffs();
+    let sparse = SparsePolynomial::from_dense(alloc, dense)?;
+    let back = DensePolynomial::from_sparse(alloc, &sparse)?;
+    back.coeffs();
+    Ok(back)
+}
+
+/// The values at a point of one polynomial in dense and in sparse form: they are equal. Takes no memory, and is always
+/// `Ok`.
+///
+/// It takes as long as both.
+pub fn values_of_both_forms<F: Field>(
+    alloc: Global,
+    dense: &DensePolynomial<F>,
+    sparse: &SparsePolynomial<F>,
+    point: F,
+) -> Result<(F, F), PolyError>
+    requires { of_list F.field dense.now ≡ of_pairs F.field sparse.now }
+    ensures value { IfOk result (λ y. IsValue F.field (of_list F.field dense.now) point y.0) }
+    ensures same { IfOk result (λ y. y.0 ≡ y.1) }
+    ensures succeeds { IsOk result }
+{
+    Ok((
+        dense.evaluate(alloc, &point)?,
+        sparse.evaluate(alloc, &point)?,
+    ))
+}
+
+/// The values over a domain of one polynomial in dense form, in sparse form and in either form: they are equal.
+///
+/// It takes a transform for each.
+pub fn values_of_all_forms<F: FftField, D: EvaluationDomain<F>>(
+    alloc: Global,
+    dense: &DensePolynomial<F>,
+    sparse: &SparsePolynomial<F>,
+    either: DenseOrSparsePolynomial<'_, F>,
+    domain: D,
+) -> Result<(Evaluations<F, D>, Evaluations<F, D>, Evaluations<F, D>), PolyError>
+    requires sparse { of_pairs F.field sparse.now ≡ of_list F.field dense.now }
+    requires either { denoted F.field either ≡ of_list F.field dense.now }
+    ensures values { IfOk result (λ v. AreValues F.field (D.domain domain) (of_list F.field dense.now)
+        v.0.evals) }
+    ensures sparse { IfOk result (λ v. v.1 ≡ v.0) }
+    ensures either { IfOk result (λ v. v.2 ≡ v.0) }
+    ensures memory { IsOkUnless result PolyError.Memory }
+{
+    Ok((
+        dense.evaluate_over_domain_by_ref(alloc, domain)?,
+        sparse.evaluate_over_domain_by_ref(alloc, domain)?,
+        either.evaluate_over_domain(alloc, domain)?,
+    ))
+}
+
+/// What a division answers: quotient and remainder, and `None` where there are none.
+pub type Division<F> = Option<(DensePolynomial<F>, DensePolynomial<F>)>;
+
+/// The division of one polynomial by another, and the same with both in other forms: the answers are the same. So
+/// what is denoted alone decides quotient and remainder, and whether there are any.
+///
+/// It takes as long as both.
+pub fn divisions_of_all_forms<F: Field>(
+    alloc: Global,
+    dividend: &DenseOrSparsePolynomial<'_, F>,
+    divisor: &DenseOrSparsePolynomial<'_, F>,
+    other_dividend: &DenseOrSparsePolynomial<'_, F>,
+    other_divisor: &DenseOrSparsePolynomial<'_, F>,
+) -> Result<(Division<F>, Division<F>), PolyError>
+    requires dividends { denoted F.field other_dividend.now ≡ denoted F.field dividend.now }
+    requires divisors { denoted F.field other_divisor.now ≡ denoted F.field divisor.now }
+    ensures same { IfOk result (λ p. p.1 ≡ p.0) }
+    ensures overflow { (result ≡ Err PolyError.Overflow) ↔ (denoted F.field divisor.now ≢ nothing F.field)
+        × IsDegree F.field (denoted F.field dividend.now) usize.MAX }
+    ensures errors { IfErr result (λ e. (e ≡ PolyError.Memory) ⊎ (e ≡ PolyError.Overflow)) }
+{
+    let answer = dividend.divide_with_q_and_r(alloc, divisor)?;
+    let other = other_dividend.divide_with_q_and_r(alloc, other_divisor)?;
+    see_trimmed(&answer);
+    see_trimmed(&other);
+    Ok((answer, other))
+}
+
+// What a division gives is trimmed, and so no other lists denote it.
+fn see_trimmed<F: Field>(answer: &Division<F>)
+    ensures { IfSome answer.now (λ p. IsTrimmed F.field p.0 × IsTrimmed F.field p.1) }
+{
+    if let Some((quotient, remainder)) = answer {
+        quotient.coeffs();
+        remainder.coeffs();
+    }
+}
