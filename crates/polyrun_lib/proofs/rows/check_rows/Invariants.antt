@@ -1,8 +1,8 @@
 use Rattle.std.proofs.Common.{map, decimal}
-use Rattle.polyrun_lib.specs.Check.{row_of}
+use Rattle.polyrun_lib.specs.Written.{writer}
 use Rattle.polyrun_lib.proofs.Checking.{IsUnderWay}
-use Rattle.polyrun_lib.proofs.rows.check.Given as goal
+use Rattle.polyrun_lib.proofs.rows.check_rows.Given as goal
 
 abbrev pub invariant-loop-i : goal.invariant-loop-i
 invariant-loop-i g l =
-    IsUnderWay (decimal l.field) (map row_of l.rows) l.i l.status (g.W.Sink.contents l.fn.out) (g.W.Sink.contents l.out) (g.W.Sink.failures l.fn.out) (g.W.Sink.failures l.out)
+    IsUnderWay (decimal l.field) (map g.R.Checked.shown l.rows) l.i l.status (writer g.W.Sink l.fn.out) (writer g.W.Sink l.out)
