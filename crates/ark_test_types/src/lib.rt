@@ -5,4 +5,5 @@
 pub mod counting;
 pub mod four;
 pub mod nothing;
+pub mod numbered;
 pub mod traced;

@@ -1,14 +1,17 @@
 //! Rows of domains: after the kind of domain stand the size and the offset for `new_coset`, an operation and its
 //! arguments.
 
-use crate::words::{element, elements, no_row, size, text_of, text_of_terms};
-use ark_base::{FftField, PolyError};
+ghost use Rattle.std.specs.Prelude.{◌<◌};
+
+use crate::fields::option;
+use crate::words::{element, elements, no_row, one, size, text_of, text_of_terms};
+use ark_base::{FftField, Lanes, PolyError};
 use ark_poly::{
     DenseUVPolynomial, EvaluationDomain, GeneralEvaluationDomain, MixedRadixEvaluationDomain,
     Radix2EvaluationDomain,
 };
-use ark_test_types::traced::Numbered;
-use std::alloc::Global;
+use ark_test_types::numbered::Numbered;
+use std::alloc::{AllocError, Global};
 
 pub fn over_radix2<F: FftField + Numbered>(
     alloc: Global,
@@ -45,7 +48,7 @@ fn over<F: FftField + Numbered, D: EvaluationDomain<F>>(
 }
 
 /// The domain that `new_coset` gives.
-fn coset<F: FftField, D: EvaluationDomain<F>>(
+fn coset<F: FftField + Numbered, D: EvaluationDomain<F>>(
     num_coeffs: &str,
     offset: &str,
 ) -> Result<D, PolyError> {
@@ -66,6 +69,7 @@ fn answer<F: FftField + Numbered, D: EvaluationDomain<F>>(
         ("element", [index]) => one(alloc, domain.element(size(index.as_str()))),
         ("fft", [coeffs]) => fft(alloc, domain, coeffs.as_str()),
         ("ifft", [evals]) => ifft(alloc, domain, evals.as_str()),
+        ("lanes", [first, second]) => lanes(alloc, domain, first.as_str(), second.as_str()),
         ("lagrange", [point]) => lagrange(alloc, domain, element(point.as_str())),
         ("vanishing", []) => vanishing(alloc, domain),
         ("vanishing", [point]) => {
@@ -93,14 +97,15 @@ fn answer_of_part<F: FftField + Numbered, D: EvaluationDomain<F>>(
     match (name, arguments) {
         ("contains", []) => Ok(format!(in alloc; "{}", domain.contains_subdomain(&part))?),
         ("filter", []) => filter(alloc, domain, &part),
-        ("filter", [point]) => filter_at(alloc, domain, &part, element(point.as_str())),
+        ("filter", [point]) => {
+            option(
+                alloc,
+                domain.evaluate_filter_polynomial(&part, element(point.as_str())),
+            )
+        }
         ("reindex", []) => reindexed(alloc, domain, part),
         _ => no_row(alloc),
     }
-}
-
-fn one<F: Numbered>(alloc: Global, element: F) -> Result<String, PolyError> {
-    Ok(text_of(alloc, &[element])?)
 }
 
 /// What a domain keeps, in this order: the size, the exponent of two in it, the size as an element and its inverse, the
@@ -155,6 +160,41 @@ fn ifft<F: FftField + Numbered, D: EvaluationDomain<F>>(
     Ok(text_of(alloc, &domain.ifft(alloc, &evals)?)?)
 }
 
+/// The transform of pairs, of which one list has the first parts and the other the second ones.
+fn lanes<F: FftField + Numbered, D: EvaluationDomain<F>>(
+    alloc: Global,
+    domain: &D,
+    first: &str,
+    second: &str,
+) -> Result<String, PolyError> {
+    let mut pairs = Vec::new(alloc);
+    for (x, y) in elements::<F>(alloc, first)?
+        .iter()
+        .zip(elements::<F>(alloc, second)?.iter())
+    {
+        pairs.push(Lanes::new(*x, *y))?;
+    }
+    let values = domain.fft(alloc, &pairs)?;
+    let first = part(alloc, &values, 0)?;
+    let second = part(alloc, &values, 1)?;
+    Ok(format!(in alloc; "{first} {second}")?)
+}
+
+/// The first parts of pairs, or the second ones.
+fn part<F: FftField + Numbered>(
+    alloc: Global,
+    pairs: &[Lanes<F>],
+    i: usize,
+) -> Result<String, AllocError>
+    requires { i < 2 }
+{
+    let mut parts = Vec::new(alloc);
+    for pair in pairs {
+        parts.push(pair.get(i))?;
+    }
+    text_of(alloc, &parts)
+}
+
 fn lagrange<F: FftField + Numbered, D: EvaluationDomain<F>>(
     alloc: Global,
     domain: &D,
@@ -179,18 +219,6 @@ fn filter<F: FftField + Numbered, D: EvaluationDomain<F>>(
 ) -> Result<String, PolyError> {
     let filter = domain.filter_polynomial(alloc, part)?;
     Ok(text_of(alloc, filter.coeffs())?)
-}
-
-fn filter_at<F: FftField + Numbered, D: EvaluationDomain<F>>(
-    alloc: Global,
-    domain: &D,
-    part: &D,
-    point: F,
-) -> Result<String, PolyError> {
-    match domain.evaluate_filter_polynomial(part, point) {
-        Some(value) => one(alloc, value),
-        None => Ok("none".to_string(alloc)?),
-    }
 }
 
 /// All indices in the order that has those of the part's elements first.

@@ -6,11 +6,13 @@
 #![tactic(auto)]
 
 mod domains;
+mod fields;
 mod program;
 mod words;
 
 use ark_base::{F5, F433, F65537, FftField, PolyError};
-use ark_test_types::traced::Numbered;
+use ark_test_types::four::Four;
+use ark_test_types::numbered::Numbered;
 use polyrun_lib::refusal_line;
 use std::alloc::{AllocError, Global};
 use words::words_of;
@@ -43,6 +45,7 @@ fn answer_in(alloc: Global, words: &[String]) -> Option<Result<String, PolyError
         return None;
     };
     match field.as_str() {
+        "4" => answer_over::<Four>(alloc, words),
         "5" => answer_over::<F5>(alloc, words),
         "433" => answer_over::<F433>(alloc, words),
         "65537" => answer_over::<F65537>(alloc, words),
@@ -59,6 +62,7 @@ fn answer_over<F: FftField + Numbered>(
         return None;
     };
     match name.as_str() {
+        "field" => Some(fields::answer::<F>(alloc, arguments)),
         "radix2" => Some(domains::over_radix2::<F>(alloc, arguments)),
         "mixed" => Some(domains::over_mixed::<F>(alloc, arguments)),
         "general" => Some(domains::over_general::<F>(alloc, arguments)),

@@ -1,7 +1,7 @@
 //! What words say, and the texts of answers.
 
-use ark_base::{Field, PolyError};
-use ark_test_types::traced::Numbered;
+use ark_base::PolyError;
+use ark_test_types::numbered::Numbered;
 use std::alloc::{AllocError, Global};
 
 /// The pieces between the separators, and none of the empty text. The piece `-` is the empty word.
@@ -27,13 +27,13 @@ pub fn size(word: &str) -> usize {
     number(word) as usize
 }
 
-/// The element of the number that the word spells.
-pub fn element<F: Field>(word: &str) -> F {
-    F::from(number(word))
+/// The element whose number the word spells.
+pub fn element<F: Numbered>(word: &str) -> F {
+    F::of_number(number(word))
 }
 
 /// The elements whose numbers stand between commas.
-pub fn elements<F: Field>(alloc: Global, word: &str) -> Result<Vec<F>, AllocError> {
+pub fn elements<F: Numbered>(alloc: Global, word: &str) -> Result<Vec<F>, AllocError> {
     let mut elements = Vec::new(alloc);
     if !word.is_empty() {
         for piece in word.split(',') {
@@ -53,6 +53,11 @@ pub fn text_of<F: Numbered>(alloc: Global, elements: &[F]) -> Result<String, All
         write!(text, "{}", element.number())?;
     }
     Ok(text)
+}
+
+/// The number of the element.
+pub fn one<F: Numbered>(alloc: Global, element: F) -> Result<String, PolyError> {
+    Ok(text_of(alloc, &[element])?)
 }
 
 /// The terms of a polynomial: degree, colon, coefficient.
