@@ -59,7 +59,6 @@ pub fn four_over_sixteen<F: FftField, T: DomainCoeff<F>>(
 }
 
 // Whether the counted call gives the transform of four sevens.
-#[cfg(test)]
 fn is_transform<F: FftField>(alloc: Global) -> Result<bool, PolyError> {
     let domain: Radix2EvaluationDomain<F> = EvaluationDomain::new(16).ok_or(PolyError::NoDomain)?;
     if domain.size() != 16 {

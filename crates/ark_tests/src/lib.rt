@@ -2,6 +2,7 @@
 //! public contracts alone. Rows with answers from outside stand in `row_tests`.
 #![tactic(auto)]
 
+#[cfg(test)]
 mod costs;
 #[cfg(test)]
 mod errors;
