@@ -1,7 +1,7 @@
 //! Rows of fields: an operation and its arguments.
 
 use crate::words::{element, elements, no_row, number, one, size, text_of};
-use ark_base::{FftField, PolyError, batch_inversion, k_adicity, log2};
+use ark_base::{FftField, Lanes, PolyError, batch_inversion, k_adicity, log2};
 use ark_test_types::numbered::Numbered;
 use std::alloc::Global;
 
@@ -20,6 +20,7 @@ pub fn answer<F: FftField + Numbered>(
         ("inverses", [list]) => inverses::<F>(alloc, list.as_str()),
         ("power", [x, n]) => one(alloc, element::<F>(x.as_str()).pow(number(n.as_str()))),
         ("operators", [x, y]) => operators::<F>(alloc, element(x.as_str()), element(y.as_str())),
+        ("text", [x, y]) => text::<F>(alloc, element(x.as_str()), element(y.as_str())),
         ("log2", [x]) => Ok(format!(in alloc; "{}", log2(size(x.as_str())))?),
         ("adicity", [k, n]) => {
             Ok(format!(in alloc;
@@ -37,6 +38,11 @@ pub fn option<F: Numbered>(alloc: Global, element: Option<F>) -> Result<String, 
         Some(element) => one(alloc, element),
         None => Ok("none".to_string(alloc)?),
     }
+}
+
+/// How `Debug` writes the first element, and the pair of both.
+fn text<F: FftField>(alloc: Global, x: F, y: F) -> Result<String, PolyError> {
+    Ok(format!(in alloc; "{x:?} {:?}", Lanes::new(x, y))?)
 }
 
 /// Zero, the default and one; then the generator, the exponent of two and the root for it; and then the odd base, its
