@@ -4,21 +4,10 @@ ghost use Rattle.std.specs.Prelude.{◌≡◌, false, replicate};
 ghost use Rattle.ark_math.specs.Field.{minus};
 ghost use Rattle.ark_math.specs.Module.{itself};
 
-use ark_base::{DomainCoeff, Field, PrimeField, PrimeModulus, Zero};
+use crate::numbered::Numbered;
+use ark_base::{DomainCoeff, Zero};
 use std::alloc::AllocError;
 use std::ops::{Add, AddAssign, MulAssign, Sub, SubAssign};
-
-/// A field whose elements have numbers.
-pub trait Numbered: Field {
-    /// The element's number.
-    fn number(self) -> u64;
-}
-
-impl<M: PrimeModulus> Numbered for PrimeField<M> {
-    fn number(self) -> u64 {
-        self.value()
-    }
-}
 
 /// How many products an element can remember.
 const ROOM: usize = 256;
