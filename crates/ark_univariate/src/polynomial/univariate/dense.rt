@@ -23,10 +23,7 @@ use ark_coeffs::dense::{
     value_at,
 };
 use ark_coeffs::draws::drawn;
-use ark_quotients::conversions::{
-    add_terms_trimmed, coefficients_of, difference_with_terms, subtract_terms_trimmed,
-    sum_with_terms,
-};
+use ark_quotients::conversions::{Sign, add_terms_trimmed, coefficients_of, sum_with_terms};
 use ark_quotients::division::{Coefficients, divided};
 use ark_quotients::lanes::{products_of_lanes, side_by_side};
 use ark_traits::{FftField, Field, PolyError};
@@ -369,7 +366,7 @@ impl<F: Field> DensePolynomial<F> {
             ↔ IsDegree F.field (of_pairs F.field other.now) usize.MAX }
         ensures errors { IfErr result (λ e. (e ≡ PolyError.Memory) ⊎ (e ≡ PolyError.Overflow)) }
     {
-        let sum = sum_with_terms(alloc, &self.coeffs, other.coeffs())?;
+        let sum = sum_with_terms(alloc, &self.coeffs, Sign::Plus, other.coeffs())?;
         Ok(Self::from_coefficients_vec(sum))
     }
 
@@ -382,7 +379,7 @@ impl<F: Field> DensePolynomial<F> {
             ↔ IsDegree F.field (of_pairs F.field other.now) usize.MAX }
         ensures errors { IfErr result (λ e. (e ≡ PolyError.Memory) ⊎ (e ≡ PolyError.Overflow)) }
     {
-        let difference = difference_with_terms(alloc, &self.coeffs, other.coeffs())?;
+        let difference = sum_with_terms(alloc, &self.coeffs, Sign::Minus, other.coeffs())?;
         Ok(Self::from_coefficients_vec(difference))
     }
 
@@ -400,7 +397,7 @@ impl<F: Field> DensePolynomial<F> {
             ↔ IsDegree F.field (of_pairs F.field other.now) usize.MAX }
         ensures errors { IfErr result (λ e. (e ≡ PolyError.Memory) ⊎ (e ≡ PolyError.Overflow)) }
     {
-        add_terms_trimmed(&mut self.coeffs, other.coeffs())
+        add_terms_trimmed(&mut self.coeffs, Sign::Plus, other.coeffs())
     }
 
     /// Subtracts a sparse polynomial in place. `Overflow` exactly where that one's degree is `usize::MAX`, judged
@@ -417,7 +414,7 @@ impl<F: Field> DensePolynomial<F> {
             ↔ IsDegree F.field (of_pairs F.field other.now) usize.MAX }
         ensures errors { IfErr result (λ e. (e ≡ PolyError.Memory) ⊎ (e ≡ PolyError.Overflow)) }
     {
-        subtract_terms_trimmed(&mut self.coeffs, other.coeffs())
+        add_terms_trimmed(&mut self.coeffs, Sign::Minus, other.coeffs())
     }
 
     /// The only quotient, without the remainder. Zero divided by anything is zero; otherwise `ZeroDivisor` exactly for a zero
