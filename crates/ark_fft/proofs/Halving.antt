@@ -6,7 +6,7 @@ use Rattle.std.proofs.Math.Pow.{pow_mono}
 use Rattle.ark_math.specs.Field.{FieldOn, IsField, power}
 use Rattle.ark_math.specs.Root.{HasOrder}
 use Rattle.ark_math.specs.Module.{ModuleOn, IsModule, sum_below, item}
-use Rattle.ark_math.specs.Transform.{dft_at}
+use Rattle.ark_math.proofs.Transforms.Places.{dft_at}
 use Rattle.ark_fft.specs.Halves.{reversed, IsHalfTable}
 use Rattle.ark_math.proofs.Algebra.Groups.{zero_plus}
 use Rattle.ark_math.proofs.Lists.Lists.{read_front, read_back, read_order}

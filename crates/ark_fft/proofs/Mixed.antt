@@ -8,7 +8,8 @@ use Rattle.ark_math.specs.Module.{ModuleOn, IsModule, item}
 use Rattle.ark_math.specs.Root.{Adicity, HasOrder, Splits, odd_base}
 use Rattle.ark_math.specs.Domain.{Domain, mixed_radix}
 use Rattle.ark_math.specs.Cost.{Counts, Direction}
-use Rattle.ark_math.specs.Transform.{transform, IsInverse, dft_at}
+use Rattle.ark_math.specs.Transform.{transform, IsInverse}
+use Rattle.ark_math.proofs.Transforms.Places.{dft_at}
 use Rattle.ark_fft.specs.Halves.{reversed, ArePowers, IsHalfTable}
 use Rattle.ark_fft.specs.Mixed.{IsPowerTable}
 use Rattle.ark_math.proofs.Transforms.Inverses.{is_inverse}

@@ -6,7 +6,8 @@ use Rattle.ark_math.specs.Root.{Adicity, HasOrder}
 use Rattle.ark_math.specs.Cost.{Counts, IsLog2Up, Direction, counted_items}
 use Rattle.ark_math.specs.Module.{ModuleOn, IsModule, item}
 use Rattle.ark_math.specs.Domain.{Domain, radix2}
-use Rattle.ark_math.specs.Transform.{transform, IsInverse, dft_at}
+use Rattle.ark_math.specs.Transform.{transform, IsInverse}
+use Rattle.ark_math.proofs.Transforms.Places.{dft_at}
 use Rattle.ark_fft.specs.Halves.{ArePowers, IsHalfTable}
 use Rattle.ark_fft.proofs.Halving.{is_half_table}
 use Rattle.ark_math.proofs.Transforms.Inverses.{is_inverse}

@@ -7,7 +7,8 @@ use Rattle.ark_math.specs.Domain.{Domain, radix2, domain_of}
 use Rattle.ark_math.specs.Field.{FieldOn, IsField, power}
 use Rattle.ark_math.specs.Module.{ModuleOn, IsModule, item}
 use Rattle.ark_math.specs.Root.{Adicity, HasOrder}
-use Rattle.ark_math.specs.Transform.{transform, dft_at}
+use Rattle.ark_math.specs.Transform.{transform}
+use Rattle.ark_math.proofs.Transforms.Places.{dft_at}
 use Rattle.ark_fft.specs.Halves.{ArePowers, AreLevels}
 use Rattle.ark_fft.proofs.Joining.{sum_of_few, levels_below}
 use Rattle.ark_fft.proofs.Reversal.{pow_pred}

@@ -1,4 +1,5 @@
 -- What a caller of the domains can use: from the clauses of a call to the fact that is wanted.
+pub mod ComputedSizes
 pub mod Lanes
 pub mod Sizes
 pub mod Transforms

@@ -2,4 +2,5 @@
 pub mod Carried
 pub mod Inverses
 pub mod Inversion
+pub mod Places
 pub mod Transforms

@@ -1,7 +1,7 @@
--- Elements whose powers are the roots of unity of a field, and tests that show one under a prime modulus.
-use Rattle.std.specs.Prelude.{Bool, true, ◌==◌, ◌&&◌, ◌||◌, not, nat_lt, nat_le, ◌≡◌, ◌≢◌, ℕ, ◌-◌, ◌^◌, ◌/◌, ◌%◌, ◌<◌, ◌⊎◌, Option, Some, None}
+-- Elements whose powers are the roots of unity of a field, and the constants of a prime field.
+use Rattle.std.specs.Prelude.{◌≡◌, ◌≢◌, ℕ, ◌-◌, ◌^◌, ◌/◌, ◌%◌, ◌<◌, ◌⊎◌, Option, Some, None}
 use Rattle.ark_math.specs.Field.{FieldOn, power}
-use Rattle.ark_math.specs.Prime.{IsPrime, is_prime_by, power_mod}
+use Rattle.ark_math.specs.Prime.{IsPrime, power_mod}
 use Rattle.ark_math.specs.Root.{Adicity, IsAdicity, odd_base, odd_most, greatest_size}
 
 -- enough for an element to have roots of each order: a multiple t of the greatest size at which its power is one, and
@@ -44,20 +44,3 @@ pub record IsModulus (p : ℕ) (s : Adicity) (g two_adic : ℕ) (large : Option 
   pub two_adic_is : two_adic ≡ power_mod p 32 g ((p - 1) / 2 ^ s.two)
   pub large_is : large ≡ for_odd s.odd (power_mod p 32 g ((p - 1) / greatest_size s))
   pub greatest_is : greatest ≡ greatest_size s
-
--- a base is odd and at least 3
-abbrev pub is_odd_base : Option (ℕ × ℕ) → Bool
-is_odd_base None = true
-is_odd_base (Some p) = nat_le 3 p.0 && p.0 % 2 == 1
-
--- a test that g is a generator
-abbrev pub is_generator : ℕ → Adicity → ℕ → Bool
-is_generator p s g =
-    nat_lt 0 g
-    && (nat_lt g p
-    && ((p - 1) % greatest_size s == 0
-    && (is_odd_base s.odd
-    && ((odd_most s.odd == 0 || is_prime_by (odd_base s.odd - 2) (odd_base s.odd))
-    && (power_mod p 32 g (p - 1) == 1
-    && ((s.two == 0 || not (power_mod p 32 g ((p - 1) / 2) == 1))
-    && (odd_most s.odd == 0 || not (power_mod p 32 g ((p - 1) / odd_base s.odd) == 1))))))))

@@ -1,17 +1,20 @@
--- The definitions that contracts speak of, each in the words of a textbook, with examples in Rows.
-pub mod Cost
-pub mod Domain
+-- The definitions that contracts speak of, each in the words of a textbook, in the order in which they are met: fields,
+-- modules and roots of unity; domains, transforms and their cost; polynomials in one variable, and at the elements of a
+-- domain; terms, polynomials in several variables, and multilinear extensions; what calls answer; the constants of a prime
+-- field. Rows has examples.
 pub mod Field
-pub mod Generator
 pub mod Module
-pub mod Multilinear
-pub mod Multivariate
+pub mod Root
+pub mod Domain
+pub mod Transform
+pub mod Cost
+pub mod Univariate
 pub mod NormalForms
 pub mod Points
-pub mod Prime
-pub mod Root
-pub mod Rows
-pub mod Sizes
 pub mod Term
-pub mod Transform
-pub mod Univariate
+pub mod Multivariate
+pub mod Multilinear
+pub mod Outcome
+pub mod Prime
+pub mod Generator
+pub mod Rows

@@ -5,6 +5,7 @@ use Rattle.std.specs.Prelude.{if◌then◌else◌, length, flat_map, nat_le, nat
 use Rattle.ark_math.specs.Field.{FieldOn, minus}
 use Rattle.ark_math.specs.Module.{itself, sum_below, item, tabulate}
 use Rattle.ark_math.specs.Cost.{IsLog2Up}
+use Rattle.ark_math.specs.Multivariate.{IsValueAt}
 use Rattle.ark_math.specs.Univariate.{nothing, added, opposite, scaled, of_list}
 
 -- ---- the cube
@@ -92,3 +93,8 @@ pub record IsSquareFree (m : ℕ) (ps : List (ℕ × ℕ)) : Type 0 where
 -- only terms in variables below m, with no power above one
 abbrev pub IsMultilinear : {F : Type 0} → FieldOn F → ℕ → (List (ℕ × ℕ) → F) → Type 0
 IsMultilinear K m a = (t : List (ℕ × ℕ)) → a t ≢ K.zero → IsSquareFree m t
+
+-- such a polynomial with the table's values at the corners
+pub record Interpolates {F : Type 0} (K : FieldOn F) (t : Table F) (a : List (ℕ × ℕ) → F) : Type 0 where
+  pub multilinear : IsMultilinear K t.variables a
+  pub corners : (b : ℕ) → b < 2 ^ t.variables → IsValueAt K a (corner K t.variables b) (t.value b)

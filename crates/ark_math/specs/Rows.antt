@@ -1,10 +1,8 @@
 -- Examples, computed from the definitions.
-use Rattle.std.specs.Prelude.{◌≡◌, ℕ, ◌+◌, ◌-◌, ◌*◌, ◌%◌, Some, None, [], ◌∷◌, ◌==◌, refl}
+use Rattle.std.specs.Prelude.{◌≡◌, ℕ, ◌+◌, ◌-◌, ◌*◌, ◌%◌, [], ◌∷◌, ◌==◌, refl}
 use Rattle.ark_math.specs.Field.{FieldOn}
 use Rattle.ark_math.specs.Module.{itself, tabulate, sum_below}
 use Rattle.ark_math.specs.Domain.{Domain, element, radix2, mixed_radix}
-use Rattle.ark_math.specs.Root.{Adicity}
-use Rattle.ark_math.specs.Sizes.{size_of_kind, general_size}
 use Rattle.ark_math.specs.Transform.{transform}
 use Rattle.ark_math.specs.Cost.{forward, inverse, counted_items}
 use Rattle.ark_math.specs.Univariate.{added, product, of_list, of_pairs, value_below}
@@ -85,28 +83,6 @@ five_of_sixteen = refl
 
 four_of_sixteen_back : counted_items 16 4 inverse ≡ 16
 four_of_sixteen_back = refl
-
--- over 433, whose sizes are 2^a * 3^b with a at most 4 and b at most 3
-abbrev adicity_433 : Adicity
-adicity_433 = record { two = 4; odd = Some (3, 3) }
-
-general_16 : general_size adicity_433 16 ≡ Some (radix2, 16)
-general_16 = refl
-
-general_17 : general_size adicity_433 17 ≡ Some (mixed_radix, 18)
-general_17 = refl
-
-general_433 : general_size adicity_433 433 ≡ None
-general_433 = refl
-
-radix2_17 : size_of_kind adicity_433 radix2 17 ≡ None
-radix2_17 = refl
-
-mixed_13 : size_of_kind adicity_433 mixed_radix 13 ≡ Some 16
-mixed_13 = refl
-
-mixed_without_base : size_of_kind (record { two = 16; odd = None }) mixed_radix 1 ≡ None
-mixed_without_base = refl
 
 -- ---- several variables
 

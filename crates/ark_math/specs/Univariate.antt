@@ -56,6 +56,13 @@ pub record IsQuotient {F : Type 0} (K : FieldOn F) (a d q r : ℕ → F) : Type 
   pub whole : a ≡ added K (product K q d) r
   pub degree : (k : ℕ) × (d k ≢ K.zero) × IsBelow K (k + 1) d × IsBelow K k r
 
+-- what a division of a by d gives: zeros for zero, whatever d is, and else the quotient and remainder, of which there are
+-- no others
+pub record IsDivision {F : Type 0} (K : FieldOn F) (a d q r : ℕ → F) : Type 0 where
+  pub quotient : d ≢ nothing K → IsQuotient K a d q r
+  pub only : (p s : ℕ → F) → IsQuotient K a d p s → (p ≡ q) × (s ≡ r)
+  pub zeros : a ≡ nothing K → (q ≡ nothing K) × (r ≡ nothing K)
+
 -- ---- forms
 
 -- what a dense list denotes: item i is the coefficient at i

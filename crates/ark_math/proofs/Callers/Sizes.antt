@@ -4,7 +4,7 @@ use Rattle.std.specs.Prelude.{nat_le, nat_lt}
 use Rattle.std.proofs.lemmas.Bool.{cases_lt, cases_eq, and_parts, ltb-true, leb-true, ltb-false, leb-false}
 use Rattle.ark_math.specs.Root.{Adicity, Splits, odd_base, odd_most}
 use Rattle.ark_math.specs.Domain.{Kind, radix2, mixed_radix, IsSize, IsLeast, HasNone, HasNoSize, IsGeneral}
-use Rattle.ark_math.specs.Sizes.{sizes_with, sizes_below, sizes_of, nearer, nearest, size_of_kind, first_kind, general_size}
+use Rattle.ark_math.proofs.Callers.ComputedSizes.{sizes_with, sizes_below, sizes_of, nearer, nearest, size_of_kind, first_kind, general_size}
 
 -- m is an item of the list
 abbrev IsAmong : ℕ → List ℕ → Type 0

@@ -6,7 +6,7 @@ use Rattle.ark_math.specs.Field.{FieldOn, IsField, power, natural, minus}
 use Rattle.ark_math.specs.Module.{itself, sum_below}
 use Rattle.ark_math.specs.Root.{HasOrder}
 use Rattle.ark_math.specs.Domain.{Domain, element}
-use Rattle.ark_math.specs.Transform.{dft_at}
+use Rattle.ark_math.proofs.Transforms.Places.{dft_at}
 use Rattle.ark_math.specs.Univariate.{IsBelow, IsValue, value_below, of_list, monomial}
 use Rattle.ark_math.specs.Points.{AreValues, AreWeights}
 use Rattle.ark_math.proofs.Algebra.Groups.{itself_is_module, one_times, zero_scale}

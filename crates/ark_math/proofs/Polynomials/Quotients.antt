@@ -3,7 +3,7 @@ use Rattle.std.proofs.Common.{◌≡◌, ◌≢◌, ◌↔◌, ℕ, zero, suc, �
 use mathlib.Core.Path.{fun_ext}
 use Rattle.std.proofs.lemmas.Bool.{cases_lt, cases_eq, cases_order}
 use Rattle.ark_math.specs.Field.{FieldOn, IsField, minus}
-use Rattle.ark_math.specs.Univariate.{nothing, added, difference, monomial, product, of_list, IsBelow, IsQuotient, IsTrimmed}
+use Rattle.ark_math.specs.Univariate.{nothing, added, difference, monomial, product, of_list, IsBelow, IsQuotient, IsDivision, IsTrimmed}
 use Rattle.ark_math.proofs.Algebra.Groups.{zero_plus}
 use Rattle.ark_math.proofs.Algebra.Powers.{zero_factor, times_zero}
 use Rattle.ark_math.proofs.Algebra.Solve.{◌⊖◌, ◌⊗◌, ◌⊞◌, ◌⊟◌, nought, unit}
@@ -106,19 +106,24 @@ module _ {F : Type 0} (K : FieldOn F) (N : IsField K) where
   has_quotient k m a d ne f h = reduced k 0 m a d (nothing K) a ne f (nothing-below K 0) h
       (sym (ap (λ t. added K t a) (nothing-product K N d) ∙ zero_plus (coefficients_are_module K N) a))
 
-  -- with any divisor: two answers can't differ, where a zero dividend gives zeros, and no other is divided by zero
-  one_answer : (a d q r p s : ℕ → F) → (d ≢ nothing K → IsQuotient K a d q r) → (d ≢ nothing K → IsQuotient K a d p s)
-      → (a ≡ nothing K → (q ≡ nothing K) × (r ≡ nothing K)) → (a ≡ nothing K → (p ≡ nothing K) × (s ≡ nothing K))
-      → ((a ≢ nothing K) × (d ≡ nothing K) → ⊥) → ((q ≡ p) × (r ≡ s) → ⊥) → ⊥
-  one_answer a d q r p s quotient other zeros others some differ =
-      let none : d ≢ nothing K → ⊥ = λ ne. differ (one_quotient a d q r p s (quotient ne) (other ne)) in
-      let more : a ≢ nothing K = λ z. differ ((zeros z).0 ∙ sym (others z).0, (zeros z).1 ∙ sym (others z).1) in
-      none (λ z. some (more, z))
+  -- what a division gives, from quotient and remainder by a divisor that isn't zero
+  pub is_division : (a d q r : ℕ → F) → (d ≢ nothing K → IsQuotient K a d q r) → (a ≡ nothing K → (q ≡ nothing K) × (r ≡ nothing K)) → IsDivision K a d q r
+  is_division a d q r quotient zeros = record {
+    quotient = quotient;
+    only = λ p s is. one_quotient a d p s q r is (quotient (λ none. is.degree.1 (ap (λ t. t is.degree.0) none)));
+    zeros = zeros;
+  }
 
--- what a division answers: quotient and remainder, of lists without zeros at their end, or that there are none
-pub record IsDivision {F : Type 0} (K : FieldOn F) (a d : ℕ → F) (o : Option (List F × List F)) : Type 0 where
-  pub quotient : IfSome o (λ p. d ≢ nothing K → IsQuotient K a d (of_list K p.0) (of_list K p.1))
-  pub zeros : IfSome o (λ p. a ≡ nothing K → (of_list K p.0 ≡ nothing K) × (of_list K p.1 ≡ nothing K))
+  -- there are no others where the divisor or the dividend decides
+  one_division : (a d q r p s : ℕ → F) → IsDivision K a d q r → IsDivision K a d p s → ((a ≢ nothing K) × (d ≡ nothing K) → ⊥) → ((q ≡ p) × (r ≡ s) → ⊥) → ⊥
+  one_division a d q r p s A B given differ =
+      let none : d ≢ nothing K → ⊥ = λ ne. differ (B.only q r (A.quotient ne)) in
+      let more : a ≢ nothing K = λ z. differ ((A.zeros z).0 ∙ sym (B.zeros z).0, (A.zeros z).1 ∙ sym (B.zeros z).1) in
+      none (λ z. given (more, z))
+
+-- an answer of a division, by lists without zeros at their end: none exactly where zero alone would divide another dividend
+pub record AnswersDivision {F : Type 0} (K : FieldOn F) (a d : ℕ → F) (o : Option (List F × List F)) : Type 0 where
+  pub pair : IfSome o (λ p. IsDivision K a d (of_list K p.0) (of_list K p.1))
   pub none : IsNone o ↔ (a ≢ nothing K) × (d ≡ nothing K)
   pub trimmed : IfSome o (λ p. IsTrimmed K p.0 × IsTrimmed K p.1)
 
@@ -127,14 +132,14 @@ module _ {F : Type 0} (K : FieldOn F) (N : IsField K) (eq : F → F → Bool) (o
   same_list c d s t = ⊎_elim (λ h. inl (same_trimmed K c d s t h)) inr (decided _ (trim_equality K eq o same e c d))
 
   -- there is one answer
-  pub same_division : (a d : ℕ → F) (x y : Option (List F × List F)) → IsDivision K a d x → IsDivision K a d y → x ≡ y
+  pub same_division : (a d : ℕ → F) (x y : Option (List F × List F)) → AnswersDivision K a d x → AnswersDivision K a d y → x ≡ y
   same_division a d None None A B = refl
   same_division a d None (Some p) A B = absurd (true≢false (B.none.1 (A.none.0 refl)))
   same_division a d (Some p) None A B = absurd (true≢false (A.none.1 (B.none.0 refl)))
   same_division a d (Some p) (Some q) A B = by_cases (same_list p.0 q.0 A.trimmed.0 B.trimmed.0) (same_list p.1 q.1 A.trimmed.1 B.trimmed.1)
     where
       differ : ((of_list K p.0 ≡ of_list K q.0) × (of_list K p.1 ≡ of_list K q.1) → ⊥) → ⊥
-      differ = one_answer K N a d (of_list K p.0) (of_list K p.1) (of_list K q.0) (of_list K q.1) A.quotient B.quotient A.zeros B.zeros (λ z. true≢false (A.none.1 z))
+      differ = one_division K N a d (of_list K p.0) (of_list K p.1) (of_list K q.0) (of_list K q.1) A.pair B.pair (λ z. true≢false (A.none.1 z))
 
       by_cases : (p.0 ≡ q.0) ⊎ (of_list K p.0 ≢ of_list K q.0) → (p.1 ≡ q.1) ⊎ (of_list K p.1 ≢ of_list K q.1) → Some p ≡ Some q
       by_cases (inl h) (inl k) = ap₂ (λ x y. Some (x, y)) h k

@@ -1,9 +1,27 @@
 -- The test of a generator.
-use Rattle.std.proofs.Common.{◌≡◌, ◌≢◌, ℕ, ◌<◌, ◌≤◌, ◌%◌, Option, None, Some, true, not, ◌==◌, ◌||◌, inl, inr, arith, subst}
+use Rattle.std.proofs.Common.{◌≡◌, ◌≢◌, ℕ, ◌-◌, ◌/◌, ◌<◌, ◌≤◌, ◌%◌, Option, None, Some, Bool, true, not, ◌==◌, ◌&&◌, ◌||◌, nat_lt, nat_le, inl, inr, arith, subst}
 use Rattle.std.proofs.lemmas.Bool.{and_parts, or_cases, not-true, eqb-true, eqb-false, ltb-true, leb-true}
-use Rattle.ark_math.specs.Root.{Adicity}
-use Rattle.ark_math.specs.Generator.{IsGenerator, is_generator, is_odd_base, for_odd}
-use Rattle.ark_math.proofs.Numbers.Prime.{prime_from_test}
+use Rattle.ark_math.specs.Root.{Adicity, odd_base, odd_most, greatest_size}
+use Rattle.ark_math.specs.Generator.{IsGenerator, for_odd}
+use Rattle.ark_math.specs.Prime.{power_mod}
+use Rattle.ark_math.proofs.Numbers.Prime.{is_prime_by, prime_from_test}
+
+-- a base is odd and at least 3
+abbrev pub is_odd_base : Option (ℕ × ℕ) → Bool
+is_odd_base None = true
+is_odd_base (Some p) = nat_le 3 p.0 && p.0 % 2 == 1
+
+-- a test that g is a generator
+abbrev pub is_generator : ℕ → Adicity → ℕ → Bool
+is_generator p s g =
+    nat_lt 0 g
+    && (nat_lt g p
+    && ((p - 1) % greatest_size s == 0
+    && (is_odd_base s.odd
+    && ((odd_most s.odd == 0 || is_prime_by (odd_base s.odd - 2) (odd_base s.odd))
+    && (power_mod p 32 g (p - 1) == 1
+    && ((s.two == 0 || not (power_mod p 32 g ((p - 1) / 2) == 1))
+    && (odd_most s.odd == 0 || not (power_mod p 32 g ((p - 1) / odd_base s.odd) == 1))))))))
 
 -- one of two tests holds: n is zero, or a differs from b
 differs : (n a b : ℕ) → (n == 0 || not (a == b)) ≡ true → 0 < n → a ≢ b

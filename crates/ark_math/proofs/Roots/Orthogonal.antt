@@ -4,7 +4,7 @@ use Rattle.std.proofs.lemmas.Bool.{cases_lt}
 use Rattle.ark_math.specs.Field.{FieldOn, IsField, power, natural}
 use Rattle.ark_math.specs.Module.{ModuleOn, IsModule, itself, sum_below}
 use Rattle.ark_math.specs.Root.{HasOrder}
-use Rattle.ark_math.specs.Transform.{dft_at}
+use Rattle.ark_math.proofs.Transforms.Places.{dft_at}
 use Rattle.ark_math.proofs.Algebra.Groups.{zero_scale}
 use Rattle.ark_math.proofs.Algebra.Powers.{times_zero, zero_factor, power-one, power-add, power_comm, power-times, powers_inverse}
 use Rattle.ark_math.proofs.Algebra.Sums.{sum_below-same, sum_below-scale}

@@ -4,7 +4,8 @@ use Rattle.ark_math.specs.Field.{FieldOn, IsField, power, natural}
 use Rattle.ark_math.specs.Module.{ModuleOn, IsModule, item, tabulate}
 use Rattle.ark_math.specs.Domain.{Domain}
 use Rattle.ark_math.specs.Root.{HasOrder}
-use Rattle.ark_math.specs.Transform.{IsInverse, dft_at}
+use Rattle.ark_math.specs.Transform.{IsInverse}
+use Rattle.ark_math.proofs.Transforms.Places.{dft_at}
 use Rattle.ark_math.proofs.Lists.Tabulated.{length-tabulate, item-tabulate}
 use Rattle.ark_math.proofs.Transforms.Inverses.{is_inverse}
 use Rattle.ark_math.proofs.Roots.Order.{root_not_zero}

@@ -6,7 +6,8 @@ use Rattle.std.specs.List.{take-map}
 use Rattle.ark_math.specs.Field.{FieldOn, IsField, power}
 use Rattle.ark_math.specs.Module.{ModuleOn, IsModule, item, sum_below}
 use Rattle.ark_math.specs.Domain.{Domain, element}
-use Rattle.ark_math.specs.Transform.{transform, fit, value_at, dft_at}
+use Rattle.ark_math.specs.Transform.{transform, fit, value_at}
+use Rattle.ark_math.proofs.Transforms.Places.{dft_at}
 use Rattle.ark_math.proofs.Algebra.Groups.{scale_zero}
 use Rattle.ark_math.proofs.Lists.Tabulated.{length-tabulate, item-tabulate, is_tabulated}
 use Rattle.ark_math.proofs.Lists.Lists.{read_front, read_back}

@@ -4,7 +4,8 @@ ghost use Rattle.std.specs.Prelude.{◌≡◌, ◌≢◌, ℕ, true, false, IsSo
 ghost use Rattle.std.specs.Prelude.{map, length, get_or, ◌+◌, ◌-◌, ◌*◌, ◌/◌, ◌≤◌, ◌<◌, ◌^◌, vec_len};
 ghost use Rattle.ark_math.specs.Domain.{mixed_radix, domain_of};
 ghost use Rattle.ark_math.specs.Field.{FieldOn, power};
-ghost use Rattle.ark_math.specs.Transform.{dft_at, transform, IsInverse, IsOnlyInverse};
+ghost use Rattle.ark_math.specs.Transform.{transform, IsInverse, IsOnlyInverse};
+ghost use Rattle.ark_math.proofs.Transforms.Places.{dft_at};
 ghost use Rattle.ark_fft.specs.Halves.{reversed, ArePowers};
 ghost use Rattle.ark_fft.specs.Mixed.{IsPowerTable, joined};
 ghost use Rattle.ark_math.specs.Module.{ModuleOn, item, sum_below};

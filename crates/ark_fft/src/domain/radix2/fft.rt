@@ -4,7 +4,8 @@ ghost use Rattle.std.specs.Prelude.{◌≡◌, ◌≢◌, ℕ, true, false, IsOk
 ghost use Rattle.std.specs.Prelude.{length, get_or, take, ◌+◌, ◌-◌, ◌*◌, ◌/◌, ◌≤◌, ◌<◌, ◌^◌, vec_len};
 ghost use Rattle.ark_math.specs.Domain.{radix2, domain_of};
 ghost use Rattle.ark_math.specs.Field.{FieldOn, power};
-ghost use Rattle.ark_math.specs.Transform.{dft_at, transform, IsInverse, IsOnlyInverse};
+ghost use Rattle.ark_math.specs.Transform.{transform, IsInverse, IsOnlyInverse};
+ghost use Rattle.ark_math.proofs.Transforms.Places.{dft_at};
 ghost use Rattle.ark_fft.specs.Halves.{reversed, ArePowers, IsHalfTable, AreLevels};
 ghost use Rattle.ark_math.specs.Module.{ModuleOn, item};
 ghost use Rattle.ark_math.specs.Cost.{forward, inverse};

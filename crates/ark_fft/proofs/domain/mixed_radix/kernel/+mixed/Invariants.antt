@@ -1,5 +1,5 @@
 use Rattle.std.proofs.Common.{◌≡◌, ℕ, map, ◌+◌, ◌-◌, ◌*◌, ◌/◌, ◌≤◌, ◌<◌}
-use Rattle.ark_math.specs.Transform.{dft_at}
+use Rattle.ark_math.proofs.Transforms.Places.{dft_at}
 use Rattle.ark_fft.specs.Mixed.{IsPowerTable}
 use Rattle.ark_math.specs.Field.{power}
 use Rattle.ark_math.specs.Module.{item}

@@ -1,5 +1,5 @@
 -- The sizes that the types of domains take, computed from a field's adicity: `refl` tells them for a field that is known.
-use Rattle.std.specs.Prelude.{ℕ, zero, suc, ◌*◌, ◌^◌, ◌&&◌, nat_le, nat_lt, Option, Some, None, is_some, List, [], ◌∷◌, ◌++◌, if◌then◌else◌}
+use Rattle.std.specs.Prelude.{ℕ, zero, suc, ◌*◌, ◌^◌, ◌&&◌, nat_le, nat_lt, ◌≡◌, Option, Some, None, is_some, refl, List, [], ◌∷◌, ◌++◌, if◌then◌else◌}
 use Rattle.ark_math.specs.Root.{Adicity, odd_base, odd_most}
 use Rattle.ark_math.specs.Domain.{Kind, radix2, mixed_radix}
 
@@ -40,3 +40,25 @@ first_kind None None = None
 -- what the general type takes for k
 abbrev pub general_size : Adicity → ℕ → Option (Kind × ℕ)
 general_size s k = first_kind (size_of_kind s radix2 k) (size_of_kind s mixed_radix k)
+
+-- over 433, whose sizes are 2^a * 3^b with a at most 4 and b at most 3
+abbrev adicity_433 : Adicity
+adicity_433 = record { two = 4; odd = Some (3, 3) }
+
+general_16 : general_size adicity_433 16 ≡ Some (radix2, 16)
+general_16 = refl
+
+general_17 : general_size adicity_433 17 ≡ Some (mixed_radix, 18)
+general_17 = refl
+
+general_433 : general_size adicity_433 433 ≡ None
+general_433 = refl
+
+radix2_17 : size_of_kind adicity_433 radix2 17 ≡ None
+radix2_17 = refl
+
+mixed_13 : size_of_kind adicity_433 mixed_radix 13 ≡ Some 16
+mixed_13 = refl
+
+mixed_without_base : size_of_kind (record { two = 16; odd = None }) mixed_radix 1 ≡ None
+mixed_without_base = refl
