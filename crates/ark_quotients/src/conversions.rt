@@ -1,10 +1,10 @@
 //! Coefficients by exponents from terms, terms from them, and sums of the one with the other.
 
-ghost use Rattle.std.specs.Prelude.{◌≡◌, ◌≢◌, ◌↔◌, ◌⊎◌, ◌-◌, ◌<◌, length, IfOk, IfErr, OnOk, OnErr};
+ghost use Rattle.std.specs.Prelude.{◌≡◌, ◌≢◌, ◌↔◌, ◌-◌, ◌<◌, length, IfOk, OnOk, OnErr};
 ghost use Rattle.std.specs.Prelude.{IfSome, IsNone, IsOkUnless};
 ghost use Rattle.std.specs.List.{All};
-ghost use Rattle.ark_math.specs.Univariate.{IsDegree, IsSparse, IsTrimmed, of_list, of_pairs};
-ghost use Rattle.ark_math.specs.Univariate.{added};
+ghost use Rattle.ark_math.specs.Outcome.{IsOkUnlessEither};
+ghost use Rattle.ark_math.specs.Univariate.{added, IsDegree, IsSparse, IsTrimmed, of_list, of_pairs};
 ghost use Rattle.ark_quotients.specs.Signs.{all_signed, signed};
 
 use ark_coeffs::dense::{extended, grow, trim, zeros};
@@ -43,9 +43,9 @@ fn len_for<F: Field>(terms: &[(usize, F)]) -> Option<usize>
 /// Whether terms are added or subtracted.
 #[derive(Clone, Copy)]
 pub enum Sign {
-    /// They are added.
+    /// Terms are added.
     Plus,
-    /// They are subtracted.
+    /// Terms are subtracted.
     Minus,
 }
 
@@ -79,7 +79,7 @@ pub fn coefficients_of<F: Field>(alloc: Global, terms: &[(usize, F)]) -> Result<
     ensures trimmed { IfOk result (λ c. IsTrimmed F.field c.items) }
     ensures overflow { (result ≡ Err PolyError.Overflow)
         ↔ IsDegree F.field (of_pairs F.field terms.now) usize.MAX }
-    ensures errors { IfErr result (λ e. (e ≡ PolyError.Memory) ⊎ (e ≡ PolyError.Overflow)) }
+    ensures errors { IsOkUnlessEither result PolyError.Memory PolyError.Overflow }
 {
     let Some(len) = len_for(terms) else {
         return Err(PolyError::Overflow);
@@ -102,7 +102,7 @@ pub fn sum_with_terms<F: Field>(
         (all_signed F.field sign (of_pairs F.field terms.now))) }
     ensures overflow { (result ≡ Err PolyError.Overflow)
         ↔ IsDegree F.field (of_pairs F.field terms.now) usize.MAX }
-    ensures errors { IfErr result (λ e. (e ≡ PolyError.Memory) ⊎ (e ≡ PolyError.Overflow)) }
+    ensures errors { IsOkUnlessEither result PolyError.Memory PolyError.Overflow }
 {
     let Some(len) = len_for(terms) else {
         return Err(PolyError::Overflow);
@@ -127,7 +127,7 @@ pub fn add_terms_trimmed<F: Field>(
     ensures kept { OnErr result (coeffs.new.items ≡ coeffs.old.items) }
     ensures overflow { (result ≡ Err PolyError.Overflow)
         ↔ IsDegree F.field (of_pairs F.field terms.now) usize.MAX }
-    ensures errors { IfErr result (λ e. (e ≡ PolyError.Memory) ⊎ (e ≡ PolyError.Overflow)) }
+    ensures errors { IsOkUnlessEither result PolyError.Memory PolyError.Overflow }
 {
     let Some(len) = len_for(terms) else {
         return Err(PolyError::Overflow);
