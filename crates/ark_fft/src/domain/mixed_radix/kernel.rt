@@ -4,17 +4,18 @@ ghost use Rattle.std.specs.Prelude.{◌≡◌, ◌≢◌, ℕ, true, false, IsSo
 ghost use Rattle.std.specs.Prelude.{map, length, get_or, ◌+◌, ◌-◌, ◌*◌, ◌/◌, ◌≤◌, ◌<◌, ◌^◌, vec_len};
 ghost use Rattle.ark_math.specs.Domain.{mixed_radix, domain_of};
 ghost use Rattle.ark_math.specs.Field.{FieldOn, power};
-ghost use Rattle.ark_math.specs.Transform.{transform, IsInverse, IsOnlyInverse};
+ghost use Rattle.ark_math.specs.Transform.{transform, IsInverse};
 ghost use Rattle.ark_math.proofs.Transforms.Places.{dft_at};
 ghost use Rattle.ark_fft.specs.Halves.{reversed, ArePowers};
-ghost use Rattle.ark_fft.specs.Mixed.{IsPowerTable, joined};
+ghost use Rattle.ark_fft.specs.Mixed.{IsPowerTable, joined, mixed_counts};
 ghost use Rattle.ark_math.specs.Module.{ModuleOn, item, sum_below};
-ghost use Rattle.ark_math.specs.Cost.{forward, inverse};
+ghost use Rattle.ark_math.specs.Cost.{GrowsBy, counts, butterfly_counts, forward, inverse};
 ghost use Rattle.ark_traits.specs.Cost.{GrowsByCost};
 
 use crate::domain::coset::Coset;
 use crate::domain::mixed_radix::size::odd_base;
-use crate::domain::radix2::fft::{bit_reverse, halves, powers, scale_by_powers};
+use crate::domain::radix2::fft::{bit_reverse, halves, powers};
+use crate::domain::scaling::{scale_by_powers, shift_to_coset};
 use ark_traits::{DomainCoeff, FftField, PolyError, Work};
 use std::alloc::Global;
 
@@ -31,9 +32,7 @@ fn horner_sum<F: FftField, T: DomainCoeff<F>>(
     requires some { 0 < base }
     requires rows { (base - 1) * m ≤ last }
     requires inside { last < length parts.now }
-    ensures products { work.new.products ≡ work.old.products + (base - 1) }
-    ensures butterflies { work.new.butterflies ≡ work.old.butterflies }
-    ensures steps { work.new.steps ≡ work.old.steps }
+    ensures counted { GrowsBy (counts (base - 1) 0 0) work.old work.new }
     ensures sum { (i : ℕ) → last ≡ (base - 1) * m + i → T.meaning result
         ≡ sum_below T.group base (λ r. T.group.scale (power F.field factor r)
         (item T.group (map T.meaning parts.now) (r * m + i))) }
@@ -64,9 +63,7 @@ fn apply_twiddles<F: FftField, T: DomainCoeff<F>>(
     requires odd { 1 < base }
     requires some { 0 < stride }
     requires place { i < m }
-    ensures products { work.new.products ≡ work.old.products + (base - 1) }
-    ensures butterflies { work.new.butterflies ≡ work.old.butterflies }
-    ensures steps { work.new.steps ≡ work.old.steps + 1 }
+    ensures counted { GrowsBy (counts (base - 1) 0 1) work.old work.new }
     ensures twisted { get_or table.now 0 F.field.zero ≡ F.field.one → (r : ℕ) → r < base
         → item T.group (map T.meaning parts.new) (r * m + i)
         ≡ T.group.scale (get_or table.now (r * i * stride) F.field.zero)
@@ -99,9 +96,7 @@ fn apply_all_twiddles<F: FftField, T: DomainCoeff<F>>(
     requires small { length table.now < 2 ^ 64 }
     requires odd { 1 < base }
     requires some { 0 < stride }
-    ensures products { work.new.products ≡ work.old.products + (base - 1) * m }
-    ensures butterflies { work.new.butterflies ≡ work.old.butterflies }
-    ensures steps { work.new.steps ≡ work.old.steps + m }
+    ensures counted { GrowsBy (counts ((base - 1) * m) 0 m) work.old work.new }
     ensures twisted { get_or table.now 0 F.field.zero ≡ F.field.one → (r i : ℕ) → r < base → i < m
         → item T.group (map T.meaning parts.new) (r * m + i)
         ≡ T.group.scale (get_or table.now (r * i * stride) F.field.zero)
@@ -125,9 +120,7 @@ fn sum_row<F: FftField, T: DomainCoeff<F>>(
     requires parts_size { length parts.now ≡ base * m }
     requires whole_size { length whole.old ≡ base * m }
     requires row { j < base }
-    ensures products { work.new.products ≡ work.old.products + (base - 1) * m }
-    ensures butterflies { work.new.butterflies ≡ work.old.butterflies }
-    ensures steps { work.new.steps ≡ work.old.steps }
+    ensures counted { GrowsBy (counts ((base - 1) * m) 0 0) work.old work.new }
     ensures sums { (i : ℕ) → i < m → item T.group (map T.meaning whole.new) (j * m + i)
         ≡ sum_below T.group base (λ r. T.group.scale (power F.field factor r)
         (item T.group (map T.meaning parts.now) (r * m + i))) }
@@ -157,9 +150,7 @@ fn join<F: FftField, T: DomainCoeff<F>>(
     requires small { length table.now < 2 ^ 64 }
     requires odd { 1 < base }
     requires some { 0 < stride }
-    ensures products { work.new.products ≡ work.old.products + (base * base - 1) * m }
-    ensures butterflies { work.new.butterflies ≡ work.old.butterflies }
-    ensures steps { work.new.steps ≡ work.old.steps + m }
+    ensures counted { GrowsBy (counts ((base * base - 1) * m) 0 m) work.old work.new }
     ensures joined { get_or table.now 0 F.field.zero ≡ F.field.one → (j i : ℕ) → j < base → i < m
         → item T.group (map T.meaning whole.new) (j * m + i)
         ≡ joined F.field T.group table.now base m stride (item T.group (map T.meaning parts.old)) j i }
@@ -200,9 +191,7 @@ fn even_transform<F: FftField, T: DomainCoeff<F>>(
     requires whole { length xs.old * stride ≡ length table.now }
     requires small { length table.now < 2 ^ 64 }
     requires some { 0 < stride }
-    ensures butterflies { work.new.butterflies ≡ work.old.butterflies + levels * length xs.old / 2 }
-    ensures products { work.new.products ≡ work.old.products + levels * length xs.old / 2 }
-    ensures steps { work.new.steps ≡ work.old.steps }
+    ensures counted { GrowsBy (butterfly_counts (levels * length xs.old / 2)) work.old work.new }
     ensures transformed { (w : F) → IsPowerTable F.field w table.now → (i : ℕ) → i < length xs.old
         → item T.group (map T.meaning xs.new) i
         ≡ dft_at F.field T.group (length xs.old) (power F.field w stride)
@@ -233,10 +222,8 @@ fn mixed<F: FftField, T: DomainCoeff<F>>(
     requires some { 0 < stride }
     requires odd { 1 < base }
     requires few { base < 2 ^ 32 }
-    ensures butterflies { work.new.butterflies ≡ work.old.butterflies + levels * length xs.old / 2 }
-    ensures products { work.new.products ≡ work.old.products + levels * length xs.old / 2 + (base * base - 1)
-        * (odds * (length xs.old / base)) }
-    ensures steps { work.new.steps ≡ work.old.steps + odds * (length xs.old / base) }
+    ensures counted { GrowsBy (mixed_counts base (levels * length xs.old / 2) (odds * (length xs.old / base)))
+        work.old work.new }
     ensures transformed { (w : F) → IsPowerTable F.field w table.now → (i : ℕ) → i < length xs.old
         → item T.group (map T.meaning xs.new) i
         ≡ dft_at F.field T.group (length xs.old) (power F.field w stride)
@@ -309,9 +296,7 @@ pub fn fft_counted<F: FftField, T: DomainCoeff<F>>(
     let (base, _) = odd_base::<F>().unwrap();
     let (table, mut scratch) = prepare(alloc, coset.group_gen, coset.size as usize, coeffs)?;
     let xs = coeffs.as_mut_slice();
-    if !coset.offset.is_one() {
-        scale_by_powers(work, xs, F::one(), coset.offset);
-    }
+    shift_to_coset(work, xs, coset.offset);
     mixed(
         work,
         xs,
@@ -334,9 +319,6 @@ pub fn ifft_counted<F: FftField, T: DomainCoeff<F>>(
 ) -> Result<(), PolyError>
     requires based { IsSome F.adicity.odd }
     ensures inverse { OnOk result (IsInverse F.field T.group
-        (domain_of mixed_radix coset.now.size coset.now.group_gen coset.now.offset)
-        (map T.meaning evals.old.items) (map T.meaning evals.new.items)) }
-    ensures only { OnOk result (IsOnlyInverse F.field T.group
         (domain_of mixed_radix coset.now.size coset.now.group_gen coset.now.offset)
         (map T.meaning evals.old.items) (map T.meaning evals.new.items)) }
     ensures cost { OnOk result (GrowsByCost F.adicity

@@ -1,6 +1,7 @@
 //! The transform by plain sums, to compare the kernel with.
 
 ghost use Rattle.std.specs.Prelude.{◌≡◌, ℕ, IsOkUnless, OnOk, OnErr, map, length, ◌+◌, ◌*◌, ◌<◌};
+ghost use Rattle.ark_math.specs.Cost.{GrowsBy, counts};
 ghost use Rattle.ark_math.specs.Domain.{radix2, domain_of};
 ghost use Rattle.ark_math.specs.Field.{power};
 ghost use Rattle.ark_math.specs.Module.{item};
@@ -13,9 +14,7 @@ use std::alloc::Global;
 /// The value of a list at a point, term by term.
 fn plain_value<F: FftField, T: DomainCoeff<F>>(work: &mut Work, items: &[T], point: F) -> T
     ensures value { T.meaning result ≡ value_at F.field T.group (map T.meaning items.now) point }
-    ensures butterflies { work.new.butterflies ≡ work.old.butterflies }
-    ensures products { work.new.products ≡ work.old.products + length items.now }
-    ensures steps { work.new.steps ≡ work.old.steps }
+    ensures counted { GrowsBy (counts (length items.now) 0 0) work.old work.new }
 {
     let mut sum = T::zero();
     let mut factor = F::one();
@@ -38,9 +37,7 @@ fn plain_values<F: FftField, T: DomainCoeff<F>>(
 )
     ensures values { (i : ℕ) → i < length values.old → item T.group (map T.meaning values.new) i
         ≡ value_at F.field T.group (map T.meaning items.now) (F.field.times offset (power F.field root i)) }
-    ensures butterflies { work.new.butterflies ≡ work.old.butterflies }
-    ensures products { work.new.products ≡ work.old.products + length values.old * length items.now }
-    ensures steps { work.new.steps ≡ work.old.steps }
+    ensures counted { GrowsBy (counts (length values.old * length items.now) 0 0) work.old work.new }
 {
     let mut point = offset;
     for i in 0..values.len() {
@@ -59,9 +56,7 @@ pub fn fft_plain<F: FftField, T: DomainCoeff<F>>(
     ensures transform { OnOk result (map T.meaning coeffs.new.items
         ≡ transform F.field T.group (domain_of radix2 coset.now.size coset.now.group_gen coset.now.offset)
         (map T.meaning coeffs.old.items)) }
-    ensures butterflies { OnOk result (work.new.butterflies ≡ work.old.butterflies) }
-    ensures products { OnOk result (work.new.products ≡ work.old.products + coset.now.size * coset.now.size) }
-    ensures steps { OnOk result (work.new.steps ≡ work.old.steps) }
+    ensures counted { OnOk result (GrowsBy (counts (coset.now.size * coset.now.size) 0 0) work.old work.new) }
     ensures kept { OnErr result (coeffs.new.items ≡ coeffs.old.items) }
     ensures uncounted { OnErr result (work.new ≡ work.old) }
     ensures memory { IsOkUnless result PolyError.Memory }

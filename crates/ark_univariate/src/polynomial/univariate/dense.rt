@@ -10,6 +10,7 @@ ghost use Rattle.ark_math.specs.Outcome.{IsOkUnlessEither};
 ghost use Rattle.ark_math.specs.NormalForms.{trim};
 ghost use Rattle.ark_math.specs.Domain.{HasNoSize, IsGeneral};
 ghost use Rattle.ark_math.specs.Points.{AreValues, vanishing};
+ghost use Rattle.ark_univariate.specs.Domains.{general_domain};
 ghost use Rattle.ark_math.specs.Univariate.{IsTrimmed, IsDegree, IsValue, of_list, nothing, added, opposite};
 ghost use Rattle.ark_math.specs.Univariate.{IsBelow, IsDivision, IsQuotient, product, scaled as multiple};
 ghost use Rattle.ark_math.specs.Univariate.{difference, of_pairs};
@@ -612,8 +613,7 @@ impl<F: FftField> DensePolynomial<F> {
 // The general domain for a product of two lists of these lengths. A length past `usize::MAX` has none.
 fn domain_of_product<F: FftField>(left: usize, right: usize) -> Option<GeneralEvaluationDomain<F>>
     requires { 0 < right }
-    ensures room { IfSome result (λ d. left + right - 1
-        ≤ (⟦<GeneralEvaluationDomain<F> as EvaluationDomain<F>>⟧.domain d).size) }
+    ensures room { IfSome result (λ d. left + right - 1 ≤ (general_domain d).size) }
     ensures none { IsNone result ↔ HasNoSize (IsGeneral F.adicity) (left + right - 1) }
 {
     GeneralEvaluationDomain::new(left.checked_add(right - 1)?)

@@ -4,8 +4,8 @@ use Rattle.std.proofs.lemmas.Nat.{mul-lt}
 use Rattle.ark_math.specs.Field.{power}
 use Rattle.ark_math.specs.Module.{item}
 use Rattle.ark_math.proofs.Numbers.Factors.{part_size, parts_whole, part_positive}
-use Rattle.ark_fft.proofs.Mixed.{counted_more, joined_more, stepped_more, all_products, all_butterflies, all_steps}
-use Rattle.ark_fft.proofs.Counts.{positive, none_yet, ended, past, middle, no_part, no_parts}
+use Rattle.ark_fft.proofs.Mixed.{part_counted, no_part_counted, all_counted}
+use Rattle.ark_fft.proofs.Counts.{positive, none_yet, ended, past, middle}
 use Rattle.ark_fft.proofs.Blocks.{block_within, part_length, sub_whole, table_size, stride_small, block_done, block_after, mixed_joined, dealt_items}
 use Rattle.ark_fft.proofs.domain.mixed_radix.kernel.+mixed.Goals as goal
 
@@ -42,9 +42,7 @@ loop-r-init g t c =
     let whole = parts_whole c.args.levels c.args.base c.args.odds (length c.args.xs.now) pos c.if-odds-gt0.true c.requires.size in
     let size : length c.deinterleave.new.parts ≡ c.args.base * n = c.deinterleave.auto.parts ∙ (c.requires.scratch_size ∙ whole) in
     record {
-      products = no_parts c.args.work.now.products _ _;
-      butterflies = no_part c.args.work.now.butterflies _;
-      steps = no_part c.args.work.now.steps _;
+      counted = no_part_counted c.args.base _ _ c.args.work.now;
       done = λ w table r i rl il. none_yet r rl;
       rest = λ r i l rl il. dealt_items m V.zero c.args.base n c.args.xs.now c.deinterleave.new.parts whole size c.deinterleave.ensures r i rl il;
     }
@@ -124,13 +122,10 @@ loop-r-preserved g t c =
     let b = block_within q n r0 c.loop-r-test.true in
     let of_scratch : length (take k (drop (r0 * n) c.loop-r.scratch)) ≡ n = part_length (r0 * n) k n c.loop-r.scratch same (subst (λ x. r0 * n + n ≤ x) (sym size) b) in
     let of_new : length c.mixed.new.xs ≡ n = c.mixed.auto.xs ∙ of_scratch in
-    let a = q * q - 1 in
     let b = c.args.odds - 1 in
     let part = length (take k (drop (r0 * n) c.loop-r.scratch)) in
     record {
-      products = counted_more c.args.work.now.products c.loop-r.work.products c.mixed.new.work.products r0 c.args.levels a b part n q v.products c.mixed.ensures.products of_scratch;
-      butterflies = joined_more c.args.work.now.butterflies c.loop-r.work.butterflies c.mixed.new.work.butterflies r0 c.args.levels part n v.butterflies c.mixed.ensures.butterflies of_scratch;
-      steps = stepped_more c.args.work.now.steps c.loop-r.work.steps c.mixed.new.work.steps r0 b part n q v.steps c.mixed.ensures.steps of_scratch;
+      counted = part_counted q r0 c.args.levels b part n v.counted c.mixed.ensures.counted of_scratch;
       done = λ w table r i rl il.
           block_done g.met.F.Field.field_laws g.met.T.DomainCoeff.module_laws m n q r0 k (power K w (c.args.stride * q)) c.loop-r.scratch c.mixed.new.xs (λ r k. item V (map m c.args.xs.now) (q * k + r)) c.loop-r-test.true size same of_new (c.mixed.ensures.transformed w table) v.rest (v.done w table) r i rl il;
       rest = λ r i l rl il.
@@ -154,20 +149,10 @@ join-requires-clause-table_size g t c =
     table_size (length c.args.xs.now) c.args.stride (length c.args.table.now) c.args.base (length c.args.xs.now / c.args.base) c.requires.whole
     (parts_whole c.args.levels c.args.base c.args.odds (length c.args.xs.now) pos c.if-odds-gt0.true c.requires.size)
 
-pub returns-after-loop-r-clause-products : goal.returns-after-loop-r-clause-products
-returns-after-loop-r-clause-products g t c =
-    all_products c.args.work.now.products c.loop-r.work.products c.join.new.work.products c.loop-r.r c.args.base c.args.levels c.args.odds (length c.args.xs.now) (positive c.args.base c.requires.odd) c.if-odds-gt0.true c.requires.size
-    (ended c.loop-r.r c.args.base c.loop-r.auto.r-end c.loop-r-test.false) (c.args.base * c.args.base - 1) c.loop-r.invariant.products c.join.ensures.products
-
-pub returns-after-loop-r-clause-butterflies : goal.returns-after-loop-r-clause-butterflies
-returns-after-loop-r-clause-butterflies g t c =
-    all_butterflies c.args.work.now.butterflies c.loop-r.work.butterflies c.join.new.work.butterflies c.loop-r.r c.args.base c.args.levels c.args.odds (length c.args.xs.now) (positive c.args.base c.requires.odd) c.if-odds-gt0.true c.requires.size
-    (ended c.loop-r.r c.args.base c.loop-r.auto.r-end c.loop-r-test.false) c.loop-r.invariant.butterflies c.join.ensures.butterflies
-
-pub returns-after-loop-r-clause-steps : goal.returns-after-loop-r-clause-steps
-returns-after-loop-r-clause-steps g t c =
-    all_steps c.args.work.now.steps c.loop-r.work.steps c.join.new.work.steps c.loop-r.r c.args.base c.args.levels c.args.odds (length c.args.xs.now) (positive c.args.base c.requires.odd) c.if-odds-gt0.true c.requires.size
-    (ended c.loop-r.r c.args.base c.loop-r.auto.r-end c.loop-r-test.false) c.loop-r.invariant.steps c.join.ensures.steps
+pub returns-after-loop-r-clause-counted : goal.returns-after-loop-r-clause-counted
+returns-after-loop-r-clause-counted g t c =
+    all_counted c.loop-r.r c.args.base c.args.levels c.args.odds (length c.args.xs.now) (positive c.args.base c.requires.odd) c.if-odds-gt0.true c.requires.size
+    (ended c.loop-r.r c.args.base c.loop-r.auto.r-end c.loop-r-test.false) c.loop-r.invariant.counted c.join.ensures.counted
 
 pub returns-after-loop-r-clause-transformed : goal.returns-after-loop-r-clause-transformed
 returns-after-loop-r-clause-transformed g t c = λ w table i l.

@@ -4,6 +4,8 @@ use Rattle.std.proofs.lemmas.List.{get_or_read}
 use Rattle.ark_math.specs.Module.{item}
 use Rattle.ark_math.proofs.Lists.Lists.{read_at, written_same, written_other}
 use Rattle.ark_fft.proofs.Parts.{place_below, twist_below, next_place, next_twist, columns_differ, rows_differ}
+use Rattle.ark_traits.proofs.Cost.{none_grown}
+use Rattle.ark_fft.proofs.Counts.{one_round_more}
 use Rattle.ark_fft.proofs.domain.mixed_radix.kernel.apply_twiddles.Goals as goal
 
 pub overflow_mul-turn : goal.overflow_mul-turn
@@ -19,9 +21,7 @@ loop-r-init g c =
       from = omega arith;
       place = omega arith;
       at = omega arith;
-      products = omega arith;
-      butterflies = refl;
-      steps = refl;
+      counted = none_grown c.args.work.now;
       done = λ first r l.
           let item_of = item V (map g.T.DomainCoeff.meaning c.args.parts.now) (r * c.args.m + c.args.i) in
           let none : r ≡ 0 = omega arith in
@@ -101,9 +101,7 @@ loop-r-preserved g c =
       from = omega arith;
       place = place ∙ ap (λ t. t * c.args.m + i0) same;
       at = apply_twiddles ∙ ap (λ t. t * i0 * s) same;
-      products = omega arith;
-      butterflies = omega arith;
-      steps = omega arith;
+      counted = one_round_more c.loop-r._r v.from v.counted c.scale.ensures.counted;
       done = λ one r rl.
           ⊎_elim
           (λ (e : r ≡ r0).

@@ -1,4 +1,5 @@
-use Rattle.std.proofs.Common.{◌≡◌, ℕ, suc, ◌+◌, ◌-◌, ◌∙◌, length, ◌*◌, ◌<◌, ◌^◌, ap, arith}
+use Rattle.std.proofs.Common.{◌≡◌, ℕ, suc, ◌+◌, ◌-◌, ◌∙◌, length, ◌*◌, ◌<◌, ◌^◌, ap, subst, arith}
+use Rattle.ark_math.specs.Cost.{GrowsBy, butterfly_counts}
 use Rattle.ark_math.specs.Field.{power}
 use Rattle.ark_fft.proofs.Halving.{few_levels}
 use Rattle.ark_fft.proofs.Mixed.{even_half, length-half, half_table, even_transformed, one_transformed, power_butterflies}
@@ -43,8 +44,6 @@ pub returns-else-levels-gt0-clause-transformed : goal.returns-else-levels-gt0-cl
 returns-else-levels-gt0-clause-transformed g c = λ w table i l.
     one_transformed g.met.F.Field.field_laws g.met.T.DomainCoeff.module_laws g.T.DomainCoeff.meaning c.args.levels (length c.args.xs.now) (power g.F.Field.field w c.args.stride) c.args.xs.now c.requires.size (omega arith) i l
 
-pub returns-then-levels-gt0-clause-butterflies : goal.returns-then-levels-gt0-clause-butterflies
-returns-then-levels-gt0-clause-butterflies g c = omega (arith, power_butterflies c.args.levels (length c.args.xs.now) c.requires.size)
-
-pub returns-then-levels-gt0-clause-products : goal.returns-then-levels-gt0-clause-products
-returns-then-levels-gt0-clause-products g c = omega (arith, power_butterflies c.args.levels (length c.args.xs.now) c.requires.size)
+pub returns-then-levels-gt0-clause-counted : goal.returns-then-levels-gt0-clause-counted
+returns-then-levels-gt0-clause-counted g c =
+    subst (λ k. GrowsBy (butterfly_counts k) c.args.work.now c.halves.new.work) (power_butterflies c.args.levels (length c.args.xs.now) c.requires.size) c.halves.ensures.counted

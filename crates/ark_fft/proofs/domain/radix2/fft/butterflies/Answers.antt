@@ -1,9 +1,10 @@
-use Rattle.std.proofs.Common.{◌≡◌, ◌*◌, ◌<◌, ◌≤◌, ℕ, map, length, get_or, ap, sym, subst, ◌∙◌, arith}
+use Rattle.std.proofs.Common.{refl, ◌≡◌, ◌*◌, ◌<◌, ◌≤◌, ℕ, map, length, get_or, ap, sym, subst, ◌∙◌, arith}
 use Rattle.std.proofs.lemmas.Nat.{mul-add-lt}
 use Rattle.std.proofs.lemmas.List.{get_or_read}
 use Rattle.ark_math.specs.Module.{item}
 use Rattle.ark_math.proofs.Lists.Lists.{read_at, written_more, written_rest}
-use Rattle.ark_fft.proofs.Counts.{below_is_within, ended, one_more, itself}
+use Rattle.ark_traits.proofs.Cost.{grows_twice}
+use Rattle.ark_fft.proofs.Counts.{below_is_within, ended, itself}
 use Rattle.ark_fft.proofs.domain.radix2.fft.butterflies.Goals as goal
 
 index_within : (i n s size : ℕ) → i < n → 0 < s → n * s ≤ size → i * s < size
@@ -44,9 +45,7 @@ loop-i-preserved g c =
     let lo0 = λ (k : ℕ). item V (map m c.args.lo.now) k in
     let hi0 = λ (k : ℕ). item V (map m c.args.hi.now) k in
     record {
-      butterflies = one_more c.args.work.now.butterflies c.loop-i.work.butterflies c.butterfly.new.work.butterflies i v.butterflies c.butterfly.ensures.butterflies;
-      products = one_more c.args.work.now.products c.loop-i.work.products c.butterfly.new.work.products i v.products c.butterfly.ensures.products;
-      steps = c.butterfly.ensures.steps ∙ v.steps;
+      counted = grows_twice v.counted c.butterfly.ensures.counted refl refl refl;
       sums = written_more m V.zero (λ k. V.plus (lo0 k) (hi0 k)) c.loop-i.lo i c.butterfly.new.lo in_lo v.sums
           (c.butterfly.ensures.sum ∙ (ap (λ t. V.plus t (m (get_or c.loop-i.hi i c.index-hi-i.result))) rest_lo ∙ ap (V.plus (lo0 i)) rest_hi));
       differences = written_more m V.zero (λ k. V.scale (get_or c.args.table.now (k * c.args.stride) g.F.Field.field.zero) (V.plus (lo0 k) (V.negated (hi0 k)))) c.loop-i.hi i c.butterfly.new.hi in_hi v.differences

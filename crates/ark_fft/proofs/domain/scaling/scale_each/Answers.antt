@@ -1,8 +1,9 @@
-use Rattle.std.proofs.Common.{◌<◌, ℕ, map, length, ap, sym, subst, ◌∙◌}
+use Rattle.std.proofs.Common.{refl, ◌<◌, ℕ, map, length, ap, sym, subst, ◌∙◌}
 use Rattle.ark_math.specs.Module.{item}
 use Rattle.ark_math.proofs.Lists.Lists.{read_at, written_more, written_rest}
-use Rattle.ark_fft.proofs.Counts.{one_more, itself, ended}
-use Rattle.ark_fft.proofs.domain.radix2.fft.scale_each.Goals as goal
+use Rattle.ark_traits.proofs.Cost.{grows_twice}
+use Rattle.ark_fft.proofs.Counts.{itself, ended}
+use Rattle.ark_fft.proofs.domain.scaling.scale_each.Goals as goal
 
 pub loop-i-preserved : goal.loop-i-preserved
 loop-i-preserved g c =
@@ -15,9 +16,7 @@ loop-i-preserved g c =
     let old = λ (k : ℕ). item V (map m c.args.xs.now) k in
     let e = c.scale.ensures.product in
     record {
-      butterflies = c.scale.ensures.butterflies ∙ v.butterflies;
-      products = one_more c.args.work.now.products c.loop-i.work.products c.scale.new.self.products i v.products c.scale.ensures.products;
-      steps = c.scale.ensures.steps ∙ v.steps;
+      counted = grows_twice v.counted c.scale.ensures.counted refl refl refl;
       before = written_more m V.zero (λ k. V.scale c.args.factor (old k)) c.loop-i.xs i c.scale.new.value in_xs v.before
           (e ∙ ap (V.scale c.args.factor) (read_at m V.zero c.loop-i.xs i _ in_xs ∙ v.rest i here));
       rest = written_rest m V.zero old c.loop-i.xs i c.scale.new.value v.rest;

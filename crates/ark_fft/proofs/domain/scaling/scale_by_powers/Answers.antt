@@ -1,12 +1,14 @@
 use Rattle.std.proofs.Common.{◌≡◌, ◌<◌, ℕ, map, length, get_or, ◌+◌, suc, sym, subst, ap, ap₂, ◌∙◌, refl, add-one}
+use Rattle.ark_math.specs.Cost.{GrowsBy, counts}
 use Rattle.ark_math.specs.Field.{power}
 use Rattle.ark_math.specs.Module.{item}
 use Rattle.ark_math.proofs.Lists.Lists.{read_at, written_more, written_rest}
 use Rattle.ark_math.proofs.Algebra.Solve.{◌⊗◌}
 use Rattle.ark_math.proofs.Algebra.Ring.{ring3}
-use Rattle.ark_fft.proofs.Counts.{ended, none_yet, one_more, itself, start}
+use Rattle.ark_traits.proofs.Cost.{none_grown, grows_twice}
+use Rattle.ark_fft.proofs.Counts.{ended, none_yet, itself}
 use Rattle.ark_fft.proofs.Radix2.{scaled_by_one}
-use Rattle.ark_fft.proofs.domain.radix2.fft.scale_by_powers.Goals as goal
+use Rattle.ark_fft.proofs.domain.scaling.scale_by_powers.Goals as goal
 
 pub loop-i-init : goal.loop-i-init
 loop-i-init g c =
@@ -15,9 +17,7 @@ loop-i-init g c =
     let e : 1 ≡ 0 + 1 = refl in
     let q : c.mul-after.result ≡ K.times c.args.start c.args.factor = g.met.F.Field.mul_law _ _ _ c.mul-after.ensures in
     record {
-      butterflies = refl;
-      products = start c.args.work.now.products;
-      steps = refl;
+      counted = none_grown c.args.work.now;
       next_scale = sym (N.times_one c.args.start);
       after_scale = q ∙ (ap (K.times c.args.start) (sym (N.times_one c.args.factor)) ∙ ap (λ n. K.times c.args.start (power K c.args.factor n)) e);
       before = λ i l. none_yet i l;
@@ -37,9 +37,7 @@ loop-i-preserved g c =
     let scales = λ (k : ℕ). K.times c.args.start (power K c.args.factor k) in
     let e = c.scale.ensures.product in
     record {
-      butterflies = c.scale.ensures.butterflies ∙ v.butterflies;
-      products = one_more c.args.work.now.products c.loop-i.work.products c.scale.new.self.products i v.products c.scale.ensures.products;
-      steps = c.scale.ensures.steps ∙ v.steps;
+      counted = grows_twice v.counted c.scale.ensures.counted refl refl refl;
       next_scale = v.after_scale;
       after_scale =
           let q : c.mul-later.result ≡ K.times c.loop-i.next c.mul-square.result = g.met.F.Field.mul_law _ _ _ c.mul-later.ensures in
@@ -58,20 +56,12 @@ returns-then-is_one-clause-items g c = λ i l.
     let one : c.args.factor ≡ g.F.Field.field.one = (g.met.F.Field.equality_law c.args.factor g.F.One.one).0 (sym c.is_one.ensures ∙ c.if-is_one.true) ∙ g.met.F.Field.one_law in
     c.scale_each.ensures.items i l ∙ scaled_by_one g.T.DomainCoeff.group g.met.F.Field.field_laws c.args.factor c.args.start i _ one
 
-pub returns-then-is_one-clause-butterflies : goal.returns-then-is_one-clause-butterflies
-returns-then-is_one-clause-butterflies g c = c.scale_each.ensures.butterflies
-
-pub returns-then-is_one-clause-products : goal.returns-then-is_one-clause-products
-returns-then-is_one-clause-products g c = c.scale_each.ensures.products
+pub returns-then-is_one-clause-counted : goal.returns-then-is_one-clause-counted
+returns-then-is_one-clause-counted g c = c.scale_each.ensures.counted
 
 pub returns-after-loop-i-clause-items : goal.returns-after-loop-i-clause-items
 returns-after-loop-i-clause-items g c = λ i l. c.loop-i.invariant.before i (subst (λ k. i < k) (sym (ended c.loop-i.i (length c.args.xs.now) c.loop-i.auto.i-end c.loop-i-test.false)) l)
 
-pub returns-after-loop-i-clause-butterflies : goal.returns-after-loop-i-clause-butterflies
-returns-after-loop-i-clause-butterflies g c = c.loop-i.invariant.butterflies
-
-pub returns-after-loop-i-clause-products : goal.returns-after-loop-i-clause-products
-returns-after-loop-i-clause-products g c = c.loop-i.invariant.products ∙ ap (λ k. c.args.work.now.products + k) (ended c.loop-i.i (length c.args.xs.now) c.loop-i.auto.i-end c.loop-i-test.false)
-
-pub returns-after-loop-i-clause-steps : goal.returns-after-loop-i-clause-steps
-returns-after-loop-i-clause-steps g c = c.loop-i.invariant.steps
+pub returns-after-loop-i-clause-counted : goal.returns-after-loop-i-clause-counted
+returns-after-loop-i-clause-counted g c =
+    subst (λ k. GrowsBy (counts k 0 0) c.args.work.now c.loop-i.work) (ended c.loop-i.i (length c.args.xs.now) c.loop-i.auto.i-end c.loop-i-test.false) c.loop-i.invariant.counted
