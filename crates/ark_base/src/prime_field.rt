@@ -390,6 +390,8 @@ impl<M: PrimeModulus> DomainCoeff<PrimeField<M>> for PrimeField<M> {
 
     ghost equality_meaning = { prime_field_equals };
 
+    ghost clone_meaning = { λ a b e. e };
+
     ghost zero_meaning = { refl };
 
     ghost can_add_meaning = { λ a b. tt };
