@@ -57,7 +57,7 @@ scaled_cost s root offset direction n levels len fitted mid {before} {scaled} {a
     radix2_cost s root offset len direction n levels first.scalings log (subst (λ k. first.scalings ≤ k) of_fitted first.few)
     (scaled_first first.scalings (n / 2 * levels) (n / 2 * levels) 0 first.grows (subst (λ k. GrowsBy (butterfly_counts (k / 2 * levels)) scaled after) of_mid grows))
 
--- the same with a scaling of each item after it
+-- the cost of that kernel, and of a scaling of each item after it
 pub cost_then_scaled : {F : Type 0} (s : Adicity) (root offset : F) (direction : Direction) (n levels len fitted mid : ℕ) {before joined after : Counts} → IsLog2Up (counted_items n len direction) levels → fitted ≡ n → mid ≡ n →
     GrowsBy (butterfly_counts (fitted / 2 * levels)) before joined → GrowsBy (counts mid 0 0) joined after →
     GrowsByCost s (record { kind = radix2; size = n; root = root; offset = offset }) len direction before after

@@ -1,5 +1,6 @@
--- What a caller of the domains can use: from the clauses of a call to the fact that is wanted.
+-- What a caller can use: from the clauses of a call to the fact that is wanted.
 pub mod ComputedSizes
 pub mod Lanes
+pub mod Remainders
 pub mod Sizes
 pub mod Transforms

@@ -1,4 +1,4 @@
-//! The convolution of two lists, through transforms.
+//! The convolution of two lists, by the product of polynomials.
 
 ghost use Rattle.std.specs.Prelude.{◌≡◌, ◌⊎◌, IfOk, IfErr};
 ghost use Rattle.ark_math.specs.Univariate.{IsTrimmed, of_list, product};

@@ -47,7 +47,11 @@ pub(crate) fn scale_by_powers<F: FftField, T: DomainCoeff<F>>(
 }
 
 /// Scales item i by the offset to the i, and nothing where the offset is one.
-pub(crate) fn shift_to_coset<F: FftField, T: DomainCoeff<F>>(work: &mut Work, xs: &mut [T], offset: F)
+pub(crate) fn shift_to_coset<F: FftField, T: DomainCoeff<F>>(
+    work: &mut Work,
+    xs: &mut [T],
+    offset: F,
+)
     ensures items { (i : ℕ) → i < length xs.old → item T.group (map T.meaning xs.new) i
         ≡ T.group.scale (power F.field offset i) (item T.group (map T.meaning xs.old) i) }
     ensures counted { GrowsByScalings (length xs.old) work.old work.new }

@@ -107,8 +107,10 @@ impl<F: FftField> EvaluationDomain<F> for GeneralEvaluationDomain<F> {
     }
 
     ghost lawful = { elim [
-      | Radix2 d ↦ radix2_is_domain F.field F.adicity F.root F.equality_law d.coset.splits d.even d.coset.root_is d.coset.offset_not_zero
-      | MixedRadix d ↦ mixed_radix_is_domain F.field F.adicity F.root F.equality_law d.coset.splits d.based d.coset.root_is d.coset.offset_not_zero
+      | Radix2 d ↦ radix2_is_domain F.field F.adicity F.root F.equality_law d.coset.splits d.even
+          d.coset.root_is d.coset.offset_not_zero
+      | MixedRadix d ↦ mixed_radix_is_domain F.field F.adicity F.root F.equality_law d.coset.splits
+          d.based d.coset.root_is d.coset.offset_not_zero
     ] };
 
     ghost equality = { elim [

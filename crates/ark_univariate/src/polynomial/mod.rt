@@ -1,7 +1,7 @@
 //! Polynomials by their coefficients.
 
-ghost use Rattle.std.specs.Prelude.{◌≡◌, ◌↔◌, ℕ, ◌+◌, ◌⊎◌, List, length};
-ghost use Rattle.std.specs.Prelude.{IfOk, IfErr, IfSome, IsNone, IsOkUnless};
+ghost use Rattle.std.specs.Prelude.{◌≡◌, ◌↔◌, ℕ, ◌+◌, List, length, IfOk, IfSome, IsNone, IsOkUnless};
+ghost use Rattle.ark_math.specs.Outcome.{IsOkUnlessEither};
 ghost use Rattle.ark_math.specs.Univariate.{of_list, nothing, added, opposite, scaled};
 ghost use Rattle.ark_math.specs.Univariate.{IsTrimmed, IsDegree, IsValue};
 
@@ -50,7 +50,7 @@ pub trait DenseUVPolynomial<F: Field>: Polynomial<F, Point = F> {
         ensures len { IfOk result (λ drawn. IfSome drawn (λ p. length (listed p) ≡ d + 1)) }
         ensures spent { tries ≡ 0 → IfOk result (λ drawn. IsNone drawn) }
         ensures overflow { (result ≡ Err PolyError.Overflow) ↔ (d ≡ usize.MAX) }
-        ensures errors { IfErr result (λ e. (e ≡ PolyError.Memory) ⊎ (e ≡ PolyError.Overflow)) };
+        ensures errors { IsOkUnlessEither result PolyError.Memory PolyError.Overflow };
 
     // A polynomial's coefficients by their exponents.
     ghost coefficients: { Self.Polynomial.Meaning → ℕ → F };

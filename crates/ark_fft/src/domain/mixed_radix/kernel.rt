@@ -2,7 +2,8 @@
 
 ghost use Rattle.std.specs.Prelude.{◌≡◌, ◌≢◌, ℕ, true, false, IsSome, IsOkUnless, IfOk, OnOk, OnErr, List};
 ghost use Rattle.std.specs.Prelude.{map, length, get_or, ◌+◌, ◌-◌, ◌*◌, ◌/◌, ◌≤◌, ◌<◌, ◌^◌, vec_len};
-ghost use Rattle.ark_math.specs.Domain.{mixed_radix, domain_of};
+ghost use Rattle.ark_math.specs.Domain.{mixed_radix};
+ghost use Rattle.ark_fft.specs.Coset.{coset_domain};
 ghost use Rattle.ark_math.specs.Field.{FieldOn, power};
 ghost use Rattle.ark_math.specs.Transform.{transform, IsInverse};
 ghost use Rattle.ark_math.proofs.Transforms.Places.{dft_at};
@@ -29,7 +30,7 @@ fn horner_sum<F: FftField, T: DomainCoeff<F>>(
     factor: F,
     last: usize,
 ) -> T
-    requires some { 0 < base }
+    requires base_not_zero { 0 < base }
     requires rows { (base - 1) * m ≤ last }
     requires inside { last < length parts.now }
     ensures counted { GrowsBy (counts (base - 1) 0 0) work.old work.new }
@@ -60,8 +61,8 @@ fn apply_twiddles<F: FftField, T: DomainCoeff<F>>(
     requires parts_size { length parts.old ≡ base * m }
     requires table_size { length table.now ≡ base * (m * stride) }
     requires small { length table.now < 2 ^ 64 }
-    requires odd { 1 < base }
-    requires some { 0 < stride }
+    requires above_one { 1 < base }
+    requires stride_not_zero { 0 < stride }
     requires place { i < m }
     ensures counted { GrowsBy (counts (base - 1) 0 1) work.old work.new }
     ensures twisted { get_or table.now 0 F.field.zero ≡ F.field.one → (r : ℕ) → r < base
@@ -94,8 +95,8 @@ fn apply_all_twiddles<F: FftField, T: DomainCoeff<F>>(
     requires parts_size { length parts.old ≡ base * m }
     requires table_size { length table.now ≡ base * (m * stride) }
     requires small { length table.now < 2 ^ 64 }
-    requires odd { 1 < base }
-    requires some { 0 < stride }
+    requires above_one { 1 < base }
+    requires stride_not_zero { 0 < stride }
     ensures counted { GrowsBy (counts ((base - 1) * m) 0 m) work.old work.new }
     ensures twisted { get_or table.now 0 F.field.zero ≡ F.field.one → (r i : ℕ) → r < base → i < m
         → item T.group (map T.meaning parts.new) (r * m + i)
@@ -148,8 +149,8 @@ fn join<F: FftField, T: DomainCoeff<F>>(
     requires whole_size { length whole.old ≡ base * m }
     requires table_size { length table.now ≡ base * (m * stride) }
     requires small { length table.now < 2 ^ 64 }
-    requires odd { 1 < base }
-    requires some { 0 < stride }
+    requires above_one { 1 < base }
+    requires stride_not_zero { 0 < stride }
     ensures counted { GrowsBy (counts ((base * base - 1) * m) 0 m) work.old work.new }
     ensures joined { get_or table.now 0 F.field.zero ≡ F.field.one → (j i : ℕ) → j < base → i < m
         → item T.group (map T.meaning whole.new) (j * m + i)
@@ -168,7 +169,7 @@ fn join<F: FftField, T: DomainCoeff<F>>(
 fn deinterleave<T: Copy>(whole: &[T], parts: &mut [T], base: usize, m: usize)
     requires whole_size { length whole.now ≡ base * m }
     requires parts_size { length parts.old ≡ base * m }
-    requires some { 0 < base }
+    requires base_not_zero { 0 < base }
     ensures { (r i : ℕ) (d : T) → r < base → i < m → get_or parts.new (r * m + i) d
         ≡ get_or whole.now (base * i + r) d }
 {
@@ -190,7 +191,7 @@ fn even_transform<F: FftField, T: DomainCoeff<F>>(
     requires size { length xs.old ≡ 2 ^ levels }
     requires whole { length xs.old * stride ≡ length table.now }
     requires small { length table.now < 2 ^ 64 }
-    requires some { 0 < stride }
+    requires stride_not_zero { 0 < stride }
     ensures counted { GrowsBy (butterfly_counts (levels * length xs.old / 2)) work.old work.new }
     ensures transformed { (w : F) → IsPowerTable F.field w table.now → (i : ℕ) → i < length xs.old
         → item T.group (map T.meaning xs.new) i
@@ -219,8 +220,8 @@ fn mixed<F: FftField, T: DomainCoeff<F>>(
     requires scratch_size { length scratch.old ≡ length xs.old }
     requires whole { length xs.old * stride ≡ length table.now }
     requires small { length table.now < 2 ^ 64 }
-    requires some { 0 < stride }
-    requires odd { 1 < base }
+    requires stride_not_zero { 0 < stride }
+    requires above_one { 1 < base }
     requires few { base < 2 ^ 32 }
     ensures counted { GrowsBy (mixed_counts base (levels * length xs.old / 2) (odds * (length xs.old / base)))
         work.old work.new }
@@ -284,10 +285,9 @@ pub fn fft_counted<F: FftField, T: DomainCoeff<F>>(
 ) -> Result<(), PolyError>
     requires based { IsSome F.adicity.odd }
     ensures transform { OnOk result (map T.meaning coeffs.new.items
-        ≡ transform F.field T.group (domain_of mixed_radix coset.now.size coset.now.group_gen
-        coset.now.offset) (map T.meaning coeffs.old.items)) }
+        ≡ transform F.field T.group (coset_domain mixed_radix coset.now) (map T.meaning coeffs.old.items)) }
     ensures cost { OnOk result (GrowsByCost F.adicity
-        (domain_of mixed_radix coset.now.size coset.now.group_gen coset.now.offset) (length coeffs.old.items)
+        (coset_domain mixed_radix coset.now) (length coeffs.old.items)
         forward work.old work.new) }
     ensures kept { OnErr result (coeffs.new.items ≡ coeffs.old.items) }
     ensures uncounted { OnErr result (work.new ≡ work.old) }
@@ -310,7 +310,7 @@ pub fn fft_counted<F: FftField, T: DomainCoeff<F>>(
     Ok(())
 }
 
-/// Its inverse in place, by as many butterflies and steps at the inverse root and one scaling a place.
+/// The inverse of the transform in place, by as many butterflies and steps at the inverse root and one scaling a place.
 pub fn ifft_counted<F: FftField, T: DomainCoeff<F>>(
     coset: &Coset<F>,
     alloc: Global,
@@ -319,10 +319,10 @@ pub fn ifft_counted<F: FftField, T: DomainCoeff<F>>(
 ) -> Result<(), PolyError>
     requires based { IsSome F.adicity.odd }
     ensures inverse { OnOk result (IsInverse F.field T.group
-        (domain_of mixed_radix coset.now.size coset.now.group_gen coset.now.offset)
+        (coset_domain mixed_radix coset.now)
         (map T.meaning evals.old.items) (map T.meaning evals.new.items)) }
     ensures cost { OnOk result (GrowsByCost F.adicity
-        (domain_of mixed_radix coset.now.size coset.now.group_gen coset.now.offset) (length evals.old.items)
+        (coset_domain mixed_radix coset.now) (length evals.old.items)
         inverse work.old work.new) }
     ensures kept { OnErr result (evals.new.items ≡ evals.old.items) }
     ensures uncounted { OnErr result (work.new ≡ work.old) }

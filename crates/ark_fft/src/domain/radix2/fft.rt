@@ -2,7 +2,8 @@
 
 ghost use Rattle.std.specs.Prelude.{◌≡◌, ◌≢◌, ℕ, true, false, IsOkUnless, IfOk, OnOk, OnErr, List, map};
 ghost use Rattle.std.specs.Prelude.{length, get_or, take, ◌+◌, ◌-◌, ◌*◌, ◌/◌, ◌≤◌, ◌<◌, ◌^◌, vec_len};
-ghost use Rattle.ark_math.specs.Domain.{radix2, domain_of};
+ghost use Rattle.ark_math.specs.Domain.{radix2};
+ghost use Rattle.ark_fft.specs.Coset.{coset_domain};
 ghost use Rattle.ark_math.specs.Field.{FieldOn, power};
 ghost use Rattle.ark_math.specs.Transform.{transform, IsInverse};
 ghost use Rattle.ark_math.proofs.Transforms.Places.{dft_at};
@@ -41,7 +42,7 @@ fn butterflies<F: FftField, T: DomainCoeff<F>>(
 )
     requires same { length lo.old ≡ length hi.old }
     requires enough { length lo.old * stride ≤ length table.now }
-    requires some { 0 < stride }
+    requires stride_not_zero { 0 < stride }
     ensures sums { (i : ℕ) → i < length lo.old → item T.group (map T.meaning lo.new) i
         ≡ T.group.plus (item T.group (map T.meaning lo.old) i) (item T.group (map T.meaning hi.old) i) }
     ensures differences { (i : ℕ) → i < length lo.old → item T.group (map T.meaning hi.new) i
@@ -84,7 +85,7 @@ pub(crate) fn halves<F: FftField, T: DomainCoeff<F>>(
     requires size { length xs.old ≡ 2 ^ levels }
     requires whole { 2 ^ levels * stride / 2 ≡ length table.now }
     requires small { length table.now < 2 ^ 63 }
-    requires some { 0 < stride }
+    requires stride_not_zero { 0 < stride }
     ensures sums { (w : F) → IsHalfTable F.field w table.now → (p : ℕ) → p < 2 ^ levels
         → item T.group (map T.meaning xs.new) p ≡ dft_at F.field T.group (2 ^ levels) (power F.field w stride)
         (item T.group (map T.meaning xs.old)) (reversed levels p) }
@@ -211,7 +212,7 @@ fn join<F: FftField, T: DomainCoeff<F>>(work: &mut Work, lo: &mut T, hi: &mut T,
     work.butterfly();
 }
 
-/// Those butterflies across two halves, each with the twiddle at its index.
+/// The butterflies that join two halves, each with the twiddle at its index.
 fn join_butterflies<F: FftField, T: DomainCoeff<F>>(
     work: &mut Work,
     lo: &mut [T],
@@ -277,7 +278,7 @@ fn fill<T: Copy>(xs: &mut [T], from: usize, to: usize, item: T)
 /// Fills a block of places with each of the first items, in their order.
 fn spread_out<T: Copy>(xs: &mut [T], items: usize, block: usize)
     requires whole { length xs.old ≡ items * block }
-    requires some { 0 < block }
+    requires not_empty { 0 < block }
     ensures { (p : ℕ) (d : T) → p < length xs.old → get_or xs.new p d ≡ get_or xs.old (p / block) d }
 {
     for r in (0..items).rev() {
@@ -287,8 +288,8 @@ fn spread_out<T: Copy>(xs: &mut [T], items: usize, block: usize)
     }
 }
 
-/// The same at a root, where the tables are those of all levels but the last. The last one's twiddles take their place once
-/// they have been used.
+/// The transform of `join_halves` at a root, where the tables are those of all levels but the last. The last one's
+/// twiddles take the place of these once they have been used.
 fn join_levels<F: FftField, T: DomainCoeff<F>>(
     work: &mut Work,
     xs: &mut [T],
@@ -441,10 +442,10 @@ fn degree_aware_fft_in_place<F: FftField, T: DomainCoeff<F>>(
     requires even { coset.now.odd_exponent ≡ 0 }
     requires short { length coeffs.old.items ≤ coset.now.size / 4 }
     ensures transform { OnOk result (map T.meaning coeffs.new.items
-        ≡ transform F.field T.group (domain_of radix2 coset.now.size coset.now.group_gen coset.now.offset)
+        ≡ transform F.field T.group (coset_domain radix2 coset.now)
         (map T.meaning coeffs.old.items)) }
-    ensures cost { OnOk result (GrowsByCost F.adicity (domain_of radix2 coset.now.size coset.now.group_gen
-        coset.now.offset) (length coeffs.old.items) forward work.old work.new) }
+    ensures cost { OnOk result (GrowsByCost F.adicity (coset_domain radix2 coset.now) (length coeffs.old.items)
+        forward work.old work.new) }
     ensures kept { OnErr result (coeffs.new.items ≡ coeffs.old.items) }
     ensures uncounted { OnErr result (work.new ≡ work.old) }
     ensures memory { IsOkUnless result PolyError.Memory }
@@ -479,10 +480,10 @@ fn in_order_fft_in_place<F: FftField, T: DomainCoeff<F>>(
     requires even { coset.now.odd_exponent ≡ 0 }
     requires long { coset.now.size / 4 < length coeffs.old.items }
     ensures transform { OnOk result (map T.meaning coeffs.new.items
-        ≡ transform F.field T.group (domain_of radix2 coset.now.size coset.now.group_gen coset.now.offset)
+        ≡ transform F.field T.group (coset_domain radix2 coset.now)
         (map T.meaning coeffs.old.items)) }
-    ensures cost { OnOk result (GrowsByCost F.adicity (domain_of radix2 coset.now.size coset.now.group_gen
-        coset.now.offset) (length coeffs.old.items) forward work.old work.new) }
+    ensures cost { OnOk result (GrowsByCost F.adicity (coset_domain radix2 coset.now) (length coeffs.old.items)
+        forward work.old work.new) }
     ensures kept { OnErr result (coeffs.new.items ≡ coeffs.old.items) }
     ensures uncounted { OnErr result (work.new ≡ work.old) }
     ensures memory { IsOkUnless result PolyError.Memory }
@@ -503,10 +504,10 @@ pub fn fft_counted<F: FftField, T: DomainCoeff<F>>(
 ) -> Result<(), PolyError>
     requires even { coset.now.odd_exponent ≡ 0 }
     ensures transform { OnOk result (map T.meaning coeffs.new.items
-        ≡ transform F.field T.group (domain_of radix2 coset.now.size coset.now.group_gen coset.now.offset)
+        ≡ transform F.field T.group (coset_domain radix2 coset.now)
         (map T.meaning coeffs.old.items)) }
-    ensures cost { OnOk result (GrowsByCost F.adicity (domain_of radix2 coset.now.size coset.now.group_gen
-        coset.now.offset) (length coeffs.old.items) forward work.old work.new) }
+    ensures cost { OnOk result (GrowsByCost F.adicity (coset_domain radix2 coset.now) (length coeffs.old.items)
+        forward work.old work.new) }
     ensures kept { OnErr result (coeffs.new.items ≡ coeffs.old.items) }
     ensures uncounted { OnErr result (work.new ≡ work.old) }
     ensures memory { IsOkUnless result PolyError.Memory }
@@ -527,10 +528,10 @@ pub fn ifft_counted<F: FftField, T: DomainCoeff<F>>(
 ) -> Result<(), PolyError>
     requires even { coset.now.odd_exponent ≡ 0 }
     ensures inverse { OnOk result (IsInverse F.field T.group
-        (domain_of radix2 coset.now.size coset.now.group_gen coset.now.offset) (map T.meaning evals.old.items)
+        (coset_domain radix2 coset.now) (map T.meaning evals.old.items)
         (map T.meaning evals.new.items)) }
-    ensures cost { OnOk result (GrowsByCost F.adicity (domain_of radix2 coset.now.size coset.now.group_gen
-        coset.now.offset) (length evals.old.items) inverse work.old work.new) }
+    ensures cost { OnOk result (GrowsByCost F.adicity (coset_domain radix2 coset.now) (length evals.old.items)
+        inverse work.old work.new) }
     ensures kept { OnErr result (evals.new.items ≡ evals.old.items) }
     ensures uncounted { OnErr result (work.new ≡ work.old) }
     ensures memory { IsOkUnless result PolyError.Memory }

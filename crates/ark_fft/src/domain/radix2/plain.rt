@@ -2,7 +2,8 @@
 
 ghost use Rattle.std.specs.Prelude.{◌≡◌, ℕ, IsOkUnless, OnOk, OnErr, map, length, ◌+◌, ◌*◌, ◌<◌};
 ghost use Rattle.ark_math.specs.Cost.{GrowsBy, counts};
-ghost use Rattle.ark_math.specs.Domain.{radix2, domain_of};
+ghost use Rattle.ark_math.specs.Domain.{radix2};
+ghost use Rattle.ark_fft.specs.Coset.{coset_domain};
 ghost use Rattle.ark_math.specs.Field.{power};
 ghost use Rattle.ark_math.specs.Module.{item};
 ghost use Rattle.ark_math.specs.Transform.{transform, value_at};
@@ -54,7 +55,7 @@ pub fn fft_plain<F: FftField, T: DomainCoeff<F>>(
     work: &mut Work,
 ) -> Result<(), PolyError>
     ensures transform { OnOk result (map T.meaning coeffs.new.items
-        ≡ transform F.field T.group (domain_of radix2 coset.now.size coset.now.group_gen coset.now.offset)
+        ≡ transform F.field T.group (coset_domain radix2 coset.now)
         (map T.meaning coeffs.old.items)) }
     ensures counted { OnOk result (GrowsBy (counts (coset.now.size * coset.now.size) 0 0) work.old work.new) }
     ensures kept { OnErr result (coeffs.new.items ≡ coeffs.old.items) }

@@ -49,8 +49,8 @@ returns-clause-cost g c =
     scaled_cost s t.group_gen t.offset forward (length c.args.coeffs.now.items) t.size q t.log_size_of_group t.odd_exponent t.splits base some
     (length c.as_mut_slice-xs.result.now) (length c.shift_to_coset.new.xs) of_fitted (c.shift_to_coset.auto.xs ∙ of_fitted) c.shift_to_coset.ensures.counted c.mixed.ensures.counted
 
-pub mixed-requires-clause-odd : goal.mixed-requires-clause-odd
-mixed-requires-clause-odd g c =
+pub mixed-requires-clause-above_one : goal.mixed-requires-clause-above_one
+mixed-requires-clause-above_one g c =
     let s = g.F.FftField.adicity in
     let e : s.odd ≡ Some c.unwrap-base.result = sym c.odd_base.ensures ∙ c.unwrap-base.ensures in
     subst (λ k. 1 < k) (ap odd_base e) (base_above s.odd c.unwrap-base.result g.met.F.FftField.roots_law.base e)

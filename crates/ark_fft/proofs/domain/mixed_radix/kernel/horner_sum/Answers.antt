@@ -21,7 +21,7 @@ loop-r-init g c =
       counted = none_grown c.args.work.now;
       sum =
           read_as m V.zero xs c.args.last c.index-parts-last.result c.requires.inside c.index-parts-last.is
-          ∙ (ap (item V (map m xs)) place ∙ sum_last g.met.T.DomainCoeff.module_laws c.args.factor c.args.base c.args.m i (item V (map m xs)) c.requires.some);
+          ∙ (ap (item V (map m xs)) place ∙ sum_last g.met.T.DomainCoeff.module_laws c.args.factor c.args.base c.args.m i (item V (map m xs)) c.requires.base_not_zero);
     }
 
 pub overflow_sub-place : goal.overflow_sub-place

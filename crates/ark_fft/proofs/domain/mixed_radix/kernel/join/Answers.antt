@@ -25,7 +25,7 @@ all_rows {before} {after} j q m base end rows =
 
 pub overflow_mul-leap : goal.overflow_mul-leap
 overflow_mul-leap g c =
-    let small = step_small c.args.base c.args.m c.args.stride (length c.args.table.now) c.requires.table_size c.requires.small c.requires.odd c.if-m-gt0.true c.requires.some in
+    let small = step_small c.args.base c.args.m c.args.stride (length c.args.table.now) c.requires.table_size c.requires.small c.requires.above_one c.if-m-gt0.true c.requires.stride_not_zero in
     omega (arith, small)
 
 pub loop-j-init : goal.loop-j-init
@@ -36,13 +36,13 @@ loop-j-init g c = record {
 
 pub overflow_mul-j : goal.overflow_mul-j
 overflow_mul-j g c =
-    let b = index_below c.args.base c.args.m c.args.stride (length c.args.table.now) c.loop-j.j c.requires.table_size c.loop-j-test.true c.if-m-gt0.true c.requires.some in
+    let b = index_below c.args.base c.args.m c.args.stride (length c.args.table.now) c.loop-j.j c.requires.table_size c.loop-j-test.true c.if-m-gt0.true c.requires.stride_not_zero in
     omega (arith, b, c.requires.small)
 
 pub offset_bounds-table-j : goal.offset_bounds-table-j
 offset_bounds-table-j g c =
     below_is_within (c.loop-j.j * (c.args.m * c.args.stride)) (length c.args.table.now)
-    (index_below c.args.base c.args.m c.args.stride (length c.args.table.now) c.loop-j.j c.requires.table_size c.loop-j-test.true c.if-m-gt0.true c.requires.some)
+    (index_below c.args.base c.args.m c.args.stride (length c.args.table.now) c.loop-j.j c.requires.table_size c.loop-j-test.true c.if-m-gt0.true c.requires.stride_not_zero)
 
 pub sum_row-requires-clause-parts_size : goal.sum_row-requires-clause-parts_size
 sum_row-requires-clause-parts_size g c = c.apply_all_twiddles.auto.parts ∙ c.requires.parts_size
@@ -60,7 +60,7 @@ loop-j-preserved g c =
     let old = λ (k : ℕ). item V (map m c.args.parts.now) k in
     let twisted = λ (k : ℕ). item V (map m c.apply_all_twiddles.new.parts) k in
     let leap = j0 * (c.args.m * c.args.stride) in
-    let a = index_below c.args.base c.args.m c.args.stride (length c.args.table.now) j0 c.requires.table_size c.loop-j-test.true c.if-m-gt0.true c.requires.some in
+    let a = index_below c.args.base c.args.m c.args.stride (length c.args.table.now) j0 c.requires.table_size c.loop-j-test.true c.if-m-gt0.true c.requires.stride_not_zero in
     let root : c.index-table-j.result ≡ get_or c.args.table.now leap K.zero = get_or_read c.args.table.now _ _ a c.index-table-j.is K.zero in
     record {
       counted = grows_twice v.counted c.sum_row.ensures.counted (omega arith) refl (omega arith);
@@ -76,11 +76,11 @@ loop-j-preserved g c =
     }
 
 pub bounds-table-j : goal.bounds-table-j
-bounds-table-j g c = index_below c.args.base c.args.m c.args.stride (length c.args.table.now) c.loop-j.j c.requires.table_size c.loop-j-test.true c.if-m-gt0.true c.requires.some
+bounds-table-j g c = index_below c.args.base c.args.m c.args.stride (length c.args.table.now) c.loop-j.j c.requires.table_size c.loop-j-test.true c.if-m-gt0.true c.requires.stride_not_zero
 
 pub returns-after-loop-j-clause-counted : goal.returns-after-loop-j-clause-counted
 returns-after-loop-j-clause-counted g c =
-    all_rows c.loop-j.j c.args.base c.args.m c.requires.odd (ended c.loop-j.j c.args.base c.loop-j.auto.j-end c.loop-j-test.false) c.loop-j.invariant.counted
+    all_rows c.loop-j.j c.args.base c.args.m c.requires.above_one (ended c.loop-j.j c.args.base c.loop-j.auto.j-end c.loop-j-test.false) c.loop-j.invariant.counted
 
 pub returns-after-loop-j-clause-joined : goal.returns-after-loop-j-clause-joined
 returns-after-loop-j-clause-joined g c = λ one j i jl il.

@@ -89,8 +89,8 @@ offset_bounds-whole-row g c =
 pub bounds-whole-row : goal.bounds-whole-row
 bounds-whole-row g c = place_within c.args.base c.args.m (length c.loop-i.whole) c.args.j c.loop-i.i (c.loop-i.auto.whole ∙ c.requires.whole_size) c.requires.row c.loop-i-test.true
 
-pub horner_sum-requires-clause-some : goal.horner_sum-requires-clause-some
-horner_sum-requires-clause-some g c = some_rows c.args.j c.args.base c.requires.row
+pub horner_sum-requires-clause-base_not_zero : goal.horner_sum-requires-clause-base_not_zero
+horner_sum-requires-clause-base_not_zero g c = some_rows c.args.j c.args.base c.requires.row
 
 pub horner_sum-requires-clause-rows : goal.horner_sum-requires-clause-rows
 horner_sum-requires-clause-rows g c = row_start ((c.args.base - 1) * c.args.m) c.loop-i.i

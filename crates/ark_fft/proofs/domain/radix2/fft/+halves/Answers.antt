@@ -48,7 +48,7 @@ pub returns-then-xs-gt1-clause-sums : goal.returns-then-xs-gt1-clause-sums
 returns-then-xs-gt1-clause-sums g t c = λ w table p l.
     let n : length c.split_at_mut-lo.result.0.now ≡ 2 ^ (c.args.levels - 1) = front_half c.args.levels c.args.levels (some_level c.args.levels (length c.args.xs.now) c.requires.size c.if-xs-gt1.true) (itself c.args.levels) (length c.args.xs.now) (length c.split_at_mut-lo.result.0.now) c.requires.size c.split_at_mut-lo.ensures.front_len in
     let n2 : length c.halves.new.xs ≡ 2 ^ (c.args.levels - 1) = c.halves.auto.xs ∙ (c.butterflies.auto.lo ∙ n) in
-    one_level g.met.F.Field.field_laws g.met.T.DomainCoeff.module_laws g.T.DomainCoeff.meaning c.args.levels w c.args.stride c.args.table.now c.args.xs.now c.split_at_mut-lo.result.0.now c.split_at_mut-lo.result.1.now c.butterflies.new.lo c.butterflies.new.hi c.halves.new.xs c.halves-then-xs-gt1.new.xs table (some_level c.args.levels (length c.args.xs.now) c.requires.size c.if-xs-gt1.true) c.requires.whole c.requires.some c.split_at_mut-lo.ensures.value n n2 c.butterflies.ensures.sums c.butterflies.ensures.differences (c.halves.ensures.sums w table) (c.halves-then-xs-gt1.ensures.sums w table) p l
+    one_level g.met.F.Field.field_laws g.met.T.DomainCoeff.module_laws g.T.DomainCoeff.meaning c.args.levels w c.args.stride c.args.table.now c.args.xs.now c.split_at_mut-lo.result.0.now c.split_at_mut-lo.result.1.now c.butterflies.new.lo c.butterflies.new.hi c.halves.new.xs c.halves-then-xs-gt1.new.xs table (some_level c.args.levels (length c.args.xs.now) c.requires.size c.if-xs-gt1.true) c.requires.whole c.requires.stride_not_zero c.split_at_mut-lo.ensures.value n n2 c.butterflies.ensures.sums c.butterflies.ensures.differences (c.halves.ensures.sums w table) (c.halves-then-xs-gt1.ensures.sums w table) p l
 
 pub returns-then-xs-gt1-clause-counted : goal.returns-then-xs-gt1-clause-counted
 returns-then-xs-gt1-clause-counted g t c =
@@ -65,7 +65,7 @@ pub returns-then-levels-eq1-clause-sums : goal.returns-then-levels-eq1-clause-su
 returns-then-levels-eq1-clause-sums g t c = λ w table p l.
     let V = g.T.DomainCoeff.group in
     let m = g.T.DomainCoeff.meaning in
-    let within : 0 < length c.args.table.now = pair_table c.args.levels c.args.stride (length c.args.table.now) c.if-levels-eq1.true c.requires.whole c.requires.some in
-    one_pair g.met.F.Field.field_laws g.met.T.DomainCoeff.module_laws c.args.levels w c.args.stride c.args.table.now (item V (map m c.args.xs.now)) (item V (map m c.pair.new.xs)) table c.if-levels-eq1.true c.requires.whole c.requires.some c.pair.ensures.sum
+    let within : 0 < length c.args.table.now = pair_table c.args.levels c.args.stride (length c.args.table.now) c.if-levels-eq1.true c.requires.whole c.requires.stride_not_zero in
+    one_pair g.met.F.Field.field_laws g.met.T.DomainCoeff.module_laws c.args.levels w c.args.stride c.args.table.now (item V (map m c.args.xs.now)) (item V (map m c.pair.new.xs)) table c.if-levels-eq1.true c.requires.whole c.requires.stride_not_zero c.pair.ensures.sum
     (subst (λ x. item V (map m c.pair.new.xs) 1 ≡ V.scale x (V.plus (item V (map m c.args.xs.now) 0) (V.negated (item V (map m c.args.xs.now) 1)))) (get_or_read c.args.table.now _ _ within c.index-table-0.is g.F.Field.field.zero) c.pair.ensures.difference)
     p l

@@ -12,16 +12,16 @@ index_within i n s size below some enough = omega (arith, mul-add-lt i s 0 n bel
 
 pub overflow_mul-i : goal.overflow_mul-i
 overflow_mul-i g c =
-    let b = index_within c.loop-i.i (length c.args.lo.now) c.args.stride (length c.args.table.now) c.loop-i-test.true c.requires.some c.requires.enough in
+    let b = index_within c.loop-i.i (length c.args.lo.now) c.args.stride (length c.args.table.now) c.loop-i-test.true c.requires.stride_not_zero c.requires.enough in
     omega (arith, b)
 
 pub offset_bounds-table-i : goal.offset_bounds-table-i
 offset_bounds-table-i g c =
     below_is_within (c.loop-i.i * c.args.stride) (length c.args.table.now)
-    (index_within c.loop-i.i (length c.args.lo.now) c.args.stride (length c.args.table.now) c.loop-i-test.true c.requires.some c.requires.enough)
+    (index_within c.loop-i.i (length c.args.lo.now) c.args.stride (length c.args.table.now) c.loop-i-test.true c.requires.stride_not_zero c.requires.enough)
 
 pub bounds-table-i : goal.bounds-table-i
-bounds-table-i g c = index_within c.loop-i.i (length c.args.lo.now) c.args.stride (length c.args.table.now) c.loop-i-test.true c.requires.some c.requires.enough
+bounds-table-i g c = index_within c.loop-i.i (length c.args.lo.now) c.args.stride (length c.args.table.now) c.loop-i-test.true c.requires.stride_not_zero c.requires.enough
 
 pub returns-clause-sums : goal.returns-clause-sums
 returns-clause-sums g c = λ i l. c.loop-i.invariant.sums i (subst (λ k. i < k) (sym (ended c.loop-i.i (length c.args.lo.now) c.loop-i.auto.i-end c.loop-i-test.false)) l)
@@ -40,7 +40,7 @@ loop-i-preserved g c =
     let here = itself i in
     let rest_lo : m (get_or c.loop-i.lo i c.index-lo-i.result) ≡ item V (map m c.args.lo.now) i = read_at m V.zero c.loop-i.lo i c.index-lo-i.result in_lo ∙ v.rest_lo i here in
     let rest_hi : m (get_or c.loop-i.hi i c.index-hi-i.result) ≡ item V (map m c.args.hi.now) i = read_at m V.zero c.loop-i.hi i c.index-hi-i.result in_hi ∙ v.rest_hi i here in
-    let in_roots = index_within i (length c.args.lo.now) c.args.stride (length c.args.table.now) c.loop-i-test.true c.requires.some c.requires.enough in
+    let in_roots = index_within i (length c.args.lo.now) c.args.stride (length c.args.table.now) c.loop-i-test.true c.requires.stride_not_zero c.requires.enough in
     let root : c.index-table-i.result ≡ get_or c.args.table.now (i * c.args.stride) g.F.Field.field.zero = get_or_read c.args.table.now _ _ in_roots c.index-table-i.is g.F.Field.field.zero in
     let lo0 = λ (k : ℕ). item V (map m c.args.lo.now) k in
     let hi0 = λ (k : ℕ). item V (map m c.args.hi.now) k in
