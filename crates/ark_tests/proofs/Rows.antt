@@ -2,7 +2,7 @@
 use Rattle.std.proofs.Common.{◌≡◌, ℕ, ◌*◌, ◌/◌, ◌%◌, Some, refl, sym, ap, arith}
 use Rattle.ark_math.specs.Root.{Adicity, IsAdicity, Splits, odd_base}
 use Rattle.ark_math.specs.Domain.{radix2, mixed_radix}
-use Rattle.ark_math.specs.Cost.{Direction, GoesBy, IsLog2Up, counted_items}
+use Rattle.ark_math.specs.Cost.{Direction, IsLog2Up, counted_items}
 use Rattle.ark_math.proofs.Domains.Costs.{one_cost}
 use Rattle.ark_tests.specs.Costs.{Costs}
 
