@@ -34,7 +34,7 @@ use opening::opening;
 use selector::selector;
 use std::alloc::Global;
 use std::io::Print;
-use sum_check::{first_round, next_claim};
+use sum_check::{first_round, last_value, next_claim};
 use there_and_back::there_and_back;
 
 fn main(rt: HostRuntime) -> anyhow::Result<()> {
@@ -54,13 +54,16 @@ fn main(rt: HostRuntime) -> anyhow::Result<()> {
     print_polynomials(&rt, alloc)?;
     let items = over_sixteen(alloc, [1, 2, 3, 4].map(F65537::from))?;
     print_list(&rt, alloc, "over sixteen elements and back", &items)?;
-    let [low, high] = round(alloc, [1, 2, 3, 4].map(F65537::from))?;
-    let claim = next_claim(low, high, F65537::from(5));
+    let checked = round(
+        alloc,
+        [1, 2, 3, 4].map(F65537::from),
+        [5, 7].map(F65537::from),
+    )?;
     print_list(
         &rt,
         alloc,
-        "first round of a sum-check, and the next claim",
-        &[low, high, claim],
+        "first round of a sum-check, the next claim, and the last value",
+        &checked,
     )?;
     let counts = counts_at(alloc, [2, 3].map(F65537::from))?;
     print_list(
@@ -125,14 +128,15 @@ fn over_sixteen<F: FftField>(alloc: Global, items: [F; 4]) -> Result<Vec<F>, Pol
     Ok(items)
 }
 
-/// The first round for a table of two variables.
-fn round<F: Field>(alloc: Global, values: [F; 4]) -> Result<[F; 2], PolyError> {
+/// Of a table of two variables, the two numbers of the first round, the next claim, and the value at the drawn point.
+fn round<F: Field>(alloc: Global, values: [F; 4], drawn: [F; 2]) -> Result<[F; 4], PolyError> {
     let table = DenseMultilinearExtension::from_evaluations_slice(alloc, 2, &values)?;
-    if table.num_vars() == 0 {
-        return Err(PolyError::NoDomain);
-    }
+    let [first, second] = drawn;
     let (low, high) = first_round(alloc, &table)?;
-    Ok([low, high])
+    let claim = next_claim(low, high, first);
+    let point = vec![in alloc; first, second]?;
+    let last = last_value(alloc, &table, &point)?;
+    Ok([low, high, claim, last])
 }
 
 /// How much each value of a table of two variables counts at a point.
