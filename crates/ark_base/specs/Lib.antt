@@ -3,4 +3,6 @@ pub mod Element
 pub mod ElementLaws
 pub use Rattle.ark_traits.specs.Cost
 pub use Rattle.ark_traits.specs.IoSink
+pub use Rattle.ark_traits.specs.Lanes
 pub use Rattle.ark_traits.specs.Transfer
+pub use Rattle.ark_traits.specs.declared.error.PolyError

@@ -1,13 +1,12 @@
 //! Coefficients by their exponents: item i of a list is the coefficient at i.
 
-ghost use Rattle.std.specs.Prelude.{◌≡◌, ◌≢◌, ◌↔◌, ◌⊎◌, ℕ, ◌+◌, ◌-◌, ◌<◌, ◌≤◌, length, IfOk, IfErr, OnOk};
-ghost use Rattle.std.specs.Prelude.{OnErr};
+ghost use Rattle.std.specs.Prelude.{◌≡◌, ◌≢◌, ◌↔◌, ℕ, ◌+◌, ◌-◌, ◌<◌, ◌≤◌, length, IfOk, OnOk, OnErr};
 ghost use Rattle.std.specs.Prelude.{IsOkUnless, List, replicate, take, drop};
+ghost use Rattle.ark_math.specs.Outcome.{IsOkUnlessEither};
 ghost use Rattle.ark_math.specs.Module.{itself, sum_below};
 ghost use Rattle.ark_math.specs.Points.{IsPlaceQuotient};
-ghost use Rattle.ark_math.specs.Univariate.{IsBelow, of_list, added, difference, opposite, monomial};
-ghost use Rattle.ark_math.specs.Univariate.{product, scaled};
-ghost use Rattle.ark_math.specs.Univariate.{IsTrimmed, IsValue};
+ghost use Rattle.ark_math.specs.Univariate.{IsBelow, IsTrimmed, IsValue, of_list, added, difference, opposite};
+ghost use Rattle.ark_math.specs.Univariate.{monomial, product, scaled};
 
 use ark_traits::{Field, PolyError, batch_inversion};
 use std::alloc::{AllocError, Global};
@@ -150,7 +149,7 @@ pub fn naive_product<F: Field>(alloc: Global, left: &[F], right: &[F]) -> Result
         ≡ product F.field (of_list F.field left.now) (of_list F.field right.now)) }
     ensures overflow { (result ≡ Err PolyError.Overflow) ↔ (0 < length left.now) × (0 < length right.now)
         × (usize.MAX < length left.now + length right.now - 1) }
-    ensures errors { IfErr result (λ e. (e ≡ PolyError.Memory) ⊎ (e ≡ PolyError.Overflow)) }
+    ensures errors { IsOkUnlessEither result PolyError.Memory PolyError.Overflow }
 {
     if left.is_empty() || right.is_empty() {
         return Ok(Vec::new(alloc));
@@ -216,7 +215,7 @@ pub fn multiplied_by_binomial<F: Field>(
     Ok(product)
 }
 
-/// Adds zeros up to this length, unless there are as many items. After an error the items are the same.
+/// Adds zeros up to this length, unless there are as many items. After an error the items are as they were.
 pub fn grow<F: Field>(coeffs: &mut Vec<F>, len: usize) -> Result<(), AllocError>
     ensures same { of_list F.field coeffs.new.items ≡ of_list F.field coeffs.old.items }
     ensures len { OnOk result (len ≤ length coeffs.new.items) }

@@ -7,7 +7,7 @@ use ark_traits::Field;
 use rand::Rng;
 use std::alloc::{AllocError, Global};
 
-/// Adds so many drawn items at the end.
+/// Adds this many drawn items at the end.
 pub fn push_drawn<F: Field, R: Rng>(
     items: &mut Vec<F>,
     count: usize,
@@ -23,7 +23,7 @@ pub fn push_drawn<F: Field, R: Rng>(
 
 /// The first of at most `tries` draws that isn't zero.
 fn drawn_nonzero<F: Field, R: Rng>(rng: &mut R, tries: usize) -> Option<F>
-    ensures some { IfSome result (λ x. x ≢ F.field.zero) }
+    ensures nonzero { IfSome result (λ x. x ≢ F.field.zero) }
     ensures spent { tries ≡ 0 → IsNone result }
 {
     for _ in 0..tries {

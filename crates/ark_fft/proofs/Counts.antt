@@ -1,5 +1,7 @@
--- Counts and bounds of the kernels' loops, over plain numbers.
-use Rattle.std.proofs.Common.{◌≡◌, ◌≢◌, ℕ, suc, zero, ◌+◌, ◌*◌, ◌-◌, ◌<◌, ◌≤◌, arith}
+-- Counts and bounds of the kernels' loops.
+use Rattle.std.proofs.Common.{◌≡◌, ◌≢◌, ℕ, ◌+◌, ◌*◌, ◌-◌, ◌<◌, ◌≤◌, refl, sym, ap, ◌∙◌, subst, arith}
+use Rattle.ark_math.specs.Cost.{Counts, GrowsBy, counts}
+use Rattle.ark_traits.proofs.Cost.{none_grown, grows_twice}
 
 -- ---- bounds
 
@@ -43,31 +45,25 @@ past k i after = (omega arith, omega arith)
 
 -- ---- counts: before the loop, after one iteration more, and after all
 
-pub start : (w : ℕ) → w ≡ w + 0
-start w = omega arith
+pub no_part : (x : ℕ) (w : Counts) → GrowsBy (counts (0 * x) 0 0) w w
+no_part x w = grows_twice (none_grown w) (none_grown w) (omega arith) refl refl
 
-pub no_part : (w x : ℕ) → w ≡ w + 0 * x
-no_part w x = omega arith
+pub part_more : {before between after : Counts} (i x : ℕ) → GrowsBy (counts (i * x) 0 0) before between → GrowsBy (counts x 0 0) between after → GrowsBy (counts ((i + 1) * x) 0 0) before after
+part_more i x g h = grows_twice g h (omega arith) refl refl
 
-pub no_parts : (w x y : ℕ) → w ≡ w + (0 * x + 0 * y)
-no_parts w x y = omega arith
-
-pub no_part_after : (w1 w0 a x : ℕ) → w1 ≡ w0 + a → w1 ≡ w0 + a + 0 * x
-no_part_after w1 w0 a x e = omega arith
-
-pub one_more : (w0 w1 w2 i : ℕ) → w1 ≡ w0 + i → w2 ≡ w1 + 1 → w2 ≡ w0 + (i + 1)
-one_more w0 w1 w2 i before one = omega arith
-
-pub part_more : (w0 w1 w2 i x : ℕ) → w1 ≡ w0 + i * x → w2 ≡ w1 + x → w2 ≡ w0 + (i + 1) * x
-part_more w0 w1 w2 i x before one = omega arith
-
-pub part_more_after : (w0 w1 w2 a i x : ℕ) → w1 ≡ w0 + a + i * x → w2 ≡ w1 + x → w2 ≡ w0 + a + (i + 1) * x
-part_more_after w0 w1 w2 a i x before one = omega arith
-
-pub all_parts : (w1 w0 i n x : ℕ) → i ≡ n → w1 ≡ w0 + i * x → w1 ≡ w0 + x * n
-all_parts w1 w0 i n x end parts = let f = rw end at parts in omega (arith, f)
+pub all_parts : {before after : Counts} (i n x : ℕ) → i ≡ n → GrowsBy (counts (i * x) 0 0) before after → GrowsBy (counts (x * n) 0 0) before after
+all_parts {before} {after} i n x end g =
+    let g1 : GrowsBy (counts (n * x) 0 0) before after = subst (λ k. GrowsBy (counts (k * x) 0 0) before after) end g in
+    let e : x * n ≡ n * x = omega arith in
+    subst (λ k. GrowsBy (counts k 0 0) before after) (sym e) g1
 
 -- where there is no place, any count a place is right
-pub no_places : (w1 w0 a b m : ℕ) → m ≤ 0 → w1 ≡ w0 + a * m → w1 ≡ w0 + b * m
-no_places w1 w0 a b zero none e = omega arith
-no_places w1 w0 a b (suc m) none e = absurd (omega arith)
+pub no_places : {before after : Counts} (a b m : ℕ) → m ≤ 0 → GrowsBy (counts (a * m) 0 m) before after → GrowsBy (counts (b * m) 0 m) before after
+no_places {before} {after} a b m none g =
+    let zero_places : m ≡ 0 = omega arith in
+    let same : a * m ≡ b * m = ap (λ k. a * k) zero_places ∙ omega (arith, ap (λ k. b * k) zero_places) in
+    subst (λ k. GrowsBy (counts k 0 m) before after) same g
+
+-- a round more of a loop that begins at one
+pub one_round_more : {before between after : Counts} (r : ℕ) → 1 ≤ r → GrowsBy (counts (r - 1) 0 0) before between → GrowsBy (counts 1 0 0) between after → GrowsBy (counts (r + 1 - 1) 0 0) before after
+one_round_more r from g h = grows_twice g h (omega arith) refl refl

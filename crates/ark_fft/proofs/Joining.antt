@@ -4,6 +4,7 @@ use Rattle.std.proofs.lemmas.List.{get_or_append_left, get_or-take, get_or-drop}
 use Rattle.std.proofs.lemmas.Nat.{div-mul-add, pow_pos, pow-add}
 use Rattle.std.proofs.Math.Nat.{div-lt_iff_lt-mul}
 use Rattle.std.proofs.Math.Pow.{pow_mono}
+use Rattle.ark_math.specs.Cost.{Counts, GrowsBy, butterfly_counts}
 use Rattle.ark_math.specs.Field.{FieldOn, IsField, power}
 use Rattle.ark_math.specs.Module.{ModuleOn, IsModule, sum_below, item}
 use Rattle.ark_math.proofs.Transforms.Places.{dft_at}
@@ -17,6 +18,7 @@ use Rattle.ark_fft.proofs.Reversal.{Half, low, high, half_of, pow_pred, reversed
 use Rattle.ark_math.proofs.Algebra.Ring.{module1_2}
 use Rattle.ark_math.proofs.Algebra.Solve.{◌⊗◌, ◌•◌, ◌⊞◌, ◌⊟◌, unit, negative, origin}
 use Rattle.ark_fft.proofs.Split.{split}
+use Rattle.ark_traits.proofs.Cost.{none_grown, grows_twice}
 
 -- ---- blocks of 2 ^ b places
 
@@ -68,16 +70,28 @@ module _ (n e : ℕ) (some : 0 < e) (within : e ≤ n) where
   pub back_half : (all other back : ℕ) → all ≡ 2 ^ n → other ≡ 2 ^ n → back + other / 2 ≡ all → back ≡ 2 ^ (n - 1)
   back_half all other back is size half = omega (arith, is, size, half, pow_pred n some_levels)
 
-  pub joined_count : (before first second after joins : ℕ) → first ≡ before + 2 ^ (n - 1) / 2 * (e - 1) → second ≡ first + 2 ^ (n - 1) / 2 * (e - 1) → after ≡ second + joins → joins ≡ 2 ^ (n - 1) → after ≡ before + 2 ^ n / 2 * e
-  joined_count before first second after joins a b c is = omega (arith, a, b, c, is, count_levels n e some within)
+  -- both halves, and then the butterflies across them
+  pub joined_count : {before first second after : Counts} (joins : ℕ) → GrowsBy (butterfly_counts (2 ^ (n - 1) / 2 * (e - 1))) before first → GrowsBy (butterfly_counts (2 ^ (n - 1) / 2 * (e - 1))) first second → GrowsBy (butterfly_counts joins) second after → joins ≡ 2 ^ (n - 1) →
+      GrowsBy (butterfly_counts (2 ^ n / 2 * e)) before after
+  joined_count joins a b c is =
+      let half = 2 ^ (n - 1) / 2 * (e - 1) in
+      let all : 2 ^ n / 2 * e ≡ half + half + joins = omega (arith, is, count_levels n e some within) in
+      grows_twice (grows_twice {z = butterfly_counts (half + half)} a b refl refl refl) c all all refl
 
-  pub split_count : (before split first after joins : ℕ) → split ≡ before + joins → joins ≡ 2 ^ (n - 1) → first ≡ split + 2 ^ (n - 1) / 2 * (e - 1) → after ≡ first + 2 ^ (n - 1) / 2 * (e - 1) → after ≡ before + 2 ^ n / 2 * e
-  split_count before split first after joins a is b c = omega (arith, a, b, c, is, count_levels n e some within)
+  -- the butterflies across both halves, and then these
+  pub split_count : {before split first after : Counts} (joins : ℕ) → GrowsBy (butterfly_counts joins) before split → joins ≡ 2 ^ (n - 1) → GrowsBy (butterfly_counts (2 ^ (n - 1) / 2 * (e - 1))) split first → GrowsBy (butterfly_counts (2 ^ (n - 1) / 2 * (e - 1))) first after →
+      GrowsBy (butterfly_counts (2 ^ n / 2 * e)) before after
+  split_count joins a is b c =
+      let half = 2 ^ (n - 1) / 2 * (e - 1) in
+      let all : 2 ^ n / 2 * e ≡ joins + half + half = omega (arith, is, count_levels n e some within) in
+      grows_twice (grows_twice {z = butterfly_counts (joins + half)} a b refl refl refl) c all all refl
 
 -- no level, no cost
-pub no_count : (before half e : ℕ) → e ≤ 0 → before ≡ before + half * e
-no_count before half zero none = omega arith
-no_count before half (suc e) none = absurd (omega arith)
+pub no_count : (half e : ℕ) (w : Counts) → e ≤ 0 → GrowsBy (butterfly_counts (half * e)) w w
+no_count half e w none =
+    let zero_levels : e ≡ 0 = omega arith in
+    let nothing : half * e ≡ 0 = ap (λ k. half * k) zero_levels ∙ omega arith in
+    subst (λ k. GrowsBy (butterfly_counts k) w w) (sym nothing) (none_grown w)
 
 module _ {F M : Type 0} {K : FieldOn F} {V : ModuleOn F M} (N : IsField K) (L : IsModule K V) where
   -- f has zeros from h on

@@ -1,5 +1,5 @@
 -- The mixed radix transform and its inverse, from what the parts of the kernel leave; its sizes and counts.
-use Rattle.std.proofs.Common.{◌≡◌, ℕ, zero, suc, ◌+◌, ◌*◌, ◌-◌, ◌/◌, ◌^◌, ◌<◌, ◌≤◌, List, length, get_or, take, map, sym, ◌∙◌, ap, arith, subst}
+use Rattle.std.proofs.Common.{◌≡◌, ℕ, zero, suc, ◌+◌, ◌*◌, ◌-◌, ◌/◌, ◌^◌, ◌<◌, ◌≤◌, List, length, get_or, take, map, sym, ◌∙◌, ap, ap₂, refl, arith, subst}
 use Rattle.std.proofs.lemmas.List.{get_or-take, length-take-le, length-map}
 use Rattle.std.proofs.lemmas.Nat.{div-mul-add}
 use Rattle.std.proofs.Math.Nat.{pow-suc}
@@ -7,11 +7,12 @@ use Rattle.ark_math.specs.Field.{FieldOn, IsField, power, natural}
 use Rattle.ark_math.specs.Module.{ModuleOn, IsModule, item}
 use Rattle.ark_math.specs.Root.{Adicity, HasOrder, Splits, odd_base}
 use Rattle.ark_math.specs.Domain.{Domain, mixed_radix}
-use Rattle.ark_math.specs.Cost.{Counts, Direction}
+use Rattle.ark_math.specs.Cost.{Counts, GrowsBy, counts, Direction}
 use Rattle.ark_math.specs.Transform.{transform, IsInverse}
 use Rattle.ark_math.proofs.Transforms.Places.{dft_at}
 use Rattle.ark_fft.specs.Halves.{reversed, ArePowers, IsHalfTable}
-use Rattle.ark_fft.specs.Mixed.{IsPowerTable}
+use Rattle.ark_fft.specs.Mixed.{IsPowerTable, mixed_counts}
+use Rattle.ark_fft.specs.Scalings.{GrowsByScalings}
 use Rattle.ark_math.proofs.Transforms.Inverses.{is_inverse}
 use Rattle.ark_math.proofs.Roots.Orthogonal.{order_of_inverse}
 use Rattle.ark_math.proofs.Algebra.Powers.{half_of_order}
@@ -21,7 +22,7 @@ use Rattle.ark_math.proofs.Algebra.Groups.{zero_plus}
 use Rattle.ark_fft.proofs.Reversal.{pow_pred, reversed_below, reversed_twice}
 use Rattle.ark_math.proofs.Lists.Lists.{read_order}
 use Rattle.ark_traits.specs.Cost.{GrowsByCost}
-use Rattle.ark_traits.proofs.Cost.{mixed_cost}
+use Rattle.ark_traits.proofs.Cost.{none_grown, grows_twice, scaled_first, scaled_last, mixed_cost}
 use Rattle.ark_math.proofs.Numbers.Factors.{part_size, parts_whole}
 
 -- half of a whole number of blocks of a power of two above one
@@ -80,31 +81,26 @@ level_steps l q (suc (suc k)) size pos some e =
     ∙ ((let g : q * (suc k * (n / q)) + n ≡ suc k * (q * (n / q)) + n = omega arith in g)
     ∙ (ap (λ t. suc k * t + n) w ∙ omega arith))
 
-pub level_products : (a l q o size : ℕ) → 0 < q → 0 < o → size ≡ 2 ^ l * q ^ o → q * (a * ((o - 1) * (size / q / q))) + a * (size / q) ≡ a * (o * (size / q))
-level_products a l q o size pos some e =
-    let x = (o - 1) * (size / q / q) in
-    (let g : q * (a * x) + a * (size / q) ≡ a * (q * x + size / q) = omega arith in g) ∙ ap (λ t. a * t) (level_steps l q o size pos some e)
+-- one growth after another, by butterflies and steps
+mixed_twice : {before between after : Counts} (q b s b1 s1 b2 s2 : ℕ) → GrowsBy (mixed_counts q b s) before between → GrowsBy (mixed_counts q b1 s1) between after → b2 ≡ b + b1 → s2 ≡ s + s1 → GrowsBy (mixed_counts q b2 s2) before after
+mixed_twice q b s b1 s1 b2 s2 g h of_butterflies of_steps =
+    let a = q * q - 1 in
+    let products : b2 + a * s2 ≡ b + a * s + (b1 + a * s1) = ap₂ (λ x y. x + a * y) of_butterflies of_steps ∙ omega arith in
+    grows_twice g h products of_butterflies of_steps
 
--- one more block counted
-pub joined_more : (w0 w1 w2 r l p n : ℕ) → w1 ≡ w0 + r * (l * n / 2) → w2 ≡ w1 + l * p / 2 → p ≡ n → w2 ≡ w0 + (r + 1) * (l * n / 2)
-joined_more w0 w1 w2 r l p n e f g =
-    let h : l * p / 2 ≡ l * n / 2 = ap (λ t. l * t / 2) g in
-    let k : (r + 1) * (l * n / 2) ≡ r * (l * n / 2) + l * n / 2 = omega arith in
-    omega arith
+-- one more part counted
+pub part_counted : {before between after : Counts} (q r l o p n : ℕ) → GrowsBy (mixed_counts q (r * (l * n / 2)) (r * (o * (n / q)))) before between → GrowsBy (mixed_counts q (l * p / 2) (o * (p / q))) between after → p ≡ n → GrowsBy (mixed_counts q ((r + 1) * (l * n / 2)) ((r + 1) * (o * (n / q)))) before after
+part_counted {before} {between} {after} q r l o p n parts part size =
+    let one : GrowsBy (mixed_counts q (l * n / 2) (o * (n / q))) between after = subst (λ k. GrowsBy (mixed_counts q (l * k / 2) (o * (k / q))) between after) size part in
+    mixed_twice q _ _ _ _ _ _ parts one (omega arith) (omega arith)
 
-pub counted_more : (w0 w1 w2 r l x b p n q : ℕ) → w1 ≡ w0 + (r * (l * n / 2) + r * (x * (b * (n / q)))) → w2 ≡ w1 + l * p / 2 + x * (b * (p / q)) → p ≡ n → w2 ≡ w0 + ((r + 1) * (l * n / 2) + (r + 1) * (x * (b * (n / q))))
-counted_more w0 w1 w2 r l x b p n q e f g =
-    let h : x * (b * (p / q)) ≡ x * (b * (n / q)) = ap (λ t. x * (b * (t / q))) g in
-    let h2 : l * p / 2 ≡ l * n / 2 = ap (λ t. l * t / 2) g in
-    let k : (r + 1) * (x * (b * (n / q))) ≡ r * (x * (b * (n / q))) + x * (b * (n / q)) = omega arith in
-    let k2 : (r + 1) * (l * n / 2) ≡ r * (l * n / 2) + l * n / 2 = omega arith in
-    omega arith
-
-pub stepped_more : (w0 w1 w2 r b p n q : ℕ) → w1 ≡ w0 + r * (b * (n / q)) → w2 ≡ w1 + b * (p / q) → p ≡ n → w2 ≡ w0 + (r + 1) * (b * (n / q))
-stepped_more w0 w1 w2 r b p n q e f g =
-    let h : b * (p / q) ≡ b * (n / q) = ap (λ t. b * (t / q)) g in
-    let k : (r + 1) * (b * (n / q)) ≡ r * (b * (n / q)) + b * (n / q) = omega arith in
-    omega arith
+pub no_part_counted : (q x y : ℕ) (w : Counts) → GrowsBy (mixed_counts q (0 * x) (0 * y)) w w
+no_part_counted q x y w =
+    let a = q * q - 1 in
+    let none : 0 * x ≡ 0 = omega arith in
+    let no_steps : 0 * y ≡ 0 = omega arith in
+    let products : 0 * x + a * (0 * y) ≡ 0 = ap₂ (λ b s. b + a * s) none no_steps ∙ omega arith in
+    grows_twice (none_grown w) (none_grown w) products none no_steps
 
 -- the butterflies of q parts of n items are those of q * n items
 pub level_butterflies : (l q n x : ℕ) → n ≡ 2 ^ l * x → q * (l * n / 2) ≡ l * (q * n) / 2
@@ -168,39 +164,26 @@ module _ {F M X : Type 0} {K : FieldOn F} {V : ModuleOn F M} (N : IsField K) (L 
         ∙ sum_below-same V d.size _ _ (λ k b. ap (V.scale (power K (power K v j) k)) (fit k b))))
 
 -- all parts, and the joins after them
-module _ (w0 w1 w2 r q l o size : ℕ) (pos : 0 < q) (some : 0 < o) (is : size ≡ 2 ^ l * q ^ o) (end : r ≡ q) where
-  pub all_products : (a : ℕ) → w1 ≡ w0 + (r * (l * (size / q) / 2) + r * (a * ((o - 1) * (size / q / q)))) → w2 ≡ w1 + a * (size / q) → w2 ≡ w0 + l * size / 2 + a * (o * (size / q))
-  all_products a parts joins =
-      let f = rw end at parts in
-      omega (arith, level_products a l q o size pos some is, level_joins l q o size pos some is, f, joins)
-
-  pub all_butterflies : w1 ≡ w0 + r * (l * (size / q) / 2) → w2 ≡ w1 → w2 ≡ w0 + l * size / 2
-  all_butterflies parts joins =
-      let f = rw end at parts in
-      omega (arith, level_joins l q o size pos some is, f, joins)
-
-  pub all_steps : w1 ≡ w0 + r * ((o - 1) * (size / q / q)) → w2 ≡ w1 + size / q → w2 ≡ w0 + o * (size / q)
-  all_steps parts joins =
-      let f = rw end at parts in
-      omega (arith, level_steps l q o size pos some is, f, joins)
+pub all_counted : {before between after : Counts} (r q l o size : ℕ) → 0 < q → 0 < o → size ≡ 2 ^ l * q ^ o → r ≡ q →
+    GrowsBy (mixed_counts q (r * (l * (size / q) / 2)) (r * ((o - 1) * (size / q / q)))) before between → GrowsBy (counts ((q * q - 1) * (size / q)) 0 (size / q)) between after → GrowsBy (mixed_counts q (l * size / 2) (o * (size / q))) before after
+all_counted {before} {between} {after} r q l o size pos some is end parts joins =
+    let all : GrowsBy (mixed_counts q (q * (l * (size / q) / 2)) (q * ((o - 1) * (size / q / q)))) before between = subst (λ k. GrowsBy (mixed_counts q (k * (l * (size / q) / 2)) (k * ((o - 1) * (size / q / q)))) before between) end parts in
+    let joined : GrowsBy (mixed_counts q 0 (size / q)) between after = grows_twice (none_grown between) joins refl refl (omega arith) in
+    let steps : o * (size / q) ≡ q * ((o - 1) * (size / q / q)) + size / q = sym (level_steps l q o size pos some is) in
+    mixed_twice q _ _ _ _ _ _ all joined (sym (level_joins l q o size pos some is) ∙ omega arith) steps
 
 -- the cost of the mixed kernel over a list of n places, with scalings before it or after it
 module _ {F : Type 0} (s : Adicity) (root offset : F) (direction : Direction) (len n q twos odds : ℕ) (splits : Splits s n twos odds) (base : q ≡ odd_base s.odd) (some : 0 < q) where
-  pub scaled_cost : (fitted scalings : ℕ) (before scaled after : Counts) → fitted ≡ n → scalings ≤ n → scaled.butterflies ≡ before.butterflies → scaled.products ≡ before.products + scalings → scaled.steps ≡ before.steps →
-      after.butterflies ≡ scaled.butterflies + twos * fitted / 2 → after.products ≡ scaled.products + twos * fitted / 2 + (q * q - 1) * (odds * (fitted / q)) → after.steps ≡ scaled.steps + odds * (fitted / q) →
+  pub scaled_cost : {before scaled after : Counts} (fitted mid : ℕ) → fitted ≡ n → mid ≡ n →
+      GrowsByScalings fitted before scaled → GrowsBy (mixed_counts q (twos * mid / 2) (odds * (mid / q))) scaled after →
       GrowsByCost s (record { kind = mixed_radix; size = n; root = root; offset = offset }) len direction before after
-  scaled_cost fitted scalings before scaled after of_fitted few b0 p0 t0 b1 p1 t1 =
-      let joins : twos * fitted / 2 ≡ twos * n / 2 = ap (λ k. twos * k / 2) of_fitted in
-      let steps : odds * (fitted / q) ≡ odds * (n / q) = ap (λ k. odds * (k / q)) of_fitted in
-      let products : (q * q - 1) * (odds * (fitted / q)) ≡ (q * q - 1) * (odds * (n / q)) = ap (λ k. (q * q - 1) * k) steps in
-      mixed_cost s root offset len direction before n q twos odds scalings splits base some few (omega (arith, b0, b1, joins)) (omega (arith, t0, t1, steps)) (omega (arith, p0, p1, joins, products))
+  scaled_cost {before} {scaled} {after} fitted mid of_fitted of_mid first grows =
+      mixed_cost s root offset len direction n q twos odds first.scalings splits base some (subst (λ k. first.scalings ≤ k) of_fitted first.few)
+      (scaled_first first.scalings _ _ _ first.grows (subst (λ k. GrowsBy (mixed_counts q (twos * k / 2) (odds * (k / q))) scaled after) of_mid grows))
 
-  pub cost_then_scaled : (fitted mid : ℕ) (before joined after : Counts) → fitted ≡ n → mid ≡ n →
-      joined.butterflies ≡ before.butterflies + twos * fitted / 2 → joined.products ≡ before.products + twos * fitted / 2 + (q * q - 1) * (odds * (fitted / q)) → joined.steps ≡ before.steps + odds * (fitted / q) →
-      after.butterflies ≡ joined.butterflies → after.products ≡ joined.products + mid → after.steps ≡ joined.steps →
+  pub cost_then_scaled : {before joined after : Counts} (fitted mid : ℕ) → fitted ≡ n → mid ≡ n →
+      GrowsBy (mixed_counts q (twos * fitted / 2) (odds * (fitted / q))) before joined → GrowsBy (counts mid 0 0) joined after →
       GrowsByCost s (record { kind = mixed_radix; size = n; root = root; offset = offset }) len direction before after
-  cost_then_scaled fitted mid before joined after of_fitted of_mid b0 p0 t0 b1 p1 t1 =
-      let joins : twos * fitted / 2 ≡ twos * n / 2 = ap (λ k. twos * k / 2) of_fitted in
-      let steps : odds * (fitted / q) ≡ odds * (n / q) = ap (λ k. odds * (k / q)) of_fitted in
-      let products : (q * q - 1) * (odds * (fitted / q)) ≡ (q * q - 1) * (odds * (n / q)) = ap (λ k. (q * q - 1) * k) steps in
-      mixed_cost s root offset len direction before n q twos odds n splits base some (omega arith) (omega (arith, b0, b1, joins)) (omega (arith, t0, t1, steps)) (omega (arith, p0, p1, of_mid, joins, products))
+  cost_then_scaled {before} {joined} {after} fitted mid of_fitted of_mid grows last =
+      mixed_cost s root offset len direction n q twos odds n splits base some (omega arith)
+      (scaled_last n _ _ _ (subst (λ k. GrowsBy (mixed_counts q (twos * k / 2) (odds * (k / q))) before joined) of_fitted grows) (subst (λ k. GrowsBy (counts k 0 0) joined after) of_mid last))

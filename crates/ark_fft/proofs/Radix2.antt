@@ -3,12 +3,13 @@ use Rattle.std.proofs.Common.{◌≡◌, ℕ, ◌+◌, ◌-◌, ◌*◌, ◌/◌
 use Rattle.std.proofs.lemmas.List.{length-map}
 use Rattle.ark_math.specs.Field.{FieldOn, IsField, power, natural}
 use Rattle.ark_math.specs.Root.{Adicity, HasOrder}
-use Rattle.ark_math.specs.Cost.{Counts, IsLog2Up, Direction, counted_items}
+use Rattle.ark_math.specs.Cost.{Counts, GrowsBy, counts, butterfly_counts, IsLog2Up, Direction, counted_items}
 use Rattle.ark_math.specs.Module.{ModuleOn, IsModule, item}
 use Rattle.ark_math.specs.Domain.{Domain, radix2}
 use Rattle.ark_math.specs.Transform.{transform, IsInverse}
 use Rattle.ark_math.proofs.Transforms.Places.{dft_at}
 use Rattle.ark_fft.specs.Halves.{ArePowers, IsHalfTable}
+use Rattle.ark_fft.specs.Scalings.{GrowsByScalings}
 use Rattle.ark_fft.proofs.Halving.{is_half_table}
 use Rattle.ark_math.proofs.Transforms.Inverses.{is_inverse}
 use Rattle.ark_math.proofs.Roots.Orthogonal.{order_of_inverse}
@@ -16,7 +17,7 @@ use Rattle.ark_math.proofs.Algebra.Powers.{power-one}
 use Rattle.ark_math.proofs.Algebra.Sums.{sum_below-same}
 use Rattle.ark_math.proofs.Transforms.Transforms.{AreShifted, is_transform}
 use Rattle.ark_traits.specs.Cost.{GrowsByCost}
-use Rattle.ark_traits.proofs.Cost.{radix2_cost}
+use Rattle.ark_traits.proofs.Cost.{scaled_first, scaled_last, radix2_cost}
 
 module _ {F M : Type 0} {K : FieldOn F} (V : ModuleOn F M) (N : IsField K) where
   -- a scaling by one value is one by its powers of one
@@ -49,21 +50,17 @@ module _ {F M X : Type 0} {K : FieldOn F} {V : ModuleOn F M} (N : IsField K) (L 
         ∙ sum_below-same V d.size _ _ (λ k b. ap (V.scale (power K (power K v j) k)) (fit k b))))
 
 -- the cost of the in-order kernel over a list of n places, and of a scaling of at most as many items before it
-pub scaled_cost : {F : Type 0} (s : Adicity) (root offset : F) (direction : Direction) (n levels len fitted mid : ℕ) (before scaled after : Counts) → IsLog2Up (counted_items n len direction) levels → fitted ≡ n → mid ≡ n → scaled.butterflies ≡ before.butterflies → before.products ≤ scaled.products → scaled.products ≤ before.products + fitted → scaled.steps ≡ before.steps →
-    after.butterflies ≡ scaled.butterflies + mid / 2 * levels → after.products ≡ scaled.products + mid / 2 * levels → after.steps ≡ scaled.steps →
+pub scaled_cost : {F : Type 0} (s : Adicity) (root offset : F) (direction : Direction) (n levels len fitted mid : ℕ) {before scaled after : Counts} → IsLog2Up (counted_items n len direction) levels → fitted ≡ n → mid ≡ n →
+    GrowsByScalings fitted before scaled → GrowsBy (butterfly_counts (mid / 2 * levels)) scaled after →
     GrowsByCost s (record { kind = radix2; size = n; root = root; offset = offset }) len direction before after
-scaled_cost s root offset direction n levels len fitted mid before scaled after log of_fitted of_mid b0 least most t0 b1 p1 t1 =
-    let count : mid / 2 * levels ≡ n / 2 * levels = ap (λ k. k / 2 * levels) of_mid in
-    radix2_cost s root offset len direction before n levels (scaled.products - before.products) log
-    (omega (arith, least, most, of_fitted))
-    (omega (arith, b0, b1, count))
-    (t1 ∙ t0)
-    (omega (arith, least, p1, count))
+scaled_cost s root offset direction n levels len fitted mid {before} {scaled} {after} log of_fitted of_mid first grows =
+    radix2_cost s root offset len direction n levels first.scalings log (subst (λ k. first.scalings ≤ k) of_fitted first.few)
+    (scaled_first first.scalings (n / 2 * levels) (n / 2 * levels) 0 first.grows (subst (λ k. GrowsBy (butterfly_counts (k / 2 * levels)) scaled after) of_mid grows))
 
--- the same with a scaling of each item after it
-pub cost_then_scaled : {F : Type 0} (s : Adicity) (root offset : F) (direction : Direction) (n levels len fitted mid : ℕ) (before joined after : Counts) → IsLog2Up (counted_items n len direction) levels → fitted ≡ n → mid ≡ n →
-    joined.butterflies ≡ before.butterflies + fitted / 2 * levels → joined.products ≡ before.products + fitted / 2 * levels → joined.steps ≡ before.steps → after.butterflies ≡ joined.butterflies → after.products ≡ joined.products + mid → after.steps ≡ joined.steps →
+-- the cost of that kernel, and of a scaling of each item after it
+pub cost_then_scaled : {F : Type 0} (s : Adicity) (root offset : F) (direction : Direction) (n levels len fitted mid : ℕ) {before joined after : Counts} → IsLog2Up (counted_items n len direction) levels → fitted ≡ n → mid ≡ n →
+    GrowsBy (butterfly_counts (fitted / 2 * levels)) before joined → GrowsBy (counts mid 0 0) joined after →
     GrowsByCost s (record { kind = radix2; size = n; root = root; offset = offset }) len direction before after
-cost_then_scaled s root offset direction n levels len fitted mid before joined after log of_fitted of_mid b0 p0 t0 b1 p1 t1 =
-    let count : fitted / 2 * levels ≡ n / 2 * levels = ap (λ k. k / 2 * levels) of_fitted in
-    radix2_cost s root offset len direction before n levels n log (omega arith) (b1 ∙ b0 ∙ ap (λ k. before.butterflies + k) count) (t1 ∙ t0) (omega (arith, p0, p1, of_mid, count))
+cost_then_scaled s root offset direction n levels len fitted mid {before} {joined} {after} log of_fitted of_mid grows last =
+    radix2_cost s root offset len direction n levels n log (omega arith)
+    (scaled_last n (n / 2 * levels) (n / 2 * levels) 0 (subst (λ k. GrowsBy (butterfly_counts (k / 2 * levels)) before joined) of_fitted grows) (subst (λ k. GrowsBy (counts k 0 0) joined after) of_mid last))

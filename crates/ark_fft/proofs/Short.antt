@@ -2,7 +2,7 @@
 use Rattle.std.proofs.Common.{◌≡◌, ℕ, map, length, get_or, take, drop, ◌++◌, ◌+◌, ◌-◌, ◌*◌, ◌/◌, ◌^◌, ◌<◌, ◌≤◌, List, arith, sym, ap, subst, ◌∙◌, length-take-le, length-append, length-drop, replicate}
 use Rattle.std.proofs.lemmas.List.{length-map}
 use Rattle.std.proofs.Math.Pow.{pow_mono, pow_pos}
-use Rattle.ark_math.specs.Cost.{Counts, IsLog2Up, forward}
+use Rattle.ark_math.specs.Cost.{Counts, GrowsBy, butterfly_counts, IsLog2Up, forward}
 use Rattle.ark_math.specs.Domain.{Domain, radix2, domain_of}
 use Rattle.ark_math.specs.Field.{FieldOn, IsField, power}
 use Rattle.ark_math.specs.Module.{ModuleOn, IsModule, item}
@@ -10,6 +10,7 @@ use Rattle.ark_math.specs.Root.{Adicity, HasOrder}
 use Rattle.ark_math.specs.Transform.{transform}
 use Rattle.ark_math.proofs.Transforms.Places.{dft_at}
 use Rattle.ark_fft.specs.Halves.{ArePowers, AreLevels}
+use Rattle.ark_fft.specs.Scalings.{GrowsByScalings}
 use Rattle.ark_fft.proofs.Joining.{sum_of_few, levels_below}
 use Rattle.ark_fft.proofs.Reversal.{pow_pred}
 use Rattle.ark_math.proofs.Algebra.Powers.{half_of_order}
@@ -17,7 +18,7 @@ use Rattle.ark_math.proofs.Domains.Sizes.{log_of_short, log_within}
 use Rattle.ark_math.proofs.Lists.Lists.{read_fitted}
 use Rattle.ark_math.proofs.Transforms.Transforms.{AreShifted, is_transform, shifted_front, shifted_past}
 use Rattle.ark_traits.specs.Cost.{GrowsByCost}
-use Rattle.ark_traits.proofs.Cost.{radix2_cost}
+use Rattle.ark_traits.proofs.Cost.{scaled_first, radix2_cost}
 
 -- the fitted list, and its front once each item is scaled
 module _ {X : Type 0} (n len : ℕ) (fitted front : List X) (of_fitted : length fitted ≡ n) (short : len ≤ n / 4) (of_front : length front ≡ length (take len fitted)) where
@@ -27,17 +28,14 @@ module _ {X : Type 0} (n len : ℕ) (fitted front : List X) (of_fitted : length 
   pub mid_size : length (front ++ drop len fitted) ≡ n
   mid_size = length-append front (drop len fitted) ∙ omega (arith, length-drop len fitted, taken_size, of_front, of_fitted, short)
 
-  pub short_cost : {F : Type 0} (s : Adicity) (root offset : F) (size e : ℕ) (before scaled after : Counts) → len ≡ size → IsLog2Up len e → scaled.butterflies ≡ before.butterflies → before.products ≤ scaled.products → scaled.products ≤ before.products + length (take len fitted) → scaled.steps ≡ before.steps →
-      after.butterflies ≡ scaled.butterflies + length (front ++ drop len fitted) / 2 * e → after.products ≡ scaled.products + length (front ++ drop len fitted) / 2 * e → after.steps ≡ scaled.steps →
+  pub short_cost : {F : Type 0} (s : Adicity) (root offset : F) (size e : ℕ) {before scaled after : Counts} → len ≡ size → IsLog2Up len e →
+      GrowsByScalings (length (take len fitted)) before scaled → GrowsBy (butterfly_counts (length (front ++ drop len fitted) / 2 * e)) scaled after →
       GrowsByCost s (record { kind = radix2; size = n; root = root; offset = offset }) size forward before after
-  short_cost s root offset size e before scaled after is log b0 least most t0 b1 p1 t1 =
-      let count : length (front ++ drop len fitted) / 2 * e ≡ n / 2 * e = ap (λ k. k / 2 * e) mid_size in
+  short_cost s root offset size e {before} {scaled} {after} is log first grows =
       let short_size : size ≤ n / 4 = omega (arith, is, short) in
-      radix2_cost s root offset size forward before n e (scaled.products - before.products) (log_of_short n size e short_size (subst (λ k. IsLog2Up k e) is log))
-      (omega (arith, least, most, taken_size, short))
-      (omega (arith, b0, b1, count))
-      (t1 ∙ t0)
-      (omega (arith, least, p1, count))
+      radix2_cost s root offset size forward n e first.scalings (log_of_short n size e short_size (subst (λ k. IsLog2Up k e) is log))
+      (omega (arith, first.few, taken_size, short))
+      (scaled_first first.scalings (n / 2 * e) (n / 2 * e) 0 first.grows (subst (λ k. GrowsBy (butterfly_counts (k / 2 * e)) scaled after) mid_size grows))
 
   module _ {F M : Type 0} {K : FieldOn F} {V : ModuleOn F M} (N : IsField K) (L : IsModule K V) (m : X → M) (levels e : ℕ) (root offset : F) (is : n ≡ 2 ^ levels) (order : HasOrder K root n) (log : IsLog2Up len e) where
     root_half : 0 < levels → power K root (n / 2) ≡ K.negated K.one

@@ -16,20 +16,17 @@ module _ {F : Type 0} (K : FieldOn F) (N : IsField K) where
       ∙ ap (λ t. t ∷ tabulate (n - (i + 1)) (λ k. K.times x (power K w (suc k)))) (N.times_one x)
       ∙ ap (λ t. x ∷ t) (tabulate-same (n - (i + 1)) _ _ (λ k h. sym (N.times_assoc x w (power K w k)) ∙ ap (λ t. K.times t (power K w k)) (sym e)))
 
-always : {S A : Type 0} (rest : S → List A) (all : List A) (s : S) → rest s ≡ all → AlwaysYields (YieldsFirst rest) (λ x. x) s all
-always rest [] s e = λ x j h. cc
-always rest (y ∷ ys) s e = (
+-- an iterator that gives the first of what is left gives all of it
+pub always_yields : {S A : Type 0} (rest : S → List A) (all : List A) (s : S) → rest s ≡ all → AlwaysYields (YieldsFirst rest) (λ x. x) s all
+always_yields rest [] s e = λ x j h. cc
+always_yields rest (y ∷ ys) s e = (
   (λ j h. cc),
   λ x j h.
       let same : x ∷ rest j ≡ y ∷ ys = sym h ∙ e in
       let here : x ≡ y = cc in
       let later : rest j ≡ ys = cc in
-      (here, always rest ys j later),
+      (here, always_yields rest ys j later),
 )
-
--- an iterator that gives the first of what is left gives all of it
-pub always_yields : {S A : Type 0} (rest : S → List A) (s : S) → AlwaysYields (YieldsFirst rest) (λ x. x) s (rest s)
-always_yields rest s = always rest (rest s) s refl
 
 -- such a step, and the end
 pub progress : {S A : Type 0} (can : S → Type 0) (rest : S → List A) (s : S) (x : A) (j : S) → can j → rest s ≡ x ∷ rest j → MakesProgress can (item_count rest) s (Some x) j

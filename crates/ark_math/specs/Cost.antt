@@ -18,6 +18,20 @@ pub record Counts : Type 0 where
   pub butterflies : ℕ
   pub steps : ℕ
 
+-- so many products, butterflies and steps
+abbrev pub counts : ℕ → ℕ → ℕ → Counts
+counts products butterflies steps = record { products = products; butterflies = butterflies; steps = steps }
+
+-- so many butterflies, with a product each
+abbrev pub butterfly_counts : ℕ → Counts
+butterfly_counts n = counts n n 0
+
+-- each count grows by just as much as the growth says
+pub record GrowsBy (growth before after : Counts) : Type 0 where
+  pub products : after.products ≡ before.products + growth.products
+  pub butterflies : after.butterflies ≡ before.butterflies + growth.butterflies
+  pub steps : after.steps ≡ before.steps + growth.steps
+
 -- the items that a transform of radix 2 of a list of this length goes by: a list of at most a quarter of the n items goes
 -- forward as it is, each other as n
 abbrev pub counted_items : ℕ → ℕ → Direction → ℕ

@@ -9,6 +9,7 @@ pub mod Domain
 pub mod Transform
 pub mod Cost
 pub mod Univariate
+pub mod Linear
 pub mod NormalForms
 pub mod Points
 pub mod Term

@@ -1,10 +1,11 @@
-//! Laws of calls together, as contracts that callers may cite.
+//! Laws of calls together, stated as contracts of functions that callers may cite: each function promises nothing but its
+//! contract.
 
 pub use ark_multi::laws::{
     graded_order, only_multilinear, value_at_corner, values_with_bound_variables,
     values_with_exchanged_variables,
 };
 pub use ark_univariate::laws::{
-    both_products, degree_of_product, dense_and_back, divisions_of_all_forms, sparse_and_back,
-    values_of_all_forms, values_of_both_forms, weighted_sum,
+    both_products, degree_of_product, dense_and_back, division_at_point, divisions_of_all_forms,
+    sparse_and_back, values_of_all_forms, values_of_both_forms, weighted_sum, without_root,
 };

@@ -137,7 +137,7 @@ module _ {F : Type 0} (K : FieldOn F) (N : IsField K) where
         );
       }
 
-  -- the same by lengths: e and b are the reversed divisor and the first reversed coefficients of the dividend, and x the
+  -- the quotient by lengths: e and b are the reversed divisor and the first reversed coefficients of the dividend, and x the
   -- inverse of the leading coefficient
   pub quotient_of_lengths : (n m len : ℕ) (x : F) (a d e g b s q : ℕ → F) → 0 < n → n ≤ m → len ≡ m - n + 1 → K.times (d (n - 1)) x ≡ K.one → IsBelow K n d → IsBelow K m a → AgreeBelow n e (backwards K (n - 1) d) → IsBelow K n e → AgreeBelow len (product K e g) (unity K) → AgreeBelow len b (backwards K (m - 1) a) → s ≡ product K b g → AgreeBelow len q (backwards K (len - 1) s) → IsBelow K len q → IsQuotient K a d q (difference K a (product K q d))
   quotient_of_lengths n m len x a d e g b s q some long count leading fd fa same_e fe inverse same_b times same_q fq =

@@ -8,22 +8,22 @@ use Rattle.ark_quotients.specs.declared.division.Coefficients.{Coefficients}
 use Rattle.ark_quotients.specs.declared.division.Coefficients.TheVariants.{Listed, Terms}
 use Rattle.ark_quotients.specs.declared.division.Divisor.{Divisor}
 
--- the polynomial that they denote
+-- the polynomial that the coefficients denote
 abbrev pub denoted : {F : Type 0} → FieldOn F → Coefficients F → ℕ → F
 denoted K (Listed c) = of_list K c.now
 denoted K (Terms p) = of_pairs K p.now
 
--- as a polynomial keeps them: the last isn't zero, or none is, by rising exponents
+-- the coefficients are as a polynomial keeps them: the last of a list isn't zero; no term is zero, and exponents rise
 abbrev pub IsKept : {F : Type 0} → FieldOn F → Coefficients F → Type 0
 IsKept K (Listed c) = IsTrimmed K c.now
 IsKept K (Terms p) = IsSparse K p.now
 
--- none stands at n or above
+-- no coefficient stands at n or above
 abbrev pub StandBelow : {F : Type 0} → ℕ → Coefficients F → Type 0
 StandBelow n (Listed c) = length c.now ≤ n
 StandBelow n (Terms p) = All (λ t. t.0 < n) p.now
 
--- it stands for d
+-- the divisor stands for d
 pub record Divides {F : Type 0} (K : FieldOn F) (v : Divisor F) (d : ℕ → F) : Type 0 where
   pub leading : K.times (d v.degree) v.inverse ≡ K.one
   pub rest : IsBelow K (v.degree + 1) d

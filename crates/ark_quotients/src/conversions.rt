@@ -1,10 +1,11 @@
 //! Coefficients by exponents from terms, terms from them, and sums of the one with the other.
 
-ghost use Rattle.std.specs.Prelude.{◌≡◌, ◌≢◌, ◌↔◌, ◌⊎◌, ◌-◌, ◌<◌, length, IfOk, IfErr, OnOk, OnErr};
+ghost use Rattle.std.specs.Prelude.{◌≡◌, ◌≢◌, ◌↔◌, ◌-◌, ◌<◌, length, IfOk, OnOk, OnErr};
 ghost use Rattle.std.specs.Prelude.{IfSome, IsNone, IsOkUnless};
 ghost use Rattle.std.specs.List.{All};
-ghost use Rattle.ark_math.specs.Univariate.{IsDegree, IsSparse, IsTrimmed, of_list, of_pairs};
-ghost use Rattle.ark_math.specs.Univariate.{added, difference};
+ghost use Rattle.ark_math.specs.Outcome.{IsOkUnlessEither};
+ghost use Rattle.ark_math.specs.Univariate.{added, IsDegree, IsSparse, IsTrimmed, of_list, of_pairs};
+ghost use Rattle.ark_quotients.specs.Signs.{all_signed, signed};
 
 use ark_coeffs::dense::{extended, grow, trim, zeros};
 use ark_coeffs::sparse::push_term;
@@ -39,27 +40,34 @@ fn len_for<F: Field>(terms: &[(usize, F)]) -> Option<usize>
     degree.checked_add(1)
 }
 
-/// Adds each term to the coefficient of its degree.
-pub fn add_terms<F: Field>(coeffs: &mut [F], terms: &[(usize, F)])
-    requires { All (λ t. t.0 < length coeffs.old) terms.now }
-    ensures { of_list F.field coeffs.new ≡ added F.field (of_list F.field coeffs.old)
-        (of_pairs F.field terms.now) }
+/// Whether terms are added or subtracted.
+#[derive(Clone, Copy)]
+pub enum Sign {
+    /// Terms are added.
+    Plus,
+    /// Terms are subtracted.
+    Minus,
+}
+
+/// The sum with a value, or the difference.
+fn add_signed<F: Field>(sum: F, sign: Sign, value: F) -> F
+    ensures { result ≡ F.field.plus sum (signed F.field sign value) }
 {
-    for i in 0..terms.len() {
-        let term = terms[i];
-        coeffs[term.0] += term.1;
+    match sign {
+        Sign::Plus => sum + value,
+        Sign::Minus => sum - value,
     }
 }
 
-/// Subtracts each term from the coefficient of its degree.
-pub fn subtract_terms<F: Field>(coeffs: &mut [F], terms: &[(usize, F)])
+/// Adds each term to the coefficient of its degree, or subtracts it.
+fn add_terms<F: Field>(coeffs: &mut [F], sign: Sign, terms: &[(usize, F)])
     requires { All (λ t. t.0 < length coeffs.old) terms.now }
-    ensures { of_list F.field coeffs.new ≡ difference F.field (of_list F.field coeffs.old)
-        (of_pairs F.field terms.now) }
+    ensures { of_list F.field coeffs.new ≡ added F.field (of_list F.field coeffs.old)
+        (all_signed F.field sign (of_pairs F.field terms.now)) }
 {
     for i in 0..terms.len() {
         let term = terms[i];
-        coeffs[term.0] -= term.1;
+        coeffs[term.0] = add_signed(coeffs[term.0], sign, term.1);
     }
 }
 
@@ -71,106 +79,61 @@ pub fn coefficients_of<F: Field>(alloc: Global, terms: &[(usize, F)]) -> Result<
     ensures trimmed { IfOk result (λ c. IsTrimmed F.field c.items) }
     ensures overflow { (result ≡ Err PolyError.Overflow)
         ↔ IsDegree F.field (of_pairs F.field terms.now) usize.MAX }
-    ensures errors { IfErr result (λ e. (e ≡ PolyError.Memory) ⊎ (e ≡ PolyError.Overflow)) }
+    ensures errors { IsOkUnlessEither result PolyError.Memory PolyError.Overflow }
 {
     let Some(len) = len_for(terms) else {
         return Err(PolyError::Overflow);
     };
     let mut coeffs = zeros(alloc, len)?;
-    add_terms(coeffs.as_mut_slice(), terms);
+    add_terms(coeffs.as_mut_slice(), Sign::Plus, terms);
     Ok(coeffs)
 }
 
-/// The sum of coefficients and terms, maybe with zeros at its end. `Overflow` exactly where the terms' degree is
-/// `usize::MAX`, judged first. Takes memory for the answer alone.
+/// The sum of coefficients and terms, or the difference, maybe with zeros at its end. `Overflow` exactly where the terms'
+/// degree is `usize::MAX`, judged first. Takes memory for the answer alone.
 pub fn sum_with_terms<F: Field>(
     alloc: Global,
     coeffs: &[F],
+    sign: Sign,
     terms: &[(usize, F)],
 ) -> Result<Vec<F>, PolyError>
     requires { IsSparse F.field terms.now }
-    ensures sum { IfOk result (λ c. of_list F.field c.items
-        ≡ added F.field (of_list F.field coeffs.now) (of_pairs F.field terms.now)) }
+    ensures sum { IfOk result (λ c. of_list F.field c.items ≡ added F.field (of_list F.field coeffs.now)
+        (all_signed F.field sign (of_pairs F.field terms.now))) }
     ensures overflow { (result ≡ Err PolyError.Overflow)
         ↔ IsDegree F.field (of_pairs F.field terms.now) usize.MAX }
-    ensures errors { IfErr result (λ e. (e ≡ PolyError.Memory) ⊎ (e ≡ PolyError.Overflow)) }
+    ensures errors { IsOkUnlessEither result PolyError.Memory PolyError.Overflow }
 {
     let Some(len) = len_for(terms) else {
         return Err(PolyError::Overflow);
     };
     let mut sum = extended(alloc, coeffs, coeffs.len().max(len))?;
-    add_terms(sum.as_mut_slice(), terms);
+    add_terms(sum.as_mut_slice(), sign, terms);
     Ok(sum)
 }
 
-/// The difference of coefficients and terms, maybe with zeros at its end. `Overflow` exactly where the terms' degree is
-/// `usize::MAX`, judged first. Takes memory for the answer alone.
-pub fn difference_with_terms<F: Field>(
-    alloc: Global,
-    coeffs: &[F],
-    terms: &[(usize, F)],
-) -> Result<Vec<F>, PolyError>
-    requires { IsSparse F.field terms.now }
-    ensures difference { IfOk result (λ c. of_list F.field c.items
-        ≡ difference F.field (of_list F.field coeffs.now) (of_pairs F.field terms.now)) }
-    ensures overflow { (result ≡ Err PolyError.Overflow)
-        ↔ IsDegree F.field (of_pairs F.field terms.now) usize.MAX }
-    ensures errors { IfErr result (λ e. (e ≡ PolyError.Memory) ⊎ (e ≡ PolyError.Overflow)) }
-{
-    let Some(len) = len_for(terms) else {
-        return Err(PolyError::Overflow);
-    };
-    let mut difference = extended(alloc, coeffs, coeffs.len().max(len))?;
-    subtract_terms(difference.as_mut_slice(), terms);
-    Ok(difference)
-}
-
-/// Adds the terms in place, and cuts off the zeros at the end. `Overflow` exactly where the terms' degree is
-/// `usize::MAX`, judged first; after an error the items are the same. Takes memory only where the degree is past the
-/// list.
+/// Adds the terms in place, or subtracts them, and cuts off the zeros at the end. `Overflow` exactly where the terms'
+/// degree is `usize::MAX`, judged first; after an error the items are as they were. Takes memory only where the degree is
+/// past the list.
 pub fn add_terms_trimmed<F: Field>(
     coeffs: &mut Vec<F>,
+    sign: Sign,
     terms: &[(usize, F)],
 ) -> Result<(), PolyError>
     requires { IsSparse F.field terms.now }
-    ensures sum { OnOk result (of_list F.field coeffs.new.items
-        ≡ added F.field (of_list F.field coeffs.old.items) (of_pairs F.field terms.now)) }
+    ensures sum { OnOk result (of_list F.field coeffs.new.items ≡ added F.field
+        (of_list F.field coeffs.old.items) (all_signed F.field sign (of_pairs F.field terms.now))) }
     ensures trimmed { OnOk result (IsTrimmed F.field coeffs.new.items) }
     ensures kept { OnErr result (coeffs.new.items ≡ coeffs.old.items) }
     ensures overflow { (result ≡ Err PolyError.Overflow)
         ↔ IsDegree F.field (of_pairs F.field terms.now) usize.MAX }
-    ensures errors { IfErr result (λ e. (e ≡ PolyError.Memory) ⊎ (e ≡ PolyError.Overflow)) }
+    ensures errors { IsOkUnlessEither result PolyError.Memory PolyError.Overflow }
 {
     let Some(len) = len_for(terms) else {
         return Err(PolyError::Overflow);
     };
     grow(coeffs, len)?;
-    add_terms(coeffs.as_mut_slice(), terms);
-    trim(coeffs);
-    Ok(())
-}
-
-/// Subtracts the terms in place, and cuts off the zeros at the end. `Overflow` exactly where the terms' degree is
-/// `usize::MAX`, judged first; after an error the items are the same. Takes memory only where the degree is past the
-/// list.
-pub fn subtract_terms_trimmed<F: Field>(
-    coeffs: &mut Vec<F>,
-    terms: &[(usize, F)],
-) -> Result<(), PolyError>
-    requires { IsSparse F.field terms.now }
-    ensures difference { OnOk result (of_list F.field coeffs.new.items
-        ≡ difference F.field (of_list F.field coeffs.old.items) (of_pairs F.field terms.now)) }
-    ensures trimmed { OnOk result (IsTrimmed F.field coeffs.new.items) }
-    ensures kept { OnErr result (coeffs.new.items ≡ coeffs.old.items) }
-    ensures overflow { (result ≡ Err PolyError.Overflow)
-        ↔ IsDegree F.field (of_pairs F.field terms.now) usize.MAX }
-    ensures errors { IfErr result (λ e. (e ≡ PolyError.Memory) ⊎ (e ≡ PolyError.Overflow)) }
-{
-    let Some(len) = len_for(terms) else {
-        return Err(PolyError::Overflow);
-    };
-    grow(coeffs, len)?;
-    subtract_terms(coeffs.as_mut_slice(), terms);
+    add_terms(coeffs.as_mut_slice(), sign, terms);
     trim(coeffs);
     Ok(())
 }

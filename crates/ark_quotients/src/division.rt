@@ -1,12 +1,11 @@
 //! Division with remainder, in place.
 
-ghost use Rattle.std.specs.Prelude.{◌≡◌, ◌≢◌, ◌↔◌, ◌⊎◌, ℕ, ◌+◌, ◌-◌, ◌<◌, ◌≤◌, length, take, drop, IfOk};
-ghost use Rattle.std.specs.Prelude.{IfErr, IfSome};
-ghost use Rattle.std.specs.Prelude.{IsNone, IsTrue, None};
+ghost use Rattle.std.specs.Prelude.{◌≡◌, ◌≢◌, ◌↔◌, ℕ, ◌+◌, ◌-◌, ◌<◌, ◌≤◌, length, take, drop, IfOk};
+ghost use Rattle.std.specs.Prelude.{IfSome, IsNone, IsTrue, None};
 ghost use Rattle.std.specs.List.{All};
-ghost use Rattle.ark_math.specs.Univariate.{IsDegree, IsQuotient, IsSparse, IsTrimmed, of_list, of_pairs};
-ghost use Rattle.ark_math.specs.Univariate.{nothing};
-ghost use Rattle.ark_math.specs.Univariate.{added, difference, monomial, product};
+ghost use Rattle.ark_math.specs.Outcome.{IsOkUnlessEither};
+ghost use Rattle.ark_math.specs.Univariate.{IsDegree, IsDivision, IsQuotient, IsSparse, IsTrimmed, of_list};
+ghost use Rattle.ark_math.specs.Univariate.{added, difference, monomial, nothing, of_pairs, product};
 ghost use Rattle.ark_quotients.specs.Divisors.{Divides, IsKept, StandBelow, denoted};
 
 use crate::conversions::coefficients_of;
@@ -24,7 +23,7 @@ pub enum Coefficients<'a, F: Field> {
 }
 
 impl<'a, F: Field> Coefficients<'a, F> {
-    /// Whether they are those of zero.
+    /// Whether the polynomial with these coefficients is zero.
     fn is_zero(&self) -> bool
         requires { IsKept F.field self.now }
         ensures { IsTrue result ↔ (denoted F.field self.now ≡ nothing F.field) }
@@ -35,17 +34,17 @@ impl<'a, F: Field> Coefficients<'a, F> {
         }
     }
 
-    /// A list of them. `Overflow` exactly where the degree is `usize::MAX`, judged first.
+    /// A list of the coefficients. `Overflow` exactly where the degree is `usize::MAX`, judged first.
     fn list(&self, alloc: Global) -> Result<Vec<F>, PolyError>
         requires { IsKept F.field self.now }
         ensures same { IfOk result (λ c. of_list F.field c.items ≡ denoted F.field self.now) }
         ensures overflow { (result ≡ Err PolyError.Overflow)
             ↔ IsDegree F.field (denoted F.field self.now) usize.MAX }
-        ensures errors { IfErr result (λ e. (e ≡ PolyError.Memory) ⊎ (e ≡ PolyError.Overflow)) }
+        ensures errors { IsOkUnlessEither result PolyError.Memory PolyError.Overflow }
     {
         match *self {
             Coefficients::Listed(coeffs) => {
-                // All of them, since the last isn't zero.
+                // That is the whole length, since the last coefficient isn't zero.
                 let len = trimmed_len(coeffs);
                 Ok(extended(alloc, coeffs, len)?)
             }
@@ -53,7 +52,7 @@ impl<'a, F: Field> Coefficients<'a, F> {
         }
     }
 
-    /// What a division by it takes, and `None` exactly for zero.
+    /// What a division by the polynomial with these coefficients takes, and `None` exactly for zero.
     fn divisor(&self) -> Option<Divisor<'a, F>>
         requires { IsKept F.field self.now }
         ensures some { IfSome result (λ v. Divides F.field v (denoted F.field self.now)) }
@@ -134,7 +133,7 @@ impl<'a, F: Field> Divisor<'a, F> {
         })
     }
 
-    // Subtracts a multiple of its coefficients below its degree, moved up by this number of places.
+    // Subtracts a multiple of the divisor's coefficients below the degree, moved up by this number of places.
     fn subtract_lower(&self, coeffs: &mut [F], places: usize, factor: F)
         requires below { StandBelow self.now.degree self.now.lower }
         requires within { places + self.now.degree ≤ length coeffs.old }
@@ -188,16 +187,14 @@ pub fn divided<F: Field>(
 ) -> Result<Option<(Vec<F>, Vec<F>)>, PolyError>
     requires dividend { IsKept F.field dividend }
     requires divisor { IsKept F.field divisor }
-    ensures quotient { IfOk result (λ o. IfSome o (λ p. denoted F.field divisor.entry ≢ nothing F.field
-        → IsQuotient F.field (denoted F.field dividend.entry) (denoted F.field divisor.entry)
+    ensures division { IfOk result (λ o. IfSome o (λ p. IsDivision F.field
+        (denoted F.field dividend.entry) (denoted F.field divisor.entry)
         (of_list F.field p.0.items) (of_list F.field p.1.items))) }
-    ensures zeros { IfOk result (λ o. IfSome o (λ p. denoted F.field dividend.entry ≡ nothing F.field
-        → (of_list F.field p.0.items ≡ nothing F.field) × (of_list F.field p.1.items ≡ nothing F.field))) }
     ensures none { (result ≡ Ok None) ↔ (denoted F.field dividend.entry ≢ nothing F.field)
         × (denoted F.field divisor.entry ≡ nothing F.field) }
     ensures overflow { (result ≡ Err PolyError.Overflow) ↔ (denoted F.field divisor.entry ≢ nothing F.field)
         × IsDegree F.field (denoted F.field dividend.entry) usize.MAX }
-    ensures errors { IfErr result (λ e. (e ≡ PolyError.Memory) ⊎ (e ≡ PolyError.Overflow)) }
+    ensures errors { IsOkUnlessEither result PolyError.Memory PolyError.Overflow }
 {
     let Some(divisor) = divisor.divisor() else {
         return Ok(if dividend.is_zero() {
@@ -219,7 +216,7 @@ pub fn divided_list<F: Field>(
     divisor: &[F],
     leading_inverted: F,
 ) -> Result<(Vec<F>, Vec<F>), AllocError>
-    requires some { 0 < length divisor.now }
+    requires nonempty { 0 < length divisor.now }
     requires leading { F.field.times (of_list F.field divisor.now (length divisor.now - 1)) leading_inverted
         ≡ F.field.one }
     ensures { IfOk result (λ p. IsQuotient F.field (of_list F.field dividend.now)

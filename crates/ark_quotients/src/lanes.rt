@@ -3,9 +3,10 @@
 ghost use Rattle.std.specs.Prelude.{◌≡◌, ℕ, ◌≤◌, length, map, IfOk};
 ghost use Rattle.ark_math.specs.Module.{tabulate};
 ghost use Rattle.ark_math.specs.Univariate.{of_list};
+ghost use Rattle.ark_traits.specs.Lanes.{both_lanes};
 
 use crate::series::coefficient_at;
-use ark_traits::{DomainCoeff, Field, Lanes, Zero};
+use ark_traits::{Field, Lanes, Zero};
 use std::alloc::{AllocError, Global};
 
 /// The first `len` items of both lists, one of each side by side, with room for `room` pairs.
@@ -18,7 +19,7 @@ fn pairs<F: Field>(
 ) -> Result<Vec<Lanes<F>>, AllocError>
     requires first { len ≤ length first.now }
     requires second { len ≤ length second.now }
-    ensures { IfOk result (λ lanes. map ⟦<Lanes<F> as DomainCoeff<F>>⟧.meaning lanes.items
+    ensures { IfOk result (λ lanes. map both_lanes lanes.items
         ≡ tabulate len (λ i. (of_list F.field first.now i, of_list F.field second.now i))) }
 {
     let mut lanes = Vec::with_capacity(alloc, room)?;
@@ -36,7 +37,7 @@ pub fn side_by_side<F: Field>(
     second: &[F],
     len: usize,
 ) -> Result<Vec<Lanes<F>>, AllocError>
-    ensures { IfOk result (λ lanes. map ⟦<Lanes<F> as DomainCoeff<F>>⟧.meaning lanes.items
+    ensures { IfOk result (λ lanes. map both_lanes lanes.items
         ≡ tabulate len (λ i. (of_list F.field first.now i, of_list F.field second.now i))) }
 {
     let both = first.len().min(second.len()).min(len);
@@ -52,7 +53,7 @@ pub fn side_by_side<F: Field>(
 /// The product of the two lanes of each item.
 pub fn products_of_lanes<F: Field>(alloc: Global, lanes: &[Lanes<F>]) -> Result<Vec<F>, AllocError>
     ensures { IfOk result (λ products. products.items ≡ map (λ t. F.field.times t.0 t.1)
-        (map ⟦<Lanes<F> as DomainCoeff<F>>⟧.meaning lanes.now)) }
+        (map both_lanes lanes.now)) }
 {
     let mut products = Vec::with_capacity(alloc, lanes.len())?;
     for i in 0..lanes.len() {

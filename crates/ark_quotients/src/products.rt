@@ -1,10 +1,10 @@
 //! Products of coefficients by terms, and what is left of them by `x^n - constant`.
 
-ghost use Rattle.std.specs.Prelude.{◌≡◌, ◌↔◌, ◌⊎◌, ℕ, ◌+◌, ◌<◌, ◌≤◌, length, OnOk, IfOk, IfErr, IsOkUnless};
+ghost use Rattle.std.specs.Prelude.{◌≡◌, ◌↔◌, ℕ, ◌+◌, ◌<◌, ◌≤◌, length, OnOk, IfOk, IsOkUnless};
 ghost use Rattle.std.specs.List.{All};
+ghost use Rattle.ark_math.specs.Outcome.{IsOkUnlessEither};
 ghost use Rattle.ark_math.specs.Univariate.{IsSparse, IsDegree, IsQuotient, of_pairs, of_list, added};
-ghost use Rattle.ark_math.specs.Univariate.{difference};
-ghost use Rattle.ark_math.specs.Univariate.{monomial, product};
+ghost use Rattle.ark_math.specs.Univariate.{difference, monomial, product};
 
 use ark_coeffs::dense::zeros;
 use ark_coeffs::sparse::gathered_terms;
@@ -76,7 +76,7 @@ pub fn product_of_terms<F: Field>(
     ensures overflow { (result ≡ Err PolyError.Overflow) ↔ (m : ℕ) × (n : ℕ)
         × IsDegree F.field (of_pairs F.field left.now) m × IsDegree F.field (of_pairs F.field right.now) n
         × (usize.MAX < m + n) }
-    ensures errors { IfErr result (λ e. (e ≡ PolyError.Memory) ⊎ (e ≡ PolyError.Overflow)) }
+    ensures errors { IsOkUnlessEither result PolyError.Memory PolyError.Overflow }
 {
     if degree_of_terms(right) > usize::MAX - degree_of_terms(left) {
         return Err(PolyError::Overflow);

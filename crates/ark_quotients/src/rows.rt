@@ -1,7 +1,6 @@
 //! Rows of powers: geometric ones, indicators, rows spaced by zeros.
 
-ghost use Rattle.std.specs.Prelude.{◌≡◌, ◌≢◌, ℕ, ◌+◌, ◌-◌, ◌*◌, ◌/◌, ◌%◌, ◌<◌, length, IfOk};
-ghost use Rattle.std.specs.Prelude.{IsOkUnless};
+ghost use Rattle.std.specs.Prelude.{◌≡◌, ◌≢◌, ℕ, ◌+◌, ◌-◌, ◌*◌, ◌/◌, ◌%◌, ◌<◌, length, IfOk, IsOkUnless};
 ghost use Rattle.ark_math.specs.Field.{power, minus};
 ghost use Rattle.ark_math.specs.Points.{IsPlaceQuotient};
 ghost use Rattle.ark_math.specs.Univariate.{of_list};
@@ -90,7 +89,7 @@ pub fn spaced_row<F: Field>(
     start: F,
     ratio: F,
 ) -> Result<Vec<F>, AllocError>
-    requires some { 0 < size }
+    requires nonempty { 0 < size }
     requires apart { 0 < step }
     requires divides { size % step ≡ 0 }
     ensures len { IfOk result (λ l. length l.items ≡ size - step + 1) }

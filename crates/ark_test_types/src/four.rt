@@ -211,6 +211,8 @@ impl DomainCoeff<Four> for Four {
 
     ghost equality_meaning = { four_equality };
 
+    ghost clone_meaning = { λ a b e. e };
+
     ghost zero_meaning = { refl };
 
     ghost can_add_meaning = { λ a b. tt };

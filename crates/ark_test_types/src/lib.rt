@@ -1,7 +1,9 @@
-//! Lawful types of the tests' own: a field of characteristic two, a module of no size, and elements that remember the
-//! products behind them.
+//! What the tests have of their own: a field of characteristic two, a module of no size, elements that remember the
+//! products behind them, and a generator that counts what is drawn from it.
 #![tactic(auto)]
 
+pub mod counting;
 pub mod four;
 pub mod nothing;
+pub mod numbered;
 pub mod traced;

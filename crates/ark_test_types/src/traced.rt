@@ -4,21 +4,10 @@ ghost use Rattle.std.specs.Prelude.{◌≡◌, false, replicate};
 ghost use Rattle.ark_math.specs.Field.{minus};
 ghost use Rattle.ark_math.specs.Module.{itself};
 
-use ark_base::{DomainCoeff, Field, PrimeField, PrimeModulus, Zero};
+use crate::numbered::Numbered;
+use ark_base::{DomainCoeff, Zero};
 use std::alloc::AllocError;
 use std::ops::{Add, AddAssign, MulAssign, Sub, SubAssign};
-
-/// A field whose elements have numbers.
-pub trait Numbered: Field {
-    /// The element's number.
-    fn number(self) -> u64;
-}
-
-impl<M: PrimeModulus> Numbered for PrimeField<M> {
-    fn number(self) -> u64 {
-        self.value()
-    }
-}
 
 /// How many products an element can remember.
 const ROOM: usize = 256;
@@ -91,6 +80,10 @@ pub struct Traced<F: Numbered> {
 }
 
 impl<F: Numbered> Clone for Traced<F> {
+    ghost is_clone = { λ a b. b ≡ a };
+
+    ghost is_infallible = { λ _. Unit {0} };
+
     fn clone(&self) -> Result<Self, AllocError> {
         Ok(*self)
     }
@@ -173,7 +166,7 @@ impl<F: Numbered> MulAssign<F> for Traced<F> {
 }
 
 impl<F: Numbered> DomainCoeff<F> for Traced<F> {
-    ghost use Rattle.std.proofs.Common.{refl};
+    ghost use Rattle.std.proofs.Common.{refl, ap};
     ghost use Rattle.ark_math.proofs.Algebra.Groups.{itself_is_module};
 
     ghost Meaning = { F };
@@ -185,6 +178,8 @@ impl<F: Numbered> DomainCoeff<F> for Traced<F> {
     ghost module_laws = { itself_is_module F.field F.field_laws };
 
     ghost equality_meaning = { λ a b. F.equality_law a.value b.value };
+
+    ghost clone_meaning = { λ a b e. ap (λ v. v.value) e };
 
     ghost zero_meaning = { refl };
 

@@ -1,2 +1,2 @@
--- The counts of some transforms, from the definition of their cost.
-mod Growths
+-- What transforms cost, from the definition.
+mod Rows

@@ -1,21 +1,16 @@
-//! Tests of fields, numbers, errors, sinks and the program, and callers proved from public contracts alone.
+//! Tests of draws, errors, sinks and the program's failures, what transforms cost as numbers, and callers proved from
+//! public contracts alone. Rows with answers from outside stand in `row_tests`.
 #![tactic(auto)]
 
 #[cfg(test)]
-mod counted;
-#[cfg(test)]
-mod counts;
+mod costs;
 #[cfg(test)]
 mod errors;
 #[cfg(test)]
 mod fields;
 #[cfg(test)]
-mod numbers;
-#[cfg(test)]
 mod outside;
 #[cfg(test)]
 mod program;
-#[cfg(test)]
-mod recorded;
 #[cfg(test)]
 mod sinks;

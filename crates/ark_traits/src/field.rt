@@ -152,6 +152,8 @@ pub trait DomainCoeff<F: Field>: Copy
 
     ghost equality_meaning: { (a b : Self) → Decides (Self.eq a b) (meaning a ≡ meaning b) };
 
+    ghost clone_meaning: { (a b : Self) → Self.is_clone a b → meaning b ≡ meaning a };
+
     ghost zero_meaning: { meaning Self.zero ≡ group.zero };
 
     ghost can_add_meaning: { (a b : Self) → Self.can_add a b };

@@ -26,9 +26,11 @@ impl<F: Field> Clone for Lanes<F> {
 }
 
 impl<F: Field> Lanes<F> {
+    ghost use Rattle.ark_traits.specs.Lanes.{both_lanes};
+
     /// The two elements.
     pub fn new(first: F, second: F) -> Self
-        ensures { ⟦<Lanes<F> as DomainCoeff<F>>⟧.meaning result ≡ (first, second) }
+        ensures { both_lanes result ≡ (first, second) }
     {
         Lanes { first, second }
     }
@@ -36,8 +38,8 @@ impl<F: Field> Lanes<F> {
     /// The element of lane 0 or 1.
     pub fn get(&self, i: usize) -> F
         requires { i < 2 }
-        ensures first { i ≡ 0 → result ≡ (⟦<Lanes<F> as DomainCoeff<F>>⟧.meaning self.now).0 }
-        ensures second { i ≡ 1 → result ≡ (⟦<Lanes<F> as DomainCoeff<F>>⟧.meaning self.now).1 }
+        ensures first { i ≡ 0 → result ≡ (both_lanes self.now).0 }
+        ensures second { i ≡ 1 → result ≡ (both_lanes self.now).1 }
     {
         if i == 0 { self.first } else { self.second }
     }
@@ -125,12 +127,13 @@ impl<F: Field> MulAssign<F> for Lanes<F> {
 }
 
 impl<F: Field> DomainCoeff<F> for Lanes<F> {
-    ghost use Rattle.std.proofs.Common.{refl, ap, ap₂};
+    ghost use Rattle.std.proofs.Common.{refl, ap};
     ghost use Rattle.ark_math.proofs.Algebra.Groups.{itself_is_module, paired_is_module, pair_Decides};
+    ghost use Rattle.ark_traits.specs.Lanes.{both_lanes};
 
     ghost Meaning = { F × F };
 
-    ghost meaning = { λ v. (v.first, v.second) };
+    ghost meaning = { both_lanes };
 
     ghost group = { paired (itself F.field) (itself F.field) };
 
@@ -140,25 +143,27 @@ impl<F: Field> DomainCoeff<F> for Lanes<F> {
     ghost equality_meaning = { λ a b.
         pair_Decides (F.equality_law a.first b.first) (F.equality_law a.second b.second) };
 
+    ghost clone_meaning = { λ a b e. ap both_lanes e };
+
     ghost zero_meaning = { refl };
 
     ghost can_add_meaning = { λ a b. tt };
 
-    ghost add_meaning = { λ a b r e. ap (λ v. (v.first, v.second)) e };
+    ghost add_meaning = { λ a b r e. ap both_lanes e };
 
     ghost can_sub_meaning = { λ a b. tt };
 
-    ghost sub_meaning = { λ a b r e. ap (λ v. (v.first, v.second)) e };
+    ghost sub_meaning = { λ a b r e. ap both_lanes e };
 
     ghost can_add_assign_meaning = { λ a b. tt };
 
-    ghost add_assign_meaning = { λ a b r e. ap (λ v. (v.first, v.second)) e };
+    ghost add_assign_meaning = { λ a b r e. ap both_lanes e };
 
     ghost can_sub_assign_meaning = { λ a b. tt };
 
-    ghost sub_assign_meaning = { λ a b r e. ap (λ v. (v.first, v.second)) e };
+    ghost sub_assign_meaning = { λ a b r e. ap both_lanes e };
 
     ghost can_mul_assign_meaning = { λ a f. tt };
 
-    ghost mul_assign_meaning = { λ a f r e. ap (λ v. (v.first, v.second)) e };
+    ghost mul_assign_meaning = { λ a f r e. ap both_lanes e };
 }

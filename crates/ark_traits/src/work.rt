@@ -1,6 +1,7 @@
 //! What a kernel did, counted for contracts alone.
 
-ghost use Rattle.std.specs.Prelude.{◌≡◌, ◌+◌};
+ghost use Rattle.std.specs.Prelude.{◌≡◌};
+ghost use Rattle.ark_math.specs.Cost.{counts, GrowsBy};
 
 use crate::counter::Counter;
 use crate::field::{DomainCoeff, Field};
@@ -29,7 +30,7 @@ impl Model for Work {
 impl Work {
     /// All counts zero.
     pub fn new() -> Work
-        ensures { result ≡ record { products = 0; butterflies = 0; steps = 0 } }
+        ensures { result ≡ counts 0 0 0 }
     {
         Work {
             products: Counter::zero(),
@@ -41,9 +42,7 @@ impl Work {
     /// Multiplies a module value by a field element, and counts a product.
     pub fn scale<F: Field, T: DomainCoeff<F>>(&mut self, value: &mut T, factor: F)
         ensures product { T.meaning value.new ≡ T.group.scale factor (T.meaning value.old) }
-        ensures products { self.new.products ≡ self.old.products + 1 }
-        ensures butterflies { self.new.butterflies ≡ self.old.butterflies }
-        ensures steps { self.new.steps ≡ self.old.steps }
+        ensures counted { GrowsBy (counts 1 0 0) self.old self.new }
     {
         *value *= factor;
         self.products.add_one();
@@ -51,18 +50,14 @@ impl Work {
 
     /// Counts a butterfly.
     pub fn butterfly(&mut self)
-        ensures products { self.new.products ≡ self.old.products }
-        ensures butterflies { self.new.butterflies ≡ self.old.butterflies + 1 }
-        ensures steps { self.new.steps ≡ self.old.steps }
+        ensures { GrowsBy (counts 0 1 0) self.old self.new }
     {
         self.butterflies.add_one();
     }
 
     /// Counts a step.
     pub fn step(&mut self)
-        ensures products { self.new.products ≡ self.old.products }
-        ensures butterflies { self.new.butterflies ≡ self.old.butterflies }
-        ensures steps { self.new.steps ≡ self.old.steps + 1 }
+        ensures { GrowsBy (counts 0 0 1) self.old self.new }
     {
         self.steps.add_one();
     }

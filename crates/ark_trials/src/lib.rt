@@ -1,4 +1,4 @@
-//! What several test crates share: lists and domains from numbers, plain bodies to compare with, and trials that are
+//! What several test crates share: domains by their offsets, plain bodies to compare with, and trials that are
 //! written once for domains of every field and kind.
 #![tactic(auto)]
 

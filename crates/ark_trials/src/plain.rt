@@ -59,21 +59,6 @@ pub fn agrees<F: FftField, D: EvaluationDomain<F>>(
     Ok(right)
 }
 
-/// All products of two coefficients, summed by the sums of their indices. Of empty lists it is empty.
-pub fn product<F: Field>(alloc: Global, left: &[F], right: &[F]) -> Result<Vec<F>, AllocError> {
-    let mut product = Vec::new(alloc);
-    product.resize(
-        left.len().saturating_add(right.len()).saturating_sub(1),
-        F::zero(),
-    )?;
-    for (i, x) in left.iter().enumerate() {
-        for (sum, y) in product.iter_mut().skip(i).zip(right) {
-            *sum = *sum + *x * *y;
-        }
-    }
-    Ok(product)
-}
-
 /// So many elements of a generator.
 pub fn drawn<F: Field>(alloc: Global, rng: &mut Pcg64, len: usize) -> Result<Vec<F>, AllocError> {
     let mut list = Vec::with_capacity(alloc, len)?;

@@ -1,19 +1,22 @@
-//! Laws of calls together, as contracts that callers may cite.
+//! Laws of calls together, stated as contracts of functions that callers may cite: each function promises nothing but its
+//! contract.
 
-ghost use Rattle.std.specs.Prelude.{◌≡◌, ◌≢◌, ◌↔◌, ℕ, ◌+◌, List, IsTrue, IfOk, IfErr, IsOkUnless, ◌⊎◌};
-ghost use Rattle.std.specs.Prelude.{IfSome, IsOk};
+ghost use Rattle.std.specs.Prelude.{◌≡◌, ◌≢◌, ◌↔◌, ◌⊎◌, ℕ, ◌+◌, List, IsTrue, IfOk, IfErr, IfSome};
+ghost use Rattle.std.specs.Prelude.{IsOk, IsOkUnless, IsSome};
+ghost use Rattle.ark_math.specs.Linear.{constant, linear_factor};
 ghost use Rattle.ark_math.specs.Module.{itself, sum_below};
+ghost use Rattle.ark_math.specs.Outcome.{IsOkUnlessEither};
 ghost use Rattle.ark_math.specs.Points.{AreValues, AreWeights};
+ghost use Rattle.ark_math.specs.Univariate.{IsBelow, IsDegree, IsDivision, IsQuotient, IsTrimmed, IsValue};
+ghost use Rattle.ark_math.specs.Univariate.{added, nothing, of_list, of_pairs, product};
 ghost use Rattle.ark_univariate.specs.DenseOrSparse.{denoted};
-ghost use Rattle.ark_math.specs.Univariate.{IsBelow, IsDegree, IsTrimmed, IsValue, nothing, of_list};
-ghost use Rattle.ark_math.specs.Univariate.{of_pairs, product};
 
 use crate::domain::EvaluationDomain;
 use crate::evaluations::univariate::Evaluations;
 use crate::polynomial::univariate::{DenseOrSparsePolynomial, DensePolynomial, SparsePolynomial};
 use crate::polynomial::{DenseUVPolynomial, Polynomial};
 use ark_coeffs::dense::sum_of_products;
-use ark_traits::{FftField, Field, PolyError};
+use ark_traits::{FftField, Field, PolyError, Zero};
 use std::alloc::Global;
 
 /// The product by `mul` and the one by `naive_mul`: they have the same coefficients, and are equal by `==`. An
@@ -52,7 +55,7 @@ pub fn degree_of_product<F: FftField>(
     requires right { of_list F.field right.now ≢ nothing F.field }
     ensures sum { IfOk result (λ d. (m n : ℕ) → IsDegree F.field (of_list F.field left.now) m
         → IsDegree F.field (of_list F.field right.now) n → d ≡ m + n) }
-    ensures errors { IfErr result (λ e. (e ≡ PolyError.Memory) ⊎ (e ≡ PolyError.NoDomain)) }
+    ensures errors { IsOkUnlessEither result PolyError.Memory PolyError.NoDomain }
 {
     let product = left.mul(alloc, right)?;
     Ok(product.degree())
@@ -91,7 +94,7 @@ pub fn dense_and_back<F: Field>(
     ensures same { IfOk result (λ p. p ≡ sparse.now) }
     ensures overflow { (result ≡ Err PolyError.Overflow)
         ↔ IsDegree F.field (of_pairs F.field sparse.now) usize.MAX }
-    ensures errors { IfErr result (λ e. (e ≡ PolyError.Memory) ⊎ (e ≡ PolyError.Overflow)) }
+    ensures errors { IsOkUnlessEither result PolyError.Memory PolyError.Overflow }
 {
     let dense = DensePolynomial::from_sparse(alloc, sparse)?;
     let back = SparsePolynomial::from_dense(alloc, &dense)?;
@@ -168,8 +171,8 @@ pub fn values_of_all_forms<F: FftField, D: EvaluationDomain<F>>(
 /// What a division answers: quotient and remainder, and `None` where there are none.
 pub type Division<F> = Option<(DensePolynomial<F>, DensePolynomial<F>)>;
 
-/// The division of one polynomial by another, and the same with both in other forms: the answers are the same. So
-/// what is denoted alone decides quotient and remainder, and whether there are any.
+/// The division of one polynomial by another, and the division with both in other forms: the answers are equal. So what
+/// is denoted alone decides quotient and remainder, and whether there are any.
 ///
 /// It takes as long as both.
 pub fn divisions_of_all_forms<F: Field>(
@@ -181,10 +184,12 @@ pub fn divisions_of_all_forms<F: Field>(
 ) -> Result<(Division<F>, Division<F>), PolyError>
     requires dividends { denoted F.field other_dividend.now ≡ denoted F.field dividend.now }
     requires divisors { denoted F.field other_divisor.now ≡ denoted F.field divisor.now }
+    ensures division { IfOk result (λ p. IfSome p.0 (λ d. IsDivision F.field (denoted F.field dividend.now)
+        (denoted F.field divisor.now) (of_list F.field d.0) (of_list F.field d.1))) }
     ensures same { IfOk result (λ p. p.1 ≡ p.0) }
     ensures overflow { (result ≡ Err PolyError.Overflow) ↔ (denoted F.field divisor.now ≢ nothing F.field)
         × IsDegree F.field (denoted F.field dividend.now) usize.MAX }
-    ensures errors { IfErr result (λ e. (e ≡ PolyError.Memory) ⊎ (e ≡ PolyError.Overflow)) }
+    ensures errors { IsOkUnlessEither result PolyError.Memory PolyError.Overflow }
 {
     let answer = dividend.divide_with_q_and_r(alloc, divisor)?;
     let other = other_dividend.divide_with_q_and_r(alloc, other_divisor)?;
@@ -201,4 +206,100 @@ fn see_trimmed<F: Field>(answer: &Division<F>)
         quotient.coeffs();
         remainder.coeffs();
     }
+}
+
+/// Quotient and remainder by x - z, and the value at the point z. This is the remainder theorem: the remainder is the
+/// value, and there is no other polynomial whose product with x - z is the given one less the value.
+///
+/// It takes one pass over the coefficients for either, and memory for a copy of them and for the quotient.
+pub fn division_at_point<F: Field>(
+    alloc: Global,
+    polynomial: &DensePolynomial<F>,
+    point: F,
+) -> Result<(DensePolynomial<F>, DensePolynomial<F>, F), PolyError>
+    ensures value { IfOk result (λ p. IsValue F.field (of_list F.field polynomial.now) point p.2) }
+    ensures remainder { IfOk result (λ p. of_list F.field p.1 ≡ constant F.field p.2) }
+    ensures quotient { IfOk result (λ p. of_list F.field polynomial.now ≡ added F.field
+        (product F.field (of_list F.field p.0) (linear_factor F.field point)) (constant F.field p.2)) }
+    ensures only { IfOk result (λ p. (q : ℕ → F) (n : ℕ) → IsBelow F.field n q
+        → of_list F.field polynomial.now ≡ added F.field (product F.field q (linear_factor F.field point))
+        (constant F.field p.2) → q ≡ of_list F.field p.0) }
+    ensures memory { IsOkUnless result PolyError.Memory }
+{
+    let divisor = linear(alloc, point)?;
+    let (quotient, remainder) = quotient_and_remainder(alloc, polynomial, &divisor)?;
+    let value = polynomial.evaluate(alloc, &point)?;
+    Ok((quotient, remainder, value))
+}
+
+/// The quotient by x - z where the point z is a root, and `None` where it isn't. This is the factor theorem: a polynomial
+/// is a multiple of x - z exactly where its value at z is zero.
+///
+/// It takes one pass over the coefficients for the value and one for the quotient, and memory for a copy of them and for
+/// the quotient.
+pub fn without_root<F: Field>(
+    alloc: Global,
+    polynomial: &DensePolynomial<F>,
+    point: F,
+) -> Result<Option<DensePolynomial<F>>, PolyError>
+    ensures quotient { IfOk result (λ o. IfSome o (λ p. of_list F.field polynomial.now
+        ≡ product F.field (of_list F.field p) (linear_factor F.field point))) }
+    ensures root { IfOk result (λ o. IsSome o
+        ↔ IsValue F.field (of_list F.field polynomial.now) point F.field.zero) }
+    ensures multiple { IfOk result (λ o. IsSome o ↔ (q : ℕ → F) × (n : ℕ) × IsBelow F.field n q
+        × (of_list F.field polynomial.now ≡ product F.field q (linear_factor F.field point))) }
+    ensures memory { IsOkUnless result PolyError.Memory }
+{
+    let value = polynomial.evaluate(alloc, &point)?;
+    if !value.is_zero() {
+        return Ok(None);
+    }
+    let divisor = linear(alloc, point)?;
+    Ok(Some(quotient_of(alloc, polynomial, &divisor)?))
+}
+
+// The polynomial x - z.
+fn linear<F: Field>(alloc: Global, point: F) -> Result<DensePolynomial<F>, PolyError>
+    ensures same { IfOk result (λ p. of_list F.field p ≡ linear_factor F.field point) }
+    ensures memory { IsOkUnless result PolyError.Memory }
+{
+    let mut coeffs = Vec::new(alloc);
+    coeffs.push(-point)?;
+    coeffs.push(F::one())?;
+    Ok(DensePolynomial::from_coefficients_vec(coeffs))
+}
+
+// Quotient and remainder by a divisor that isn't zero.
+fn quotient_and_remainder<F: Field>(
+    alloc: Global,
+    dividend: &DensePolynomial<F>,
+    divisor: &DensePolynomial<F>,
+) -> Result<(DensePolynomial<F>, DensePolynomial<F>), PolyError>
+    requires { of_list F.field divisor.now ≢ nothing F.field }
+    ensures division { IfOk result (λ p. IsQuotient F.field (of_list F.field dividend.now)
+        (of_list F.field divisor.now) (of_list F.field p.0) (of_list F.field p.1)) }
+    ensures memory { IsOkUnless result PolyError.Memory }
+{
+    // No list is so long that its degree is `usize::MAX`.
+    dividend.coeffs().len();
+    let dividend = DenseOrSparsePolynomial::from(dividend);
+    let divisor = DenseOrSparsePolynomial::from(divisor);
+    let Some(pair) = dividend.divide_with_q_and_r(alloc, &divisor)? else {
+        return Err(PolyError::ZeroDivisor);
+    };
+    Ok(pair)
+}
+
+// The quotient by a divisor that isn't zero.
+fn quotient_of<F: Field>(
+    alloc: Global,
+    dividend: &DensePolynomial<F>,
+    divisor: &DensePolynomial<F>,
+) -> Result<DensePolynomial<F>, PolyError>
+    requires { of_list F.field divisor.now ≢ nothing F.field }
+    ensures division { IfOk result (λ q. (r : ℕ → F) × IsQuotient F.field (of_list F.field dividend.now)
+        (of_list F.field divisor.now) (of_list F.field q) r) }
+    ensures memory { IsOkUnless result PolyError.Memory }
+{
+    dividend.div(alloc, divisor)
 }

@@ -1,8 +1,9 @@
-//! Tests of domains and their transforms.
+//! Tests of domains and their transforms that no clause replaces: sweeps over every size, old bodies against new, the
+//! products behind values, and draws. Rows with answers from outside stand in `row_tests`.
 #![tactic(auto)]
 
 #[cfg(test)]
-mod domains;
+mod draws;
 #[cfg(test)]
 mod kinds;
 #[cfg(test)]

@@ -1,11 +1,11 @@
 // How many distinct products are behind the answers of the kernels, seen from outside.
 
-use crate::transforms::radix2_goes;
 use ark_base::{DomainCoeff, F433, F65537, FftField, PolyError, Work};
 use ark_fft::domain::radix2::plain::fft_plain;
-use ark_univariate::{EvaluationDomain, MixedRadixEvaluationDomain, Radix2EvaluationDomain};
-use ark_test_types::traced::{Numbered, Products, Traced};
+use ark_test_types::numbered::Numbered;
+use ark_test_types::traced::{Products, Traced};
 use ark_trials::calls::coset;
+use ark_univariate::{EvaluationDomain, MixedRadixEvaluationDomain, Radix2EvaluationDomain};
 use std::alloc::{AllocError, Global};
 use std::test::Fail;
 
@@ -104,14 +104,6 @@ fn products_behind_the_answers_of_steps(rt: HostRuntime) -> Result<(), Fail> {
 
 fn traced(numbers: [u64; 4]) -> [Traced<F433>; 4] {
     numbers.map(|number| Traced::new(F433::from(number)))
-}
-
-// The calls that are generic over modules go by meanings: what is behind the values plays no part.
-#[test]
-fn transforms_of_values_with_a_trace(rt: HostRuntime) -> Result<(), Fail> {
-    let (items, values) = (traced([1, 2, 3, 4]), traced([10, 73, 431, 356]));
-    assert!(rt; radix2_goes::<F433, Traced<F433>>(rt.alloc(), &items, &values)?);
-    Ok(())
 }
 
 // Whether these are the items' products with the powers of two, and with three times these powers.

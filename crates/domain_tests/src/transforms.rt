@@ -1,130 +1,17 @@
-use ark_base::{DomainCoeff, FftField, Field, Lanes, PolyError, Work};
+use crate::kinds::SIZES;
+use ark_base::{DomainCoeff, FftField, Field, Lanes, PolyError};
 use ark_fft::domain::radix2::fft::powers;
-use ark_univariate::{EvaluationDomain, Radix2EvaluationDomain};
 use ark_test_types::nothing::Nothing;
-use ark_trials::calls::{coset, elements, fft, has_numbers, ifft};
-use ark_trials::plain::{agrees, drawn, forward, has_plain_sums, inverse};
+use ark_trials::calls::coset;
+use ark_trials::plain::{agrees, drawn, forward, inverse};
 use ark_trials::trials::{FieldTrial, Kind, Prime, Trial, first_wrong, over, over_field};
+use ark_univariate::EvaluationDomain;
 use rand_core::Rng;
 use rand_pcg::Pcg64;
 use std::alloc::{AllocError, Global};
 use std::test::Fail;
 
-/// A size, an offset, coefficients and their values over that coset.
-#[derive(Clone, Copy)]
-struct Forward<'a>(usize, u64, &'a [u64], &'a [u64]);
-
-impl Trial for Forward<'_> {
-    fn holds<F: FftField, D: EvaluationDomain<F>>(&self, alloc: Global) -> Result<bool, PolyError> {
-        let Forward(size, offset, coeffs, values) = *self;
-        let domain: D = coset(size, offset)?;
-        Ok(has_numbers(&fft(alloc, &domain, coeffs)?, values))
-    }
-}
-
-const FORWARD: [(Prime, Kind, Forward<'static>); 8] = [
-    (
-        Prime::P5,
-        Kind::Radix2,
-        Forward(4, 1, &[1, 2, 3, 4], &[0, 4, 3, 2]),
-    ),
-    (Prime::P5, Kind::Radix2, Forward(2, 2, &[1, 1], &[3, 4])),
-    (
-        Prime::P5,
-        Kind::Radix2,
-        Forward(4, 1, &[1, 0, 0, 0, 1], &[1, 1, 1, 1]),
-    ),
-    (Prime::P5, Kind::Radix2, Forward(3, 1, &[1], &[1, 1, 1, 1])),
-    (Prime::P5, Kind::Radix2, Forward(1, 1, &[3, 1], &[3])),
-    (Prime::P5, Kind::Radix2, Forward(4, 1, &[], &[0, 0, 0, 0])),
-    (
-        Prime::P433,
-        Kind::Radix2,
-        Forward(4, 1, &[1, 2, 3, 4], &[10, 73, 431, 356]),
-    ),
-    // Six elements for five coefficients.
-    (
-        Prime::P433,
-        Kind::Mixed,
-        Forward(5, 1, &[0, 1], &[1, 199, 198, 432, 234, 235]),
-    ),
-];
-
-#[test]
-fn forward_rows(rt: HostRuntime) -> Result<(), Fail> {
-    assert!(rt; first_wrong(rt.alloc(), &FORWARD)? == None);
-    Ok(())
-}
-
-/// A size, an offset, values over that coset and their coefficients.
-#[derive(Clone, Copy)]
-struct Back<'a>(usize, u64, &'a [u64], &'a [u64]);
-
-impl Trial for Back<'_> {
-    fn holds<F: FftField, D: EvaluationDomain<F>>(&self, alloc: Global) -> Result<bool, PolyError> {
-        let Back(size, offset, values, coeffs) = *self;
-        let domain: D = coset(size, offset)?;
-        Ok(has_numbers(&ifft(alloc, &domain, values)?, coeffs))
-    }
-}
-
-const BACK: [(Prime, Kind, Back<'static>); 4] = [
-    (
-        Prime::P5,
-        Kind::Radix2,
-        Back(4, 1, &[1, 2, 3, 4], &[0, 3, 2, 1]),
-    ),
-    (Prime::P5, Kind::Radix2, Back(2, 2, &[3, 4], &[1, 1])),
-    (Prime::P5, Kind::Radix2, Back(1, 1, &[3], &[3])),
-    (
-        Prime::P433,
-        Kind::Radix2,
-        Back(4, 1, &[10, 73, 431, 356], &[1, 2, 3, 4]),
-    ),
-];
-
-#[test]
-fn inverse_rows(rt: HostRuntime) -> Result<(), Fail> {
-    assert!(rt; first_wrong(rt.alloc(), &BACK)? == None);
-    Ok(())
-}
-
-/// A size and an offset: plain sums over that coset of lists shorter and longer than the size.
-#[derive(Clone, Copy)]
-struct EveryLength(usize, u64);
-
-impl Trial for EveryLength {
-    fn holds<F: FftField, D: EvaluationDomain<F>>(&self, alloc: Global) -> Result<bool, PolyError> {
-        let domain: D = coset(self.0, self.1)?;
-        let mut right = true;
-        let mut coeffs = Vec::new(alloc);
-        for i in 0..20 {
-            right = right && has_plain_sums(alloc, &domain, &coeffs)?;
-            coeffs.push(F::from(i * i + 1))?;
-        }
-        Ok(right)
-    }
-}
-
-// Every size of the field, and two offsets.
-const EVERY_LENGTH: [(Prime, Kind, EveryLength); 10] = [
-    (Prime::P433, Kind::Radix2, EveryLength(1, 1)),
-    (Prime::P433, Kind::Radix2, EveryLength(1, 5)),
-    (Prime::P433, Kind::Radix2, EveryLength(2, 1)),
-    (Prime::P433, Kind::Radix2, EveryLength(2, 5)),
-    (Prime::P433, Kind::Radix2, EveryLength(4, 1)),
-    (Prime::P433, Kind::Radix2, EveryLength(4, 5)),
-    (Prime::P433, Kind::Radix2, EveryLength(8, 1)),
-    (Prime::P433, Kind::Radix2, EveryLength(8, 5)),
-    (Prime::P433, Kind::Radix2, EveryLength(16, 1)),
-    (Prime::P433, Kind::Radix2, EveryLength(16, 5)),
-];
-
-#[test]
-fn plain_sums_at_every_length(rt: HostRuntime) -> Result<(), Fail> {
-    assert!(rt; first_wrong(rt.alloc(), &EVERY_LENGTH)? == None);
-    Ok(())
-}
+const POWERS: [usize; 11] = [1, 2, 4, 8, 16, 32, 64, 128, 256, 512, 1024];
 
 // Whether a drawn list is transformed, and its transform back, as passes do it.
 fn has_passes<F: FftField, D: EvaluationDomain<F>>(
@@ -160,7 +47,7 @@ impl Trial for PlainBodies {
     fn holds<F: FftField, D: EvaluationDomain<F>>(&self, alloc: Global) -> Result<bool, PolyError> {
         let mut rng = Pcg64::new(7, 11);
         let mut right = true;
-        for size in [1, 2, 4, 8, 16, 32, 64, 128, 256, 512, 1024] {
+        for size in POWERS {
             let offset = rng.next_u64() % 65536 + 1;
             right = right
                 && has_bodies::<F, D>(alloc, &mut rng, size, 1)?
@@ -173,6 +60,75 @@ impl Trial for PlainBodies {
 #[test]
 fn plain_bodies_agree(rt: HostRuntime) -> Result<(), Fail> {
     assert!(rt; over(rt.alloc(), Prime::P65537, Kind::Radix2, &PlainBodies)?);
+    Ok(())
+}
+
+// Whether items come back from the inverse and the transform, and from the transform and the inverse, all in place.
+fn comes_back<F: FftField, D: EvaluationDomain<F>, T: DomainCoeff<F>>(
+    alloc: Global,
+    domain: &D,
+    items: &[T],
+) -> Result<bool, PolyError> {
+    let mut list = domain.ifft(alloc, items)?;
+    domain.fft_in_place(alloc, &mut list)?;
+    let back = list.as_slice() == items;
+    domain.fft_in_place(alloc, &mut list)?;
+    domain.ifft_in_place(alloc, &mut list)?;
+    Ok(back && list.as_slice() == items)
+}
+
+// So many pairs of a generator.
+fn drawn_lanes<F: Field>(
+    alloc: Global,
+    rng: &mut Pcg64,
+    len: usize,
+) -> Result<Vec<Lanes<F>>, AllocError> {
+    let mut list = Vec::with_capacity(alloc, len)?;
+    for _ in 0..len {
+        list.push(Lanes::new(F::from(rng.next_u64()), F::from(rng.next_u64())))?;
+    }
+    Ok(list)
+}
+
+// Whether drawn elements and pairs come back over the domain.
+fn both_come_back<F: FftField, D: EvaluationDomain<F>>(
+    alloc: Global,
+    rng: &mut Pcg64,
+    domain: &D,
+) -> Result<bool, PolyError> {
+    let elements = drawn::<F>(alloc, rng, domain.size())?;
+    let lanes = drawn_lanes::<F>(alloc, rng, domain.size())?;
+    Ok(comes_back(alloc, domain, &elements)? && comes_back(alloc, domain, &lanes)?)
+}
+
+/// Drawn elements and pairs come back over the domain for each of these sizes and a coset of it.
+#[derive(Clone, Copy)]
+struct Composition<'a>(&'a [usize]);
+
+impl Trial for Composition<'_> {
+    fn holds<F: FftField, D: EvaluationDomain<F>>(&self, alloc: Global) -> Result<bool, PolyError> {
+        let mut rng = Pcg64::new(17, 5);
+        let mut right = true;
+        for size in self.0 {
+            let subgroup: D = coset(*size, 1)?;
+            let coset = subgroup.get_coset(F::GENERATOR).ok_or(PolyError::NoDomain)?;
+            right = right
+                && both_come_back(alloc, &mut rng, &subgroup)?
+                && both_come_back(alloc, &mut rng, &coset)?;
+        }
+        Ok(right)
+    }
+}
+
+const COMPOSITIONS: [(Prime, Kind, Composition<'static>); 3] = [
+    (Prime::P65537, Kind::General, Composition(&POWERS)),
+    (Prime::P433, Kind::General, Composition(&SIZES)),
+    (Prime::P433, Kind::Mixed, Composition(&SIZES)),
+];
+
+#[test]
+fn transforms_and_inverses_compose(rt: HostRuntime) -> Result<(), Fail> {
+    assert!(rt; first_wrong(rt.alloc(), &COMPOSITIONS)? == None);
     Ok(())
 }
 
@@ -199,142 +155,6 @@ const NOTHINGS: [(Prime, Kind, Nothings); 4] = [
 #[test]
 fn lists_of_no_size(rt: HostRuntime) -> Result<(), Fail> {
     assert!(rt; first_wrong(rt.alloc(), &NOTHINGS)? == None);
-    Ok(())
-}
-
-// Whether transforms in new lists and in place take the coefficients to the values, and back.
-fn goes_both_ways<F: FftField, D: EvaluationDomain<F>, T: DomainCoeff<F>>(
-    alloc: Global,
-    domain: &D,
-    coeffs: &[T],
-    values: &[T],
-) -> Result<bool, PolyError> {
-    let mut forward = domain.fft(alloc, coeffs)?;
-    let mut back = domain.ifft(alloc, values)?;
-    let new = forward.as_slice() == values && back.as_slice() == coeffs;
-    domain.ifft_in_place(alloc, &mut forward)?;
-    domain.fft_in_place(alloc, &mut back)?;
-    Ok(new && forward.as_slice() == coeffs && back.as_slice() == values)
-}
-
-// Whether counted calls do.
-fn goes_counted<F: FftField, D: EvaluationDomain<F>, T: DomainCoeff<F>>(
-    alloc: Global,
-    domain: &D,
-    coeffs: &[T],
-    values: &[T],
-) -> Result<bool, PolyError> {
-    let mut list = domain.fft(alloc, coeffs)?;
-    domain.ifft_counted(alloc, &mut list, &mut Work::new())?;
-    let back = list.as_slice() == coeffs;
-    domain.fft_counted(alloc, &mut list, &mut Work::new())?;
-    Ok(back && list.as_slice() == values)
-}
-
-/// Whether both are so of items of any module over as many elements.
-pub fn radix2_goes<F: FftField, T: DomainCoeff<F>>(
-    alloc: Global,
-    coeffs: &[T],
-    values: &[T],
-) -> Result<bool, PolyError> {
-    let domain: Radix2EvaluationDomain<F> = coset(coeffs.len(), 1)?;
-    Ok(
-        goes_both_ways(alloc, &domain, coeffs, values)?
-            && goes_counted(alloc, &domain, coeffs, values)?,
-    )
-}
-
-/// All calls of these coefficients and values.
-#[derive(Clone, Copy)]
-struct Calls<'a>(&'a [u64], &'a [u64]);
-
-impl FieldTrial for Calls<'_> {
-    fn holds_in<F: FftField>(&self, alloc: Global) -> Result<bool, PolyError> {
-        let coeffs = elements::<F>(alloc, self.0)?;
-        let values = elements::<F>(alloc, self.1)?;
-        radix2_goes::<F, F>(alloc, &coeffs, &values)
-    }
-}
-
-#[test]
-fn calls_in_place(rt: HostRuntime) -> Result<(), Fail> {
-    let calls = Calls(&[1, 2, 3, 4], &[0, 4, 3, 2]);
-    assert!(rt; over_field(rt.alloc(), Prime::P5, &calls)?);
-    Ok(())
-}
-
-fn lanes<F: Field>(first: u64, second: u64) -> Lanes<F> {
-    Lanes::new(F::from(first), F::from(second))
-}
-
-// The pairs of these numbers.
-fn listed_lanes<F: Field>(
-    alloc: Global,
-    numbers: &[(u64, u64)],
-) -> Result<Vec<Lanes<F>>, AllocError> {
-    let mut list = Vec::with_capacity(alloc, numbers.len())?;
-    for (first, second) in numbers {
-        list.push(lanes(*first, *second))?;
-    }
-    Ok(list)
-}
-
-/// A module of pairs transforms lane by lane.
-#[derive(Clone, Copy)]
-struct LaneByLane;
-
-impl FieldTrial for LaneByLane {
-    fn holds_in<F: FftField>(&self, alloc: Global) -> Result<bool, PolyError> {
-        let coeffs = listed_lanes::<F>(alloc, &[(1, 2), (3, 4)])?;
-        let values = listed_lanes::<F>(alloc, &[(4, 1), (3, 3)])?;
-        radix2_goes::<F, Lanes<F>>(alloc, &coeffs, &values)
-    }
-}
-
-#[test]
-fn transforms_of_lanes(rt: HostRuntime) -> Result<(), Fail> {
-    assert!(rt; over_field(rt.alloc(), Prime::P5, &LaneByLane)?);
-    Ok(())
-}
-
-// So many pairs of a generator.
-fn drawn_lanes<F: Field>(
-    alloc: Global,
-    rng: &mut Pcg64,
-    len: usize,
-) -> Result<Vec<Lanes<F>>, AllocError> {
-    let mut list = Vec::with_capacity(alloc, len)?;
-    for _ in 0..len {
-        list.push(lanes(rng.next_u64(), rng.next_u64()))?;
-    }
-    Ok(list)
-}
-
-/// A size and an offset: drawn pairs come back from their transform over that coset, and from its inverse.
-#[derive(Clone, Copy)]
-struct DrawnLanes(usize, u64);
-
-impl Trial for DrawnLanes {
-    fn holds<F: FftField, D: EvaluationDomain<F>>(&self, alloc: Global) -> Result<bool, PolyError> {
-        let domain: D = coset(self.0, self.1)?;
-        let coeffs = drawn_lanes::<F>(alloc, &mut Pcg64::new(17, 5), self.0)?;
-        let values = domain.fft(alloc, &coeffs)?;
-        goes_both_ways(alloc, &domain, &coeffs, &values)
-    }
-}
-
-const DRAWN_LANES: [(Prime, Kind, DrawnLanes); 6] = [
-    (Prime::P65537, Kind::Radix2, DrawnLanes(1, 1)),
-    (Prime::P65537, Kind::Radix2, DrawnLanes(1, 3)),
-    (Prime::P65537, Kind::Radix2, DrawnLanes(2, 1)),
-    (Prime::P65537, Kind::Radix2, DrawnLanes(2, 3)),
-    (Prime::P65537, Kind::Radix2, DrawnLanes(64, 1)),
-    (Prime::P65537, Kind::Radix2, DrawnLanes(64, 3)),
-];
-
-#[test]
-fn drawn_lanes_come_back(rt: HostRuntime) -> Result<(), Fail> {
-    assert!(rt; first_wrong(rt.alloc(), &DRAWN_LANES)? == None);
     Ok(())
 }
 

@@ -1,6 +1,7 @@
 //! The exact cost of calls, as numbers in a contract.
 
 ghost use Rattle.std.specs.Prelude.{◌≡◌, ◌+◌, ◌≤◌, length, OnOk};
+ghost use Rattle.ark_poly.specs.Domains.{radix2_domain};
 
 use ark_base::{DomainCoeff, FftField, PolyError, Work};
 use ark_poly::{EvaluationDomain, Radix2EvaluationDomain};
@@ -14,7 +15,7 @@ pub fn over_sixteen_and_back<F: FftField, T: DomainCoeff<F>>(
     items: &mut Vec<T>,
     work: &mut Work,
 ) -> Result<(), PolyError>
-    requires sixteen { (⟦<Radix2EvaluationDomain<F> as EvaluationDomain<F>>⟧.domain domain.now).size ≡ 16 }
+    requires sixteen { (radix2_domain domain.now).size ≡ 16 }
     requires four { length items.old.items ≡ 4 }
     ensures butterflies { OnOk result (work.new.butterflies ≡ work.old.butterflies + 16 + 32) }
     ensures products { OnOk result (work.new.products ≤ work.old.products + (16 + 16) + (32 + 16)) }

@@ -1,29 +1,36 @@
-//! Small callers, as a user of the crates writes them: a transform and back, values on a coset, the
-//! convolution of two lists, exact costs, the first round of a sum-check, what chooses a value of a table, fields and a
-//! module of one's own. The program prints what each gives.
+//! Small callers, as a user of the crates writes them: a transform and back, values on a coset, an interpolation, the
+//! convolution of two lists, a combination of two polynomials, an opening, exact costs, the first round of a sum-check,
+//! what chooses a value of a table, fields and a module of one's own. The program prints what each gives.
 #![tactic(auto)]
 
+mod combination;
 mod convolution;
 mod coset;
 mod cost;
 mod field;
+mod interpolation;
 mod large_field;
 mod module;
+mod opening;
 mod selector;
 mod sum_check;
 mod there_and_back;
 
 use ark_base::{F433, F65537, FftField, Field, PolyError, PrimeField, PrimeModulus, Work};
+use ark_poly::univariate::DensePolynomial;
 use ark_poly::{
-    DenseMultilinearExtension, EvaluationDomain, MixedRadixEvaluationDomain, MultilinearExtension,
-    Radix2EvaluationDomain,
+    DenseMultilinearExtension, DenseUVPolynomial, EvaluationDomain, MixedRadixEvaluationDomain,
+    MultilinearExtension, Radix2EvaluationDomain,
 };
+use combination::combination;
 use convolution::convolution;
 use coset::values_on_coset;
 use cost::over_sixteen_and_back;
 use field::{F97, quotient};
+use interpolation::interpolated_value;
 use large_field::size_for_a_hundred_million;
 use module::{Point, points_of_curve};
+use opening::opening;
 use selector::selector;
 use std::alloc::Global;
 use std::io::Print;
@@ -36,12 +43,15 @@ fn main(rt: HostRuntime) -> anyhow::Result<()> {
     print_list(&rt, alloc, "there and back", &back)?;
     let others = on_coset(alloc, F97::from(5), &[10, 20, 30, 40].map(F97::from))?;
     print_list(&rt, alloc, "values on a coset", &others)?;
+    let secret = at_zero(alloc, F97::from(5), &others)?;
+    print_list(&rt, alloc, "the value at zero from these", &[secret])?;
     let both = convolution(
         alloc,
         &[1, 2, 3].map(F65537::from),
         &[4, 5].map(F65537::from),
     )?;
     print_list(&rt, alloc, "convolution", &both)?;
+    print_polynomials(&rt, alloc)?;
     let items = over_sixteen(alloc, [1, 2, 3, 4].map(F65537::from))?;
     print_list(&rt, alloc, "over sixteen elements and back", &items)?;
     let checked = round(
@@ -77,6 +87,33 @@ fn on_coset<F: FftField>(alloc: Global, offset: F, values: &[F]) -> Result<Vec<F
         return Err(PolyError::NoDomain);
     }
     values_on_coset(alloc, &domain, offset, values)
+}
+
+/// The value at zero of the polynomial with these values over the coset with this offset.
+fn at_zero<F: FftField>(alloc: Global, offset: F, values: &[F]) -> Result<F, PolyError> {
+    let coset = Radix2EvaluationDomain::new_coset(values.len(), offset).ok_or(PolyError::NoDomain)?;
+    if coset.size() != values.len() {
+        return Err(PolyError::NoDomain);
+    }
+    interpolated_value(alloc, coset, Vec::from_slice(alloc, values)?, F::zero())
+}
+
+/// Twice the first polynomial and three times the second one, by their coefficients.
+fn twice_and_thrice<F: Field>(alloc: Global, left: &[F], right: &[F]) -> Result<Vec<F>, PolyError> {
+    let left = DensePolynomial::from_coefficients_slice(alloc, left)?;
+    let right = DensePolynomial::from_coefficients_slice(alloc, right)?;
+    let both = combination(alloc, F::from(2), &left, F::from(3), &right)?;
+    Ok(Vec::from_slice(alloc, both.coeffs())?)
+}
+
+/// The value at a point, and the coefficients of the quotient that shows it.
+fn opened_at<F: Field>(alloc: Global, coeffs: &[F], point: F) -> Result<Vec<F>, PolyError> {
+    let polynomial = DensePolynomial::from_coefficients_slice(alloc, coeffs)?;
+    let (value, quotient) = opening(alloc, &polynomial, point)?;
+    let mut opened = Vec::new(alloc);
+    opened.push(value)?;
+    opened.extend_from_slice(quotient.coeffs())?;
+    Ok(opened)
 }
 
 /// Four items over sixteen elements, and back.
@@ -131,6 +168,23 @@ fn print_list<M: PrimeModulus>(
         .collect(alloc)?;
     println!(rt; "{name}: {numbers:?}")?;
     Ok(())
+}
+
+fn print_polynomials(rt: &impl Print, alloc: Global) -> anyhow::Result<()> {
+    let both = twice_and_thrice(alloc, &[1, 2].map(F97::from), &[10, 20, 30].map(F97::from))?;
+    print_list(
+        rt,
+        alloc,
+        "twice one polynomial and three times another",
+        &both,
+    )?;
+    let opened = opened_at(alloc, &[1, 2, 3].map(F97::from), F97::from(2))?;
+    print_list(
+        rt,
+        alloc,
+        "the value at 2, and the quotient by x - 2",
+        &opened,
+    )
 }
 
 fn print_fields(rt: &impl Print) -> anyhow::Result<()> {

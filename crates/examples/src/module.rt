@@ -108,6 +108,8 @@ impl<F: Field> DomainCoeff<F> for Point<F> {
 
     ghost equality_meaning = { λ a b. pair_Decides (F.equality_law a.x b.x) (F.equality_law a.y b.y) };
 
+    ghost clone_meaning = { λ a b e. ap coordinates e };
+
     ghost zero_meaning = { refl };
 
     ghost can_add_meaning = { λ a b. tt };

@@ -77,7 +77,7 @@ impl<F: FftField> Coset<F> {
         }
     }
 
-    /// The same with this offset, and `None` exactly for zero.
+    /// The elements of the same size with this offset, and `None` exactly for zero.
     pub fn with_offset(&self, offset: F) -> Option<Coset<F>>
         ensures size { IfSome result (λ c. c.size ≡ self.now.size) }
         ensures twos { IfSome result (λ c. c.log_size_of_group ≡ self.now.log_size_of_group) }
@@ -115,7 +115,7 @@ impl<F: FftField> Coset<F> {
         self.size_as_field_element
     }
 
-    /// Its inverse.
+    /// The inverse of the size.
     pub fn size_inv(&self) -> F
         ensures { F.field.times (natural F.field self.now.size) result ≡ F.field.one }
     {

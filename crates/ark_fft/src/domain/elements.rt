@@ -13,14 +13,14 @@ pub struct Elements<F: FftField> {
 
 impl<F: FftField> Elements<F> {
     ghost use Rattle.ark_fft.specs.Elements.{left};
-    ghost use Rattle.std.specs.Prelude.{◌≡◌};
+    ghost use Rattle.std.specs.Iterator.{AlwaysYields, YieldsFirst};
     ghost use Rattle.ark_math.specs.Module.{tabulate};
     ghost use Rattle.ark_math.specs.Field.{power};
 
     /// The elements `offset * group_gen^i` for `i` below `size`.
     pub fn new(size: u64, offset: F, group_gen: F) -> Elements<F>
-        ensures { left F.field result ≡ tabulate size
-            (λ i. F.field.times offset (power F.field group_gen i)) }
+        ensures { AlwaysYields (YieldsFirst (left F.field)) (λ x. x) result
+            (tabulate size (λ i. F.field.times offset (power F.field group_gen i))) }
     {
         Elements {
             current: offset,

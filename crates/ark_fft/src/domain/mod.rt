@@ -5,6 +5,7 @@ mod elements;
 mod lists;
 pub mod mixed_radix;
 pub mod radix2;
+mod scaling;
 
 pub use coset::Coset;
 pub use elements::Elements;

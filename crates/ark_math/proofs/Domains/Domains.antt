@@ -37,12 +37,12 @@ size_supported s radix2 n h = (h.0, 0, h.1)
 size_supported s mixed_radix n h = h.1
 
 module _ {F : Type 0} (K : FieldOn F) (s : Adicity) (root : ℕ → F) where
-  pub radix2_domain : {eq : F → F → Bool} {n twos odds : ℕ} {w o : F} → ((x y : F) → Decides (eq x y) (x ≡ y)) → Splits s n twos odds → odds ≡ 0 → eq w (root n) ≡ true → eq o K.zero ≡ false → IsDomain K s root (domain_of radix2 n w o)
-  radix2_domain decides h e f off =
+  pub radix2_is_domain : {eq : F → F → Bool} {n twos odds : ℕ} {w o : F} → ((x y : F) → Decides (eq x y) (x ≡ y)) → Splits s n twos odds → odds ≡ 0 → eq w (root n) ≡ true → eq o K.zero ≡ false → IsDomain K s root (domain_of radix2 n w o)
+  radix2_is_domain decides h e f off =
       record { size_of = even_size s _ _ _ h e; root_of = (decides _ _).0 f; offset_not_zero = not_from_Decides _ (decides _ _) off }
 
-  pub mixed_domain : {eq : F → F → Bool} {n twos odds : ℕ} {w o : F} → ((x y : F) → Decides (eq x y) (x ≡ y)) → Splits s n twos odds → IsSome s.odd → eq w (root n) ≡ true → eq o K.zero ≡ false → IsDomain K s root (domain_of mixed_radix n w o)
-  mixed_domain decides h based f off =
+  pub mixed_radix_is_domain : {eq : F → F → Bool} {n twos odds : ℕ} {w o : F} → ((x y : F) → Decides (eq x y) (x ≡ y)) → Splits s n twos odds → IsSome s.odd → eq w (root n) ≡ true → eq o K.zero ≡ false → IsDomain K s root (domain_of mixed_radix n w o)
+  mixed_radix_is_domain decides h based f off =
       record { size_of = (based, (_, _, h)); root_of = (decides _ _).0 f; offset_not_zero = not_from_Decides _ (decides _ _) off }
 
   pub root_order : (d : Domain F) → AreRoots K s root → IsDomain K s root d → HasOrder K d.root d.size

@@ -3,6 +3,8 @@
 use Rattle.std.proofs.Common.{◌≡◌, ◌≢◌, ℕ, ◌+◌, ◌-◌, ◌*◌, ◌/◌, ◌%◌, ◌<◌, ◌⊎◌, ◌↔◌, List, length, sym, ◌∙◌, ap, ap₂, refl, subst, arith}
 use Rattle.std.proofs.Math.Nat.{mod-add-div}
 use Rattle.ark_math.specs.Field.{FieldOn, IsField, power, natural, minus}
+use Rattle.ark_math.specs.Module.{ModuleOn, IsModule}
+use Rattle.ark_math.specs.Transform.{IsInverse, IsOnlyInverse}
 use Rattle.ark_math.specs.Root.{Adicity, HasOrder, AreRoots}
 use Rattle.ark_math.specs.Domain.{Domain, IsDomain, element}
 use Rattle.ark_math.specs.Univariate.{IsBelow, IsDegree, IsQuotient, IsValue, of_list, product}
@@ -15,6 +17,7 @@ use Rattle.ark_math.proofs.Polynomials.UnivariateValues.{one_value}
 use Rattle.ark_math.proofs.Domains.Domains.{root_order, size_not_zero}
 use Rattle.ark_math.proofs.Domains.Elements.{Inverses, positive, times_not_zero, factor_not_zero, minus_not_zero, power_not_zero, same_from_minus, minus_same, has_inverses, element-power, same_element, value-vanishing}
 use Rattle.ark_math.proofs.Algebra.Powers.{powers_inverse}
+use Rattle.ark_math.proofs.Transforms.Inverses.{one_inverse}
 use Rattle.ark_math.proofs.OverDomains.PlaceValues.{values-length, one_interpolation}
 use Rattle.ark_math.proofs.OverDomains.Vanishing.{interpolated_quotient, interpolated_remainder, interpolated_product}
 use Rattle.ark_math.proofs.OverDomains.Weights.{weights_at_element, weights_elsewhere, one_list_of_weights}
@@ -74,7 +77,16 @@ module _ {F : Type 0} {K : FieldOn F} {s : Adicity} {root : ℕ → F} {d : Doma
   pub some_size : 0 < d.size
   some_size = positive K N d.size (size_not_zero K s root d R D)
 
+  -- ---- inverses
+
+  -- a list with these values is the only one
+  pub only_inverse : {M : Type 0} {V : ModuleOn F M} → IsModule K V → (v u : List M) → IsInverse K V d v u → IsOnlyInverse K V d v u
+  only_inverse L v u is other is_other = one_inverse N L d order (size_not_zero K s root d R D) D.offset_not_zero v other u is_other is
+
   -- ---- elements
+
+  pub elements_differ : (i j : ℕ) → i < d.size → j < d.size → element K d i ≡ element K d j → i ≡ j
+  elements_differ = same_element K N d order D.offset_not_zero
 
   pub vanishing_zero : ((x y : F) → (x ≡ y) ⊎ (x ≢ y)) → (x z : F) → z ≡ minus K (power K x d.size) (power K d.offset d.size) → (z ≡ K.zero) ↔ IsElement K d x
   vanishing_zero decide x z e = (
@@ -108,7 +120,7 @@ module _ {F : Type 0} {K : FieldOn F} {s : Adicity} {root : ℕ → F} {d : Doma
   pub weights_of_indicator : (tau : F) (l : List F) → IsElement K d tau → length l ≡ d.size → ((i : ℕ) → i < d.size → element K d i ≡ tau → of_list K l i ≡ K.one) → ((i : ℕ) → i < d.size → element K d i ≢ tau → of_list K l i ≡ K.zero) → AreWeights K d tau l
   weights_of_indicator tau l h count here there =
       weights_at_element K N d order inverses h.0 tau l h.1 h.2 count (here h.0 h.1 (sym h.2))
-      (λ i b ne. there i b (λ e. ne (same_element K N d order D.offset_not_zero i h.0 b h.1 (e ∙ h.2))))
+      (λ i b ne. there i b (λ e. ne (elements_differ i h.0 b h.1 (e ∙ h.2))))
 
   pub weights_of_inverses : (tau z v b p u first : F) (ws : List F) → IsValue K (vanishing K d) tau z → K.times z v ≡ K.one → b ≡ K.times (K.times (natural K d.size) (power K d.offset d.size)) v → K.times d.offset p ≡ K.one → K.times d.root u ≡ K.one → first ≡ K.times (K.times tau b) p → length ws ≡ d.size → ((i : ℕ) → i < d.size → IsPlaceQuotient K K.one (minus K (K.times first (power K u i)) b) (of_list K ws i)) → AreWeights K d tau ws
   weights_of_inverses tau z v b p u first ws value some constant offset back begin count inverted =

@@ -106,13 +106,21 @@ module _ {F : Type 0} (K : FieldOn F) (N : IsField K) where
   has_quotient k m a d ne f h = reduced k 0 m a d (nothing K) a ne f (nothing-below K 0) h
       (sym (ap (λ t. added K t a) (nothing-product K N d) ∙ zero_plus (coefficients_are_module K N) a))
 
-  -- what a division gives, from quotient and remainder by a divisor that isn't zero
-  pub is_division : (a d q r : ℕ → F) → (d ≢ nothing K → IsQuotient K a d q r) → (a ≡ nothing K → (q ≡ nothing K) × (r ≡ nothing K)) → IsDivision K a d q r
+  -- what a division gives, from quotient and remainder by a divisor that isn't zero, and zeros for zero
+  is_division : (a d q r : ℕ → F) → (d ≢ nothing K → IsQuotient K a d q r) → (a ≡ nothing K → (q ≡ nothing K) × (r ≡ nothing K)) → IsDivision K a d q r
   is_division a d q r quotient zeros = record {
     quotient = quotient;
     only = λ p s is. one_quotient a d p s q r is (quotient (λ none. is.degree.1 (ap (λ t. t is.degree.0) none)));
     zeros = zeros;
   }
+
+  -- from a divisor that isn't zero
+  pub division_of : (a d q r : ℕ → F) → IsQuotient K a d q r → IsDivision K a d q r
+  division_of a d q r h = is_division a d q r (λ some. h) (λ zero. zero_quotient a d q r zero h)
+
+  -- by zero
+  pub zero_division : (a d q r : ℕ → F) → d ≡ nothing K → q ≡ nothing K → r ≡ nothing K → IsDivision K a d q r
+  zero_division a d q r none e f = is_division a d q r (λ some. absurd (some none)) (λ zero. (e, f))
 
   -- there are no others where the divisor or the dividend decides
   one_division : (a d q r p s : ℕ → F) → IsDivision K a d q r → IsDivision K a d p s → ((a ≢ nothing K) × (d ≡ nothing K) → ⊥) → ((q ≡ p) × (r ≡ s) → ⊥) → ⊥

@@ -31,7 +31,7 @@ impl<F: FftField> Clone for GeneralEvaluationDomain<F> {
     }
 }
 
-/// The same expression over the domain of either variant.
+/// An expression over the domain of either variant.
 macro_rules! over_both {
     ($value:expr, $domain:ident => $result:expr) => {
         match $value {
@@ -43,22 +43,20 @@ macro_rules! over_both {
 
 impl<F: FftField> EvaluationDomain<F> for GeneralEvaluationDomain<F> {
     ghost use Rattle.ark_math.proofs.Domains.Domains.{same_domain, other_kind, radix2_is_not_mixed};
-    ghost use Rattle.ark_math.proofs.Domains.Domains.{radix2_domain, mixed_domain};
+    ghost use Rattle.ark_math.proofs.Domains.Domains.{radix2_is_domain, mixed_radix_is_domain};
+    ghost use Rattle.ark_univariate.specs.Domains.{general_domain};
     ghost use Rattle.ark_math.proofs.Domains.GeneralSizes.{general_sizes, one_general_size};
     ghost use Rattle.std.proofs.Common.{sym};
 
     type Elements = GeneralElements<F>;
 
-    ghost domain = { elim [
-      | Radix2 d ↦ ⟦<Radix2EvaluationDomain<F> as EvaluationDomain<F>>⟧.domain d
-      | MixedRadix d ↦ ⟦<MixedRadixEvaluationDomain<F> as EvaluationDomain<F>>⟧.domain d
-    ] };
+    ghost domain = { general_domain };
 
     ghost chooses = { IsGeneral F.adicity };
 
     fn new(num_coeffs: usize) -> Option<Self> {
-        if let Some(even) = Radix2EvaluationDomain::new(num_coeffs) {
-            return Some(GeneralEvaluationDomain::Radix2(even));
+        if let Some(domain) = Radix2EvaluationDomain::new(num_coeffs) {
+            return Some(GeneralEvaluationDomain::Radix2(domain));
         }
         let mixed = MixedRadixEvaluationDomain::new(num_coeffs)?;
         Some(GeneralEvaluationDomain::MixedRadix(mixed))
@@ -66,11 +64,11 @@ impl<F: FftField> EvaluationDomain<F> for GeneralEvaluationDomain<F> {
 
     fn get_coset(&self, offset: F) -> Option<Self> {
         Some(match self {
-            GeneralEvaluationDomain::Radix2(even) => {
-                GeneralEvaluationDomain::Radix2(even.get_coset(offset)?)
+            GeneralEvaluationDomain::Radix2(domain) => {
+                GeneralEvaluationDomain::Radix2(domain.get_coset(offset)?)
             }
-            GeneralEvaluationDomain::MixedRadix(mixed) => {
-                GeneralEvaluationDomain::MixedRadix(mixed.get_coset(offset)?)
+            GeneralEvaluationDomain::MixedRadix(domain) => {
+                GeneralEvaluationDomain::MixedRadix(domain.get_coset(offset)?)
             }
         })
     }
@@ -109,8 +107,10 @@ impl<F: FftField> EvaluationDomain<F> for GeneralEvaluationDomain<F> {
     }
 
     ghost lawful = { elim [
-      | Radix2 d ↦ radix2_domain F.field F.adicity F.root F.equality_law d.coset.splits d.even d.coset.root_is d.coset.offset_not_zero
-      | MixedRadix d ↦ mixed_domain F.field F.adicity F.root F.equality_law d.coset.splits d.based d.coset.root_is d.coset.offset_not_zero
+      | Radix2 d ↦ radix2_is_domain F.field F.adicity F.root F.equality_law d.coset.splits d.even
+          d.coset.root_is d.coset.offset_not_zero
+      | MixedRadix d ↦ mixed_radix_is_domain F.field F.adicity F.root F.equality_law d.coset.splits
+          d.based d.coset.root_is d.coset.offset_not_zero
     ] };
 
     ghost equality = { elim [

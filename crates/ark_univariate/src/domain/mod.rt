@@ -55,7 +55,7 @@ pub trait EvaluationDomain<F: FftField>: Copy + Eq + Hash + Debug {
     /// let coset = domain.get_coset(F65537::GENERATOR).ok_or(PolyError::NoDomain)?; // both have eight elements
     /// ```
     ///
-    /// It takes no memory, and asks the field for one root of unity and two inverses. A mixed radix domain first looks
+    /// The call takes no memory, and asks the field for one root of unity and two inverses. A mixed radix domain first looks
     /// at the least size for each power of the odd base.
     fn new(num_coeffs: usize) -> Option<Self>
         ensures chosen { IfSome result (λ d. chooses num_coeffs (domain d).kind (domain d).size) }
@@ -71,7 +71,7 @@ pub trait EvaluationDomain<F: FftField>: Copy + Eq + Hash + Debug {
         Self::new(num_coeffs)?.get_coset(offset)
     }
 
-    /// The same domain with this offset in place of its own, and `None` exactly for zero.
+    /// The coset of this offset: the domain with the offset in place of its own, and `None` exactly for zero.
     fn get_coset(&self, offset: F) -> Option<Self>
         ensures coset { IfSome result (λ d. domain d ≡ record (domain self.now) { offset = offset }) }
         ensures none { IsNone result ↔ (offset ≡ F.field.zero) };
@@ -190,7 +190,8 @@ pub trait EvaluationDomain<F: FftField>: Copy + Eq + Hash + Debug {
         Ok(values)
     }
 
-    /// The same in place. All memory is taken before the list is touched, and after an error it is as it was.
+    /// The values in place of the coefficients, as `fft` gives them. All memory is taken before the list is touched, and
+    /// after an error the list is as it was.
     final fn fft_in_place<T: DomainCoeff<F>>(
         &self,
         alloc: Global,
@@ -204,7 +205,7 @@ pub trait EvaluationDomain<F: FftField>: Copy + Eq + Hash + Debug {
         self.fft_counted(alloc, coeffs, &mut Work::new())
     }
 
-    /// The same with its cost told. After an error the counts are as they were.
+    /// `fft_in_place` with its cost told. After an error the counts are as they were.
     fn fft_counted<T: DomainCoeff<F>>(
         &self,
         alloc: Global,
@@ -242,7 +243,8 @@ pub trait EvaluationDomain<F: FftField>: Copy + Eq + Hash + Debug {
         Ok(coeffs)
     }
 
-    /// The same in place. All memory is taken before the list is touched, and after an error it is as it was.
+    /// The coefficients in place of the values, as `ifft` gives them. All memory is taken before the list is touched, and
+    /// after an error the list is as it was.
     final fn ifft_in_place<T: DomainCoeff<F>>(
         &self,
         alloc: Global,
@@ -258,7 +260,7 @@ pub trait EvaluationDomain<F: FftField>: Copy + Eq + Hash + Debug {
         self.ifft_counted(alloc, evals, &mut Work::new())
     }
 
-    /// The same with its cost told. After an error the counts are as they were.
+    /// `ifft_in_place` with its cost told. After an error the counts are as they were.
     fn ifft_counted<T: DomainCoeff<F>>(
         &self,
         alloc: Global,
@@ -443,7 +445,7 @@ pub trait EvaluationDomain<F: FftField>: Copy + Eq + Hash + Debug {
 
     /// The products of two polynomials' values, place by place: the values of the polynomials' product.
     ///
-    /// It takes a product for each place, and memory for the products alone.
+    /// The call takes a product for each place, and memory for the products alone.
     final fn mul_polynomials_in_evaluation_domain(
         &self,
         alloc: Global,
@@ -463,7 +465,8 @@ pub trait EvaluationDomain<F: FftField>: Copy + Eq + Hash + Debug {
 
     /// The first of at most `tries` draws that is no element of the domain, and `None` where all of them are.
     final fn sample_element_outside_domain<R: Rng>(&self, rng: &mut R, tries: usize) -> Option<F>
-        ensures { IfSome result (λ x. ¬ IsElement F.field (domain self.now) x) }
+        ensures outside { IfSome result (λ x. ¬ IsElement F.field (domain self.now) x) }
+        ensures untried { tries ≡ 0 → IsNone result }
     {
         for _ in 0..tries {
             let drawn = F::rand(rng);

@@ -1,7 +1,7 @@
 //! Polynomials by their coefficients.
 
-ghost use Rattle.std.specs.Prelude.{◌≡◌, ◌↔◌, ℕ, ◌+◌, ◌⊎◌, List, length};
-ghost use Rattle.std.specs.Prelude.{IfOk, IfErr, IfSome, IsNone, IsOkUnless};
+ghost use Rattle.std.specs.Prelude.{◌≡◌, ◌↔◌, ℕ, ◌+◌, List, length, IfOk, IfSome, IsNone, IsOkUnless};
+ghost use Rattle.ark_math.specs.Outcome.{IsOkUnlessEither};
 ghost use Rattle.ark_math.specs.Forms.{IsEmbedding, IsShown};
 ghost use Rattle.ark_math.specs.Univariate.{coefficient_operations, of_list};
 ghost use Rattle.ark_math.specs.Univariate.{IsTrimmed, IsDegree, IsValue};
@@ -54,7 +54,7 @@ pub trait DenseUVPolynomial<F: Field>: Polynomial<F, Point = F> {
         ensures len { IfOk result (λ drawn. IfSome drawn (λ p. length (listed p) ≡ d + 1)) }
         ensures spent { tries ≡ 0 → IfOk result (λ drawn. IsNone drawn) }
         ensures overflow { (result ≡ Err PolyError.Overflow) ↔ (d ≡ usize.MAX) }
-        ensures errors { IfErr result (λ e. (e ≡ PolyError.Memory) ⊎ (e ≡ PolyError.Overflow)) };
+        ensures errors { IsOkUnlessEither result PolyError.Memory PolyError.Overflow };
 
     // A polynomial's coefficients by their exponents.
     ghost coefficients: { Self.Polynomial.Meaning → ℕ → F };
@@ -80,10 +80,12 @@ pub trait DenseUVPolynomial<F: Field>: Polynomial<F, Point = F> {
         (λ p. of_list F.field (listed p)) } = { embedding_shows coefficients coefficients_embed coefficients_law };
 
     ghost evaluate_is: { (p : Self) (x y : F) → Self.has_value (Self.meaning p) x y
-        → IsValue F.field (of_list F.field (listed p)) x y } = { λ p x y h. subst (λ a. IsValue F.field a x y) (coefficients_law p)
-            ((value_coefficients (Self.meaning p) x y).0 h) };
+        → IsValue F.field (of_list F.field (listed p)) x y }
+        = { λ p x y h. subst (λ a. IsValue F.field a x y) (coefficients_law p)
+        ((value_coefficients (Self.meaning p) x y).0 h) };
 
     ghost degree_is: { (p : Self) (d : ℕ) → Self.has_degree (Self.meaning p) d
-        → IsDegree F.field (of_list F.field (listed p)) d } = { λ p d h. subst (λ a. IsDegree F.field a d) (coefficients_law p)
-            ((degree_coefficients (Self.meaning p) d).0 h) };
+        → IsDegree F.field (of_list F.field (listed p)) d }
+        = { λ p d h. subst (λ a. IsDegree F.field a d) (coefficients_law p)
+        ((degree_coefficients (Self.meaning p) d).0 h) };
 }

@@ -2,19 +2,21 @@
 
 ghost use Rattle.std.specs.Prelude.{◌≡◌, ◌≢◌, ℕ, true, false, IsSome, IsOkUnless, IfOk, OnOk, OnErr, List};
 ghost use Rattle.std.specs.Prelude.{map, length, get_or, ◌+◌, ◌-◌, ◌*◌, ◌/◌, ◌≤◌, ◌<◌, ◌^◌, vec_len};
-ghost use Rattle.ark_math.specs.Domain.{mixed_radix, domain_of};
+ghost use Rattle.ark_math.specs.Domain.{mixed_radix};
+ghost use Rattle.ark_fft.specs.Coset.{coset_domain};
 ghost use Rattle.ark_math.specs.Field.{FieldOn, power};
-ghost use Rattle.ark_math.specs.Transform.{transform, IsInverse, IsOnlyInverse};
+ghost use Rattle.ark_math.specs.Transform.{transform, IsInverse};
 ghost use Rattle.ark_math.proofs.Transforms.Places.{dft_at};
 ghost use Rattle.ark_fft.specs.Halves.{reversed, ArePowers};
-ghost use Rattle.ark_fft.specs.Mixed.{IsPowerTable, joined};
+ghost use Rattle.ark_fft.specs.Mixed.{IsPowerTable, joined, mixed_counts};
 ghost use Rattle.ark_math.specs.Module.{ModuleOn, item, sum_below};
-ghost use Rattle.ark_math.specs.Cost.{forward, inverse};
+ghost use Rattle.ark_math.specs.Cost.{GrowsBy, counts, butterfly_counts, forward, inverse};
 ghost use Rattle.ark_traits.specs.Cost.{GrowsByCost};
 
 use crate::domain::coset::Coset;
 use crate::domain::mixed_radix::size::odd_base;
-use crate::domain::radix2::fft::{bit_reverse, halves, powers, scale_by_powers};
+use crate::domain::radix2::fft::{bit_reverse, halves, powers};
+use crate::domain::scaling::{scale_by_powers, shift_to_coset};
 use ark_traits::{DomainCoeff, FftField, PolyError, Work};
 use std::alloc::Global;
 
@@ -28,12 +30,10 @@ fn horner_sum<F: FftField, T: DomainCoeff<F>>(
     factor: F,
     last: usize,
 ) -> T
-    requires some { 0 < base }
+    requires base_not_zero { 0 < base }
     requires rows { (base - 1) * m ≤ last }
     requires inside { last < length parts.now }
-    ensures products { work.new.products ≡ work.old.products + (base - 1) }
-    ensures butterflies { work.new.butterflies ≡ work.old.butterflies }
-    ensures steps { work.new.steps ≡ work.old.steps }
+    ensures counted { GrowsBy (counts (base - 1) 0 0) work.old work.new }
     ensures sum { (i : ℕ) → last ≡ (base - 1) * m + i → T.meaning result
         ≡ sum_below T.group base (λ r. T.group.scale (power F.field factor r)
         (item T.group (map T.meaning parts.now) (r * m + i))) }
@@ -61,12 +61,10 @@ fn apply_twiddles<F: FftField, T: DomainCoeff<F>>(
     requires parts_size { length parts.old ≡ base * m }
     requires table_size { length table.now ≡ base * (m * stride) }
     requires small { length table.now < 2 ^ 64 }
-    requires odd { 1 < base }
-    requires some { 0 < stride }
+    requires above_one { 1 < base }
+    requires stride_not_zero { 0 < stride }
     requires place { i < m }
-    ensures products { work.new.products ≡ work.old.products + (base - 1) }
-    ensures butterflies { work.new.butterflies ≡ work.old.butterflies }
-    ensures steps { work.new.steps ≡ work.old.steps + 1 }
+    ensures counted { GrowsBy (counts (base - 1) 0 1) work.old work.new }
     ensures twisted { get_or table.now 0 F.field.zero ≡ F.field.one → (r : ℕ) → r < base
         → item T.group (map T.meaning parts.new) (r * m + i)
         ≡ T.group.scale (get_or table.now (r * i * stride) F.field.zero)
@@ -97,11 +95,9 @@ fn apply_all_twiddles<F: FftField, T: DomainCoeff<F>>(
     requires parts_size { length parts.old ≡ base * m }
     requires table_size { length table.now ≡ base * (m * stride) }
     requires small { length table.now < 2 ^ 64 }
-    requires odd { 1 < base }
-    requires some { 0 < stride }
-    ensures products { work.new.products ≡ work.old.products + (base - 1) * m }
-    ensures butterflies { work.new.butterflies ≡ work.old.butterflies }
-    ensures steps { work.new.steps ≡ work.old.steps + m }
+    requires above_one { 1 < base }
+    requires stride_not_zero { 0 < stride }
+    ensures counted { GrowsBy (counts ((base - 1) * m) 0 m) work.old work.new }
     ensures twisted { get_or table.now 0 F.field.zero ≡ F.field.one → (r i : ℕ) → r < base → i < m
         → item T.group (map T.meaning parts.new) (r * m + i)
         ≡ T.group.scale (get_or table.now (r * i * stride) F.field.zero)
@@ -125,9 +121,7 @@ fn sum_row<F: FftField, T: DomainCoeff<F>>(
     requires parts_size { length parts.now ≡ base * m }
     requires whole_size { length whole.old ≡ base * m }
     requires row { j < base }
-    ensures products { work.new.products ≡ work.old.products + (base - 1) * m }
-    ensures butterflies { work.new.butterflies ≡ work.old.butterflies }
-    ensures steps { work.new.steps ≡ work.old.steps }
+    ensures counted { GrowsBy (counts ((base - 1) * m) 0 0) work.old work.new }
     ensures sums { (i : ℕ) → i < m → item T.group (map T.meaning whole.new) (j * m + i)
         ≡ sum_below T.group base (λ r. T.group.scale (power F.field factor r)
         (item T.group (map T.meaning parts.now) (r * m + i))) }
@@ -155,11 +149,9 @@ fn join<F: FftField, T: DomainCoeff<F>>(
     requires whole_size { length whole.old ≡ base * m }
     requires table_size { length table.now ≡ base * (m * stride) }
     requires small { length table.now < 2 ^ 64 }
-    requires odd { 1 < base }
-    requires some { 0 < stride }
-    ensures products { work.new.products ≡ work.old.products + (base * base - 1) * m }
-    ensures butterflies { work.new.butterflies ≡ work.old.butterflies }
-    ensures steps { work.new.steps ≡ work.old.steps + m }
+    requires above_one { 1 < base }
+    requires stride_not_zero { 0 < stride }
+    ensures counted { GrowsBy (counts ((base * base - 1) * m) 0 m) work.old work.new }
     ensures joined { get_or table.now 0 F.field.zero ≡ F.field.one → (j i : ℕ) → j < base → i < m
         → item T.group (map T.meaning whole.new) (j * m + i)
         ≡ joined F.field T.group table.now base m stride (item T.group (map T.meaning parts.old)) j i }
@@ -177,7 +169,7 @@ fn join<F: FftField, T: DomainCoeff<F>>(
 fn deinterleave<T: Copy>(whole: &[T], parts: &mut [T], base: usize, m: usize)
     requires whole_size { length whole.now ≡ base * m }
     requires parts_size { length parts.old ≡ base * m }
-    requires some { 0 < base }
+    requires base_not_zero { 0 < base }
     ensures { (r i : ℕ) (d : T) → r < base → i < m → get_or parts.new (r * m + i) d
         ≡ get_or whole.now (base * i + r) d }
 {
@@ -199,10 +191,8 @@ fn even_transform<F: FftField, T: DomainCoeff<F>>(
     requires size { length xs.old ≡ 2 ^ levels }
     requires whole { length xs.old * stride ≡ length table.now }
     requires small { length table.now < 2 ^ 64 }
-    requires some { 0 < stride }
-    ensures butterflies { work.new.butterflies ≡ work.old.butterflies + levels * length xs.old / 2 }
-    ensures products { work.new.products ≡ work.old.products + levels * length xs.old / 2 }
-    ensures steps { work.new.steps ≡ work.old.steps }
+    requires stride_not_zero { 0 < stride }
+    ensures counted { GrowsBy (butterfly_counts (levels * length xs.old / 2)) work.old work.new }
     ensures transformed { (w : F) → IsPowerTable F.field w table.now → (i : ℕ) → i < length xs.old
         → item T.group (map T.meaning xs.new) i
         ≡ dft_at F.field T.group (length xs.old) (power F.field w stride)
@@ -230,13 +220,11 @@ fn mixed<F: FftField, T: DomainCoeff<F>>(
     requires scratch_size { length scratch.old ≡ length xs.old }
     requires whole { length xs.old * stride ≡ length table.now }
     requires small { length table.now < 2 ^ 64 }
-    requires some { 0 < stride }
-    requires odd { 1 < base }
+    requires stride_not_zero { 0 < stride }
+    requires above_one { 1 < base }
     requires few { base < 2 ^ 32 }
-    ensures butterflies { work.new.butterflies ≡ work.old.butterflies + levels * length xs.old / 2 }
-    ensures products { work.new.products ≡ work.old.products + levels * length xs.old / 2 + (base * base - 1)
-        * (odds * (length xs.old / base)) }
-    ensures steps { work.new.steps ≡ work.old.steps + odds * (length xs.old / base) }
+    ensures counted { GrowsBy (mixed_counts base (levels * length xs.old / 2) (odds * (length xs.old / base)))
+        work.old work.new }
     ensures transformed { (w : F) → IsPowerTable F.field w table.now → (i : ℕ) → i < length xs.old
         → item T.group (map T.meaning xs.new) i
         ≡ dft_at F.field T.group (length xs.old) (power F.field w stride)
@@ -297,10 +285,9 @@ pub fn fft_counted<F: FftField, T: DomainCoeff<F>>(
 ) -> Result<(), PolyError>
     requires based { IsSome F.adicity.odd }
     ensures transform { OnOk result (map T.meaning coeffs.new.items
-        ≡ transform F.field T.group (domain_of mixed_radix coset.now.size coset.now.group_gen
-        coset.now.offset) (map T.meaning coeffs.old.items)) }
+        ≡ transform F.field T.group (coset_domain mixed_radix coset.now) (map T.meaning coeffs.old.items)) }
     ensures cost { OnOk result (GrowsByCost F.adicity
-        (domain_of mixed_radix coset.now.size coset.now.group_gen coset.now.offset) (length coeffs.old.items)
+        (coset_domain mixed_radix coset.now) (length coeffs.old.items)
         forward work.old work.new) }
     ensures kept { OnErr result (coeffs.new.items ≡ coeffs.old.items) }
     ensures uncounted { OnErr result (work.new ≡ work.old) }
@@ -309,9 +296,7 @@ pub fn fft_counted<F: FftField, T: DomainCoeff<F>>(
     let (base, _) = odd_base::<F>().unwrap();
     let (table, mut scratch) = prepare(alloc, coset.group_gen, coset.size as usize, coeffs)?;
     let xs = coeffs.as_mut_slice();
-    if !coset.offset.is_one() {
-        scale_by_powers(work, xs, F::one(), coset.offset);
-    }
+    shift_to_coset(work, xs, coset.offset);
     mixed(
         work,
         xs,
@@ -325,7 +310,7 @@ pub fn fft_counted<F: FftField, T: DomainCoeff<F>>(
     Ok(())
 }
 
-/// Its inverse in place, by as many butterflies and steps at the inverse root and one scaling a place.
+/// The inverse of the transform in place, by as many butterflies and steps at the inverse root and one scaling a place.
 pub fn ifft_counted<F: FftField, T: DomainCoeff<F>>(
     coset: &Coset<F>,
     alloc: Global,
@@ -334,13 +319,10 @@ pub fn ifft_counted<F: FftField, T: DomainCoeff<F>>(
 ) -> Result<(), PolyError>
     requires based { IsSome F.adicity.odd }
     ensures inverse { OnOk result (IsInverse F.field T.group
-        (domain_of mixed_radix coset.now.size coset.now.group_gen coset.now.offset)
-        (map T.meaning evals.old.items) (map T.meaning evals.new.items)) }
-    ensures only { OnOk result (IsOnlyInverse F.field T.group
-        (domain_of mixed_radix coset.now.size coset.now.group_gen coset.now.offset)
+        (coset_domain mixed_radix coset.now)
         (map T.meaning evals.old.items) (map T.meaning evals.new.items)) }
     ensures cost { OnOk result (GrowsByCost F.adicity
-        (domain_of mixed_radix coset.now.size coset.now.group_gen coset.now.offset) (length evals.old.items)
+        (coset_domain mixed_radix coset.now) (length evals.old.items)
         inverse work.old work.new) }
     ensures kept { OnErr result (evals.new.items ≡ evals.old.items) }
     ensures uncounted { OnErr result (work.new ≡ work.old) }

@@ -2,16 +2,18 @@
 
 ghost use Rattle.std.specs.Prelude.{◌≡◌, ◌≢◌, ℕ, true, false, IsOkUnless, IfOk, OnOk, OnErr, List, map};
 ghost use Rattle.std.specs.Prelude.{length, get_or, take, ◌+◌, ◌-◌, ◌*◌, ◌/◌, ◌≤◌, ◌<◌, ◌^◌, vec_len};
-ghost use Rattle.ark_math.specs.Domain.{radix2, domain_of};
+ghost use Rattle.ark_math.specs.Domain.{radix2};
+ghost use Rattle.ark_fft.specs.Coset.{coset_domain};
 ghost use Rattle.ark_math.specs.Field.{FieldOn, power};
-ghost use Rattle.ark_math.specs.Transform.{transform, IsInverse, IsOnlyInverse};
+ghost use Rattle.ark_math.specs.Transform.{transform, IsInverse};
 ghost use Rattle.ark_math.proofs.Transforms.Places.{dft_at};
 ghost use Rattle.ark_fft.specs.Halves.{reversed, ArePowers, IsHalfTable, AreLevels};
 ghost use Rattle.ark_math.specs.Module.{ModuleOn, item};
-ghost use Rattle.ark_math.specs.Cost.{forward, inverse};
+ghost use Rattle.ark_math.specs.Cost.{GrowsBy, butterfly_counts, forward, inverse};
 ghost use Rattle.ark_traits.specs.Cost.{GrowsByCost};
 
 use crate::domain::coset::Coset;
+use crate::domain::scaling::{scale_by_powers, shift_to_coset};
 use ark_traits::{DomainCoeff, FftField, PolyError, Work};
 use std::alloc::{AllocError, Global};
 use std::mem;
@@ -21,9 +23,7 @@ fn butterfly<F: FftField, T: DomainCoeff<F>>(work: &mut Work, lo: &mut T, hi: &m
     ensures sum { T.meaning lo.new ≡ T.group.plus (T.meaning lo.old) (T.meaning hi.old) }
     ensures difference { T.meaning hi.new ≡ T.group.scale twiddle
         (T.group.plus (T.meaning lo.old) (T.group.negated (T.meaning hi.old))) }
-    ensures butterflies { work.new.butterflies ≡ work.old.butterflies + 1 }
-    ensures products { work.new.products ≡ work.old.products + 1 }
-    ensures steps { work.new.steps ≡ work.old.steps }
+    ensures counted { GrowsBy (butterfly_counts 1) work.old work.new }
 {
     let mut difference = *lo - *hi;
     work.scale(&mut difference, twiddle);
@@ -42,16 +42,14 @@ fn butterflies<F: FftField, T: DomainCoeff<F>>(
 )
     requires same { length lo.old ≡ length hi.old }
     requires enough { length lo.old * stride ≤ length table.now }
-    requires some { 0 < stride }
+    requires stride_not_zero { 0 < stride }
     ensures sums { (i : ℕ) → i < length lo.old → item T.group (map T.meaning lo.new) i
         ≡ T.group.plus (item T.group (map T.meaning lo.old) i) (item T.group (map T.meaning hi.old) i) }
     ensures differences { (i : ℕ) → i < length lo.old → item T.group (map T.meaning hi.new) i
         ≡ T.group.scale (get_or table.now (i * stride) F.field.zero)
         (T.group.plus (item T.group (map T.meaning lo.old) i)
         (T.group.negated (item T.group (map T.meaning hi.old) i))) }
-    ensures butterflies { work.new.butterflies ≡ work.old.butterflies + length lo.old }
-    ensures products { work.new.products ≡ work.old.products + length lo.old }
-    ensures steps { work.new.steps ≡ work.old.steps }
+    ensures counted { GrowsBy (butterfly_counts (length lo.old)) work.old work.new }
 {
     for i in 0..lo.len() {
         butterfly(work, &mut lo[i], &mut hi[i], table[i * stride]);
@@ -66,9 +64,7 @@ fn pair<F: FftField, T: DomainCoeff<F>>(work: &mut Work, xs: &mut [T], twiddle: 
     ensures difference { item T.group (map T.meaning xs.new) 1 ≡ T.group.scale twiddle
         (T.group.plus (item T.group (map T.meaning xs.old) 0)
         (T.group.negated (item T.group (map T.meaning xs.old) 1))) }
-    ensures butterflies { work.new.butterflies ≡ work.old.butterflies + 1 }
-    ensures products { work.new.products ≡ work.old.products + 1 }
-    ensures steps { work.new.steps ≡ work.old.steps }
+    ensures counted { GrowsBy (butterfly_counts 1) work.old work.new }
 {
     let mut lo = xs[0];
     let mut hi = xs[1];
@@ -89,13 +85,11 @@ pub(crate) fn halves<F: FftField, T: DomainCoeff<F>>(
     requires size { length xs.old ≡ 2 ^ levels }
     requires whole { 2 ^ levels * stride / 2 ≡ length table.now }
     requires small { length table.now < 2 ^ 63 }
-    requires some { 0 < stride }
+    requires stride_not_zero { 0 < stride }
     ensures sums { (w : F) → IsHalfTable F.field w table.now → (p : ℕ) → p < 2 ^ levels
         → item T.group (map T.meaning xs.new) p ≡ dft_at F.field T.group (2 ^ levels) (power F.field w stride)
         (item T.group (map T.meaning xs.old)) (reversed levels p) }
-    ensures butterflies { work.new.butterflies ≡ work.old.butterflies + 2 ^ levels / 2 * levels }
-    ensures products { work.new.products ≡ work.old.products + 2 ^ levels / 2 * levels }
-    ensures steps { work.new.steps ≡ work.old.steps }
+    ensures counted { GrowsBy (butterfly_counts (2 ^ levels / 2 * levels)) work.old work.new }
 {
     if levels == 1 {
         pair(work, xs, table[0]);
@@ -196,9 +190,7 @@ fn in_order<F: FftField, T: DomainCoeff<F>>(work: &mut Work, xs: &mut [T], table
     ensures sums { (w : F) → IsHalfTable F.field w table.now → (i : ℕ) → i < length xs.old
         → item T.group (map T.meaning xs.new) i
         ≡ dft_at F.field T.group (length xs.old) w (item T.group (map T.meaning xs.old)) i }
-    ensures butterflies { work.new.butterflies ≡ work.old.butterflies + length xs.old / 2 * levels }
-    ensures products { work.new.products ≡ work.old.products + length xs.old / 2 * levels }
-    ensures steps { work.new.steps ≡ work.old.steps }
+    ensures counted { GrowsBy (butterfly_counts (length xs.old / 2 * levels)) work.old work.new }
 {
     halves(work, xs, table, 1, levels);
     bit_reverse(xs, levels);
@@ -210,9 +202,7 @@ fn join<F: FftField, T: DomainCoeff<F>>(work: &mut Work, lo: &mut T, hi: &mut T,
         (T.group.scale twiddle (T.meaning hi.old)) }
     ensures difference { T.meaning hi.new ≡ T.group.plus (T.meaning lo.old)
         (T.group.negated (T.group.scale twiddle (T.meaning hi.old))) }
-    ensures butterflies { work.new.butterflies ≡ work.old.butterflies + 1 }
-    ensures products { work.new.products ≡ work.old.products + 1 }
-    ensures steps { work.new.steps ≡ work.old.steps }
+    ensures counted { GrowsBy (butterfly_counts 1) work.old work.new }
 {
     let first = *lo;
     let mut product = *hi;
@@ -222,7 +212,7 @@ fn join<F: FftField, T: DomainCoeff<F>>(work: &mut Work, lo: &mut T, hi: &mut T,
     work.butterfly();
 }
 
-/// Those butterflies across two halves, each with the twiddle at its index.
+/// The butterflies that join two halves, each with the twiddle at its index.
 fn join_butterflies<F: FftField, T: DomainCoeff<F>>(
     work: &mut Work,
     lo: &mut [T],
@@ -238,9 +228,7 @@ fn join_butterflies<F: FftField, T: DomainCoeff<F>>(
         ≡ T.group.plus (item T.group (map T.meaning lo.old) i)
         (T.group.negated (T.group.scale (get_or twiddles.now i F.field.zero)
         (item T.group (map T.meaning hi.old) i))) }
-    ensures butterflies { work.new.butterflies ≡ work.old.butterflies + length lo.old }
-    ensures products { work.new.products ≡ work.old.products + length lo.old }
-    ensures steps { work.new.steps ≡ work.old.steps }
+    ensures counted { GrowsBy (butterfly_counts (length lo.old)) work.old work.new }
 {
     for i in 0..lo.len() {
         join(work, &mut lo[i], &mut hi[i], twiddles[i]);
@@ -263,9 +251,7 @@ fn join_halves<F: FftField, T: DomainCoeff<F>>(
         → ((p : ℕ) → p < 2 ^ levels → item T.group (map T.meaning xs.old) p
         ≡ c (reversed log_len (p / 2 ^ (levels - log_len)))) → (p : ℕ) → p < 2 ^ levels
         → item T.group (map T.meaning xs.new) p ≡ dft_at F.field T.group (2 ^ log_len) w c p }
-    ensures butterflies { work.new.butterflies ≡ work.old.butterflies + 2 ^ levels / 2 * log_len }
-    ensures products { work.new.products ≡ work.old.products + 2 ^ levels / 2 * log_len }
-    ensures steps { work.new.steps ≡ work.old.steps }
+    ensures counted { GrowsBy (butterfly_counts (2 ^ levels / 2 * log_len)) work.old work.new }
 {
     if log_len > 0 {
         let half = xs.len() / 2;
@@ -292,7 +278,7 @@ fn fill<T: Copy>(xs: &mut [T], from: usize, to: usize, item: T)
 /// Fills a block of places with each of the first items, in their order.
 fn spread_out<T: Copy>(xs: &mut [T], items: usize, block: usize)
     requires whole { length xs.old ≡ items * block }
-    requires some { 0 < block }
+    requires not_empty { 0 < block }
     ensures { (p : ℕ) (d : T) → p < length xs.old → get_or xs.new p d ≡ get_or xs.old (p / block) d }
 {
     for r in (0..items).rev() {
@@ -302,8 +288,8 @@ fn spread_out<T: Copy>(xs: &mut [T], items: usize, block: usize)
     }
 }
 
-/// The same at a root, where the tables are those of all levels but the last. The last one's twiddles take their place once
-/// they have been used.
+/// The transform of `join_halves` at a root, where the tables are those of all levels but the last. The last one's
+/// twiddles take the place of these once they have been used.
 fn join_levels<F: FftField, T: DomainCoeff<F>>(
     work: &mut Work,
     xs: &mut [T],
@@ -320,9 +306,7 @@ fn join_levels<F: FftField, T: DomainCoeff<F>>(
         → ((p : ℕ) → p < 2 ^ levels → item T.group (map T.meaning xs.old) p
         ≡ c (reversed log_len (p / 2 ^ (levels - log_len)))) → (p : ℕ) → p < 2 ^ levels
         → item T.group (map T.meaning xs.new) p ≡ dft_at F.field T.group (2 ^ log_len) root c p }
-    ensures butterflies { work.new.butterflies ≡ work.old.butterflies + 2 ^ levels / 2 * log_len }
-    ensures products { work.new.products ≡ work.old.products + 2 ^ levels / 2 * log_len }
-    ensures steps { work.new.steps ≡ work.old.steps }
+    ensures counted { GrowsBy (butterfly_counts (2 ^ levels / 2 * log_len)) work.old work.new }
 {
     if log_len > 0 {
         let half = xs.len() / 2;
@@ -351,71 +335,13 @@ fn short_in_order<F: FftField, T: DomainCoeff<F>>(
         → (0 < levels → power F.field root (length xs.old / 2) ≡ F.field.negated F.field.one) → (i : ℕ)
         → i < length xs.old → item T.group (map T.meaning xs.new) i
         ≡ dft_at F.field T.group (2 ^ log_len) root (item T.group (map T.meaning xs.old)) i }
-    ensures butterflies { work.new.butterflies ≡ work.old.butterflies + length xs.old / 2 * log_len }
-    ensures products { work.new.products ≡ work.old.products + length xs.old / 2 * log_len }
-    ensures steps { work.new.steps ≡ work.old.steps }
+    ensures counted { GrowsBy (butterfly_counts (length xs.old / 2 * log_len)) work.old work.new }
 {
     let log_block = levels - log_len;
     let items = xs.len() >> log_block;
     bit_reverse(&mut xs[..items], log_len);
     spread_out(xs, items, 1 << log_block);
     join_levels(work, xs, tables, root, levels, log_len);
-}
-
-/// Scales each item.
-fn scale_each<F: FftField, T: DomainCoeff<F>>(work: &mut Work, xs: &mut [T], factor: F)
-    ensures items { (i : ℕ) → i < length xs.old → item T.group (map T.meaning xs.new) i
-        ≡ T.group.scale factor (item T.group (map T.meaning xs.old) i) }
-    ensures butterflies { work.new.butterflies ≡ work.old.butterflies }
-    ensures products { work.new.products ≡ work.old.products + length xs.old }
-    ensures steps { work.new.steps ≡ work.old.steps }
-{
-    for i in 0..xs.len() {
-        work.scale(&mut xs[i], factor);
-    }
-}
-
-/// Scales item i by start times the factor to the i. Two rows of powers take turns, so that no product waits for the last.
-pub(crate) fn scale_by_powers<F: FftField, T: DomainCoeff<F>>(
-    work: &mut Work,
-    xs: &mut [T],
-    start: F,
-    factor: F,
-)
-    ensures items { (i : ℕ) → i < length xs.old → item T.group (map T.meaning xs.new) i
-        ≡ T.group.scale (F.field.times start (power F.field factor i))
-        (item T.group (map T.meaning xs.old) i) }
-    ensures butterflies { work.new.butterflies ≡ work.old.butterflies }
-    ensures products { work.new.products ≡ work.old.products + length xs.old }
-    ensures steps { work.new.steps ≡ work.old.steps }
-{
-    if factor.is_one() {
-        scale_each(work, xs, start);
-    } else {
-        let square = factor * factor;
-        let mut next = start;
-        let mut after = start * factor;
-        for i in 0..xs.len() {
-            work.scale(&mut xs[i], next);
-            let later = next * square;
-            next = after;
-            after = later;
-        }
-    }
-}
-
-/// Scales item i by the offset to the i, and nothing where the offset is one.
-fn shift_to_coset<F: FftField, T: DomainCoeff<F>>(work: &mut Work, xs: &mut [T], offset: F)
-    ensures items { (i : ℕ) → i < length xs.old → item T.group (map T.meaning xs.new) i
-        ≡ T.group.scale (power F.field offset i) (item T.group (map T.meaning xs.old) i) }
-    ensures butterflies { work.new.butterflies ≡ work.old.butterflies }
-    ensures at_least { work.old.products ≤ work.new.products }
-    ensures at_most { work.new.products ≤ work.old.products + length xs.old }
-    ensures steps { work.new.steps ≡ work.old.steps }
-{
-    if !offset.is_one() {
-        scale_by_powers(work, xs, F::one(), offset);
-    }
 }
 
 /// Continues a list of powers by as many more: the known ones times the power after them.
@@ -516,10 +442,10 @@ fn degree_aware_fft_in_place<F: FftField, T: DomainCoeff<F>>(
     requires even { coset.now.odd_exponent ≡ 0 }
     requires short { length coeffs.old.items ≤ coset.now.size / 4 }
     ensures transform { OnOk result (map T.meaning coeffs.new.items
-        ≡ transform F.field T.group (domain_of radix2 coset.now.size coset.now.group_gen coset.now.offset)
+        ≡ transform F.field T.group (coset_domain radix2 coset.now)
         (map T.meaning coeffs.old.items)) }
-    ensures cost { OnOk result (GrowsByCost F.adicity (domain_of radix2 coset.now.size coset.now.group_gen
-        coset.now.offset) (length coeffs.old.items) forward work.old work.new) }
+    ensures cost { OnOk result (GrowsByCost F.adicity (coset_domain radix2 coset.now) (length coeffs.old.items)
+        forward work.old work.new) }
     ensures kept { OnErr result (coeffs.new.items ≡ coeffs.old.items) }
     ensures uncounted { OnErr result (work.new ≡ work.old) }
     ensures memory { IsOkUnless result PolyError.Memory }
@@ -554,10 +480,10 @@ fn in_order_fft_in_place<F: FftField, T: DomainCoeff<F>>(
     requires even { coset.now.odd_exponent ≡ 0 }
     requires long { coset.now.size / 4 < length coeffs.old.items }
     ensures transform { OnOk result (map T.meaning coeffs.new.items
-        ≡ transform F.field T.group (domain_of radix2 coset.now.size coset.now.group_gen coset.now.offset)
+        ≡ transform F.field T.group (coset_domain radix2 coset.now)
         (map T.meaning coeffs.old.items)) }
-    ensures cost { OnOk result (GrowsByCost F.adicity (domain_of radix2 coset.now.size coset.now.group_gen
-        coset.now.offset) (length coeffs.old.items) forward work.old work.new) }
+    ensures cost { OnOk result (GrowsByCost F.adicity (coset_domain radix2 coset.now) (length coeffs.old.items)
+        forward work.old work.new) }
     ensures kept { OnErr result (coeffs.new.items ≡ coeffs.old.items) }
     ensures uncounted { OnErr result (work.new ≡ work.old) }
     ensures memory { IsOkUnless result PolyError.Memory }
@@ -578,10 +504,10 @@ pub fn fft_counted<F: FftField, T: DomainCoeff<F>>(
 ) -> Result<(), PolyError>
     requires even { coset.now.odd_exponent ≡ 0 }
     ensures transform { OnOk result (map T.meaning coeffs.new.items
-        ≡ transform F.field T.group (domain_of radix2 coset.now.size coset.now.group_gen coset.now.offset)
+        ≡ transform F.field T.group (coset_domain radix2 coset.now)
         (map T.meaning coeffs.old.items)) }
-    ensures cost { OnOk result (GrowsByCost F.adicity (domain_of radix2 coset.now.size coset.now.group_gen
-        coset.now.offset) (length coeffs.old.items) forward work.old work.new) }
+    ensures cost { OnOk result (GrowsByCost F.adicity (coset_domain radix2 coset.now) (length coeffs.old.items)
+        forward work.old work.new) }
     ensures kept { OnErr result (coeffs.new.items ≡ coeffs.old.items) }
     ensures uncounted { OnErr result (work.new ≡ work.old) }
     ensures memory { IsOkUnless result PolyError.Memory }
@@ -602,13 +528,10 @@ pub fn ifft_counted<F: FftField, T: DomainCoeff<F>>(
 ) -> Result<(), PolyError>
     requires even { coset.now.odd_exponent ≡ 0 }
     ensures inverse { OnOk result (IsInverse F.field T.group
-        (domain_of radix2 coset.now.size coset.now.group_gen coset.now.offset) (map T.meaning evals.old.items)
+        (coset_domain radix2 coset.now) (map T.meaning evals.old.items)
         (map T.meaning evals.new.items)) }
-    ensures only { OnOk result (IsOnlyInverse F.field T.group
-        (domain_of radix2 coset.now.size coset.now.group_gen coset.now.offset) (map T.meaning evals.old.items)
-        (map T.meaning evals.new.items)) }
-    ensures cost { OnOk result (GrowsByCost F.adicity (domain_of radix2 coset.now.size coset.now.group_gen
-        coset.now.offset) (length evals.old.items) inverse work.old work.new) }
+    ensures cost { OnOk result (GrowsByCost F.adicity (coset_domain radix2 coset.now) (length evals.old.items)
+        inverse work.old work.new) }
     ensures kept { OnErr result (evals.new.items ≡ evals.old.items) }
     ensures uncounted { OnErr result (work.new ≡ work.old) }
     ensures memory { IsOkUnless result PolyError.Memory }

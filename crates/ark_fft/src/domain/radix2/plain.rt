@@ -1,7 +1,9 @@
 //! The transform by plain sums, to compare the kernel with.
 
 ghost use Rattle.std.specs.Prelude.{◌≡◌, ℕ, IsOkUnless, OnOk, OnErr, map, length, ◌+◌, ◌*◌, ◌<◌};
-ghost use Rattle.ark_math.specs.Domain.{radix2, domain_of};
+ghost use Rattle.ark_math.specs.Cost.{GrowsBy, counts};
+ghost use Rattle.ark_math.specs.Domain.{radix2};
+ghost use Rattle.ark_fft.specs.Coset.{coset_domain};
 ghost use Rattle.ark_math.specs.Field.{power};
 ghost use Rattle.ark_math.specs.Module.{item};
 ghost use Rattle.ark_math.specs.Transform.{transform, value_at};
@@ -13,9 +15,7 @@ use std::alloc::Global;
 /// The value of a list at a point, term by term.
 fn plain_value<F: FftField, T: DomainCoeff<F>>(work: &mut Work, items: &[T], point: F) -> T
     ensures value { T.meaning result ≡ value_at F.field T.group (map T.meaning items.now) point }
-    ensures butterflies { work.new.butterflies ≡ work.old.butterflies }
-    ensures products { work.new.products ≡ work.old.products + length items.now }
-    ensures steps { work.new.steps ≡ work.old.steps }
+    ensures counted { GrowsBy (counts (length items.now) 0 0) work.old work.new }
 {
     let mut sum = T::zero();
     let mut factor = F::one();
@@ -38,9 +38,7 @@ fn plain_values<F: FftField, T: DomainCoeff<F>>(
 )
     ensures values { (i : ℕ) → i < length values.old → item T.group (map T.meaning values.new) i
         ≡ value_at F.field T.group (map T.meaning items.now) (F.field.times offset (power F.field root i)) }
-    ensures butterflies { work.new.butterflies ≡ work.old.butterflies }
-    ensures products { work.new.products ≡ work.old.products + length values.old * length items.now }
-    ensures steps { work.new.steps ≡ work.old.steps }
+    ensures counted { GrowsBy (counts (length values.old * length items.now) 0 0) work.old work.new }
 {
     let mut point = offset;
     for i in 0..values.len() {
@@ -57,11 +55,9 @@ pub fn fft_plain<F: FftField, T: DomainCoeff<F>>(
     work: &mut Work,
 ) -> Result<(), PolyError>
     ensures transform { OnOk result (map T.meaning coeffs.new.items
-        ≡ transform F.field T.group (domain_of radix2 coset.now.size coset.now.group_gen coset.now.offset)
+        ≡ transform F.field T.group (coset_domain radix2 coset.now)
         (map T.meaning coeffs.old.items)) }
-    ensures butterflies { OnOk result (work.new.butterflies ≡ work.old.butterflies) }
-    ensures products { OnOk result (work.new.products ≡ work.old.products + coset.now.size * coset.now.size) }
-    ensures steps { OnOk result (work.new.steps ≡ work.old.steps) }
+    ensures counted { OnOk result (GrowsBy (counts (coset.now.size * coset.now.size) 0 0) work.old work.new) }
     ensures kept { OnErr result (coeffs.new.items ≡ coeffs.old.items) }
     ensures uncounted { OnErr result (work.new ≡ work.old) }
     ensures memory { IsOkUnless result PolyError.Memory }

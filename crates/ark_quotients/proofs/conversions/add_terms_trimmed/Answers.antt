@@ -1,6 +1,7 @@
 use Rattle.std.proofs.Common.{length, ap, ◌∙◌, arith}
 use Rattle.ark_math.specs.Univariate.{of_list, of_pairs, added}
 use Rattle.ark_math.proofs.Lists.Lists.{written_back}
+use Rattle.ark_quotients.specs.Signs.{all_signed}
 use Rattle.ark_quotients.proofs.conversions.add_terms_trimmed.Goals as goal
 
 pub add_terms-requires : goal.add_terms-requires
@@ -15,4 +16,4 @@ returns-clause-sum g c =
     c.trim.ensures.same
     ∙ ap (of_list K) (written_back c.add_terms.new.coeffs _ _ (omega (arith, c.add_terms.auto.coeffs, c.as_mut_slice.ensures.len)))
     ∙ c.add_terms.ensures
-    ∙ ap (λ a. added K a (of_pairs K c.args.terms.now)) (ap (of_list K) c.as_mut_slice.ensures.value ∙ c.in_ok-grow.ensures.same)
+    ∙ ap (λ a. added K a (all_signed K c.args.sign (of_pairs K c.args.terms.now))) (ap (of_list K) c.as_mut_slice.ensures.value ∙ c.in_ok-grow.ensures.same)

@@ -9,7 +9,7 @@ pub returns : goal.returns
 returns g c =
     let K = g.F.Field.field in
     let d = c.args.divisor.now in
-    let some = c.requires.some in
+    let some = c.requires.nonempty in
     let n = length d - 1 in
     let top : length d ≡ n + 1 = omega (arith, some) in
     IfOk_more c.quotient_and_remainder.result

@@ -1,6 +1,6 @@
 use Rattle.std.proofs.Common.{Ok, refl, subst}
 use Rattle.ark_math.proofs.Outcomes.Results.{ok_none}
-use Rattle.ark_math.proofs.Polynomials.Quotients.{IsDivision, same_division}
+use Rattle.ark_math.proofs.Polynomials.Quotients.{AnswersDivision, same_division}
 use Rattle.ark_univariate.specs.DenseOrSparse.{denoted}
 use Rattle.ark_univariate.proofs.laws.divisions_of_all_forms.Goals as goal
 
@@ -12,7 +12,7 @@ returns-clause-same g c =
     let one = c.in_ok-answer in
     let other = c.in_ok-other in
     same_division K g.met.F.Field.field_laws g.F.PartialEq.eq g.F.Zero.zero g.met.F.Field.equality_law g.met.F.Field.zero_law a d other.other one.answer
-    (subst (λ x. IsDivision K x d other.other) c.requires.dividends
-    (subst (λ x. IsDivision K (denoted K c.args.other_dividend.now) x other.other) c.requires.divisors
-    (record { quotient = other.ensures.quotient; zeros = other.ensures.zeros; none = ok_none other.other (Ok other.other) refl other.ensures.none; trimmed = c.see_trimmed-2.ensures })))
-    (record { quotient = one.ensures.quotient; zeros = one.ensures.zeros; none = ok_none one.answer (Ok one.answer) refl one.ensures.none; trimmed = c.see_trimmed.ensures })
+    (subst (λ x. AnswersDivision K x d other.other) c.requires.dividends
+    (subst (λ x. AnswersDivision K (denoted K c.args.other_dividend.now) x other.other) c.requires.divisors
+    (record { pair = other.ensures.division; none = ok_none other.other (Ok other.other) refl other.ensures.none; trimmed = c.see_trimmed-2.ensures })))
+    (record { pair = one.ensures.division; none = ok_none one.answer (Ok one.answer) refl one.ensures.none; trimmed = c.see_trimmed.ensures })

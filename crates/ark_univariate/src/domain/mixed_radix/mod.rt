@@ -1,7 +1,7 @@
 //! Domains whose size is a power of two times a power of a small odd base.
 
 ghost use Rattle.std.specs.Prelude.{◌≡◌, IsSome};
-ghost use Rattle.ark_math.specs.Domain.{mixed_radix as mixed_radix_kind, IsMixedRadix, domain_of};
+ghost use Rattle.ark_math.specs.Domain.{mixed_radix as mixed_radix_kind, IsMixedRadix};
 
 use crate::domain::EvaluationDomain;
 pub use crate::domain::utils::Elements;
@@ -36,12 +36,13 @@ impl<F: FftField> Debug for MixedRadixEvaluationDomain<F> {
 }
 
 impl<F: FftField> EvaluationDomain<F> for MixedRadixEvaluationDomain<F> {
-    ghost use Rattle.ark_math.proofs.Domains.Domains.{same_domain, mixed_domain};
+    ghost use Rattle.ark_math.proofs.Domains.Domains.{same_domain, mixed_radix_is_domain};
+    ghost use Rattle.ark_univariate.specs.Domains.{mixed_radix_domain};
     ghost use Rattle.ark_math.proofs.Domains.MixedSizes.{mixed_sizes, one_mixed_size};
 
     type Elements = Elements<F>;
 
-    ghost domain = { λ d. domain_of mixed_radix_kind d.coset.size d.coset.group_gen d.coset.offset };
+    ghost domain = { mixed_radix_domain };
 
     ghost chooses = { IsMixedRadix F.adicity };
 
@@ -89,7 +90,7 @@ impl<F: FftField> EvaluationDomain<F> for MixedRadixEvaluationDomain<F> {
         mixed_radix::kernel::ifft_counted(&self.coset, alloc, evals, work)
     }
 
-    ghost lawful = { λ d. mixed_domain F.field F.adicity F.root F.equality_law d.coset.splits d.based
+    ghost lawful = { λ d. mixed_radix_is_domain F.field F.adicity F.root F.equality_law d.coset.splits d.based
         d.coset.root_is d.coset.offset_not_zero };
 
     ghost equality = { λ a b. same_domain mixed_radix_kind F.root F.equality_law a.coset.root_is

@@ -1,7 +1,7 @@
 //! Domains whose size is a power of two.
 
 ghost use Rattle.std.specs.Prelude.{◌≡◌};
-ghost use Rattle.ark_math.specs.Domain.{radix2 as radix2_kind, IsRadix2, domain_of};
+ghost use Rattle.ark_math.specs.Domain.{radix2 as radix2_kind, IsRadix2};
 
 use crate::domain::EvaluationDomain;
 pub use crate::domain::utils::Elements;
@@ -36,12 +36,13 @@ impl<F: FftField> Debug for Radix2EvaluationDomain<F> {
 }
 
 impl<F: FftField> EvaluationDomain<F> for Radix2EvaluationDomain<F> {
-    ghost use Rattle.ark_math.proofs.Domains.Domains.{same_domain, radix2_domain};
+    ghost use Rattle.ark_math.proofs.Domains.Domains.{same_domain, radix2_is_domain};
+    ghost use Rattle.ark_univariate.specs.Domains.{radix2_domain};
     ghost use Rattle.ark_math.proofs.Domains.Sizes.{radix2_sizes, one_radix2_size};
 
     type Elements = Elements<F>;
 
-    ghost domain = { λ d. domain_of radix2_kind d.coset.size d.coset.group_gen d.coset.offset };
+    ghost domain = { radix2_domain };
 
     ghost chooses = { IsRadix2 F.adicity };
 
@@ -89,7 +90,7 @@ impl<F: FftField> EvaluationDomain<F> for Radix2EvaluationDomain<F> {
         radix2::fft::ifft_counted(&self.coset, alloc, evals, work)
     }
 
-    ghost lawful = { λ d. radix2_domain F.field F.adicity F.root F.equality_law d.coset.splits d.even
+    ghost lawful = { λ d. radix2_is_domain F.field F.adicity F.root F.equality_law d.coset.splits d.even
         d.coset.root_is d.coset.offset_not_zero };
 
     ghost equality = { λ a b. same_domain radix2_kind F.root F.equality_law a.coset.root_is b.coset.root_is };

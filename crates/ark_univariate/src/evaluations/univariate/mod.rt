@@ -1,7 +1,7 @@
 //! Values of polynomials in one variable over a domain.
 
-ghost use Rattle.std.specs.Prelude.{◌≡◌, ◌↔◌, ◌<◌, ◌&&◌, ◌++◌, ℕ, IsTrue, IfOk, OnOk, OnErr, IsOkUnless, length, replicate, set};
-ghost use Rattle.std.specs.Prelude.{slice_index_or};
+ghost use Rattle.std.specs.Prelude.{◌≡◌, ◌↔◌, ◌<◌, ◌&&◌, ◌++◌, ℕ, IsTrue, IfOk, OnOk, OnErr, IsOkUnless};
+ghost use Rattle.std.specs.Prelude.{length, replicate, set};
 ghost use Rattle.ark_math.specs.Field.{minus};
 ghost use Rattle.ark_math.specs.Points.{AreValues, IsPlaceQuotient};
 ghost use Rattle.ark_math.specs.Univariate.{IsBelow, of_list};
@@ -141,7 +141,7 @@ impl<F: FftField, D: EvaluationDomain<F>> Evaluations<F, D> {
         Ok(DensePolynomial::from_coefficients_vec(coeffs))
     }
 
-    /// The same, in place of the values.
+    /// The only polynomial of a degree below the domain's size that has these values, made in their place.
     pub fn interpolate(self, alloc: Global) -> Result<DensePolynomial<F>, PolyError>
         ensures values { IfOk result (λ p. AreValues F.field (D.domain self.domain) (of_list F.field p)
             self.evals) }
@@ -280,7 +280,7 @@ impl<F: FftField, D: EvaluationDomain<F>> Index<usize> for Evaluations<F, D> {
 
     ghost can_index = { λ v i. i < (D.domain v.domain).size };
 
-    ghost index_gives = { λ v i x. x ≡ slice_index_or v.evals i x };
+    ghost index_gives = { λ v i x. x ≡ of_list F.field v.evals i };
 
     fn index(&self, index: usize) -> &F {
         &self.evals[index]

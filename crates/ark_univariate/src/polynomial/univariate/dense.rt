@@ -1,16 +1,18 @@
 //! Polynomials in one variable by the list of their coefficients.
 
-ghost use Rattle.std.specs.Prelude.{◌≡◌, ◌≢◌, ◌↔◌, ℕ, ◌+◌, ◌-◌, ◌<◌, length, ◌⊎◌, IfOk, IfErr, IsOk};
-ghost use Rattle.std.specs.Prelude.{◌≤◌, IfSome, IsNone, IsOkUnless, OnOk, OnErr};
+ghost use Rattle.std.specs.Prelude.{◌≡◌, ◌≢◌, ◌↔◌, ℕ, ◌+◌, ◌-◌, ◌<◌, ◌≤◌, length, IfOk, IsOk, IfSome, IsNone};
+ghost use Rattle.std.specs.Prelude.{IsOkUnless, IsTrue, OnOk, OnErr};
 ghost use Rattle.std.specs.Cmp.{on_equiv, on_per};
 ghost use Rattle.std.specs.Cmp.Lexicographic.{pointwise, lists_equiv, lists_per};
 ghost use Rattle.std.specs.Hash as fed;
 ghost use Rattle.std.specs.Hash.{on_Alike, items_Alike};
+ghost use Rattle.ark_math.specs.Outcome.{IsOkUnlessEither};
 ghost use Rattle.ark_math.specs.NormalForms.{trim};
 ghost use Rattle.ark_math.specs.Domain.{HasNoSize, IsGeneral};
 ghost use Rattle.ark_math.specs.Points.{AreValues, vanishing};
+ghost use Rattle.ark_univariate.specs.Domains.{general_domain};
 ghost use Rattle.ark_math.specs.Univariate.{IsTrimmed, IsDegree, IsValue, of_list, nothing, added, coefficient_operations};
-ghost use Rattle.ark_math.specs.Univariate.{IsBelow, IsQuotient, product, scaled as multiple};
+ghost use Rattle.ark_math.specs.Univariate.{IsBelow, IsDivision, IsQuotient, product, scaled as multiple};
 ghost use Rattle.ark_math.specs.Univariate.{difference, of_pairs};
 
 use crate::domain::{EvaluationDomain, GeneralEvaluationDomain};
@@ -23,10 +25,7 @@ use ark_coeffs::dense::{
     value_at,
 };
 use ark_coeffs::draws::drawn;
-use ark_quotients::conversions::{
-    add_terms_trimmed, coefficients_of, difference_with_terms, subtract_terms_trimmed,
-    sum_with_terms,
-};
+use ark_quotients::conversions::{Sign, add_terms_trimmed, coefficients_of, sum_with_terms};
 use ark_quotients::division::{Coefficients, divided};
 use ark_quotients::lanes::{products_of_lanes, side_by_side};
 use ark_traits::{FftField, Field, PolyError};
@@ -176,7 +175,7 @@ impl<F: Field> Polynomial<F> for DensePolynomial<F> {
         DensePolynomial::zero(alloc)?.sub(alloc, self)
     }
 
-    // The three in place take memory only where the other one is longer, and no copy.
+    // Sums and differences in place take memory only where the other polynomial is longer, and no copy.
     fn add_assign(&mut self, _alloc: Global, other: &Self) -> Result<(), PolyError> {
         grow(&mut self.coeffs, other.coeffs.len())?;
         add_each(self.coeffs.as_mut_slice(), &other.coeffs);
@@ -285,6 +284,12 @@ impl<F: Field> DensePolynomial<F> {
         Ok(Self::from_coefficients_vec(coeffs))
     }
 
+    /// A law: two are equal by `==` exactly where they denote the same polynomial.
+    pub fn equality_law(&self, other: &Self)
+        ensures { IsTrue (⟦<DensePolynomial<F> as PartialEq>⟧.eq self.now other.now)
+            ↔ (of_list F.field self.now ≡ of_list F.field other.now) }
+    {}
+
     /// The product, by all products of two coefficients. `Overflow` exactly where neither factor is zero and the
     /// product's length is past `usize::MAX`: never in practice, since two lists whose items take a byte or more can't
     /// be so long.
@@ -293,7 +298,7 @@ impl<F: Field> DensePolynomial<F> {
             ≡ product F.field (of_list F.field self.now) (of_list F.field other.now)) }
         ensures overflow { (result ≡ Err PolyError.Overflow) ↔ (0 < length self.now) × (0 < length other.now)
             × (usize.MAX < length self.now + length other.now - 1) }
-        ensures errors { IfErr result (λ e. (e ≡ PolyError.Memory) ⊎ (e ≡ PolyError.Overflow)) }
+        ensures errors { IsOkUnlessEither result PolyError.Memory PolyError.Overflow }
     {
         let coeffs = naive_product(alloc, &self.coeffs, &other.coeffs)?;
         Ok(Self::from_coefficients_vec(coeffs))
@@ -301,13 +306,13 @@ impl<F: Field> DensePolynomial<F> {
 }
 
 impl<F: Field> DensePolynomial<F> {
-    /// The same polynomial by all its coefficients. `Overflow` exactly where its degree is `usize::MAX`, judged first.
+    /// The sparse polynomial by all its coefficients. `Overflow` exactly where its degree is `usize::MAX`, judged first.
     /// Takes memory for the coefficients up to the degree.
     pub fn from_sparse(alloc: Global, sparse: &SparsePolynomial<F>) -> Result<Self, PolyError>
         ensures same { IfOk result (λ p. of_list F.field p ≡ of_pairs F.field sparse.now) }
         ensures overflow { (result ≡ Err PolyError.Overflow)
             ↔ IsDegree F.field (of_pairs F.field sparse.now) usize.MAX }
-        ensures errors { IfErr result (λ e. (e ≡ PolyError.Memory) ⊎ (e ≡ PolyError.Overflow)) }
+        ensures errors { IsOkUnlessEither result PolyError.Memory PolyError.Overflow }
     {
         let coeffs = coefficients_of(alloc, sparse.coeffs())?;
         Ok(DensePolynomial { coeffs })
@@ -320,9 +325,9 @@ impl<F: Field> DensePolynomial<F> {
             ≡ added F.field (of_list F.field self.now) (of_pairs F.field other.now)) }
         ensures overflow { (result ≡ Err PolyError.Overflow)
             ↔ IsDegree F.field (of_pairs F.field other.now) usize.MAX }
-        ensures errors { IfErr result (λ e. (e ≡ PolyError.Memory) ⊎ (e ≡ PolyError.Overflow)) }
+        ensures errors { IsOkUnlessEither result PolyError.Memory PolyError.Overflow }
     {
-        let sum = sum_with_terms(alloc, &self.coeffs, other.coeffs())?;
+        let sum = sum_with_terms(alloc, &self.coeffs, Sign::Plus, other.coeffs())?;
         Ok(Self::from_coefficients_vec(sum))
     }
 
@@ -333,9 +338,9 @@ impl<F: Field> DensePolynomial<F> {
             ≡ difference F.field (of_list F.field self.now) (of_pairs F.field other.now)) }
         ensures overflow { (result ≡ Err PolyError.Overflow)
             ↔ IsDegree F.field (of_pairs F.field other.now) usize.MAX }
-        ensures errors { IfErr result (λ e. (e ≡ PolyError.Memory) ⊎ (e ≡ PolyError.Overflow)) }
+        ensures errors { IsOkUnlessEither result PolyError.Memory PolyError.Overflow }
     {
-        let difference = difference_with_terms(alloc, &self.coeffs, other.coeffs())?;
+        let difference = sum_with_terms(alloc, &self.coeffs, Sign::Minus, other.coeffs())?;
         Ok(Self::from_coefficients_vec(difference))
     }
 
@@ -351,9 +356,9 @@ impl<F: Field> DensePolynomial<F> {
         ensures kept { OnErr result (self.new ≡ self.old) }
         ensures overflow { (result ≡ Err PolyError.Overflow)
             ↔ IsDegree F.field (of_pairs F.field other.now) usize.MAX }
-        ensures errors { IfErr result (λ e. (e ≡ PolyError.Memory) ⊎ (e ≡ PolyError.Overflow)) }
+        ensures errors { IsOkUnlessEither result PolyError.Memory PolyError.Overflow }
     {
-        add_terms_trimmed(&mut self.coeffs, other.coeffs())
+        add_terms_trimmed(&mut self.coeffs, Sign::Plus, other.coeffs())
     }
 
     /// Subtracts a sparse polynomial in place. `Overflow` exactly where that one's degree is `usize::MAX`, judged
@@ -368,9 +373,9 @@ impl<F: Field> DensePolynomial<F> {
         ensures kept { OnErr result (self.new ≡ self.old) }
         ensures overflow { (result ≡ Err PolyError.Overflow)
             ↔ IsDegree F.field (of_pairs F.field other.now) usize.MAX }
-        ensures errors { IfErr result (λ e. (e ≡ PolyError.Memory) ⊎ (e ≡ PolyError.Overflow)) }
+        ensures errors { IsOkUnlessEither result PolyError.Memory PolyError.Overflow }
     {
-        subtract_terms_trimmed(&mut self.coeffs, other.coeffs())
+        add_terms_trimmed(&mut self.coeffs, Sign::Minus, other.coeffs())
     }
 
     /// The only quotient, without the remainder. Zero divided by anything is zero; otherwise `ZeroDivisor` exactly for a zero
@@ -378,16 +383,11 @@ impl<F: Field> DensePolynomial<F> {
     ///
     /// For each coefficient of the quotient there is one pass over the divisor's, on one copy of this polynomial's.
     pub fn div(&self, alloc: Global, divisor: &Self) -> Result<Self, PolyError>
-        ensures quotient { IfOk result (λ q. of_list F.field divisor.now ≢ nothing F.field → (r : ℕ → F)
-            × IsQuotient F.field (of_list F.field self.now) (of_list F.field divisor.now)
-            (of_list F.field q) r) }
-        ensures only { IfOk result (λ p. (q r : ℕ → F) → IsQuotient F.field (of_list F.field self.now)
-            (of_list F.field divisor.now) q r → q ≡ of_list F.field p) }
-        ensures zero { IfOk result (λ q. of_list F.field self.now ≡ nothing F.field
-            → of_list F.field q ≡ nothing F.field) }
+        ensures division { IfOk result (λ q. (r : ℕ → F) × IsDivision F.field (of_list F.field self.now)
+            (of_list F.field divisor.now) (of_list F.field q) r) }
         ensures zero_divisor { (result ≡ Err PolyError.ZeroDivisor)
             ↔ (of_list F.field self.now ≢ nothing F.field) × (of_list F.field divisor.now ≡ nothing F.field) }
-        ensures errors { IfErr result (λ e. (e ≡ PolyError.Memory) ⊎ (e ≡ PolyError.ZeroDivisor)) }
+        ensures errors { IsOkUnlessEither result PolyError.Memory PolyError.ZeroDivisor }
     {
         let dividend = Coefficients::Listed(&self.coeffs);
         let Some((quotient, _)) = divided(alloc, dividend, Coefficients::Listed(&divisor.coeffs))?
@@ -411,7 +411,7 @@ impl<F: FftField> DensePolynomial<F> {
             ≡ product F.field (of_list F.field self.now) (of_list F.field other.now)) }
         ensures none { (result ≡ Err PolyError.NoDomain) ↔ (0 < length self.now) × (0 < length other.now)
             × HasNoSize (IsGeneral F.adicity) (length self.now + length other.now - 1) }
-        ensures errors { IfErr result (λ e. (e ≡ PolyError.Memory) ⊎ (e ≡ PolyError.NoDomain)) }
+        ensures errors { IsOkUnlessEither result PolyError.Memory PolyError.NoDomain }
     {
         if self.coeffs.is_empty() || other.coeffs.is_empty() {
             return Self::zero(alloc);
@@ -422,15 +422,15 @@ impl<F: FftField> DensePolynomial<F> {
         self.product_through(alloc, other, domain)
     }
 
-    // The product, by the values of both factors over a domain that has as many elements as it has coefficients.
+    // The product, by the values of both factors over a domain that has as many elements as the product coefficients.
     fn product_through<D: EvaluationDomain<F>>(
         &self,
         alloc: Global,
         other: &Self,
         domain: D,
     ) -> Result<Self, PolyError>
-        requires some { 0 < length self.now }
-        requires others { 0 < length other.now }
+        requires nonempty { 0 < length self.now }
+        requires other_nonempty { 0 < length other.now }
         requires room { length self.now + length other.now - 1 ≤ (D.domain domain).size }
         ensures product { IfOk result (λ p. of_list F.field p
             ≡ product F.field (of_list F.field self.now) (of_list F.field other.now)) }
@@ -471,7 +471,7 @@ impl<F: FftField> DensePolynomial<F> {
         values.interpolate(alloc)
     }
 
-    /// Its values at the elements of the domain, no coefficient cut off: all coefficients are reduced by the vanishing
+    /// The values at the elements of the domain, no coefficient cut off: all coefficients are reduced by the vanishing
     /// polynomial, in one pass with a product for each coefficient from the domain's size on, and then transformed in
     /// place.
     pub fn evaluate_over_domain<D: EvaluationDomain<F>>(
@@ -491,7 +491,7 @@ impl<F: FftField> DensePolynomial<F> {
         Ok(Evaluations::from_vec_and_domain(evals, domain))
     }
 
-    /// The same of a copy, and the polynomial stays.
+    /// The values at the elements of the domain, by a copy of the coefficients: the polynomial stays.
     pub fn evaluate_over_domain_by_ref<D: EvaluationDomain<F>>(
         &self,
         alloc: Global,
@@ -520,7 +520,7 @@ impl<F: FftField> DensePolynomial<F> {
             ≡ product F.field (of_list F.field self.now) (vanishing F.field (D.domain domain))) }
         ensures overflow { (result ≡ Err PolyError.Overflow) ↔ (0 < length self.now)
             × (usize.MAX < length self.now + (D.domain domain).size) }
-        ensures errors { IfErr result (λ e. (e ≡ PolyError.Memory) ⊎ (e ≡ PolyError.Overflow)) }
+        ensures errors { IsOkUnlessEither result PolyError.Memory PolyError.Overflow }
     {
         if self.coeffs.is_empty() {
             return Self::zero(alloc);
@@ -566,8 +566,7 @@ impl<F: FftField> DensePolynomial<F> {
 // The general domain for a product of two lists of these lengths. A length past `usize::MAX` has none.
 fn domain_of_product<F: FftField>(left: usize, right: usize) -> Option<GeneralEvaluationDomain<F>>
     requires { 0 < right }
-    ensures room { IfSome result (λ d. left + right - 1
-        ≤ (⟦<GeneralEvaluationDomain<F> as EvaluationDomain<F>>⟧.domain d).size) }
+    ensures room { IfSome result (λ d. left + right - 1 ≤ (general_domain d).size) }
     ensures none { IsNone result ↔ HasNoSize (IsGeneral F.adicity) (left + right - 1) }
 {
     GeneralEvaluationDomain::new(left.checked_add(right - 1)?)

@@ -1,8 +1,9 @@
 //! Polynomials in one variable of either form.
 
-ghost use Rattle.std.specs.Prelude.{◌≡◌, ◌≢◌, ◌↔◌, ◌⊎◌, ℕ, IfOk, IfErr, IfSome, IsOkUnless, IsTrue, None};
+ghost use Rattle.std.specs.Prelude.{◌≡◌, ◌≢◌, ◌↔◌, IfOk, IfSome, IsOkUnless, IsTrue, None};
+ghost use Rattle.ark_math.specs.Outcome.{IsOkUnlessEither};
 ghost use Rattle.ark_math.specs.Points.{AreValues};
-ghost use Rattle.ark_math.specs.Univariate.{IsDegree, IsQuotient, nothing, of_list, of_pairs};
+ghost use Rattle.ark_math.specs.Univariate.{IsDegree, IsDivision, IsValue, nothing, of_list, of_pairs};
 ghost use Rattle.ark_quotients.specs.Divisors.{IsKept, denoted as coefficients_denote};
 ghost use Rattle.ark_univariate.specs.DenseOrSparse.{denoted, IsDense};
 
@@ -10,6 +11,8 @@ use crate::domain::EvaluationDomain;
 use crate::evaluations::univariate::Evaluations;
 use crate::polynomial::univariate::{DensePolynomial, SparsePolynomial};
 use crate::polynomial::{DenseUVPolynomial, Polynomial};
+use ark_coeffs::dense::value_at;
+use ark_coeffs::sparse::value_of_terms;
 use ark_quotients::conversions::coefficients_of;
 use ark_quotients::division::{Coefficients, divided};
 use ark_traits::{FftField, Field, PolyError};
@@ -92,7 +95,7 @@ impl<'a, F: Field> DenseOrSparsePolynomial<'a, F> {
         }
     }
 
-    // Its coefficients in the form in which it has them.
+    // The coefficients in the form in which the polynomial has them.
     fn coefficients(&self) -> Coefficients<'_, F>
         ensures same { coefficients_denote F.field result ≡ denoted F.field self.now }
         ensures kept { IsKept F.field result }
@@ -100,6 +103,16 @@ impl<'a, F: Field> DenseOrSparsePolynomial<'a, F> {
         match self {
             SPolynomial(p) => Coefficients::Terms(p.coeffs()),
             DPolynomial(p) => Coefficients::Listed(p.coeffs()),
+        }
+    }
+
+    /// The value at a point, without a change of form. Takes no memory, and is always there: every point fits.
+    pub fn evaluate(&self, point: &F) -> F
+        ensures { IsValue F.field (denoted F.field self.now) point.now result }
+    {
+        match self.coefficients() {
+            Coefficients::Terms(terms) => value_of_terms(terms, *point),
+            Coefficients::Listed(coeffs) => value_at(coeffs, *point),
         }
     }
 
@@ -113,19 +126,13 @@ impl<'a, F: Field> DenseOrSparsePolynomial<'a, F> {
         alloc: Global,
         divisor: &DenseOrSparsePolynomial<'_, F>,
     ) -> Result<Option<(DensePolynomial<F>, DensePolynomial<F>)>, PolyError>
-        ensures quotient { IfOk result (λ o. IfSome o (λ p. denoted F.field divisor.now ≢ nothing F.field
-            → IsQuotient F.field (denoted F.field self.now) (denoted F.field divisor.now)
-            (of_list F.field p.0) (of_list F.field p.1))) }
-        ensures only { IfOk result (λ o. IfSome o (λ p. (q r : ℕ → F)
-            → IsQuotient F.field (denoted F.field self.now) (denoted F.field divisor.now) q r
-            → (q ≡ of_list F.field p.0) × (r ≡ of_list F.field p.1))) }
-        ensures zeros { IfOk result (λ o. IfSome o (λ p. denoted F.field self.now ≡ nothing F.field
-            → (of_list F.field p.0 ≡ nothing F.field) × (of_list F.field p.1 ≡ nothing F.field))) }
+        ensures division { IfOk result (λ o. IfSome o (λ p. IsDivision F.field (denoted F.field self.now)
+            (denoted F.field divisor.now) (of_list F.field p.0) (of_list F.field p.1))) }
         ensures none { (result ≡ Ok None) ↔ (denoted F.field self.now ≢ nothing F.field)
             × (denoted F.field divisor.now ≡ nothing F.field) }
         ensures overflow { (result ≡ Err PolyError.Overflow) ↔ (denoted F.field divisor.now ≢ nothing F.field)
             × IsDegree F.field (denoted F.field self.now) usize.MAX }
-        ensures errors { IfErr result (λ e. (e ≡ PolyError.Memory) ⊎ (e ≡ PolyError.Overflow)) }
+        ensures errors { IsOkUnlessEither result PolyError.Memory PolyError.Overflow }
     {
         let Some((quotient, remainder)) = divided(
             alloc,
@@ -147,7 +154,7 @@ impl<'a, F: Field> DenseOrSparsePolynomial<'a, F> {
         ensures same { IfOk result (λ p. of_list F.field p ≡ denoted F.field self.entry) }
         ensures overflow { (result ≡ Err PolyError.Overflow)
             ↔ (IsDense self.entry → ⊥) × IsDegree F.field (denoted F.field self.entry) usize.MAX }
-        ensures errors { IfErr result (λ e. (e ≡ PolyError.Memory) ⊎ (e ≡ PolyError.Overflow)) }
+        ensures errors { IsOkUnlessEither result PolyError.Memory PolyError.Overflow }
     {
         match self {
             SPolynomial(p) => {
@@ -163,7 +170,7 @@ impl<'a, F: Field> DenseOrSparsePolynomial<'a, F> {
     pub fn into_sparse(self, _alloc: Global) -> Result<SparsePolynomial<F>, PolyError>
         ensures same { IfOk result (λ p. of_pairs F.field p ≡ denoted F.field self.entry) }
         ensures not_sparse { (result ≡ Err PolyError.NotSparse) ↔ IsDense self.entry }
-        ensures errors { IfErr result (λ e. (e ≡ PolyError.Memory) ⊎ (e ≡ PolyError.NotSparse)) }
+        ensures errors { IsOkUnlessEither result PolyError.Memory PolyError.NotSparse }
     {
         match self {
             SPolynomial(p) => Ok(p.into_owned()?),

@@ -1,9 +1,11 @@
 //! Division of long dense polynomials by products through transforms.
 
-ghost use Rattle.std.specs.Prelude.{◌≡◌, ◌≢◌, ◌↔◌, ◌+◌, ◌-◌, ◌<◌, ◌≤◌, ◌⊎◌, length, IfOk, IfErr};
-ghost use Rattle.std.specs.Prelude.{ℕ, None, IfSome, IsNone, IsOkUnless};
+ghost use Rattle.std.specs.Prelude.{◌≡◌, ◌≢◌, ◌↔◌, ◌+◌, ◌-◌, ◌<◌, ◌≤◌, length, IfOk, IfSome, IsNone};
+ghost use Rattle.std.specs.Prelude.{IsOkUnless, None};
 ghost use Rattle.ark_quotients.specs.PowerSeries.{AgreeBelow, past, backwards, unity};
-ghost use Rattle.ark_math.specs.Univariate.{of_list, nothing, difference, product, IsBelow, IsQuotient};
+ghost use Rattle.ark_math.specs.Outcome.{IsOkUnlessEither};
+ghost use Rattle.ark_math.specs.Univariate.{IsBelow, IsDivision, IsQuotient, difference, nothing, of_list};
+ghost use Rattle.ark_math.specs.Univariate.{product};
 
 use crate::polynomial::univariate::DensePolynomial;
 use crate::polynomial::{DenseUVPolynomial, Polynomial};
@@ -15,8 +17,8 @@ use std::alloc::Global;
 // Divisors with fewer coefficients than this are divided by in passes, as measured.
 const SHORT_DIVISOR: usize = 512;
 
-// And quotients with at most as many as this are found by passes. The bound is lower, since the inverse series is only as
-// long as the quotient.
+// Quotients with at most this many coefficients are found by passes too. The bound is lower, since the inverse series is
+// only as long as the quotient.
 const SHORT_QUOTIENT: usize = 128;
 
 impl<F: FftField> DensePolynomial<F> {
@@ -34,14 +36,8 @@ impl<F: FftField> DensePolynomial<F> {
         alloc: Global,
         divisor: &Self,
     ) -> Result<Option<(Self, Self)>, PolyError>
-        ensures quotient { IfOk result (λ o. IfSome o (λ p. of_list F.field divisor.now ≢ nothing F.field
-            → IsQuotient F.field (of_list F.field self.now) (of_list F.field divisor.now)
-            (of_list F.field p.0) (of_list F.field p.1))) }
-        ensures only { IfOk result (λ o. IfSome o (λ p. (q r : ℕ → F) → IsQuotient F.field
-            (of_list F.field self.now) (of_list F.field divisor.now) q r
-            → (q ≡ of_list F.field p.0) × (r ≡ of_list F.field p.1))) }
-        ensures zeros { IfOk result (λ o. IfSome o (λ p. of_list F.field self.now ≡ nothing F.field
-            → (of_list F.field p.0 ≡ nothing F.field) × (of_list F.field p.1 ≡ nothing F.field))) }
+        ensures division { IfOk result (λ o. IfSome o (λ p. IsDivision F.field (of_list F.field self.now)
+            (of_list F.field divisor.now) (of_list F.field p.0) (of_list F.field p.1))) }
         ensures none { (result ≡ Ok None) ↔ (of_list F.field self.now ≢ nothing F.field)
             × (of_list F.field divisor.now ≡ nothing F.field) }
         ensures memory { IsOkUnless result PolyError.Memory }
@@ -71,7 +67,7 @@ impl<F: FftField> DensePolynomial<F> {
         divisor: &Self,
         leading_inverted: F,
     ) -> Result<(Self, Self), PolyError>
-        requires some { 0 < length divisor.now }
+        requires nonempty { 0 < length divisor.now }
         requires leading { F.field.times (of_list F.field divisor.now (length divisor.now - 1))
             leading_inverted ≡ F.field.one }
         ensures division { IfOk result (λ p. IsQuotient F.field (of_list F.field self.now)
@@ -89,14 +85,14 @@ impl<F: FftField> DensePolynomial<F> {
         }
     }
 
-    // The same by passes over the divisor's coefficients, without a transform.
+    // Quotient and remainder by passes over the divisor's coefficients, without a transform.
     fn divided_by_passes(
         &self,
         alloc: Global,
         divisor: &Self,
         leading_inverted: F,
     ) -> Result<(Self, Self), PolyError>
-        requires some { 0 < length divisor.now }
+        requires nonempty { 0 < length divisor.now }
         requires leading { F.field.times (of_list F.field divisor.now (length divisor.now - 1))
             leading_inverted ≡ F.field.one }
         ensures division { IfOk result (λ p. IsQuotient F.field (of_list F.field self.now)
@@ -120,7 +116,7 @@ impl<F: FftField> DensePolynomial<F> {
         ensures same { IfOk result (λ p. AgreeBelow (end - start) (of_list F.field p)
             (past start (of_list F.field self.now))) }
         ensures below { IfOk result (λ p. IsBelow F.field (end - start) (of_list F.field p)) }
-        ensures memory { IfErr result (λ e. e ≡ PolyError.Memory) }
+        ensures memory { IsOkUnless result PolyError.Memory }
     {
         let coeffs = part(alloc, self.coeffs(), start, end)?;
         Ok(Self::from_coefficients_vec(coeffs))
@@ -132,7 +128,7 @@ impl<F: FftField> DensePolynomial<F> {
         ensures same { IfOk result (λ p. AgreeBelow len (of_list F.field p)
             (backwards F.field degree (of_list F.field self.now))) }
         ensures below { IfOk result (λ p. IsBelow F.field len (of_list F.field p)) }
-        ensures memory { IfErr result (λ e. e ≡ PolyError.Memory) }
+        ensures memory { IsOkUnless result PolyError.Memory }
     {
         let coeffs = reversed(alloc, self.coeffs(), degree, len)?;
         Ok(Self::from_coefficients_vec(coeffs))
@@ -147,7 +143,7 @@ impl<F: FftField> DensePolynomial<F> {
         known: usize,
         len: usize,
     ) -> Result<Self, PolyError>
-        requires some { 0 < known }
+        requires positive { 0 < known }
         requires more { known ≤ len }
         requires most { len ≤ known + known }
         requires below { IsBelow F.field known (of_list F.field inverse.now) }
@@ -156,7 +152,7 @@ impl<F: FftField> DensePolynomial<F> {
         ensures inverse { IfOk result (λ p. AgreeBelow len (product F.field (of_list F.field self.now)
             (of_list F.field p)) (unity F.field)) }
         ensures below { IfOk result (λ p. IsBelow F.field len (of_list F.field p)) }
-        ensures errors { IfErr result (λ e. (e ≡ PolyError.Memory) ⊎ (e ≡ PolyError.NoDomain)) }
+        ensures errors { IsOkUnlessEither result PolyError.Memory PolyError.NoDomain }
     {
         let whole = self.part(alloc, 0, len)?.mul(alloc, inverse)?;
         let correction = whole.part(alloc, known, len)?.mul(alloc, inverse)?;
@@ -172,12 +168,12 @@ impl<F: FftField> DensePolynomial<F> {
         first_inverted: F,
         len: usize,
     ) -> Result<Self, PolyError>
-        requires some { 0 < len }
+        requires positive { 0 < len }
         requires first { F.field.times (of_list F.field self.now 0) first_inverted ≡ F.field.one }
         ensures inverse { IfOk result (λ p. AgreeBelow len (product F.field (of_list F.field self.now)
             (of_list F.field p)) (unity F.field)) }
         ensures below { IfOk result (λ p. IsBelow F.field len (of_list F.field p)) }
-        ensures errors { IfErr result (λ e. (e ≡ PolyError.Memory) ⊎ (e ≡ PolyError.NoDomain)) }
+        ensures errors { IsOkUnlessEither result PolyError.Memory PolyError.NoDomain }
     {
         if len == 1 {
             let mut coeffs = Vec::with_capacity(alloc, 1)?;
@@ -197,14 +193,14 @@ impl<F: FftField> DensePolynomial<F> {
         divisor: &Self,
         leading_inverted: F,
     ) -> Result<Self, PolyError>
-        requires some { 0 < length divisor.now }
+        requires nonempty { 0 < length divisor.now }
         requires long { length divisor.now ≤ length self.now }
         requires leading { F.field.times (of_list F.field divisor.now (length divisor.now - 1))
             leading_inverted ≡ F.field.one }
         ensures quotient { IfOk result (λ q. IsQuotient F.field (of_list F.field self.now)
             (of_list F.field divisor.now) (of_list F.field q) (difference F.field (of_list F.field self.now)
             (product F.field (of_list F.field q) (of_list F.field divisor.now)))) }
-        ensures errors { IfErr result (λ e. (e ≡ PolyError.Memory) ⊎ (e ≡ PolyError.NoDomain)) }
+        ensures errors { IsOkUnlessEither result PolyError.Memory PolyError.NoDomain }
     {
         let whole = self.coeffs().len();
         let parts = divisor.coeffs().len();
@@ -215,20 +211,20 @@ impl<F: FftField> DensePolynomial<F> {
         series.reversed(alloc, len - 1, len)
     }
 
-    // The same with the remainder.
+    // Quotient and remainder by a divisor that isn't longer, through the inverse series.
     fn divided_by_series(
         &self,
         alloc: Global,
         divisor: &Self,
         leading_inverted: F,
     ) -> Result<(Self, Self), PolyError>
-        requires some { 0 < length divisor.now }
+        requires nonempty { 0 < length divisor.now }
         requires long { length divisor.now ≤ length self.now }
         requires leading { F.field.times (of_list F.field divisor.now (length divisor.now - 1))
             leading_inverted ≡ F.field.one }
         ensures division { IfOk result (λ p. IsQuotient F.field (of_list F.field self.now)
             (of_list F.field divisor.now) (of_list F.field p.0) (of_list F.field p.1)) }
-        ensures errors { IfErr result (λ e. (e ≡ PolyError.Memory) ⊎ (e ≡ PolyError.NoDomain)) }
+        ensures errors { IsOkUnlessEither result PolyError.Memory PolyError.NoDomain }
     {
         let quotient = self.quotient_by_series(alloc, divisor, leading_inverted)?;
         let product = quotient.mul(alloc, divisor)?;

@@ -1,12 +1,13 @@
 //! Polynomials in one variable by the coefficients that aren't zero.
 
 ghost use Rattle.std.specs.Prelude.{◌≡◌, ◌↔◌, ◌==◌, ◌&&◌, ◌++◌, IfOk, IsOk, IsOkUnless, IsTrue};
-ghost use Rattle.std.specs.Prelude.{◌⊎◌, ℕ, ◌+◌, ◌<◌, IfErr};
+ghost use Rattle.std.specs.Prelude.{ℕ, ◌+◌, ◌<◌};
 ghost use Rattle.std.specs.Cmp.{and_equiv, and_per, nat_eq_equiv, on_equiv, on_per, partial_equiv_from_equiv};
 ghost use Rattle.std.specs.Cmp.{unsigned_Decides};
 ghost use Rattle.std.specs.Cmp.Lexicographic.{pointwise, lists_equiv, lists_per};
 ghost use Rattle.std.specs.Hash as fed;
 ghost use Rattle.std.specs.Hash.{and-Alike, items_Alike, on_Alike, same_Alike};
+ghost use Rattle.ark_math.specs.Outcome.{IsOkUnlessEither};
 ghost use Rattle.ark_math.specs.NormalForms.{gather};
 ghost use Rattle.ark_math.specs.Points.{AreValues};
 ghost use Rattle.ark_math.specs.Univariate.{IsSparse, IsDegree, IsValue, of_list, of_pairs};
@@ -174,7 +175,7 @@ impl<F: Field> Polynomial<F> for SparsePolynomial<F> {
         SparsePolynomial::zero(alloc)?.sub(alloc, self)
     }
 
-    // The three in place make a list of both's terms, and then put it in place of the old one.
+    // Sums and differences in place make a list of the terms of both, and then put it in place of the old one.
     fn add_assign(&mut self, alloc: Global, other: &Self) -> Result<(), PolyError> {
         self.coeffs = sum_of_terms(alloc, &self.coeffs, F::one(), &other.coeffs)?;
         Ok(())
@@ -252,7 +253,7 @@ impl<F: Field> SparsePolynomial<F> {
 }
 
 impl<F: Field> SparsePolynomial<F> {
-    /// The same polynomial by its terms that aren't zero. Takes memory for these alone.
+    /// The dense polynomial by its terms that aren't zero. Takes memory for these alone.
     pub fn from_dense(alloc: Global, dense: &DensePolynomial<F>) -> Result<Self, PolyError>
         ensures same { IfOk result (λ p. of_pairs F.field p ≡ of_list F.field dense.now) }
         ensures memory { IsOkUnless result PolyError.Memory }
@@ -272,7 +273,7 @@ impl<F: Field> SparsePolynomial<F> {
         ensures overflow { (result ≡ Err PolyError.Overflow) ↔ (m : ℕ) × (n : ℕ)
             × IsDegree F.field (of_pairs F.field self.now) m
             × IsDegree F.field (of_pairs F.field other.now) n × (usize.MAX < m + n) }
-        ensures errors { IfErr result (λ e. (e ≡ PolyError.Memory) ⊎ (e ≡ PolyError.Overflow)) }
+        ensures errors { IsOkUnlessEither result PolyError.Memory PolyError.Overflow }
     {
         Ok(SparsePolynomial {
             coeffs: product_of_terms(alloc, &self.coeffs, &other.coeffs)?,
@@ -281,7 +282,7 @@ impl<F: Field> SparsePolynomial<F> {
 }
 
 impl<F: FftField> SparsePolynomial<F> {
-    /// Its values at the elements of the domain, no term cut off: all terms are reduced by the vanishing polynomial, with
+    /// The values at the elements of the domain, no term cut off: all terms are reduced by the vanishing polynomial, with
     /// a power and a product for each, and then transformed in place. Takes memory for the values, beside what a
     /// transform takes.
     pub fn evaluate_over_domain<D: EvaluationDomain<F>>(
@@ -297,7 +298,7 @@ impl<F: FftField> SparsePolynomial<F> {
         self.evaluate_over_domain_by_ref(alloc, domain)
     }
 
-    /// The same, and the polynomial stays.
+    /// The values at the elements of the domain, found as by `evaluate_over_domain`: the polynomial stays.
     pub fn evaluate_over_domain_by_ref<D: EvaluationDomain<F>>(
         &self,
         alloc: Global,

@@ -8,8 +8,8 @@ use Rattle.ark_univariate.proofs.domain.EvaluationDomain.filter_polynomial.Goals
 lawful : (g : given.Over) (d : g.row.Self.Denot) → IsLawful g.F.Field.field g.F.FftField.adicity g.F.FftField.root (g.Self.EvaluationDomain.domain d)
 lawful g d = lawful_domain g.met.F.Field.field_laws g.met.F.FftField.roots_law (g.met.Self.EvaluationDomain.lawful d)
 
-pub spaced_row-requires-clause-some : goal.spaced_row-requires-clause-some
-spaced_row-requires-clause-some g c = subst (λ n. 0 < n) (sym c.size-2.ensures) (some_size (lawful g c.args.self.now))
+pub spaced_row-requires-clause-nonempty : goal.spaced_row-requires-clause-nonempty
+spaced_row-requires-clause-nonempty g c = subst (λ n. 0 < n) (sym c.size-2.ensures) (some_size (lawful g c.args.self.now))
 
 pub spaced_row-requires-clause-apart : goal.spaced_row-requires-clause-apart
 spaced_row-requires-clause-apart g c = subst (λ n. 0 < n) (sym c.size-3.ensures) (some_size (lawful g c.args.subdomain.now))

@@ -4,8 +4,8 @@ use Rattle.std.proofs.lemmas.Nat.{mul-lt}
 use Rattle.ark_math.specs.Field.{power}
 use Rattle.ark_math.specs.Module.{item}
 use Rattle.ark_math.proofs.Numbers.Factors.{part_size, parts_whole, part_positive}
-use Rattle.ark_fft.proofs.Mixed.{counted_more, joined_more, stepped_more, all_products, all_butterflies, all_steps}
-use Rattle.ark_fft.proofs.Counts.{positive, none_yet, ended, past, middle, no_part, no_parts}
+use Rattle.ark_fft.proofs.Mixed.{part_counted, no_part_counted, all_counted}
+use Rattle.ark_fft.proofs.Counts.{positive, none_yet, ended, past, middle}
 use Rattle.ark_fft.proofs.Blocks.{block_within, part_length, sub_whole, table_size, stride_small, block_done, block_after, mixed_joined, dealt_items}
 use Rattle.ark_fft.proofs.domain.mixed_radix.kernel.+mixed.Goals as goal
 
@@ -25,60 +25,58 @@ part_small levels q odds n stride table r base some size in_base whole pos small
 
 pub deinterleave-requires-clause-whole_size : goal.deinterleave-requires-clause-whole_size
 deinterleave-requires-clause-whole_size g t c =
-    let pos = positive c.args.base c.requires.odd in
+    let pos = positive c.args.base c.requires.above_one in
     parts_whole c.args.levels c.args.base c.args.odds (length c.args.xs.now) pos c.if-odds-gt0.true c.requires.size
 
 pub deinterleave-requires-clause-parts_size : goal.deinterleave-requires-clause-parts_size
 deinterleave-requires-clause-parts_size g t c =
-    let pos = positive c.args.base c.requires.odd in
+    let pos = positive c.args.base c.requires.above_one in
     c.requires.scratch_size ∙ parts_whole c.args.levels c.args.base c.args.odds (length c.args.xs.now) pos c.if-odds-gt0.true c.requires.size
 
 pub loop-r-init : goal.loop-r-init
 loop-r-init g t c =
     let V = g.T.DomainCoeff.group in
     let m = g.T.DomainCoeff.meaning in
-    let pos = positive c.args.base c.requires.odd in
+    let pos = positive c.args.base c.requires.above_one in
     let n = length c.args.xs.now / c.args.base in
     let whole = parts_whole c.args.levels c.args.base c.args.odds (length c.args.xs.now) pos c.if-odds-gt0.true c.requires.size in
     let size : length c.deinterleave.new.parts ≡ c.args.base * n = c.deinterleave.auto.parts ∙ (c.requires.scratch_size ∙ whole) in
     record {
-      products = no_parts c.args.work.now.products _ _;
-      butterflies = no_part c.args.work.now.butterflies _;
-      steps = no_part c.args.work.now.steps _;
+      counted = no_part_counted c.args.base _ _ c.args.work.now;
       done = λ w table r i rl il. none_yet r rl;
       rest = λ r i l rl il. dealt_items m V.zero c.args.base n c.args.xs.now c.deinterleave.new.parts whole size c.deinterleave.ensures r i rl il;
     }
 
 pub overflow_mul-from : goal.overflow_mul-from
-overflow_mul-from g t c = let small = part_small c.args.levels c.args.base c.args.odds (length c.args.xs.now) c.args.stride (length c.args.table.now) c.loop-r.r c.requires.odd c.if-odds-gt0.true c.requires.size c.loop-r-test.true c.requires.whole c.requires.some c.requires.small in omega (arith, small)
+overflow_mul-from g t c = let small = part_small c.args.levels c.args.base c.args.odds (length c.args.xs.now) c.args.stride (length c.args.table.now) c.loop-r.r c.requires.above_one c.if-odds-gt0.true c.requires.size c.loop-r-test.true c.requires.whole c.requires.stride_not_zero c.requires.small in omega (arith, small)
 
 pub overflow_add-from : goal.overflow_add-from
-overflow_add-from g t c = let small = part_small c.args.levels c.args.base c.args.odds (length c.args.xs.now) c.args.stride (length c.args.table.now) c.loop-r.r c.requires.odd c.if-odds-gt0.true c.requires.size c.loop-r-test.true c.requires.whole c.requires.some c.requires.small in omega (arith, small)
+overflow_add-from g t c = let small = part_small c.args.levels c.args.base c.args.odds (length c.args.xs.now) c.args.stride (length c.args.table.now) c.loop-r.r c.requires.above_one c.if-odds-gt0.true c.requires.size c.loop-r-test.true c.requires.whole c.requires.stride_not_zero c.requires.small in omega (arith, small)
 
 pub slice_bounds-mixed-end : goal.slice_bounds-mixed-end
-slice_bounds-mixed-end g t c = omega (arith, part_within c.args.levels c.args.base c.args.odds (length c.args.xs.now) c.loop-r.r c.requires.odd c.if-odds-gt0.true c.requires.size c.loop-r-test.true)
+slice_bounds-mixed-end g t c = omega (arith, part_within c.args.levels c.args.base c.args.odds (length c.args.xs.now) c.loop-r.r c.requires.above_one c.if-odds-gt0.true c.requires.size c.loop-r-test.true)
 
 pub overflow_add-from-in-loop-r : goal.overflow_add-from-in-loop-r
-overflow_add-from-in-loop-r g t c = let small = part_small c.args.levels c.args.base c.args.odds (length c.args.xs.now) c.args.stride (length c.args.table.now) c.loop-r.r c.requires.odd c.if-odds-gt0.true c.requires.size c.loop-r-test.true c.requires.whole c.requires.some c.requires.small in omega (arith, small)
+overflow_add-from-in-loop-r g t c = let small = part_small c.args.levels c.args.base c.args.odds (length c.args.xs.now) c.args.stride (length c.args.table.now) c.loop-r.r c.requires.above_one c.if-odds-gt0.true c.requires.size c.loop-r-test.true c.requires.whole c.requires.stride_not_zero c.requires.small in omega (arith, small)
 
 pub slice_bounds-mixed-end-in-loop-r : goal.slice_bounds-mixed-end-in-loop-r
-slice_bounds-mixed-end-in-loop-r g t c = omega (arith, part_within c.args.levels c.args.base c.args.odds (length c.args.xs.now) c.loop-r.r c.requires.odd c.if-odds-gt0.true c.requires.size c.loop-r-test.true)
+slice_bounds-mixed-end-in-loop-r g t c = omega (arith, part_within c.args.levels c.args.base c.args.odds (length c.args.xs.now) c.loop-r.r c.requires.above_one c.if-odds-gt0.true c.requires.size c.loop-r-test.true)
 
 pub offset_bounds-scratch-from : goal.offset_bounds-scratch-from
 offset_bounds-scratch-from g t c =
     let b : c.loop-r.r * (length c.args.xs.now / c.args.base) < length c.loop-r.scratch =
-    omega (arith, part_within c.args.levels c.args.base c.args.odds (length c.args.xs.now) c.loop-r.r c.requires.odd c.if-odds-gt0.true c.requires.size c.loop-r-test.true) in
+    omega (arith, part_within c.args.levels c.args.base c.args.odds (length c.args.xs.now) c.loop-r.r c.requires.above_one c.if-odds-gt0.true c.requires.size c.loop-r-test.true) in
     search rules depth 3
 
 pub offset_bounds-xs-from : goal.offset_bounds-xs-from
 offset_bounds-xs-from g t c =
     let b : c.loop-r.r * (length c.args.xs.now / c.args.base) < length c.loop-r.xs =
-    omega (arith, part_within c.args.levels c.args.base c.args.odds (length c.args.xs.now) c.loop-r.r c.requires.odd c.if-odds-gt0.true c.requires.size c.loop-r-test.true) in
+    omega (arith, part_within c.args.levels c.args.base c.args.odds (length c.args.xs.now) c.loop-r.r c.requires.above_one c.if-odds-gt0.true c.requires.size c.loop-r-test.true) in
     search rules depth 3
 
 pub overflow_mul-stride : goal.overflow_mul-stride
 overflow_mul-stride g t c =
-    let pos = positive c.args.base c.requires.odd in
+    let pos = positive c.args.base c.requires.above_one in
     let len = length c.args.xs.now in
     let n = len / c.args.base in
     let whole = parts_whole c.args.levels c.args.base c.args.odds len pos c.if-odds-gt0.true c.requires.size in
@@ -90,7 +88,7 @@ overflow_mul-stride g t c =
 pub mixed-requires : goal.mixed-requires
 mixed-requires g t c κs within =
     let q = c.args.base in
-    let pos = positive q c.requires.odd in
+    let pos = positive q c.requires.above_one in
     let len = length c.args.xs.now in
     let n = len / q in
     let r = c.loop-r.r in
@@ -103,8 +101,8 @@ mixed-requires g t c κs within =
     let of_xs : length (take k (drop (r * n) c.loop-r.xs)) ≡ n = part_length (r * n) k n c.loop-r.xs same (subst (λ x. r * n + n ≤ x) (sym (c.loop-r.auto.xs ∙ whole)) b) in
     let size = of_scratch ∙ part_size c.args.levels q c.args.odds len pos c.if-odds-gt0.true c.requires.size in
     let e = sub_whole len c.args.stride (length c.args.table.now) q n (length (take k (drop (r * n) c.loop-r.scratch))) c.requires.whole whole of_scratch in
-    let p : 0 < c.args.stride * q = mul-lt 0 0 c.args.stride q c.requires.some pos in
-    (omega arith, (search rules, (search rules, (size, (of_xs ∙ sym of_scratch, (e, (c.requires.small, (p, (c.requires.odd, c.requires.few)))))))))
+    let p : 0 < c.args.stride * q = mul-lt 0 0 c.args.stride q c.requires.stride_not_zero pos in
+    (omega arith, (search rules, (search rules, (size, (of_xs ∙ sym of_scratch, (e, (c.requires.small, (p, (c.requires.above_one, c.requires.few)))))))))
 
 pub loop-r-preserved : goal.loop-r-preserved
 loop-r-preserved g t c =
@@ -112,7 +110,7 @@ loop-r-preserved g t c =
     let V = g.T.DomainCoeff.group in
     let m = g.T.DomainCoeff.meaning in
     let q = c.args.base in
-    let pos = positive q c.requires.odd in
+    let pos = positive q c.requires.above_one in
     let len = length c.args.xs.now in
     let n = len / q in
     let r0 = c.loop-r.r in
@@ -124,13 +122,10 @@ loop-r-preserved g t c =
     let b = block_within q n r0 c.loop-r-test.true in
     let of_scratch : length (take k (drop (r0 * n) c.loop-r.scratch)) ≡ n = part_length (r0 * n) k n c.loop-r.scratch same (subst (λ x. r0 * n + n ≤ x) (sym size) b) in
     let of_new : length c.mixed.new.xs ≡ n = c.mixed.auto.xs ∙ of_scratch in
-    let a = q * q - 1 in
     let b = c.args.odds - 1 in
     let part = length (take k (drop (r0 * n) c.loop-r.scratch)) in
     record {
-      products = counted_more c.args.work.now.products c.loop-r.work.products c.mixed.new.work.products r0 c.args.levels a b part n q v.products c.mixed.ensures.products of_scratch;
-      butterflies = joined_more c.args.work.now.butterflies c.loop-r.work.butterflies c.mixed.new.work.butterflies r0 c.args.levels part n v.butterflies c.mixed.ensures.butterflies of_scratch;
-      steps = stepped_more c.args.work.now.steps c.loop-r.work.steps c.mixed.new.work.steps r0 b part n q v.steps c.mixed.ensures.steps of_scratch;
+      counted = part_counted q r0 c.args.levels b part n v.counted c.mixed.ensures.counted of_scratch;
       done = λ w table r i rl il.
           block_done g.met.F.Field.field_laws g.met.T.DomainCoeff.module_laws m n q r0 k (power K w (c.args.stride * q)) c.loop-r.scratch c.mixed.new.xs (λ r k. item V (map m c.args.xs.now) (q * k + r)) c.loop-r-test.true size same of_new (c.mixed.ensures.transformed w table) v.rest (v.done w table) r i rl il;
       rest = λ r i l rl il.
@@ -140,45 +135,35 @@ loop-r-preserved g t c =
 
 pub join-requires-clause-parts_size : goal.join-requires-clause-parts_size
 join-requires-clause-parts_size g t c =
-    let pos = positive c.args.base c.requires.odd in
+    let pos = positive c.args.base c.requires.above_one in
     c.loop-r.auto.scratch ∙ (c.deinterleave.auto.parts ∙ (c.requires.scratch_size ∙ parts_whole c.args.levels c.args.base c.args.odds (length c.args.xs.now) pos c.if-odds-gt0.true c.requires.size))
 
 pub join-requires-clause-whole_size : goal.join-requires-clause-whole_size
 join-requires-clause-whole_size g t c =
-    let pos = positive c.args.base c.requires.odd in
+    let pos = positive c.args.base c.requires.above_one in
     c.loop-r.auto.xs ∙ parts_whole c.args.levels c.args.base c.args.odds (length c.args.xs.now) pos c.if-odds-gt0.true c.requires.size
 
 pub join-requires-clause-table_size : goal.join-requires-clause-table_size
 join-requires-clause-table_size g t c =
-    let pos = positive c.args.base c.requires.odd in
+    let pos = positive c.args.base c.requires.above_one in
     table_size (length c.args.xs.now) c.args.stride (length c.args.table.now) c.args.base (length c.args.xs.now / c.args.base) c.requires.whole
     (parts_whole c.args.levels c.args.base c.args.odds (length c.args.xs.now) pos c.if-odds-gt0.true c.requires.size)
 
-pub returns-after-loop-r-clause-products : goal.returns-after-loop-r-clause-products
-returns-after-loop-r-clause-products g t c =
-    all_products c.args.work.now.products c.loop-r.work.products c.join.new.work.products c.loop-r.r c.args.base c.args.levels c.args.odds (length c.args.xs.now) (positive c.args.base c.requires.odd) c.if-odds-gt0.true c.requires.size
-    (ended c.loop-r.r c.args.base c.loop-r.auto.r-end c.loop-r-test.false) (c.args.base * c.args.base - 1) c.loop-r.invariant.products c.join.ensures.products
-
-pub returns-after-loop-r-clause-butterflies : goal.returns-after-loop-r-clause-butterflies
-returns-after-loop-r-clause-butterflies g t c =
-    all_butterflies c.args.work.now.butterflies c.loop-r.work.butterflies c.join.new.work.butterflies c.loop-r.r c.args.base c.args.levels c.args.odds (length c.args.xs.now) (positive c.args.base c.requires.odd) c.if-odds-gt0.true c.requires.size
-    (ended c.loop-r.r c.args.base c.loop-r.auto.r-end c.loop-r-test.false) c.loop-r.invariant.butterflies c.join.ensures.butterflies
-
-pub returns-after-loop-r-clause-steps : goal.returns-after-loop-r-clause-steps
-returns-after-loop-r-clause-steps g t c =
-    all_steps c.args.work.now.steps c.loop-r.work.steps c.join.new.work.steps c.loop-r.r c.args.base c.args.levels c.args.odds (length c.args.xs.now) (positive c.args.base c.requires.odd) c.if-odds-gt0.true c.requires.size
-    (ended c.loop-r.r c.args.base c.loop-r.auto.r-end c.loop-r-test.false) c.loop-r.invariant.steps c.join.ensures.steps
+pub returns-after-loop-r-clause-counted : goal.returns-after-loop-r-clause-counted
+returns-after-loop-r-clause-counted g t c =
+    all_counted c.loop-r.r c.args.base c.args.levels c.args.odds (length c.args.xs.now) (positive c.args.base c.requires.above_one) c.if-odds-gt0.true c.requires.size
+    (ended c.loop-r.r c.args.base c.loop-r.auto.r-end c.loop-r-test.false) c.loop-r.invariant.counted c.join.ensures.counted
 
 pub returns-after-loop-r-clause-transformed : goal.returns-after-loop-r-clause-transformed
 returns-after-loop-r-clause-transformed g t c = λ w table i l.
     let q = c.args.base in
-    let pos = positive q c.requires.odd in
+    let pos = positive q c.requires.above_one in
     let len = length c.args.xs.now in
     let n = len / q in
     let end = ended c.loop-r.r q c.loop-r.auto.r-end c.loop-r-test.false in
     let whole = parts_whole c.args.levels q c.args.odds len pos c.if-odds-gt0.true c.requires.size in
     let size = table_size len c.args.stride (length c.args.table.now) q n c.requires.whole whole in
-    mixed_joined g.met.F.Field.field_laws g.met.T.DomainCoeff.module_laws g.T.DomainCoeff.meaning w c.args.table.now q n c.args.stride len c.args.xs.now c.loop-r.scratch c.join.new.whole table size whole c.requires.some
+    mixed_joined g.met.F.Field.field_laws g.met.T.DomainCoeff.module_laws g.T.DomainCoeff.meaning w c.args.table.now q n c.args.stride len c.args.xs.now c.loop-r.scratch c.join.new.whole table size whole c.requires.stride_not_zero
     (λ r i rl il. c.loop-r.invariant.done w table r i (subst (λ k. r < k) (sym end) rl) il) c.join.ensures.joined i l
 
 -- no part is left to deal out

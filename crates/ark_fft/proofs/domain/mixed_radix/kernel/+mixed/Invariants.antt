@@ -1,7 +1,8 @@
 use Rattle.std.proofs.Common.{◌≡◌, ℕ, map, ◌+◌, ◌-◌, ◌*◌, ◌/◌, ◌≤◌, ◌<◌}
+use Rattle.ark_fft.specs.Mixed.{IsPowerTable, mixed_counts}
 use Rattle.ark_math.proofs.Transforms.Places.{dft_at}
-use Rattle.ark_fft.specs.Mixed.{IsPowerTable}
 use Rattle.ark_math.specs.Field.{power}
+use Rattle.ark_math.specs.Cost.{GrowsBy}
 use Rattle.ark_math.specs.Module.{item}
 use Rattle.ark_fft.proofs.domain.mixed_radix.kernel.+mixed.Given as goal
 
@@ -13,9 +14,7 @@ invariant-loop-r g l =
     let V = g.T.DomainCoeff.group in
     let m = g.T.DomainCoeff.meaning in
     record {
-      products : l.work.products ≡ l.fn.work.products + (l.r * (l.levels * l.m / 2) + l.r * ((l.base * l.base - 1) * ((l.odds - 1) * (l.m / l.base))));
-      butterflies : l.work.butterflies ≡ l.fn.work.butterflies + l.r * (l.levels * l.m / 2);
-      steps : l.work.steps ≡ l.fn.work.steps + l.r * ((l.odds - 1) * (l.m / l.base));
+      counted : GrowsBy (mixed_counts l.base (l.r * (l.levels * l.m / 2)) (l.r * ((l.odds - 1) * (l.m / l.base)))) l.fn.work l.work;
       done : (w : g.row.F.Denot) → IsPowerTable g.F.Field.field w l.table → (r i : ℕ) → r < l.r → i < l.m → item V (map m l.scratch) (r * l.m + i) ≡ dft_at g.F.Field.field V l.m (power g.F.Field.field w (l.stride * l.base)) (λ k. item V (map m l.fn.xs) (l.base * k + r)) i;
       rest : (r i : ℕ) → l.r ≤ r → r < l.base → i < l.m → item V (map m l.scratch) (r * l.m + i) ≡ item V (map m l.fn.xs) (l.base * i + r);
     }

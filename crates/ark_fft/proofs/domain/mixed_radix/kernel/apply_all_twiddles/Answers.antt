@@ -1,7 +1,7 @@
-use Rattle.std.proofs.Common.{◌≡◌, ◌≢◌, ℕ, map, get_or, ◌+◌, ◌-◌, ◌*◌, ◌≤◌, ap, sym, ◌∙◌, arith, subst, ⊎_elim}
+use Rattle.std.proofs.Common.{refl, ◌≡◌, ◌≢◌, ℕ, map, get_or, ◌+◌, ◌-◌, ◌*◌, ◌≤◌, ap, sym, ◌∙◌, arith, subst, ⊎_elim}
 use Rattle.std.proofs.lemmas.Bool.{cases_eq}
 use Rattle.ark_math.specs.Module.{item}
-use Rattle.ark_fft.proofs.Counts.{part_more}
+use Rattle.ark_traits.proofs.Cost.{grows_twice}
 use Rattle.ark_fft.proofs.domain.mixed_radix.kernel.apply_all_twiddles.Goals as goal
 
 pub loop-i-preserved : goal.loop-i-preserved
@@ -15,9 +15,7 @@ loop-i-preserved g c =
     let factor = λ (r i : ℕ). V.scale (get_or c.args.table.now (r * i * c.args.stride) K.zero) in
     let old = λ (k : ℕ). item V (map m c.args.parts.now) k in
     record {
-      products = part_more c.args.work.now.products c.loop-i.work.products c.apply_twiddles.new.work.products c.loop-i.i (c.args.base - 1) c.loop-i.invariant.products c.apply_twiddles.ensures.products;
-      butterflies = omega arith;
-      steps = omega arith;
+      counted = grows_twice v.counted c.apply_twiddles.ensures.counted (omega arith) refl refl;
       done = λ one r i rl il.
           ⊎_elim
           (λ (e : i ≡ i0).

@@ -4,11 +4,13 @@ use Rattle.std.proofs.lemmas.List.{get_or_read}
 use Rattle.ark_math.specs.Module.{item}
 use Rattle.ark_math.proofs.Lists.Lists.{read_at, written_same, written_other}
 use Rattle.ark_fft.proofs.Parts.{place_below, twist_below, next_place, next_twist, columns_differ, rows_differ}
+use Rattle.ark_traits.proofs.Cost.{none_grown}
+use Rattle.ark_fft.proofs.Counts.{one_round_more}
 use Rattle.ark_fft.proofs.domain.mixed_radix.kernel.apply_twiddles.Goals as goal
 
 pub overflow_mul-turn : goal.overflow_mul-turn
 overflow_mul-turn g c =
-    let l = twist_below c.args.base c.args.m c.args.stride 1 c.args.i c.requires.odd c.requires.place c.requires.some in
+    let l = twist_below c.args.base c.args.m c.args.stride 1 c.args.i c.requires.above_one c.requires.place c.requires.stride_not_zero in
     omega arith
 
 pub loop-r-init : goal.loop-r-init
@@ -19,9 +21,7 @@ loop-r-init g c =
       from = omega arith;
       place = omega arith;
       at = omega arith;
-      products = omega arith;
-      butterflies = refl;
-      steps = refl;
+      counted = none_grown c.args.work.now;
       done = λ first r l.
           let item_of = item V (map g.T.DomainCoeff.meaning c.args.parts.now) (r * c.args.m + c.args.i) in
           let none : r ≡ 0 = omega arith in
@@ -46,20 +46,20 @@ offset_bounds-parts-place g c =
 
 pub overflow_add-at : goal.overflow_add-at
 overflow_add-at g c =
-    let l = twist_below c.args.base c.args.m c.args.stride c.loop-r._r c.args.i c.loop-r-test.true c.requires.place c.requires.some in
+    let l = twist_below c.args.base c.args.m c.args.stride c.loop-r._r c.args.i c.loop-r-test.true c.requires.place c.requires.stride_not_zero in
     let e = next_twist c.loop-r._r c.args.i c.args.stride c.loop-r.at c.loop-r.invariant.from c.loop-r.invariant.at in
     omega arith
 
 pub offset_bounds-table-at : goal.offset_bounds-table-at
 offset_bounds-table-at g c =
-    let l = twist_below c.args.base c.args.m c.args.stride c.loop-r._r c.args.i c.loop-r-test.true c.requires.place c.requires.some in
+    let l = twist_below c.args.base c.args.m c.args.stride c.loop-r._r c.args.i c.loop-r-test.true c.requires.place c.requires.stride_not_zero in
     let e = next_twist c.loop-r._r c.args.i c.args.stride c.loop-r.at c.loop-r.invariant.from c.loop-r.invariant.at in
     let b : c.loop-r.at + c.args.i * c.args.stride < length c.args.table.now = omega arith in
     search rules
 
 pub bounds-table-at : goal.bounds-table-at
 bounds-table-at g c =
-    let l = twist_below c.args.base c.args.m c.args.stride c.loop-r._r c.args.i c.loop-r-test.true c.requires.place c.requires.some in
+    let l = twist_below c.args.base c.args.m c.args.stride c.loop-r._r c.args.i c.loop-r-test.true c.requires.place c.requires.stride_not_zero in
     let e = next_twist c.loop-r._r c.args.i c.args.stride c.loop-r.at c.loop-r.invariant.from c.loop-r.invariant.at in
     omega arith
 
@@ -86,7 +86,7 @@ loop-r-preserved g c =
     let apply_twiddles : c.loop-r.at + i0 * s ≡ r0 * i0 * s = next_twist r0 i0 s c.loop-r.at v.from v.at in
     let l = place_below c.args.base c.args.m r0 i0 c.loop-r-test.true c.requires.place in
     let b : at < length xs = omega arith in
-    let k = twist_below c.args.base c.args.m s r0 i0 c.loop-r-test.true c.requires.place c.requires.some in
+    let k = twist_below c.args.base c.args.m s r0 i0 c.loop-r-test.true c.requires.place c.requires.stride_not_zero in
     let a : c.loop-r.at + i0 * s < length table = omega arith in
     let root : c.index-table-at.result ≡ get_or table (r0 * i0 * s) K.zero = get_or_read table _ _ a c.index-table-at.is K.zero ∙ ap (λ t. get_or table t K.zero) apply_twiddles in
     let times = c.scale.ensures.product in
@@ -101,9 +101,7 @@ loop-r-preserved g c =
       from = omega arith;
       place = place ∙ ap (λ t. t * c.args.m + i0) same;
       at = apply_twiddles ∙ ap (λ t. t * i0 * s) same;
-      products = omega arith;
-      butterflies = omega arith;
-      steps = omega arith;
+      counted = one_round_more c.loop-r._r v.from v.counted c.scale.ensures.counted;
       done = λ one r rl.
           ⊎_elim
           (λ (e : r ≡ r0).

@@ -1,4 +1,5 @@
 use Rattle.std.proofs.Common.{◌≡◌, ◌≢◌, ℕ, map, get_or, ◌+◌, ◌-◌, ◌*◌, ◌≤◌, ◌<◌}
+use Rattle.ark_math.specs.Cost.{GrowsBy, counts}
 use Rattle.ark_math.specs.Module.{item}
 use Rattle.ark_fft.proofs.domain.mixed_radix.kernel.apply_twiddles.Given as goal
 
@@ -10,9 +11,7 @@ invariant-loop-r g l =
       from : 1 ≤ l._r;
       place : l.place ≡ (l._r - 1) * l.m + l.i;
       at : l.at ≡ (l._r - 1) * l.i * l.stride;
-      products : l.work.products ≡ l.fn.work.products + (l._r - 1);
-      butterflies : l.work.butterflies ≡ l.fn.work.butterflies;
-      steps : l.work.steps ≡ l.fn.work.steps;
+      counted : GrowsBy (counts (l._r - 1) 0 0) l.fn.work l.work;
       done : get_or l.table 0 g.F.Field.field.zero ≡ g.F.Field.field.one → (r : ℕ) → r < l._r → item V (map m l.parts) (r * l.m + l.i) ≡ V.scale (get_or l.table (r * l.i * l.stride) g.F.Field.field.zero) (item V (map m l.fn.parts) (r * l.m + l.i));
       rest : (r : ℕ) → l._r ≤ r → item V (map m l.parts) (r * l.m + l.i) ≡ item V (map m l.fn.parts) (r * l.m + l.i);
       others : (r k : ℕ) → k < l.m → k ≢ l.i → item V (map m l.parts) (r * l.m + k) ≡ item V (map m l.fn.parts) (r * l.m + k);

@@ -1,4 +1,5 @@
-use Rattle.std.proofs.Common.{◌≡◌, ℕ, suc, ◌+◌, ◌-◌, ◌∙◌, length, ◌*◌, ◌<◌, ◌^◌, ap, arith}
+use Rattle.std.proofs.Common.{◌≡◌, ℕ, suc, ◌+◌, ◌-◌, ◌∙◌, length, ◌*◌, ◌<◌, ◌^◌, ap, subst, arith}
+use Rattle.ark_math.specs.Cost.{GrowsBy, butterfly_counts}
 use Rattle.ark_math.specs.Field.{power}
 use Rattle.ark_fft.proofs.Halving.{few_levels}
 use Rattle.ark_fft.proofs.Mixed.{even_half, length-half, half_table, even_transformed, one_transformed, power_butterflies}
@@ -23,7 +24,7 @@ halves-requires-clause-whole g c =
 pub bit_reverse-requires-clause-few : goal.bit_reverse-requires-clause-few
 bit_reverse-requires-clause-few g c =
     let w = whole_of c.args.levels c.args.stride (length c.args.xs.now) (length c.args.table.now) c.requires.size c.requires.whole in
-    let l = at_most c.args.levels c.args.stride (length c.args.table.now) c.requires.some w c.requires.small in
+    let l = at_most c.args.levels c.args.stride (length c.args.table.now) c.requires.stride_not_zero w c.requires.small in
     let b : 2 ^ c.args.levels < 2 ^ 64 = omega arith in
     few_levels c.args.levels b
 
@@ -35,7 +36,7 @@ returns-then-levels-gt0-clause-transformed g c = λ w table i l.
     let e = whole_of n c.args.stride (length c.args.xs.now) (length c.args.table.now) c.requires.size c.requires.whole in
     let even = even_half n c.args.stride (length c.args.table.now) c.if-levels-gt0.true e in
     let some : 0 < 2 ^ n = pow_pos n in
-    let pos : 0 < length c.args.table.now = omega (arith, e, mul-lt 0 0 (2 ^ n) c.args.stride some c.requires.some) in
+    let pos : 0 < length c.args.table.now = omega (arith, e, mul-lt 0 0 (2 ^ n) c.args.stride some c.requires.stride_not_zero) in
     let half = half_table K N w c.args.table.now even pos table in
     even_transformed N g.met.T.DomainCoeff.module_laws g.T.DomainCoeff.meaning n (length c.args.xs.now) (power K w c.args.stride) c.args.xs.now c.halves.new.xs c.bit_reverse.new.xs c.requires.size (omega arith) (omega arith) (c.halves.ensures.sums w half) c.bit_reverse.ensures i l
 
@@ -43,8 +44,6 @@ pub returns-else-levels-gt0-clause-transformed : goal.returns-else-levels-gt0-cl
 returns-else-levels-gt0-clause-transformed g c = λ w table i l.
     one_transformed g.met.F.Field.field_laws g.met.T.DomainCoeff.module_laws g.T.DomainCoeff.meaning c.args.levels (length c.args.xs.now) (power g.F.Field.field w c.args.stride) c.args.xs.now c.requires.size (omega arith) i l
 
-pub returns-then-levels-gt0-clause-butterflies : goal.returns-then-levels-gt0-clause-butterflies
-returns-then-levels-gt0-clause-butterflies g c = omega (arith, power_butterflies c.args.levels (length c.args.xs.now) c.requires.size)
-
-pub returns-then-levels-gt0-clause-products : goal.returns-then-levels-gt0-clause-products
-returns-then-levels-gt0-clause-products g c = omega (arith, power_butterflies c.args.levels (length c.args.xs.now) c.requires.size)
+pub returns-then-levels-gt0-clause-counted : goal.returns-then-levels-gt0-clause-counted
+returns-then-levels-gt0-clause-counted g c =
+    subst (λ k. GrowsBy (butterfly_counts k) c.args.work.now c.halves.new.work) (power_butterflies c.args.levels (length c.args.xs.now) c.requires.size) c.halves.ensures.counted

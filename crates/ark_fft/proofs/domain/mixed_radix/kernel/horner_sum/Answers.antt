@@ -3,6 +3,8 @@ use Rattle.ark_math.specs.Field.{power}
 use Rattle.ark_math.specs.Module.{item, sum_below}
 use Rattle.ark_math.proofs.Lists.Lists.{read_as}
 use Rattle.ark_fft.proofs.Parts.{place_before, sum_before, sum_last, sum_all}
+use Rattle.ark_traits.proofs.Cost.{none_grown}
+use Rattle.ark_fft.proofs.Counts.{one_round_more}
 use Rattle.ark_fft.proofs.domain.mixed_radix.kernel.horner_sum.Goals as goal
 
 pub loop-r-init : goal.loop-r-init
@@ -16,12 +18,10 @@ loop-r-init g c =
       from = omega arith;
       place = place;
       within = omega arith;
-      products = omega arith;
-      butterflies = omega arith;
-      steps = omega arith;
+      counted = none_grown c.args.work.now;
       sum =
           read_as m V.zero xs c.args.last c.index-parts-last.result c.requires.inside c.index-parts-last.is
-          ∙ (ap (item V (map m xs)) place ∙ sum_last g.met.T.DomainCoeff.module_laws c.args.factor c.args.base c.args.m i (item V (map m xs)) c.requires.some);
+          ∙ (ap (item V (map m xs)) place ∙ sum_last g.met.T.DomainCoeff.module_laws c.args.factor c.args.base c.args.m i (item V (map m xs)) c.requires.base_not_zero);
     }
 
 pub overflow_sub-place : goal.overflow_sub-place
@@ -48,9 +48,7 @@ loop-r-preserved g c =
       from = omega arith;
       place = place;
       within = omega arith;
-      products = omega arith;
-      butterflies = omega arith;
-      steps = omega arith;
+      counted = one_round_more c.loop-r._r v.from v.counted c.scale.ensures.counted;
       sum =
           let b : at < length xs = omega arith in
           let value : m x ≡ item V (map m xs) ((q - (r + 1)) * c.args.m + i) = read_as m V.zero xs at x b c.index-parts-place.is ∙ ap (item V (map m xs)) place in

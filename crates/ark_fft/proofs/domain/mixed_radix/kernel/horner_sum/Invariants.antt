@@ -1,5 +1,6 @@
 use Rattle.std.proofs.Common.{◌≡◌, map, ◌+◌, ◌-◌, ◌*◌, ◌≤◌}
 use Rattle.ark_math.specs.Field.{power}
+use Rattle.ark_math.specs.Cost.{GrowsBy, counts}
 use Rattle.ark_math.specs.Module.{item, sum_below}
 use Rattle.ark_fft.proofs.domain.mixed_radix.kernel.horner_sum.Given as goal
 
@@ -11,8 +12,6 @@ invariant-loop-r g l =
       from : 1 ≤ l._r;
       place : l.place ≡ (l.base - l._r) * l.m + (l.last - (l.base - 1) * l.m);
       within : l.place ≤ l.last;
-      products : l.work.products ≡ l.fn.work.products + (l._r - 1);
-      butterflies : l.work.butterflies ≡ l.fn.work.butterflies;
-      steps : l.work.steps ≡ l.fn.work.steps;
+      counted : GrowsBy (counts (l._r - 1) 0 0) l.fn.work l.work;
       sum : m l.sum ≡ sum_below V l._r (λ k. V.scale (power g.F.Field.field l.factor k) (item V (map m l.parts) ((l.base - l._r + k) * l.m + (l.last - (l.base - 1) * l.m))));
     }

@@ -7,7 +7,6 @@ use Rattle.ark_math.proofs.Domains.MixedSizes.{base_above}
 use Rattle.ark_math.specs.Cost.{inverse}
 use Rattle.ark_math.specs.Module.{item}
 use Rattle.ark_math.specs.Transform.{IsInverse}
-use Rattle.ark_math.proofs.Transforms.Inverses.{not_zero, one_inverse}
 use Rattle.ark_math.proofs.Lists.Lists.{written_back}
 use Rattle.ark_fft.proofs.Mixed.{backward, cost_then_scaled}
 use Rattle.ark_fft.proofs.Counts.{positive}
@@ -40,17 +39,6 @@ returns-clause-inverse g c =
     (λ j l. c.scale_by_powers.ensures.items j (subst (λ k. j < k) (sym size_mid) l)) in
     subst (λ u. IsInverse K V d (map m old) (map m u)) (sym (written_back now _ _ (size_now ∙ sym c.in_ok-table.ensures.len))) is_inverse
 
-pub returns-clause-only : goal.returns-clause-only
-returns-clause-only g c = λ u other.
-    let K = g.F.Field.field in
-    let N = g.met.F.Field.field_laws in
-    let t = c.args.coset.now in
-    let same = λ (x y : g.row.F.Denot). (g.met.F.Field.equality_law x y).0 in
-    let d : Domain g.row.F.Denot = record { kind = mixed_radix; size = t.size; root = t.group_gen; offset = t.offset } in
-    let order : HasOrder K d.root d.size = subst (λ w. HasOrder K w t.size) (sym (same _ _ t.root_is)) (g.met.F.FftField.roots_law.order t.size (t.log_size_of_group, t.odd_exponent, t.splits)) in
-    let size_inverse : K.times (natural K t.size) t.size_inv ≡ K.one = ap (λ x. K.times x t.size_inv) (sym (same _ _ t.size_element_is)) ∙ same _ _ t.size_inverse_is in
-    one_inverse N g.met.T.DomainCoeff.module_laws d order (not_zero K N _ _ size_inverse) (not_zero K N _ _ (same _ _ t.offset_inverse_is)) _ u _ other (returns-clause-inverse g c)
-
 pub returns-clause-cost : goal.returns-clause-cost
 returns-clause-cost g c =
     let s = g.F.FftField.adicity in
@@ -60,14 +48,11 @@ returns-clause-cost g c =
     let base : q ≡ odd_base s.odd = sym (ap odd_base e) in
     let some : 0 < q = subst (λ k. 0 < k) (sym base) (positive (odd_base s.odd) (base_above s.odd c.unwrap-base.result g.met.F.FftField.roots_law.base e)) in
     let of_fitted : length c.as_mut_slice-xs.result.now ≡ t.size = c.as_mut_slice-xs.ensures.len ∙ c.in_ok-table.ensures.len in
-    let j = c.mixed.ensures in
-    let p = c.scale_by_powers.ensures in
     cost_then_scaled s t.group_gen t.offset inverse (length c.args.evals.now.items) t.size q t.log_size_of_group t.odd_exponent t.splits base some
-    (length c.as_mut_slice-xs.result.now) (length c.mixed.new.xs) c.args.work.now c.mixed.new.work c.scale_by_powers.new.work of_fitted (c.mixed.auto.xs ∙ of_fitted)
-    j.butterflies j.products j.steps p.butterflies p.products p.steps
+    (length c.as_mut_slice-xs.result.now) (length c.mixed.new.xs) of_fitted (c.mixed.auto.xs ∙ of_fitted) c.mixed.ensures.counted c.scale_by_powers.ensures.counted
 
-pub mixed-requires-clause-odd : goal.mixed-requires-clause-odd
-mixed-requires-clause-odd g c =
+pub mixed-requires-clause-above_one : goal.mixed-requires-clause-above_one
+mixed-requires-clause-above_one g c =
     let s = g.F.FftField.adicity in
     let e : s.odd ≡ Some c.unwrap-base.result = sym c.odd_base.ensures ∙ c.unwrap-base.ensures in
     subst (λ k. 1 < k) (ap odd_base e) (base_above s.odd c.unwrap-base.result g.met.F.FftField.roots_law.base e)

@@ -1,10 +1,12 @@
-use Rattle.std.proofs.Common.{◌≡◌, ◌≢◌, ℕ, map, length, get_or, ◌+◌, ◌-◌, ◌*◌, ◌^◌, ◌<◌, ap, sym, ◌∙◌, arith, subst, ⊎_elim}
+use Rattle.std.proofs.Common.{refl, ◌≡◌, ◌≢◌, ℕ, map, length, get_or, ◌+◌, ◌-◌, ◌*◌, ◌^◌, ◌<◌, ap, sym, ◌∙◌, arith, subst, ⊎_elim}
 use Rattle.std.proofs.lemmas.Bool.{cases_eq}
 use Rattle.std.proofs.lemmas.List.{get_or_read}
+use Rattle.ark_math.specs.Cost.{Counts, GrowsBy, counts}
 use Rattle.ark_math.specs.Field.{power}
 use Rattle.ark_fft.specs.Mixed.{joined}
 use Rattle.ark_math.specs.Module.{item, sum_below}
-use Rattle.ark_fft.proofs.Counts.{below_is_within, part_more_after, positive, none_below, none_yet, ended, not_last, no_part_after, no_places}
+use Rattle.ark_traits.proofs.Cost.{none_grown, grows_twice}
+use Rattle.ark_fft.proofs.Counts.{below_is_within, positive, none_below, none_yet, ended, not_last, no_places}
 use Rattle.ark_fft.proofs.Parts.{leap_below, joined_twisted, rows_less}
 use Rattle.ark_fft.proofs.domain.mixed_radix.kernel.join.Goals as goal
 
@@ -17,33 +19,30 @@ step_small q m s t size small base some pos =
 index_below : (q m s t j : ℕ) → t ≡ q * (m * s) → j < q → 0 < m → 0 < s → j * (m * s) < t
 index_below q m s t j size in_base some pos = subst (λ k. j * (m * s) < k) (sym size) (leap_below q m s j 0 in_base some pos)
 
-all_rows : (w0 w1 j q m : ℕ) → 1 < q → j ≡ q → w1 ≡ w0 + (q - 1) * m + j * ((q - 1) * m) → w1 ≡ w0 + (q * q - 1) * m
-all_rows w0 w1 j q m base end rows =
-    let f = rw end at rows in
-    omega (arith, f, rows_less q m (positive q base))
+all_rows : {before after : Counts} (j q m : ℕ) → 1 < q → j ≡ q → GrowsBy (counts ((q - 1) * m + j * ((q - 1) * m)) 0 m) before after → GrowsBy (counts ((q * q - 1) * m) 0 m) before after
+all_rows {before} {after} j q m base end rows =
+    subst (λ k. GrowsBy (counts k 0 m) before after) (ap (λ k. (q - 1) * m + k * ((q - 1) * m)) end ∙ rows_less q m (positive q base)) rows
 
 pub overflow_mul-leap : goal.overflow_mul-leap
 overflow_mul-leap g c =
-    let small = step_small c.args.base c.args.m c.args.stride (length c.args.table.now) c.requires.table_size c.requires.small c.requires.odd c.if-m-gt0.true c.requires.some in
+    let small = step_small c.args.base c.args.m c.args.stride (length c.args.table.now) c.requires.table_size c.requires.small c.requires.above_one c.if-m-gt0.true c.requires.stride_not_zero in
     omega (arith, small)
 
 pub loop-j-init : goal.loop-j-init
 loop-j-init g c = record {
-  products = no_part_after c.apply_all_twiddles.new.work.products c.args.work.now.products _ _ c.apply_all_twiddles.ensures.products;
-  butterflies = c.apply_all_twiddles.ensures.butterflies;
-  steps = c.apply_all_twiddles.ensures.steps;
+  counted = grows_twice c.apply_all_twiddles.ensures.counted (none_grown _) (omega arith) refl (omega arith);
   done = λ one j i jl il. none_yet j jl;
 }
 
 pub overflow_mul-j : goal.overflow_mul-j
 overflow_mul-j g c =
-    let b = index_below c.args.base c.args.m c.args.stride (length c.args.table.now) c.loop-j.j c.requires.table_size c.loop-j-test.true c.if-m-gt0.true c.requires.some in
+    let b = index_below c.args.base c.args.m c.args.stride (length c.args.table.now) c.loop-j.j c.requires.table_size c.loop-j-test.true c.if-m-gt0.true c.requires.stride_not_zero in
     omega (arith, b, c.requires.small)
 
 pub offset_bounds-table-j : goal.offset_bounds-table-j
 offset_bounds-table-j g c =
     below_is_within (c.loop-j.j * (c.args.m * c.args.stride)) (length c.args.table.now)
-    (index_below c.args.base c.args.m c.args.stride (length c.args.table.now) c.loop-j.j c.requires.table_size c.loop-j-test.true c.if-m-gt0.true c.requires.some)
+    (index_below c.args.base c.args.m c.args.stride (length c.args.table.now) c.loop-j.j c.requires.table_size c.loop-j-test.true c.if-m-gt0.true c.requires.stride_not_zero)
 
 pub sum_row-requires-clause-parts_size : goal.sum_row-requires-clause-parts_size
 sum_row-requires-clause-parts_size g c = c.apply_all_twiddles.auto.parts ∙ c.requires.parts_size
@@ -61,12 +60,10 @@ loop-j-preserved g c =
     let old = λ (k : ℕ). item V (map m c.args.parts.now) k in
     let twisted = λ (k : ℕ). item V (map m c.apply_all_twiddles.new.parts) k in
     let leap = j0 * (c.args.m * c.args.stride) in
-    let a = index_below c.args.base c.args.m c.args.stride (length c.args.table.now) j0 c.requires.table_size c.loop-j-test.true c.if-m-gt0.true c.requires.some in
+    let a = index_below c.args.base c.args.m c.args.stride (length c.args.table.now) j0 c.requires.table_size c.loop-j-test.true c.if-m-gt0.true c.requires.stride_not_zero in
     let root : c.index-table-j.result ≡ get_or c.args.table.now leap K.zero = get_or_read c.args.table.now _ _ a c.index-table-j.is K.zero in
     record {
-      products = part_more_after c.args.work.now.products c.loop-j.work.products c.sum_row.new.work.products ((c.args.base - 1) * c.args.m) j0 ((c.args.base - 1) * c.args.m) v.products c.sum_row.ensures.products;
-      butterflies = c.sum_row.ensures.butterflies ∙ v.butterflies;
-      steps = c.sum_row.ensures.steps ∙ v.steps;
+      counted = grows_twice v.counted c.sum_row.ensures.counted (omega arith) refl (omega arith);
       done = λ one j i jl il.
           ⊎_elim
           (λ (e : j ≡ j0).
@@ -79,25 +76,18 @@ loop-j-preserved g c =
     }
 
 pub bounds-table-j : goal.bounds-table-j
-bounds-table-j g c = index_below c.args.base c.args.m c.args.stride (length c.args.table.now) c.loop-j.j c.requires.table_size c.loop-j-test.true c.if-m-gt0.true c.requires.some
+bounds-table-j g c = index_below c.args.base c.args.m c.args.stride (length c.args.table.now) c.loop-j.j c.requires.table_size c.loop-j-test.true c.if-m-gt0.true c.requires.stride_not_zero
 
-pub returns-after-loop-j-clause-products : goal.returns-after-loop-j-clause-products
-returns-after-loop-j-clause-products g c =
-    all_rows c.args.work.now.products c.loop-j.work.products c.loop-j.j c.args.base c.args.m c.requires.odd (ended c.loop-j.j c.args.base c.loop-j.auto.j-end c.loop-j-test.false) c.loop-j.invariant.products
-
-pub returns-after-loop-j-clause-butterflies : goal.returns-after-loop-j-clause-butterflies
-returns-after-loop-j-clause-butterflies g c = c.loop-j.invariant.butterflies
-
-pub returns-after-loop-j-clause-steps : goal.returns-after-loop-j-clause-steps
-returns-after-loop-j-clause-steps g c = c.loop-j.invariant.steps
+pub returns-after-loop-j-clause-counted : goal.returns-after-loop-j-clause-counted
+returns-after-loop-j-clause-counted g c =
+    all_rows c.loop-j.j c.args.base c.args.m c.requires.above_one (ended c.loop-j.j c.args.base c.loop-j.auto.j-end c.loop-j-test.false) c.loop-j.invariant.counted
 
 pub returns-after-loop-j-clause-joined : goal.returns-after-loop-j-clause-joined
 returns-after-loop-j-clause-joined g c = λ one j i jl il.
     c.loop-j.invariant.done one j i (subst (λ k. j < k) (sym (ended c.loop-j.j c.args.base c.loop-j.auto.j-end c.loop-j-test.false)) jl) il
 
-pub returns-else-m-gt0-clause-products : goal.returns-else-m-gt0-clause-products
-returns-else-m-gt0-clause-products g c =
-    no_places c.apply_all_twiddles.new.work.products c.args.work.now.products (c.args.base - 1) (c.args.base * c.args.base - 1) c.args.m c.if-m-gt0.false c.apply_all_twiddles.ensures.products
+pub returns-else-m-gt0-clause-counted : goal.returns-else-m-gt0-clause-counted
+returns-else-m-gt0-clause-counted g c = no_places (c.args.base - 1) (c.args.base * c.args.base - 1) c.args.m c.if-m-gt0.false c.apply_all_twiddles.ensures.counted
 
 pub returns-else-m-gt0-clause-joined : goal.returns-else-m-gt0-clause-joined
 returns-else-m-gt0-clause-joined g c = λ one j i jl il. none_below i c.args.m il c.if-m-gt0.false

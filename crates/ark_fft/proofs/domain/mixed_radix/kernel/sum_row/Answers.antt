@@ -62,9 +62,7 @@ loop-i-preserved g c =
     let b : at < length xs = place_within c.args.base c.args.m (length xs) j0 i0 (c.loop-i.auto.whole ∙ c.requires.whole_size) c.requires.row c.loop-i-test.true in
     let new = c.horner_sum.result in
     record {
-      products = part_more c.args.work.now.products c.loop-i.work.products c.horner_sum.new.work.products i0 (c.args.base - 1) v.products c.horner_sum.ensures.products;
-      butterflies = c.horner_sum.ensures.butterflies ∙ v.butterflies;
-      steps = c.horner_sum.ensures.steps ∙ v.steps;
+      counted = part_more i0 (c.args.base - 1) v.counted c.horner_sum.ensures.counted;
       done = λ i il.
           ⊎_elim
           (λ (e : i ≡ i0).
@@ -78,9 +76,7 @@ loop-i-preserved g c =
 
 pub loop-i-init : goal.loop-i-init
 loop-i-init g c = record {
-  products = no_part c.args.work.now.products (c.args.base - 1);
-  butterflies = refl;
-  steps = refl;
+  counted = no_part (c.args.base - 1) c.args.work.now;
   done = λ i il. none_yet i il;
   others = λ k i il ne. refl;
 }
@@ -93,8 +89,8 @@ offset_bounds-whole-row g c =
 pub bounds-whole-row : goal.bounds-whole-row
 bounds-whole-row g c = place_within c.args.base c.args.m (length c.loop-i.whole) c.args.j c.loop-i.i (c.loop-i.auto.whole ∙ c.requires.whole_size) c.requires.row c.loop-i-test.true
 
-pub horner_sum-requires-clause-some : goal.horner_sum-requires-clause-some
-horner_sum-requires-clause-some g c = some_rows c.args.j c.args.base c.requires.row
+pub horner_sum-requires-clause-base_not_zero : goal.horner_sum-requires-clause-base_not_zero
+horner_sum-requires-clause-base_not_zero g c = some_rows c.args.j c.args.base c.requires.row
 
 pub horner_sum-requires-clause-rows : goal.horner_sum-requires-clause-rows
 horner_sum-requires-clause-rows g c = row_start ((c.args.base - 1) * c.args.m) c.loop-i.i
@@ -103,15 +99,9 @@ pub horner_sum-requires-clause-inside : goal.horner_sum-requires-clause-inside
 horner_sum-requires-clause-inside g c =
     place_within c.args.base c.args.m (length c.args.parts.now) (c.args.base - 1) c.loop-i.i c.requires.parts_size (last_row c.args.j c.args.base c.requires.row) c.loop-i-test.true
 
-pub returns-clause-products : goal.returns-clause-products
-returns-clause-products g c =
-    all_parts c.loop-i.work.products c.args.work.now.products c.loop-i.i c.args.m (c.args.base - 1) (ended c.loop-i.i c.args.m c.loop-i.auto.i-end c.loop-i-test.false) c.loop-i.invariant.products
-
-pub returns-clause-butterflies : goal.returns-clause-butterflies
-returns-clause-butterflies g c = c.loop-i.invariant.butterflies
-
-pub returns-clause-steps : goal.returns-clause-steps
-returns-clause-steps g c = c.loop-i.invariant.steps
+pub returns-clause-counted : goal.returns-clause-counted
+returns-clause-counted g c =
+    all_parts c.loop-i.i c.args.m (c.args.base - 1) (ended c.loop-i.i c.args.m c.loop-i.auto.i-end c.loop-i-test.false) c.loop-i.invariant.counted
 
 pub returns-clause-sums : goal.returns-clause-sums
 returns-clause-sums g c = λ i il. c.loop-i.invariant.done i (subst (λ k. i < k) (sym (ended c.loop-i.i c.args.m c.loop-i.auto.i-end c.loop-i-test.false)) il)

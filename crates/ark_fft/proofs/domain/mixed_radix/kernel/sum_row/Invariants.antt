@@ -1,5 +1,6 @@
 use Rattle.std.proofs.Common.{◌≡◌, ◌≢◌, ℕ, map, ◌+◌, ◌-◌, ◌*◌, ◌<◌}
 use Rattle.ark_math.specs.Field.{power}
+use Rattle.ark_math.specs.Cost.{GrowsBy, counts}
 use Rattle.ark_math.specs.Module.{item, sum_below}
 use Rattle.ark_fft.proofs.domain.mixed_radix.kernel.sum_row.Given as goal
 
@@ -8,9 +9,7 @@ invariant-loop-i g l =
     let V = g.T.DomainCoeff.group in
     let m = g.T.DomainCoeff.meaning in
     record {
-      products : l.work.products ≡ l.fn.work.products + l.i * (l.base - 1);
-      butterflies : l.work.butterflies ≡ l.fn.work.butterflies;
-      steps : l.work.steps ≡ l.fn.work.steps;
+      counted : GrowsBy (counts (l.i * (l.base - 1)) 0 0) l.fn.work l.work;
       done : (i : ℕ) → i < l.i → item V (map m l.whole) (l.j * l.m + i) ≡ sum_below V l.base (λ r. V.scale (power g.F.Field.field l.factor r) (item V (map m l.parts) (r * l.m + i)));
       others : (k i : ℕ) → i < l.m → k ≢ l.j → item V (map m l.whole) (k * l.m + i) ≡ item V (map m l.fn.whole) (k * l.m + i);
     }

@@ -48,19 +48,14 @@ pub returns-then-xs-gt1-clause-sums : goal.returns-then-xs-gt1-clause-sums
 returns-then-xs-gt1-clause-sums g t c = λ w table p l.
     let n : length c.split_at_mut-lo.result.0.now ≡ 2 ^ (c.args.levels - 1) = front_half c.args.levels c.args.levels (some_level c.args.levels (length c.args.xs.now) c.requires.size c.if-xs-gt1.true) (itself c.args.levels) (length c.args.xs.now) (length c.split_at_mut-lo.result.0.now) c.requires.size c.split_at_mut-lo.ensures.front_len in
     let n2 : length c.halves.new.xs ≡ 2 ^ (c.args.levels - 1) = c.halves.auto.xs ∙ (c.butterflies.auto.lo ∙ n) in
-    one_level g.met.F.Field.field_laws g.met.T.DomainCoeff.module_laws g.T.DomainCoeff.meaning c.args.levels w c.args.stride c.args.table.now c.args.xs.now c.split_at_mut-lo.result.0.now c.split_at_mut-lo.result.1.now c.butterflies.new.lo c.butterflies.new.hi c.halves.new.xs c.halves-then-xs-gt1.new.xs table (some_level c.args.levels (length c.args.xs.now) c.requires.size c.if-xs-gt1.true) c.requires.whole c.requires.some c.split_at_mut-lo.ensures.value n n2 c.butterflies.ensures.sums c.butterflies.ensures.differences (c.halves.ensures.sums w table) (c.halves-then-xs-gt1.ensures.sums w table) p l
+    one_level g.met.F.Field.field_laws g.met.T.DomainCoeff.module_laws g.T.DomainCoeff.meaning c.args.levels w c.args.stride c.args.table.now c.args.xs.now c.split_at_mut-lo.result.0.now c.split_at_mut-lo.result.1.now c.butterflies.new.lo c.butterflies.new.hi c.halves.new.xs c.halves-then-xs-gt1.new.xs table (some_level c.args.levels (length c.args.xs.now) c.requires.size c.if-xs-gt1.true) c.requires.whole c.requires.stride_not_zero c.split_at_mut-lo.ensures.value n n2 c.butterflies.ensures.sums c.butterflies.ensures.differences (c.halves.ensures.sums w table) (c.halves-then-xs-gt1.ensures.sums w table) p l
 
-pub returns-then-xs-gt1-clause-butterflies : goal.returns-then-xs-gt1-clause-butterflies
-returns-then-xs-gt1-clause-butterflies g t c =
+pub returns-then-xs-gt1-clause-counted : goal.returns-then-xs-gt1-clause-counted
+returns-then-xs-gt1-clause-counted g t c =
     let some = some_level c.args.levels (length c.args.xs.now) c.requires.size c.if-xs-gt1.true in
-    split_count c.args.levels c.args.levels some (itself c.args.levels) c.args.work.now.butterflies c.butterflies.new.work.butterflies c.halves.new.work.butterflies c.halves-then-xs-gt1.new.work.butterflies (length c.split_at_mut-lo.result.0.now)
-    c.butterflies.ensures.butterflies (front_half c.args.levels c.args.levels (some_level c.args.levels (length c.args.xs.now) c.requires.size c.if-xs-gt1.true) (itself c.args.levels) (length c.args.xs.now) (length c.split_at_mut-lo.result.0.now) c.requires.size c.split_at_mut-lo.ensures.front_len) c.halves.ensures.butterflies c.halves-then-xs-gt1.ensures.butterflies
-
-pub returns-then-xs-gt1-clause-products : goal.returns-then-xs-gt1-clause-products
-returns-then-xs-gt1-clause-products g t c =
-    let some = some_level c.args.levels (length c.args.xs.now) c.requires.size c.if-xs-gt1.true in
-    split_count c.args.levels c.args.levels some (itself c.args.levels) c.args.work.now.products c.butterflies.new.work.products c.halves.new.work.products c.halves-then-xs-gt1.new.work.products (length c.split_at_mut-lo.result.0.now)
-    c.butterflies.ensures.products (front_half c.args.levels c.args.levels (some_level c.args.levels (length c.args.xs.now) c.requires.size c.if-xs-gt1.true) (itself c.args.levels) (length c.args.xs.now) (length c.split_at_mut-lo.result.0.now) c.requires.size c.split_at_mut-lo.ensures.front_len) c.halves.ensures.products c.halves-then-xs-gt1.ensures.products
+    let s = c.split_at_mut-lo in
+    split_count c.args.levels c.args.levels some (itself c.args.levels) (length s.result.0.now) c.butterflies.ensures.counted
+    (front_half c.args.levels c.args.levels some (itself c.args.levels) (length c.args.xs.now) (length s.result.0.now) c.requires.size s.ensures.front_len) c.halves.ensures.counted c.halves-then-xs-gt1.ensures.counted
 
 pub returns-else-xs-gt1-clause-sums : goal.returns-else-xs-gt1-clause-sums
 returns-else-xs-gt1-clause-sums g t c = λ w table p l.
@@ -70,7 +65,7 @@ pub returns-then-levels-eq1-clause-sums : goal.returns-then-levels-eq1-clause-su
 returns-then-levels-eq1-clause-sums g t c = λ w table p l.
     let V = g.T.DomainCoeff.group in
     let m = g.T.DomainCoeff.meaning in
-    let within : 0 < length c.args.table.now = pair_table c.args.levels c.args.stride (length c.args.table.now) c.if-levels-eq1.true c.requires.whole c.requires.some in
-    one_pair g.met.F.Field.field_laws g.met.T.DomainCoeff.module_laws c.args.levels w c.args.stride c.args.table.now (item V (map m c.args.xs.now)) (item V (map m c.pair.new.xs)) table c.if-levels-eq1.true c.requires.whole c.requires.some c.pair.ensures.sum
+    let within : 0 < length c.args.table.now = pair_table c.args.levels c.args.stride (length c.args.table.now) c.if-levels-eq1.true c.requires.whole c.requires.stride_not_zero in
+    one_pair g.met.F.Field.field_laws g.met.T.DomainCoeff.module_laws c.args.levels w c.args.stride c.args.table.now (item V (map m c.args.xs.now)) (item V (map m c.pair.new.xs)) table c.if-levels-eq1.true c.requires.whole c.requires.stride_not_zero c.pair.ensures.sum
     (subst (λ x. item V (map m c.pair.new.xs) 1 ≡ V.scale x (V.plus (item V (map m c.args.xs.now) 0) (V.negated (item V (map m c.args.xs.now) 1)))) (get_or_read c.args.table.now _ _ within c.index-table-0.is g.F.Field.field.zero) c.pair.ensures.difference)
     p l

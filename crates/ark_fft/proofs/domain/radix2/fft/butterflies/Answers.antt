@@ -1,9 +1,10 @@
-use Rattle.std.proofs.Common.{◌≡◌, ◌*◌, ◌<◌, ◌≤◌, ℕ, map, length, get_or, ap, sym, subst, ◌∙◌, arith}
+use Rattle.std.proofs.Common.{refl, ◌≡◌, ◌*◌, ◌<◌, ◌≤◌, ℕ, map, length, get_or, ap, sym, subst, ◌∙◌, arith}
 use Rattle.std.proofs.lemmas.Nat.{mul-add-lt}
 use Rattle.std.proofs.lemmas.List.{get_or_read}
 use Rattle.ark_math.specs.Module.{item}
 use Rattle.ark_math.proofs.Lists.Lists.{read_at, written_more, written_rest}
-use Rattle.ark_fft.proofs.Counts.{below_is_within, ended, one_more, itself}
+use Rattle.ark_traits.proofs.Cost.{grows_twice}
+use Rattle.ark_fft.proofs.Counts.{below_is_within, ended, itself}
 use Rattle.ark_fft.proofs.domain.radix2.fft.butterflies.Goals as goal
 
 index_within : (i n s size : ℕ) → i < n → 0 < s → n * s ≤ size → i * s < size
@@ -11,16 +12,16 @@ index_within i n s size below some enough = omega (arith, mul-add-lt i s 0 n bel
 
 pub overflow_mul-i : goal.overflow_mul-i
 overflow_mul-i g c =
-    let b = index_within c.loop-i.i (length c.args.lo.now) c.args.stride (length c.args.table.now) c.loop-i-test.true c.requires.some c.requires.enough in
+    let b = index_within c.loop-i.i (length c.args.lo.now) c.args.stride (length c.args.table.now) c.loop-i-test.true c.requires.stride_not_zero c.requires.enough in
     omega (arith, b)
 
 pub offset_bounds-table-i : goal.offset_bounds-table-i
 offset_bounds-table-i g c =
     below_is_within (c.loop-i.i * c.args.stride) (length c.args.table.now)
-    (index_within c.loop-i.i (length c.args.lo.now) c.args.stride (length c.args.table.now) c.loop-i-test.true c.requires.some c.requires.enough)
+    (index_within c.loop-i.i (length c.args.lo.now) c.args.stride (length c.args.table.now) c.loop-i-test.true c.requires.stride_not_zero c.requires.enough)
 
 pub bounds-table-i : goal.bounds-table-i
-bounds-table-i g c = index_within c.loop-i.i (length c.args.lo.now) c.args.stride (length c.args.table.now) c.loop-i-test.true c.requires.some c.requires.enough
+bounds-table-i g c = index_within c.loop-i.i (length c.args.lo.now) c.args.stride (length c.args.table.now) c.loop-i-test.true c.requires.stride_not_zero c.requires.enough
 
 pub returns-clause-sums : goal.returns-clause-sums
 returns-clause-sums g c = λ i l. c.loop-i.invariant.sums i (subst (λ k. i < k) (sym (ended c.loop-i.i (length c.args.lo.now) c.loop-i.auto.i-end c.loop-i-test.false)) l)
@@ -39,14 +40,12 @@ loop-i-preserved g c =
     let here = itself i in
     let rest_lo : m (get_or c.loop-i.lo i c.index-lo-i.result) ≡ item V (map m c.args.lo.now) i = read_at m V.zero c.loop-i.lo i c.index-lo-i.result in_lo ∙ v.rest_lo i here in
     let rest_hi : m (get_or c.loop-i.hi i c.index-hi-i.result) ≡ item V (map m c.args.hi.now) i = read_at m V.zero c.loop-i.hi i c.index-hi-i.result in_hi ∙ v.rest_hi i here in
-    let in_roots = index_within i (length c.args.lo.now) c.args.stride (length c.args.table.now) c.loop-i-test.true c.requires.some c.requires.enough in
+    let in_roots = index_within i (length c.args.lo.now) c.args.stride (length c.args.table.now) c.loop-i-test.true c.requires.stride_not_zero c.requires.enough in
     let root : c.index-table-i.result ≡ get_or c.args.table.now (i * c.args.stride) g.F.Field.field.zero = get_or_read c.args.table.now _ _ in_roots c.index-table-i.is g.F.Field.field.zero in
     let lo0 = λ (k : ℕ). item V (map m c.args.lo.now) k in
     let hi0 = λ (k : ℕ). item V (map m c.args.hi.now) k in
     record {
-      butterflies = one_more c.args.work.now.butterflies c.loop-i.work.butterflies c.butterfly.new.work.butterflies i v.butterflies c.butterfly.ensures.butterflies;
-      products = one_more c.args.work.now.products c.loop-i.work.products c.butterfly.new.work.products i v.products c.butterfly.ensures.products;
-      steps = c.butterfly.ensures.steps ∙ v.steps;
+      counted = grows_twice v.counted c.butterfly.ensures.counted refl refl refl;
       sums = written_more m V.zero (λ k. V.plus (lo0 k) (hi0 k)) c.loop-i.lo i c.butterfly.new.lo in_lo v.sums
           (c.butterfly.ensures.sum ∙ (ap (λ t. V.plus t (m (get_or c.loop-i.hi i c.index-hi-i.result))) rest_lo ∙ ap (V.plus (lo0 i)) rest_hi));
       differences = written_more m V.zero (λ k. V.scale (get_or c.args.table.now (k * c.args.stride) g.F.Field.field.zero) (V.plus (lo0 k) (V.negated (hi0 k)))) c.loop-i.hi i c.butterfly.new.hi in_hi v.differences

@@ -75,9 +75,6 @@ returns-clause-cost g c =
     let of_old : len ≡ length c.args.coeffs.now.items = c.len-len.ensures ∙ c.args.coeffs.now.ok.0 in
     let p = c.next_power_of_two.ensures in
     let e = c.ilog2-log_len.ensures in
-    let s = c.shift_to_coset.ensures in
-    let j = c.short_in_order.ensures in
     short_cost t.size len c.as_mut_slice-xs.result.now c.shift_to_coset.new.xs (c.as_mut_slice-xs.ensures.len ∙ c.in_ok-resize.ensures.len) (subst (λ k. k ≤ t.size / 4) (sym of_old) c.requires.short) c.shift_to_coset.auto.xs
-    g.F.FftField.adicity t.group_gen t.offset (length c.args.coeffs.now.items) c.ilog2-log_len.result c.args.work.now c.shift_to_coset.new.work c.short_in_order.new.work
-    of_old (next_log _ _ _ (p.power, p.lower_bound, p.upper_bound) e.power_le e.next_power_gt)
-    s.butterflies s.at_least s.at_most s.steps j.butterflies j.products j.steps
+    g.F.FftField.adicity t.group_gen t.offset (length c.args.coeffs.now.items) c.ilog2-log_len.result
+    of_old (next_log _ _ _ (p.power, p.lower_bound, p.upper_bound) e.power_le e.next_power_gt) c.shift_to_coset.ensures.counted c.short_in_order.ensures.counted

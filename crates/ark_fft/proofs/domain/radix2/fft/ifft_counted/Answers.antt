@@ -7,7 +7,6 @@ use Rattle.ark_math.proofs.Domains.Sizes.{power_of_two, log_of_power}
 use Rattle.ark_math.specs.Cost.{inverse}
 use Rattle.ark_math.specs.Module.{item}
 use Rattle.ark_math.specs.Transform.{IsInverse}
-use Rattle.ark_math.proofs.Transforms.Inverses.{not_zero, one_inverse}
 use Rattle.ark_math.proofs.Lists.Lists.{written_back}
 use Rattle.ark_fft.proofs.Radix2.{backward, cost_then_scaled}
 use Rattle.ark_fft.proofs.domain.radix2.fft.ifft_counted.Goals as goal
@@ -54,24 +53,10 @@ returns-clause-inverse g c =
     (λ j l. c.scale_by_powers.ensures.items j (subst (λ k. j < k) (sym size_mid) l)) in
     subst (λ u. IsInverse K V d (map m old) (map m u)) (sym (written_back now _ _ (size_now ∙ sym c.in_ok-table.ensures.len))) is_inverse
 
-pub returns-clause-only : goal.returns-clause-only
-returns-clause-only g c = λ u other.
-    let K = g.F.Field.field in
-    let N = g.met.F.Field.field_laws in
-    let t = c.args.coset.now in
-    let same = λ (x y : g.row.F.Denot). (g.met.F.Field.equality_law x y).0 in
-    let d : Domain g.row.F.Denot = record { kind = radix2; size = t.size; root = t.group_gen; offset = t.offset } in
-    let order : HasOrder K d.root d.size = subst (λ w. HasOrder K w t.size) (sym (same _ _ t.root_is)) (g.met.F.FftField.roots_law.order t.size (t.log_size_of_group, t.odd_exponent, t.splits)) in
-    let size_inverse : K.times (natural K t.size) t.size_inv ≡ K.one = ap (λ x. K.times x t.size_inv) (sym (same _ _ t.size_element_is)) ∙ same _ _ t.size_inverse_is in
-    one_inverse N g.met.T.DomainCoeff.module_laws d order (not_zero K N _ _ size_inverse) (not_zero K N _ _ (same _ _ t.offset_inverse_is)) _ u _ other (returns-clause-inverse g c)
-
 pub returns-clause-cost : goal.returns-clause-cost
 returns-clause-cost g c =
     let t = c.args.coset.now in
     let is_power : t.size ≡ 2 ^ t.log_size_of_group = power_of_two g.F.FftField.adicity t.size t.log_size_of_group t.odd_exponent t.splits.product c.requires.even in
     let size : length c.as_mut_slice-xs.result.now ≡ t.size = c.as_mut_slice-xs.ensures.len ∙ c.in_ok-table.ensures.len in
-    let j = c.in_order.ensures in
-    let s = c.scale_by_powers.ensures in
-    cost_then_scaled g.F.FftField.adicity t.group_gen t.offset inverse t.size t.log_size_of_group (length c.args.evals.now.items) (length c.as_mut_slice-xs.result.now) (length c.in_order.new.xs) c.args.work.now c.in_order.new.work c.scale_by_powers.new.work
-    (log_of_power t.size t.log_size_of_group is_power) size (c.in_order.auto.xs ∙ size)
-    j.butterflies j.products j.steps s.butterflies s.products s.steps
+    cost_then_scaled g.F.FftField.adicity t.group_gen t.offset inverse t.size t.log_size_of_group (length c.args.evals.now.items) (length c.as_mut_slice-xs.result.now) (length c.in_order.new.xs)
+    (log_of_power t.size t.log_size_of_group is_power) size (c.in_order.auto.xs ∙ size) c.in_order.ensures.counted c.scale_by_powers.ensures.counted

@@ -57,9 +57,6 @@ returns-clause-cost g c =
     let t = c.args.coset.now in
     let is_power : t.size ≡ 2 ^ t.log_size_of_group = power_of_two g.F.FftField.adicity t.size t.log_size_of_group t.odd_exponent t.splits.product c.requires.even in
     let of_fitted : length c.as_mut_slice-xs.result.now ≡ t.size = c.as_mut_slice-xs.ensures.len ∙ c.in_ok-table.ensures.len in
-    let s = c.shift_to_coset.ensures in
-    let j = c.in_order.ensures in
     let len = length c.args.coeffs.now.items in
-    scaled_cost g.F.FftField.adicity t.group_gen t.offset forward t.size t.log_size_of_group len (length c.as_mut_slice-xs.result.now) (length c.shift_to_coset.new.xs) c.args.work.now c.shift_to_coset.new.work c.in_order.new.work
-    (log_of_long t.size len t.log_size_of_group c.requires.long is_power) of_fitted (c.shift_to_coset.auto.xs ∙ of_fitted)
-    s.butterflies s.at_least s.at_most s.steps j.butterflies j.products j.steps
+    scaled_cost g.F.FftField.adicity t.group_gen t.offset forward t.size t.log_size_of_group len (length c.as_mut_slice-xs.result.now) (length c.shift_to_coset.new.xs)
+    (log_of_long t.size len t.log_size_of_group c.requires.long is_power) of_fitted (c.shift_to_coset.auto.xs ∙ of_fitted) c.shift_to_coset.ensures.counted c.in_order.ensures.counted

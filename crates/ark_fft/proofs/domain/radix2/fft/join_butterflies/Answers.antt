@@ -1,8 +1,9 @@
-use Rattle.std.proofs.Common.{◌≡◌, ◌<◌, ℕ, map, length, get_or, ap₂, sym, subst, ◌∙◌}
+use Rattle.std.proofs.Common.{refl, ◌≡◌, ◌<◌, ℕ, map, length, get_or, ap₂, sym, subst, ◌∙◌}
 use Rattle.std.proofs.lemmas.List.{get_or_read}
 use Rattle.ark_math.specs.Module.{item}
 use Rattle.ark_math.proofs.Lists.Lists.{read_at, written_more, written_rest}
-use Rattle.ark_fft.proofs.Counts.{ended, one_more, itself}
+use Rattle.ark_traits.proofs.Cost.{grows_twice}
+use Rattle.ark_fft.proofs.Counts.{ended, itself}
 use Rattle.ark_fft.proofs.domain.radix2.fft.join_butterflies.Goals as goal
 
 pub loop-i-preserved : goal.loop-i-preserved
@@ -22,9 +23,7 @@ loop-i-preserved g c =
     let hi0 = λ (k : ℕ). item V (map m c.args.hi.now) k in
     let scaled = λ (k : ℕ). V.scale (get_or c.args.twiddles.now k g.F.Field.field.zero) (hi0 k) in
     record {
-      butterflies = one_more c.args.work.now.butterflies c.loop-i.work.butterflies c.join.new.work.butterflies i v.butterflies c.join.ensures.butterflies;
-      products = one_more c.args.work.now.products c.loop-i.work.products c.join.new.work.products i v.products c.join.ensures.products;
-      steps = c.join.ensures.steps ∙ v.steps;
+      counted = grows_twice v.counted c.join.ensures.counted refl refl refl;
       sums = written_more m V.zero (λ k. V.plus (lo0 k) (scaled k)) c.loop-i.lo i c.join.new.lo in_lo v.sums
           (c.join.ensures.sum ∙ ap₂ V.plus rest_lo (ap₂ V.scale root rest_hi));
       differences = written_more m V.zero (λ k. V.plus (lo0 k) (V.negated (scaled k))) c.loop-i.hi i c.join.new.hi in_hi v.differences

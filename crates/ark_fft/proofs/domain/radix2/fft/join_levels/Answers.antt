@@ -72,33 +72,17 @@ returns-then-log_len-gt0-clause-sums g c = λ f levels half blocks p l.
     (c.join_halves-then-log_len-gt0.ensures.sums (power K w 2) (λ j. f (2 * j + 1)) levels (blocks_of_back N L m n e c.args.xs.now lo hi f some within s.ensures.value n0 blocks))
     c.join_butterflies.ensures.sums c.join_butterflies.ensures.differences p l
 
-pub returns-then-log_len-gt0-clause-butterflies : goal.returns-then-log_len-gt0-clause-butterflies
-returns-then-log_len-gt0-clause-butterflies g c =
+pub returns-then-log_len-gt0-clause-counted : goal.returns-then-log_len-gt0-clause-counted
+returns-then-log_len-gt0-clause-counted g c =
     let s = c.split_at_mut-lo in
-    let some = c.if-log_len-gt0.true in
-    joined_count c.args.levels c.args.log_len some c.requires.within c.args.work.now.butterflies c.join_halves.new.work.butterflies c.join_halves-then-log_len-gt0.new.work.butterflies c.join_butterflies.new.work.butterflies (length c.join_halves.new.xs)
-    c.join_halves.ensures.butterflies c.join_halves-then-log_len-gt0.ensures.butterflies c.join_butterflies.ensures.butterflies
-    (c.join_halves.auto.xs ∙ front_half c.args.levels c.args.log_len some c.requires.within (length c.args.xs.now) (length s.result.0.now) c.requires.size s.ensures.front_len)
-
-pub returns-then-log_len-gt0-clause-products : goal.returns-then-log_len-gt0-clause-products
-returns-then-log_len-gt0-clause-products g c =
-    let s = c.split_at_mut-lo in
-    let some = c.if-log_len-gt0.true in
-    joined_count c.args.levels c.args.log_len some c.requires.within c.args.work.now.products c.join_halves.new.work.products c.join_halves-then-log_len-gt0.new.work.products c.join_butterflies.new.work.products (length c.join_halves.new.xs)
-    c.join_halves.ensures.products c.join_halves-then-log_len-gt0.ensures.products c.join_butterflies.ensures.products
-    (c.join_halves.auto.xs ∙ front_half c.args.levels c.args.log_len some c.requires.within (length c.args.xs.now) (length s.result.0.now) c.requires.size s.ensures.front_len)
-
-pub returns-then-log_len-gt0-clause-steps : goal.returns-then-log_len-gt0-clause-steps
-returns-then-log_len-gt0-clause-steps g c =
-    c.join_butterflies.ensures.steps ∙ (c.join_halves-then-log_len-gt0.ensures.steps ∙ c.join_halves.ensures.steps)
+    joined_count c.args.levels c.args.log_len c.if-log_len-gt0.true c.requires.within (length c.join_halves.new.xs)
+    c.join_halves.ensures.counted c.join_halves-then-log_len-gt0.ensures.counted c.join_butterflies.ensures.counted
+    (c.join_halves.auto.xs ∙ front_half c.args.levels c.args.log_len c.if-log_len-gt0.true c.requires.within (length c.args.xs.now) (length s.result.0.now) c.requires.size s.ensures.front_len)
 
 pub returns-else-log_len-gt0-clause-sums : goal.returns-else-log_len-gt0-clause-sums
 returns-else-log_len-gt0-clause-sums g c = λ f tables half blocks p l.
     let none : c.args.log_len ≡ 0 = omega arith in
     one_block g.met.F.Field.field_laws g.met.T.DomainCoeff.module_laws g.T.DomainCoeff.meaning c.args.levels c.args.log_len _ c.args.xs.now f none blocks p l
 
-pub returns-else-log_len-gt0-clause-butterflies : goal.returns-else-log_len-gt0-clause-butterflies
-returns-else-log_len-gt0-clause-butterflies g c = no_count c.args.work.now.butterflies (2 ^ c.args.levels / 2) c.args.log_len c.if-log_len-gt0.false
-
-pub returns-else-log_len-gt0-clause-products : goal.returns-else-log_len-gt0-clause-products
-returns-else-log_len-gt0-clause-products g c = no_count c.args.work.now.products (2 ^ c.args.levels / 2) c.args.log_len c.if-log_len-gt0.false
+pub returns-else-log_len-gt0-clause-counted : goal.returns-else-log_len-gt0-clause-counted
+returns-else-log_len-gt0-clause-counted g c = no_count (2 ^ c.args.levels / 2) c.args.log_len c.args.work.now c.if-log_len-gt0.false

@@ -58,7 +58,7 @@ spread_out-requires g c =
     let all : e + (n - e) ≡ n = omega (arith, c.requires.within) in
     record {
       whole = len_mid ∙ ap (λ t. 2 ^ t) (sym all) ∙ pow-add 2 e (n - e) ∙ ap₂ (λ x y. x * y) (sym items) (sym block);
-      some = omega (arith, block, pow_pos (n - e));
+      not_empty = omega (arith, block, pow_pos (n - e));
     }
 
 pub returns-clause-sums : goal.returns-clause-sums

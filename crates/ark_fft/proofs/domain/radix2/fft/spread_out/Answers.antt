@@ -12,7 +12,7 @@ block_end r b some =
 
 pub offset_bounds-xs-r : goal.offset_bounds-xs-r
 offset_bounds-xs-r g c =
-    let s = le-mul_of_pos_right c.args.items c.requires.some in
+    let s = le-mul_of_pos_right c.args.items c.requires.not_empty in
     let b : c.loop-r.r - 1 < length c.args.xs.now = omega (arith, s, c.requires.whole, c.loop-r.auto.r, c.loop-r-test.true) in
     search rules
 
@@ -21,10 +21,10 @@ loop-r-preserved g c =
     let r = c.loop-r.r in
     let b = c.args.block in
     let end = block_end r b c.loop-r-test.true in
-    let start = le-mul_of_pos_right (r - 1) c.requires.some in
+    let start = le-mul_of_pos_right (r - 1) c.requires.not_empty in
     let next : (r - 1 + 1) * b ≡ (r - 1) * b + b = add-mul (r - 1) 1 b ∙ ap (λ t. (r - 1) * b + t) (one-mul b) in
-    let before : (r - 1) * b < r * b = omega (arith, end, c.requires.some) in
-    let all = le-mul_of_pos_right c.args.items c.requires.some in
+    let before : (r - 1) * b < r * b = omega (arith, end, c.requires.not_empty) in
+    let all = le-mul_of_pos_right c.args.items c.requires.not_empty in
     let inside : r - 1 < length c.loop-r.xs = omega (arith, all, c.requires.whole, c.loop-r.auto.r, c.loop-r.auto.xs, c.loop-r-test.true) in
     record {
       done = λ k d low within.

@@ -1,9 +1,9 @@
 -- One term more.
-use Rattle.std.proofs.Common.{◌<◌, ℕ, length, map, sym, ap, ap₂, ◌∙◌, arith, add-one}
+use Rattle.std.proofs.Common.{refl, ◌<◌, ℕ, length, map, sym, ap, ap₂, ◌∙◌, arith, add-one}
 use Rattle.ark_math.specs.Field.{power}
 use Rattle.ark_math.specs.Module.{item, sum_below}
 use Rattle.ark_math.proofs.Lists.Lists.{read_as}
-use Rattle.ark_fft.proofs.Counts.{one_more}
+use Rattle.ark_traits.proofs.Cost.{grows_twice}
 use Rattle.ark_fft.proofs.domain.radix2.plain.plain_value.Goals as goal
 
 pub loop-i-preserved : goal.loop-i-preserved
@@ -17,9 +17,7 @@ loop-i-preserved g c =
     let term = λ (k : ℕ). V.scale (power K c.args.point k) (item V (map m items) k) in
     let inside : i < length items = omega arith in
     record {
-      butterflies = c.scale.ensures.butterflies ∙ v.butterflies;
-      products = one_more _ _ _ i v.products c.scale.ensures.products;
-      steps = c.scale.ensures.steps ∙ v.steps;
+      counted = grows_twice v.counted c.scale.ensures.counted refl refl refl;
       next_factor =
           g.met.F.Field.mul_law _ _ _ c.mul-factor.ensures
           ∙ (ap (λ t. K.times t c.args.point) v.next_factor

@@ -1,6 +1,7 @@
 -- What the loop of a plain sum keeps.
 use Rattle.std.proofs.Common.{◌≡◌, ◌+◌, map}
 use Rattle.ark_math.specs.Field.{power}
+use Rattle.ark_math.specs.Cost.{GrowsBy, counts}
 use Rattle.ark_math.specs.Module.{item, sum_below}
 use Rattle.ark_fft.proofs.domain.radix2.plain.plain_value.Given as goal
 
@@ -10,9 +11,7 @@ invariant-loop-i g l =
     let V = g.T.DomainCoeff.group in
     let m = g.T.DomainCoeff.meaning in
     record {
-      butterflies : l.work.butterflies ≡ l.fn.work.butterflies;
-      products : l.work.products ≡ l.fn.work.products + l.i;
-      steps : l.work.steps ≡ l.fn.work.steps;
+      counted : GrowsBy (counts l.i 0 0) l.fn.work l.work;
       next_factor : l.factor ≡ power K l.point l.i;
       sum : m l.sum ≡ sum_below V l.i (λ k. V.scale (power K l.point k) (item V (map m l.items) k));
     }

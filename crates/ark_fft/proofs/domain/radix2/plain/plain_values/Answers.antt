@@ -5,6 +5,7 @@ use Rattle.ark_math.specs.Transform.{value_at}
 use Rattle.ark_math.proofs.Lists.Lists.{written_more}
 use Rattle.ark_math.proofs.Algebra.Solve.{◌⊗◌}
 use Rattle.ark_math.proofs.Algebra.Ring.{ring3}
+use Rattle.ark_traits.proofs.Cost.{grows_twice}
 use Rattle.ark_fft.proofs.domain.radix2.plain.plain_values.Goals as goal
 
 pub loop-i-preserved : goal.loop-i-preserved
@@ -18,9 +19,7 @@ loop-i-preserved g c =
     let point = λ (k : ℕ). K.times c.args.offset (power K c.args.root k) in
     let inside : i < length c.loop-i.values = omega arith in
     record {
-      butterflies = omega arith;
-      products = omega arith;
-      steps = omega arith;
+      counted = grows_twice v.counted c.plain_value.ensures.counted (omega arith) refl refl;
       next_point =
           let q : c.mul-point.result ≡ K.times c.loop-i.point c.args.root = search rules in
           q

@@ -22,7 +22,7 @@ returns-then-len-eq1-clause-below g t c i l =
 
 pub refined_inverse-requires : goal.refined_inverse-requires
 refined_inverse-requires g t c = record {
-  some = omega arith;
+  positive = omega arith;
   more = omega arith;
   most = omega arith;
   below = c.in_ok-inverse.ensures.below;

@@ -34,8 +34,8 @@ returns-clause-product g c =
     let right = c.args.other.now in
     let F = g.row.F.Denot in
     let pair : F → F → F × F = λ x y. (x, y) in
-    let short : length left ≤ d.size = omega (arith, c.requires.others, c.requires.room) in
-    let low : length right ≤ d.size = omega (arith, c.requires.some, c.requires.room) in
+    let short : length left ≤ d.size = omega (arith, c.requires.other_nonempty, c.requires.room) in
+    let low : length right ≤ d.size = omega (arith, c.requires.nonempty, c.requires.room) in
     let both =
     c.in_ok-lanes.ensures
     ∙ ap₂ (λ s t. side_by_side K s t c.size.result) (c.deref.ensures.value ∙ c.self.view_is) (c.deref-2.ensures.value ∙ c.other.view_is)

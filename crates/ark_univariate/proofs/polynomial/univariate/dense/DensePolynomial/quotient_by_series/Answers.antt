@@ -13,7 +13,7 @@ returns-clause-quotient g c =
     let mine = ap length c.coeffs-whole.ensures.same in
     let others = ap length c.coeffs-parts.ensures.same in
     let inverse = of_list K c.in_ok-inverse.inverse in
-    let some = c.requires.some in
+    let some = c.requires.nonempty in
     let long = c.requires.long in
     IfOk_both c.reversed-3.result
     (λ q same below.
@@ -37,7 +37,7 @@ inverse_series-requires-clause-first g c =
     let a = of_list K c.args.divisor.now in
     let parts = length c.coeffs-parts.result.now in
     let others = ap length c.coeffs-parts.ensures.same in
-    let some = c.requires.some in
+    let some = c.requires.nonempty in
     let last : parts - 1 - 0 ≡ parts - 1 = omega arith in
     ap (λ t. K.times t c.args.leading_inverted) (c.in_ok-backwards.ensures.same 0 (omega (arith, some, others)) ∙ backwards-inside K (parts - 1) a 0 (omega arith) ∙ ap a last)
     ∙ ap (λ t. K.times (a (t - 1)) c.args.leading_inverted) others

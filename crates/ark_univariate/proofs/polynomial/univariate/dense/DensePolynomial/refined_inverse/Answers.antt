@@ -11,7 +11,7 @@ returns-clause-inverse g c =
     let is = c.from_coefficients_vec.ensures.coefficients in
     newton_step K g.met.F.Field.field_laws c.args.known c.args.len (of_list K c.args.self.now) (of_list K c.in_ok-part.field-0)
     (of_list K c.in_ok-whole.whole) inverse (of_list K c.in_ok-part-2.field-0) (of_list K c.in_ok-correction.correction) (of_list K c.from_coefficients_vec.result)
-    c.requires.some c.requires.more c.requires.most c.requires.below c.requires.inverse
+    c.requires.positive c.requires.more c.requires.most c.requires.below c.requires.inverse
     c.in_ok-part.ensures.same
     c.in_ok-whole.ensures.product
     c.in_ok-part-2.ensures.same
