@@ -1,20 +1,15 @@
-//! What transforms cost, as numbers: by the definition, and told by a call.
+//! What transforms cost, as numbers, by the definition.
 //!
 //! Over a domain of radix 2 a list of at most a quarter of the elements is transformed by as many levels as its own
 //! length takes; each other list, and every list of values, by all levels. A level has a butterfly for each two
 //! elements. Over a mixed domain there is such a level for each factor of two, and for each factor of three a level
 //! with a step of eight products for each three elements.
 
-ghost use Rattle.std.specs.Prelude.{◌≡◌, ◌+◌, ◌≤◌, ℕ, length, OnOk};
+ghost use Rattle.std.specs.Prelude.{ℕ};
 ghost use Rattle.ark_math.specs.Root.{Adicity, IsAdicity};
 ghost use Rattle.ark_math.specs.Domain.{radix2, mixed_radix};
 ghost use Rattle.ark_math.specs.Cost.{Direction, forward, inverse};
 ghost use Rattle.ark_tests.specs.Costs.{Costs, sizes_433, sizes_4};
-
-use ark_base::{DomainCoeff, F433, FftField, Field, PolyError, Work};
-use ark_poly::{EvaluationDomain, Radix2EvaluationDomain};
-use std::alloc::Global;
-use std::test::Fail;
 
 /// What the definition says of domains of radix 2, over every field.
 pub fn costs_of_radix2()
@@ -41,36 +36,3 @@ pub fn costs_of_mixed_radix()
     ensures twenty_seven { (len : ℕ) (way : Direction) → Costs sizes_433 mixed_radix 27 len way 0 27 }
     ensures three { (len : ℕ) (way : Direction) → Costs sizes_4 mixed_radix 3 len way 0 1 }
 {}
-
-/// Four coefficients are a quarter of sixteen: two of the four levels.
-pub fn four_over_sixteen<F: FftField, T: DomainCoeff<F>>(
-    alloc: Global,
-    domain: &Radix2EvaluationDomain<F>,
-    coeffs: &mut Vec<T>,
-    work: &mut Work,
-) -> Result<(), PolyError>
-    requires size { (⟦<Radix2EvaluationDomain<F> as EvaluationDomain<F>>⟧.domain domain.now).size ≡ 16 }
-    requires items { length coeffs.old.items ≡ 4 }
-    ensures butterflies { OnOk result (work.new.butterflies ≡ work.old.butterflies + 16) }
-    ensures steps { OnOk result (work.new.steps ≡ work.old.steps) }
-    ensures products { OnOk result (work.new.products ≤ work.old.products + 16 + 16) }
-{
-    domain.fft_counted(alloc, coeffs, work)
-}
-
-// Whether the counted call gives the transform of four sevens.
-fn is_transform<F: FftField>(alloc: Global) -> Result<bool, PolyError> {
-    let domain: Radix2EvaluationDomain<F> = EvaluationDomain::new(16).ok_or(PolyError::NoDomain)?;
-    if domain.size() != 16 {
-        return Err(PolyError::NoDomain);
-    }
-    let mut list = Vec::from_array(alloc, [F::from(7); 4])?;
-    four_over_sixteen(alloc, &domain, &mut list, &mut Work::new())?;
-    Ok(list == domain.fft(alloc, &[F::from(7); 4])?)
-}
-
-#[test]
-fn counted_over_sixteen(rt: HostRuntime) -> Result<(), Fail> {
-    assert!(rt; is_transform::<F433>(rt.alloc())?);
-    Ok(())
-}

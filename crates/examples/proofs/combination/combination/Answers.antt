@@ -12,8 +12,8 @@ returns-clause-value g c x y z at_left at_right =
     let first = P.scaled c.args.a p in
     let second = P.scaled c.args.b q in
     let alone : P.meaning c.add_assign_scaled.new.self ≡ first =
-        c.in_ok-add_assign_scaled.ensures.sum ∙ ap (λ t. P.sum t first) c.in_ok-sum.ensures.zero
-        ∙ L.sum_comm P.zero first (L.addable_comm first P.zero (L.addable_zero first)) ∙ L.sum_zero first in
+    c.in_ok-add_assign_scaled.ensures.sum ∙ ap (λ t. P.sum t first) c.in_ok-sum.ensures.zero
+    ∙ L.sum_comm P.zero first (L.addable_comm first P.zero (L.addable_zero first)) ∙ L.sum_zero first in
     let both = c.in_ok-add_assign_scaled-2.ensures.sum ∙ ap (λ t. P.sum t second) alone in
     let fit = L.addable_scaled c.args.b first q (L.addable_comm q first (L.addable_scaled c.args.a q p (L.addable_comm p q c.requires))) in
     subst (λ t. P.has_value t x (K.plus (K.times c.args.a y) (K.times c.args.b z))) (sym both)
