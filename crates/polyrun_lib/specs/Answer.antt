@@ -113,7 +113,7 @@ Gives f (size_for k) text = (kind : Kind) × (n : ℕ) × IsChosen f.adicity k k
 abbrev pub HasNoDomain : Known → ℕ → ℕ → Type 0
 HasNoDomain f k h = HasNoSize (IsChosen f.adicity) k ⊎ (h % f.modulus ≡ 0)
 
--- and where it has none
+-- the error that a command comes to where it has no answer
 abbrev pub Refuses : Known → Command → PolyError → Type 0
 Refuses f (transform_of direction k h xs) error = HasNoDomain f k h × (error ≡ NoDomain)
 Refuses f (product_of xs ys) error = HasNoProduct f (coefficients f xs) (coefficients f ys) × (error ≡ NoDomain)

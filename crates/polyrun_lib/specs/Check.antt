@@ -13,7 +13,7 @@ use Rattle.polyrun_lib.specs.Vectors.{Row, HasRows}
 abbrev pub row_of : Vec (String Global) Global × String Global → Row
 row_of row = (map string_bytes (vec_items row.0), string_bytes row.1)
 
--- and as it is borrowed
+-- a row as it is borrowed
 abbrev pub shown_row : Bor (List (Bor (List ℕ))) × Bor (List ℕ) → Row
 shown_row row = (map (λ word. word.now) row.0.now, row.1.now)
 

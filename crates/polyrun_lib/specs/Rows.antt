@@ -134,7 +134,7 @@ size_8 = (
   refl,
 )
 
--- and a mixed size where there is none
+-- a mixed size where there is no power of two
 size_18 : Gives field_433 (size_for 18) (codes "18" ++ 10 ∷ [])
 unfolding digits
 size_18 = (

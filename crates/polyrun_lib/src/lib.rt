@@ -11,5 +11,6 @@ mod vectors;
 mod words;
 
 pub use args::{arguments, run_arguments};
+pub use lines::refusal_line;
 pub use program::run;
 pub use rows::check;

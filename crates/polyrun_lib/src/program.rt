@@ -99,7 +99,8 @@ fn answer(alloc: Global, words: &[String]) -> Option<Result<String, PolyError>>
     answer_in(alloc, field.as_str(), words)
 }
 
-/// The same for a field and the words after it.
+/// The text of the answer to a field and the words after it or the error in its place, and `None` where these are no
+/// command.
 pub fn answer_in(alloc: Global, field: &str, words: &[String]) -> Option<Result<String, PolyError>>
     ensures some { IfSome result (IsOutcomeOf (field.now ∷ map string_bytes words.now)) }
     ensures none { IfNone result ((f : Known) (c : Asked)
@@ -152,6 +153,7 @@ fn transform_line<M: PrimeModulus>(
 {
     let domain: Domain<M> = coset(size, PrimeField::from(offset))?;
     let mut items = elements::<M>(alloc, list)?;
+    // The counts are for contracts alone.
     let work = &mut Work::new();
     match direction {
         Direction::Forward => domain.fft_counted(alloc, &mut items, work)?,
@@ -205,7 +207,7 @@ fn divided<F: Field>(
         × (of_list F.field p.0 ≡ nothing F.field) × (of_list F.field p.1 ≡ nothing F.field))
         ⊎ IsQuotient F.field (of_list F.field dividend.now) (of_list F.field divisor.now)
         (of_list F.field p.0) (of_list F.field p.1)) }
-    ensures none { (result ≡ Err PolyError.ZeroDivisor)
+    ensures zero { (result ≡ Err PolyError.ZeroDivisor)
         → (of_list F.field dividend.now ≢ nothing F.field) × (of_list F.field divisor.now ≡ nothing F.field) }
     ensures errors { IsOkUnlessEither result PolyError.Memory PolyError.ZeroDivisor }
 {
@@ -263,7 +265,7 @@ fn coset<F: FftField, D: EvaluationDomain<F>>(size: u64, offset: F) -> Result<D,
     ensures chosen { IfOk result (λ d. D.chooses size (D.domain d).kind (D.domain d).size) }
     ensures offset { IfOk result (λ d. (D.domain d).offset ≡ offset) }
     ensures lawful { IfOk result (λ d. IsDomain F.field F.adicity F.root (D.domain d)) }
-    ensures none { IfErr result (λ e. (offset ≡ F.field.zero) ⊎ HasNoSize D.chooses size) }
+    ensures cause { IfErr result (λ e. (offset ≡ F.field.zero) ⊎ HasNoSize D.chooses size) }
     ensures error { IsOkUnless result PolyError.NoDomain }
 {
     D::new_coset(size as usize, offset).ok_or(PolyError::NoDomain)
