@@ -1,6 +1,6 @@
 //! Rows of fields: an operation and its arguments.
 
-use crate::words::{element, elements, no_row, number, one, size, text_of};
+use crate::words::{element, elements, no_row, number, one, size, text_of, text_of_numbers};
 use ark_base::{FftField, Lanes, PolyError, batch_inversion, k_adicity, log2};
 use ark_test_types::numbered::Numbered;
 use std::alloc::Global;
@@ -48,7 +48,12 @@ fn text<F: FftField>(alloc: Global, x: F, y: F) -> Result<String, PolyError> {
 /// Zero, the default and one; then the generator, the exponent of two and the root for it; and then the odd base, its
 /// exponent and the root for both, where there is one.
 fn constants<F: FftField + Numbered>(alloc: Global) -> Result<String, PolyError> {
-    let units = text_of(alloc, &[F::zero(), F::default(), F::one()])?;
+    let units = format!(in alloc;
+        "{},{},{}",
+        F::zero().number(),
+        F::default().number(),
+        F::one().number()
+    )?;
     let even = format!(in alloc;
         "{},{},{}",
         F::GENERATOR.number(),
@@ -79,9 +84,18 @@ fn operators<F: FftField + Numbered>(alloc: Global, x: F, y: F) -> Result<String
     product *= y;
     let mut square = x;
     square.square_in_place();
-    Ok(text_of(
+    Ok(text_of_numbers(
         alloc,
-        &[x + y, sum, x - y, difference, x * y, product, square, -x],
+        &[
+            (x + y).number(),
+            sum.number(),
+            (x - y).number(),
+            difference.number(),
+            (x * y).number(),
+            product.number(),
+            square.number(),
+            (-x).number(),
+        ],
     )?)
 }
 
