@@ -20,6 +20,7 @@ pub fn answer<F: FftField + Numbered>(
         ("inverses", [list]) => inverses::<F>(alloc, list.as_str()),
         ("power", [x, n]) => one(alloc, element::<F>(x.as_str()).pow(number(n.as_str()))),
         ("operators", [x, y]) => operators::<F>(alloc, element(x.as_str()), element(y.as_str())),
+        ("tests", [x, y]) => tests::<F>(alloc, element(x.as_str()), element(y.as_str())),
         ("text", [x, y]) => text::<F>(alloc, element(x.as_str()), element(y.as_str())),
         ("log2", [x]) => Ok(format!(in alloc; "{}", log2(size(x.as_str())))?),
         ("adicity", [k, n]) => {
@@ -38,6 +39,11 @@ pub fn option<F: Numbered>(alloc: Global, element: Option<F>) -> Result<String, 
         Some(element) => one(alloc, element),
         None => Ok("none".to_string(alloc)?),
     }
+}
+
+/// Whether the first element is zero, is one, is less than the second, and equals it.
+fn tests<F: FftField>(alloc: Global, x: F, y: F) -> Result<String, PolyError> {
+    Ok(format!(in alloc; "{},{},{},{}", x.is_zero(), x.is_one(), x < y, x == y)?)
 }
 
 /// How `Debug` writes the first element, and the pair of both.
