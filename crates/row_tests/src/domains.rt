@@ -4,7 +4,7 @@
 ghost use Rattle.std.specs.Prelude.{◌<◌};
 
 use crate::fields::option;
-use crate::words::{element, elements, no_row, one, size, text_of, text_of_terms};
+use crate::words::{element, elements, no_row, one, size, text_of, text_of_numbers, text_of_terms};
 use ark_base::{FftField, Lanes, PolyError};
 use ark_poly::{
     DenseUVPolynomial, EvaluationDomain, GeneralEvaluationDomain, MixedRadixEvaluationDomain,
@@ -114,21 +114,18 @@ fn fields<F: FftField + Numbered, D: EvaluationDomain<F>>(
     alloc: Global,
     domain: &D,
 ) -> Result<String, PolyError> {
-    let elements = [
-        domain.size_as_field_element(),
-        domain.size_inv(),
-        domain.group_gen(),
-        domain.group_gen_inv(),
-        domain.coset_offset(),
-        domain.coset_offset_inv(),
-        domain.coset_offset_pow_size(),
+    let numbers = [
+        domain.size() as u64,
+        domain.log_size_of_group(),
+        domain.size_as_field_element().number(),
+        domain.size_inv().number(),
+        domain.group_gen().number(),
+        domain.group_gen_inv().number(),
+        domain.coset_offset().number(),
+        domain.coset_offset_inv().number(),
+        domain.coset_offset_pow_size().number(),
     ];
-    let elements = text_of(alloc, &elements)?;
-    Ok(format!(in alloc;
-        "{},{},{elements}",
-        domain.size(),
-        domain.log_size_of_group()
-    )?)
+    Ok(text_of_numbers(alloc, &numbers)?)
 }
 
 fn all_elements<F: FftField + Numbered, D: EvaluationDomain<F>>(

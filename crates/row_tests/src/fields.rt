@@ -1,6 +1,6 @@
 //! Rows of fields: an operation and its arguments.
 
-use crate::words::{element, elements, no_row, number, one, size, text_of};
+use crate::words::{element, elements, no_row, number, one, size, text_of, text_of_numbers};
 use ark_base::{FftField, Lanes, PolyError, batch_inversion, k_adicity, log2};
 use ark_test_types::numbered::Numbered;
 use std::alloc::Global;
@@ -20,6 +20,7 @@ pub fn answer<F: FftField + Numbered>(
         ("inverses", [list]) => inverses::<F>(alloc, list.as_str()),
         ("power", [x, n]) => one(alloc, element::<F>(x.as_str()).pow(number(n.as_str()))),
         ("operators", [x, y]) => operators::<F>(alloc, element(x.as_str()), element(y.as_str())),
+        ("tests", [x, y]) => tests::<F>(alloc, element(x.as_str()), element(y.as_str())),
         ("text", [x, y]) => text::<F>(alloc, element(x.as_str()), element(y.as_str())),
         ("log2", [x]) => Ok(format!(in alloc; "{}", log2(size(x.as_str())))?),
         ("adicity", [k, n]) => {
@@ -40,6 +41,11 @@ pub fn option<F: Numbered>(alloc: Global, element: Option<F>) -> Result<String, 
     }
 }
 
+/// Whether the first element is zero, is one, is less than the second, and equals it.
+fn tests<F: FftField>(alloc: Global, x: F, y: F) -> Result<String, PolyError> {
+    Ok(format!(in alloc; "{},{},{},{}", x.is_zero(), x.is_one(), x < y, x == y)?)
+}
+
 /// How `Debug` writes the first element, and the pair of both.
 fn text<F: FftField>(alloc: Global, x: F, y: F) -> Result<String, PolyError> {
     Ok(format!(in alloc; "{x:?} {:?}", Lanes::new(x, y))?)
@@ -48,7 +54,12 @@ fn text<F: FftField>(alloc: Global, x: F, y: F) -> Result<String, PolyError> {
 /// Zero, the default and one; then the generator, the exponent of two and the root for it; and then the odd base, its
 /// exponent and the root for both, where there is one.
 fn constants<F: FftField + Numbered>(alloc: Global) -> Result<String, PolyError> {
-    let units = text_of(alloc, &[F::zero(), F::default(), F::one()])?;
+    let units = format!(in alloc;
+        "{},{},{}",
+        F::zero().number(),
+        F::default().number(),
+        F::one().number()
+    )?;
     let even = format!(in alloc;
         "{},{},{}",
         F::GENERATOR.number(),
@@ -79,9 +90,18 @@ fn operators<F: FftField + Numbered>(alloc: Global, x: F, y: F) -> Result<String
     product *= y;
     let mut square = x;
     square.square_in_place();
-    Ok(text_of(
+    Ok(text_of_numbers(
         alloc,
-        &[x + y, sum, x - y, difference, x * y, product, square, -x],
+        &[
+            (x + y).number(),
+            sum.number(),
+            (x - y).number(),
+            difference.number(),
+            (x * y).number(),
+            product.number(),
+            square.number(),
+            (-x).number(),
+        ],
     )?)
 }
 

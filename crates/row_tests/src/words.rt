@@ -43,21 +43,30 @@ pub fn elements<F: Numbered>(alloc: Global, word: &str) -> Result<Vec<F>, AllocE
     Ok(elements)
 }
 
-/// The numbers of the elements, with commas between them.
-pub fn text_of<F: Numbered>(alloc: Global, elements: &[F]) -> Result<String, AllocError> {
+/// The numbers with commas between them.
+pub fn text_of_numbers(alloc: Global, numbers: &[u64]) -> Result<String, AllocError> {
     let mut text = String::new(alloc);
-    for (i, element) in elements.iter().enumerate() {
+    for (i, number) in numbers.iter().enumerate() {
         if i > 0 {
             text.push(',')?;
         }
-        write!(text, "{}", element.number())?;
+        write!(text, "{number}")?;
     }
     Ok(text)
 }
 
+/// The numbers of the elements, with commas between them.
+pub fn text_of<F: Numbered>(alloc: Global, elements: &[F]) -> Result<String, AllocError> {
+    let mut numbers = Vec::new(alloc);
+    for element in elements {
+        numbers.push(element.number())?;
+    }
+    text_of_numbers(alloc, &numbers)
+}
+
 /// The number of the element.
 pub fn one<F: Numbered>(alloc: Global, element: F) -> Result<String, PolyError> {
-    Ok(text_of(alloc, &[element])?)
+    Ok(text_of_numbers(alloc, &[element.number()])?)
 }
 
 /// The terms of a polynomial: degree, colon, coefficient.
