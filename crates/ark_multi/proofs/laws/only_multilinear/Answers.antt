@@ -1,4 +1,4 @@
-use Rattle.std.proofs.Common.{◌≡◌, ◌∙◌, length, sym, subst}
+use Rattle.std.proofs.Common.{◌∙◌, sym, subst}
 use Rattle.std.proofs.lemmas.Result.{IfOk-weaker}
 use Rattle.ark_math.specs.Multivariate.{IsValueAt, of_terms}
 use Rattle.ark_math.proofs.Outcomes.Tests.{decided}

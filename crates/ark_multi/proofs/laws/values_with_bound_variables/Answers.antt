@@ -1,4 +1,4 @@
-use Rattle.std.proofs.Common.{◌≡◌, ◌∙◌, ◌++◌, sym, subst, ap, ap₂}
+use Rattle.std.proofs.Common.{◌≡◌, ◌∙◌, ◌++◌, sym, ap, ap₂}
 use Rattle.ark_math.specs.Multilinear.{extension}
 use Rattle.ark_math.proofs.Polynomials.Multilinear.{extension-append}
 use Rattle.ark_multi.proofs.laws.values_with_bound_variables.Goals as goal
