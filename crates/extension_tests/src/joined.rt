@@ -22,7 +22,7 @@ fn padded_value<F: Field>(
     Some(known)
 }
 
-// Those of all parts.
+// The values of all parts.
 fn padded_values<F: Field>(
     alloc: Global,
     parts: &[DenseMultilinearExtension<F>],
