@@ -21,7 +21,6 @@ pub fn interpolated_value<F: FftField, D: EvaluationDomain<F>>(
         → AreValues F.field (D.domain domain) p values.items → IsValue F.field p point y) }
     ensures memory { IsOkUnless result PolyError.Memory }
 {
-    let values = Evaluations::from_vec_and_domain(values, domain);
-    let polynomial = values.interpolate(alloc)?;
+    let polynomial = Evaluations::from_vec_and_domain(values, domain).interpolate(alloc)?;
     polynomial.evaluate(alloc, &point)
 }
