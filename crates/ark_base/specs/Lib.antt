@@ -5,3 +5,4 @@ pub use Rattle.ark_traits.specs.Cost
 pub use Rattle.ark_traits.specs.IoSink
 pub use Rattle.ark_traits.specs.Lanes
 pub use Rattle.ark_traits.specs.Transfer
+pub use Rattle.ark_traits.specs.declared.error.PolyError

@@ -48,7 +48,7 @@ pub trait PrimeModulus {
     /// A number whose powers are all but zero, or at least the roots of the supported sizes.
     const GENERATOR: u64;
 
-    /// The greatest `a` for which there is a root of order `2^a`.
+    /// The greatest `a` of a size `2^a` that domains take. It may be less than the prime allows.
     const TWO_ADICITY: u32;
 
     /// The generator's power `(MODULUS - 1) / 2^TWO_ADICITY`.

@@ -1,7 +1,7 @@
 -- The definitions that contracts speak of, each in the words of a textbook, in the order in which they are met: fields,
 -- modules and roots of unity; domains, transforms and their cost; polynomials in one variable, and at the elements of a
--- domain; terms, polynomials in several variables, and multilinear extensions; what calls answer; the constants of a prime
--- field. Rows has examples.
+-- domain; terms, polynomials in several variables, multilinear extensions, and what all of these share; what calls
+-- answer; the constants of a prime field. Rows has examples.
 pub mod Field
 pub mod Module
 pub mod Root
@@ -15,6 +15,7 @@ pub mod Points
 pub mod Term
 pub mod Multivariate
 pub mod Multilinear
+pub mod Forms
 pub mod Outcome
 pub mod Prime
 pub mod Generator

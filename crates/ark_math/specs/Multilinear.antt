@@ -3,7 +3,7 @@
 use Rattle.std.specs.Prelude.{◌≡◌, ◌≢◌, ◌⊎◌, ℕ, suc, zero, max, ◌+◌, ◌-◌, ◌*◌, ◌/◌, ◌^◌, ◌%◌, ◌<◌, ◌≤◌, ◌==◌, ◌&&◌, Bool, List, [], ◌∷◌}
 use Rattle.std.specs.Prelude.{if◌then◌else◌, length, flat_map, nat_le, nat_lt, All, AllPairs}
 use Rattle.ark_math.specs.Field.{FieldOn, minus}
-use Rattle.ark_math.specs.Module.{itself, sum_below, item, tabulate}
+use Rattle.ark_math.specs.Module.{ModuleOn, itself, sum_below, item, tabulate}
 use Rattle.ark_math.specs.Cost.{IsLog2Up}
 use Rattle.ark_math.specs.Multivariate.{IsValueAt}
 use Rattle.ark_math.specs.Univariate.{nothing, added, opposite, scaled, of_list}
@@ -68,6 +68,10 @@ table_opposite K t = record { variables = t.variables; value = opposite K t.valu
 -- a multiple, which keeps the variables
 abbrev pub table_scaled : {F : Type 0} → FieldOn F → F → Table F → Table F
 table_scaled K c t = record { variables = t.variables; value = scaled K c t.value }
+
+-- these together
+abbrev pub table_operations : {F : Type 0} → FieldOn F → ModuleOn F (Table F)
+table_operations K = record { zero = zero_table K; plus = table_sum K; negated = table_opposite K; scale = table_scaled K }
 
 -- as many variables, or one of them is zero of no variables
 abbrev pub AreAddable : {F : Type 0} → FieldOn F → Table F → Table F → Type 0

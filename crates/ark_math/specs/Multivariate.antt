@@ -18,9 +18,13 @@ abbrev pub of_terms : {F : Type 0} → FieldOn F → List (F × List (ℕ × ℕ
 of_terms K [] = nothing K
 of_terms K (c ∷ cs) = added K (single K c.1 c.0) (of_terms K cs)
 
--- the same, where a term is of any type that tells its list
+-- each coefficient with the list of its term, where a term is of any type that tells it
+abbrev pub each_listed : {F T : Type 0} → (T → List (ℕ × ℕ)) → List (F × T) → List (F × List (ℕ × ℕ))
+each_listed listed cs = map (λ c. (c.0, listed c.1)) cs
+
+-- what a list of coefficients and such terms denotes
 abbrev pub of_listed : {F T : Type 0} → FieldOn F → (T → List (ℕ × ℕ)) → List (F × T) → List (ℕ × ℕ) → F
-of_listed K listed cs = of_terms K (map (λ c. (c.0, listed c.1)) cs)
+of_listed K listed cs = of_terms K (each_listed listed cs)
 
 -- the sum of a list's parts at x
 abbrev pub sum_at : {F : Type 0} → FieldOn F → List (F × List (ℕ × ℕ)) → List F → F

@@ -1,5 +1,5 @@
 -- Terms of several variables, by the powers of the variables in them.
-use Rattle.std.specs.Prelude.{◌≡◌, ℕ, ◌^◌, ◌<◌, ◌==◌, ◌⊎◌, List, [], ◌∷◌, get_or, sum_by, All, AllPairs, if◌then◌else◌}
+use Rattle.std.specs.Prelude.{◌≡◌, ℕ, ◌^◌, ◌<◌, ◌≤◌, ◌==◌, ◌⊎◌, List, [], ◌∷◌, get_or, sum_by, All, AllPairs, if◌then◌else◌}
 use Rattle.ark_math.specs.Field.{FieldOn, power}
 
 -- the power of a variable in a list of (variable, power): those of one variable are added up
@@ -15,6 +15,10 @@ pub record IsTerm (ps : List (ℕ × ℕ)) : Type 0 where
   pub rising : AllPairs (λ p q. p.0 < q.0) ps
   pub some : All (λ p. 0 < p.1) ps
   pub fits : total_degree ps < 2 ^ 64
+
+-- the constant term, or a power of one variable up to d
+abbrev pub IsOnePower : ℕ → List (ℕ × ℕ) → Type 0
+IsOnePower d ps = (ps ≡ []) ⊎ ((v : ℕ) × (e : ℕ) × (ps ≡ (v, e) ∷ []) × (e ≤ d))
 
 -- all variables are below n
 abbrev pub IsWithin : ℕ → List (ℕ × ℕ) → Type 0

@@ -3,7 +3,7 @@
 use Rattle.std.specs.Prelude.{◌≡◌, ◌≢◌, ℕ, suc, ◌+◌, ◌-◌, ◌<◌, ◌≤◌, List, [], ◌∷◌, length, get_or, All, ◌==◌, if◌then◌else◌}
 use Rattle.std.specs.List.{AllPairs}
 use Rattle.ark_math.specs.Field.{FieldOn, power, minus}
-use Rattle.ark_math.specs.Module.{sum_below, itself}
+use Rattle.ark_math.specs.Module.{ModuleOn, sum_below, itself}
 
 -- ---- coefficient by coefficient, for exponents and terms alike
 
@@ -22,6 +22,10 @@ opposite K a i = K.negated (a i)
 
 abbrev pub scaled : {I F : Type 0} → FieldOn F → F → (I → F) → I → F
 scaled K f a i = K.times f (a i)
+
+-- these together
+abbrev pub coefficient_operations : {I F : Type 0} → FieldOn F → ModuleOn F (I → F)
+coefficient_operations K = record { zero = nothing K; plus = added K; negated = opposite K; scale = scaled K }
 
 -- ---- one variable
 
@@ -82,3 +86,7 @@ of_pairs K (p ∷ ps) = added K (monomial K p.0 p.1) (of_pairs K ps)
 pub record IsSparse {F : Type 0} (K : FieldOn F) (ps : List (ℕ × F)) : Type 0 where
   pub rising : AllPairs (λ p q. p.0 < q.0) ps
   pub some : All (λ p. p.1 ≢ K.zero) ps
+
+-- at most n coefficients aren't zero
+abbrev pub HasAtMost : {F : Type 0} → FieldOn F → ℕ → (ℕ → F) → Type 0
+HasAtMost {F} K n a = (ps : List (ℕ × F)) × (length ps ≤ n) × IsSparse K ps × (of_pairs K ps ≡ a)

@@ -19,8 +19,8 @@ use denote.Ref.{Bor}
 use Rattle.ark_math.specs.Field.{FieldOn, IsField}
 use Rattle.ark_math.specs.Univariate.{nothing, added, scaled}
 use Rattle.ark_math.specs.Multivariate.{single, sum_at, of_listed}
-use Rattle.ark_math.specs.Term.{IsTerm, IsWithin, term_value, total_degree}
-use Rattle.ark_multi.specs.SortedTerms.{AreRising, IsLeastTerm, IsOnePower}
+use Rattle.ark_math.specs.Term.{IsTerm, IsOnePower, IsWithin, term_value, total_degree}
+use Rattle.ark_multi.specs.SortedTerms.{AreRising, IsLeastTerm}
 use Rattle.ark_math.proofs.Algebra.Groups.{itself_is_module, zero_plus, plus_swap, scale_zero}
 use Rattle.ark_math.proofs.Polynomials.Univariate.{coefficients_are_module}
 use Rattle.ark_math.proofs.Polynomials.Multivariate.{single-same, single-other, single-zero, single-added, single-scaled, sum_at-push}
@@ -141,7 +141,7 @@ module _ {F T : Type 0} (K : FieldOn F) (N : IsField K) {cmp : T → T → Order
   -- what holds of every term that has a coefficient
   pub All-from_sum : (P : List (ℕ × ℕ) → Type 0) → ((t : List (ℕ × ℕ)) → P t ⊎ (¬ P t)) → (cs : List (F × T)) → AreRising K cmp cs → ((t : List (ℕ × ℕ)) → ¬ P t → sum_of cs t ≡ K.zero) → All (λ c. P (listed c.1)) cs
   All-from_sum P cases cs h none k d l =
-      ⊎_elim (λ p. p) (λ n. absurd (h.some k d l (sym (of_listed-at cs k d h.rising l) ∙ none (listed (get_or cs k d).1) n))) (cases (listed (get_or cs k d).1))
+      ⊎_elim (λ p. p) (λ n. absurd (h.not_zero k d l (sym (of_listed-at cs k d h.rising l) ∙ none (listed (get_or cs k d).1) n))) (cases (listed (get_or cs k d).1))
 
   pub none_from_All : (P : List (ℕ × ℕ) → Type 0) → (cs : List (F × T)) → All (λ c. P (listed c.1)) cs → (t : List (ℕ × ℕ)) → ¬ P t → sum_of cs t ≡ K.zero
   none_from_All P cs h t n = of_listed-absent cs t (λ k d l e. n (subst P e (h k d l)))
@@ -149,10 +149,10 @@ module _ {F T : Type 0} (K : FieldOn F) (N : IsField K) {cmp : T → T → Order
   -- ---- rising lists
 
   pub rising-nil : AreRising K cmp []
-  rising-nil = record { rising = λ i j d l m. absurd (omega arith); some = λ k d l. absurd (omega arith) }
+  rising-nil = record { rising = λ i j d l m. absurd (omega arith); not_zero = λ k d l. absurd (omega arith) }
 
   pub rising_tail : (c : F × T) (cs : List (F × T)) → AreRising K cmp (c ∷ cs) → AreRising K cmp cs
-  rising_tail c cs h = record { rising = later c cs h.rising; some = All-tail (λ c. c.0 ≢ K.zero) c cs h.some }
+  rising_tail c cs h = record { rising = later c cs h.rising; not_zero = All-tail (λ c. c.0 ≢ K.zero) c cs h.not_zero }
 
   -- below the first of a rising list is below all of it
   below_first : (t : T) (c : F × T) (cs : List (F × T)) → AreRising K cmp (c ∷ cs) → cmp t c.1 ≡ Less → All (λ d. cmp t d.1 ≡ Less) (c ∷ cs)
@@ -370,7 +370,7 @@ module _ {F T : Type 0} (K : FieldOn F) (N : IsField K) {cmp : T → T → Order
         rising = λ i j d l b.
             subst (λ x. cmp (get_or ds i d).1 x.1 ≡ Less) (front_at ds c d j b)
             (subst (λ x. cmp x.1 (get_or (ds ++ c ∷ []) j d).1 ≡ Less) (front_at ds c d i (omega arith)) (k.rising i j d l (omega (arith, length_push ds c))));
-        some = λ i d b. subst (λ x. x.0 ≢ K.zero) (front_at ds c d i b) (k.some i d (omega (arith, length_push ds c)));
+        not_zero = λ i d b. subst (λ x. x.0 ≢ K.zero) (front_at ds c d i b) (k.not_zero i d (omega (arith, length_push ds c)));
       }
 
   pub like_below : (cs ds : List (F × T)) (c : F × T) (t : T) → AreRising K cmp cs → cs ≡ ds ++ c ∷ [] → listed c.1 ≡ listed t → All (λ x. cmp x.1 t ≡ Less) ds
@@ -442,7 +442,7 @@ module _ {F T : Type 0} (K : FieldOn F) (N : IsField K) {cmp : T → T → Order
         rising = λ i j d l m.
             less_from (get_or cs i d).1 (get_or ds i d).1 (get_or ds j d).1 (sym (ap (λ p. p.1) (same_at cs ds i d e (omega arith))))
             (less_to (get_or cs j d).1 (get_or ds j d).1 (get_or cs i d).1 (sym (ap (λ p. p.1) (same_at cs ds j d e m))) (h.rising i j d l (omega arith)));
-        some = All_like (λ p. p.0 ≢ K.zero) cs ds e h.some;
+        not_zero = All_like (λ p. p.0 ≢ K.zero) cs ds e h.not_zero;
       }
 
   pub keyed_clones : (R : F × T → F × T → Type 0) → ((c d : F × T) → R c d → (d.0 ≡ c.0) × (listed d.1 ≡ listed c.1)) → (cs ds : List (F × T)) → AllZip R cs ds → keyed listed ds ≡ keyed listed cs

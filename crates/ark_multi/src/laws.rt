@@ -1,9 +1,10 @@
-//! Laws, as contracts of functions that callers can cite.
+//! Laws, stated as contracts of functions that callers can cite. Nothing but the contract is promised: a body need not
+//! make the calls that the law is about.
 
 ghost use Rattle.std.specs.Prelude.{◌≡◌, ◌↔◌, ◌<◌, ◌^◌, ◌++◌, ℕ, List, length, IfOk, IsOkUnless};
 ghost use Rattle.std.specs.Prelude.{if◌then◌else◌};
 ghost use Rattle.ark_math.specs.Module.{itself, item};
-ghost use Rattle.ark_math.specs.Multilinear.{AreWindows, IsMultilinear, bit, corner, exchanged, extension, fixed};
+ghost use Rattle.ark_math.specs.Multilinear.{AreWindows, Interpolates, bit, corner, exchanged, extension, fixed};
 ghost use Rattle.ark_math.specs.Multilinear.{place};
 ghost use Rattle.ark_math.specs.Term.{IsAbove};
 ghost use Rattle.ark_math.specs.Multivariate.{IsValueAt};
@@ -43,7 +44,7 @@ pub fn value_at_corner<F: Field, E: MultilinearExtension<F>>(
     poly.evaluate(alloc, &point)
 }
 
-// Its item i is one where bit i of the index is set, and zero elsewhere.
+// The point whose item i is one where bit i of the index is set, and zero elsewhere.
 fn corner_point<F: Field>(alloc: Global, num_vars: usize, index: usize) -> Result<Vec<F>, PolyError>
     requires { num_vars < 64 }
     ensures corner { IfOk result (λ x. x.items ≡ corner F.field num_vars index) }
@@ -77,21 +78,12 @@ pub fn only_multilinear<F: Field, E: MultilinearExtension<F>>(
     point: &Vec<F>,
 ) -> Result<F, PolyError>
     requires { length point.now.items ≡ E.variables poly.now }
-    ensures only { IfOk result (λ y. (a : List (ℕ × ℕ) → F) → IsMultilinear F.field (E.variables poly.now) a
-        → ((b : ℕ) → b < 2 ^ E.variables poly.now
-        → IsValueAt F.field a (corner F.field (E.variables poly.now) b) ((E.table poly.now).value b))
+    ensures only { IfOk result (λ y. (a : List (ℕ × ℕ) → F) → Interpolates F.field (E.table poly.now) a
         → (z : F) → IsValueAt F.field a point.now.items z → z ≡ y) }
-    ensures some { IfOk result (λ y. (a : List (ℕ × ℕ) → F) × IsMultilinear F.field (E.variables poly.now) a
-        × ((b : ℕ) → b < 2 ^ E.variables poly.now
-        → IsValueAt F.field a (corner F.field (E.variables poly.now) b) ((E.table poly.now).value b))
+    ensures exists { IfOk result (λ y. (a : List (ℕ × ℕ) → F) × Interpolates F.field (E.table poly.now) a
         × IsValueAt F.field a point.now.items y) }
-    ensures one { (a b : List (ℕ × ℕ) → F) → IsMultilinear F.field (E.variables poly.now) a
-        → IsMultilinear F.field (E.variables poly.now) b
-        → ((c : ℕ) → c < 2 ^ E.variables poly.now
-        → IsValueAt F.field a (corner F.field (E.variables poly.now) c) ((E.table poly.now).value c))
-        → ((c : ℕ) → c < 2 ^ E.variables poly.now
-        → IsValueAt F.field b (corner F.field (E.variables poly.now) c) ((E.table poly.now).value c))
-        → a ≡ b }
+    ensures one { (a b : List (ℕ × ℕ) → F) → Interpolates F.field (E.table poly.now) a
+        → Interpolates F.field (E.table poly.now) b → a ≡ b }
     ensures memory { IsOkUnless result PolyError.Memory }
 {
     poly.evaluate(alloc, point)

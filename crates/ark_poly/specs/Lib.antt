@@ -3,3 +3,6 @@ pub use Rattle.ark_univariate.specs.DenseOrSparse
 pub use Rattle.ark_univariate.specs.Domains
 pub use Rattle.ark_univariate.specs.Values
 pub use Rattle.ark_multi.specs.Extensions
+pub use Rattle.ark_univariate.specs.declared.polynomial.univariate.dense_or_sparse.DenseOrSparsePolynomial
+pub use Rattle.ark_multi.specs.declared.multilinear.dense.DenseMultilinearExtension
+pub use Rattle.ark_multi.specs.declared.multilinear.sparse.SparseMultilinearExtension

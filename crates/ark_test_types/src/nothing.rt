@@ -6,7 +6,7 @@ ghost use Rattle.ark_test_types.specs.Nothing.{nothing, nothing_laws};
 use ark_base::{DomainCoeff, Field, Zero};
 use std::ops::{Add, AddAssign, MulAssign, Sub, SubAssign};
 
-/// Its only value, zero.
+/// The only value of the module of one value: zero.
 #[derive(Clone, Copy, Debug, PartialEq, Eq)]
 pub struct Nothing;
 

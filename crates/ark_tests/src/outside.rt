@@ -44,7 +44,7 @@ pub fn denote_the_same<F: Field, P: Polynomial<F>>(left: &P, right: &P) -> bool
     left == right
 }
 
-/// The same of two polynomials by their coefficients.
+/// Whether two dense polynomials have the same coefficients.
 pub fn denote_the_same_dense<F: Field>(
     left: &DensePolynomial<F>,
     right: &DensePolynomial<F>,
@@ -54,7 +54,7 @@ pub fn denote_the_same_dense<F: Field>(
     denote_the_same(left, right)
 }
 
-/// The same of two polynomials by their terms.
+/// Whether two sparse polynomials have the same terms.
 pub fn denote_the_same_sparse<F: Field>(
     left: &SparsePolynomial<F>,
     right: &SparsePolynomial<F>,

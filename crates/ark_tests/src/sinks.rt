@@ -103,3 +103,53 @@ fn fails_where_a_write_fails_or_takes_nothing(rt: HostRuntime) -> Result<(), Fai
     }
     Ok(())
 }
+
+// Takes so many bytes at each `write`, up to `room` bytes in all, and counts the calls.
+#[derive(Drop)]
+struct Measured {
+    at_a_time: usize,
+    room: usize,
+    calls: usize,
+    taken: Vec<u8>,
+}
+
+impl Write for Measured {
+    fn write(&mut self, buf: &[u8]) -> io::Result<usize> {
+        let count = buf.len().min(self.at_a_time).min(self.room);
+        self.taken.extend_from_slice(&buf[..count])?;
+        self.room -= count;
+        self.calls = self.calls.wrapping_add(1);
+        Ok(count)
+    }
+
+    fn flush(&mut self) -> io::Result<()> {
+        Ok(())
+    }
+}
+
+// However many calls of `write` long bytes take, no more are made, and one that takes nothing ends them.
+#[test]
+fn long_writes_end_where_all_is_taken_or_nothing_is(rt: HostRuntime) -> Result<(), Fail> {
+    let bytes = vec![in rt.alloc(); 7; 1000]?;
+    let rows = [
+        (3, 1000, Ok(()), 334),
+        (256, 1000, Ok(()), 4),
+        (1000, 1000, Ok(()), 1),
+        (usize::MAX, usize::MAX, Ok(()), 1),
+        (3, 999, Err(Failed), 334),
+        (256, 0, Err(Failed), 1),
+    ];
+    for (at_a_time, room, answer, calls) in rows {
+        let mut sink = IoSink::new(Measured {
+            at_a_time,
+            room,
+            calls: 0,
+            taken: Vec::new(rt.alloc()),
+        });
+        assert_eq!(rt; sink.put(&bytes), answer);
+        let writer = sink.into_inner();
+        assert_eq!(rt; writer.calls, calls);
+        assert_eq!(rt; writer.taken.len(), room.min(bytes.len()));
+    }
+    Ok(())
+}

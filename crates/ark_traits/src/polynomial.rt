@@ -1,6 +1,8 @@
 //! What all forms of polynomials share.
 
-ghost use Rattle.std.specs.Prelude.{◌≡◌, ◌↔◌, ℕ, max, Decides, IsTrue, IfOk, OnOk, OnErr, IsOkUnless};
+ghost use Rattle.std.specs.Prelude.{◌≡◌, ◌↔◌, ℕ, max, Decides, IsOk, IsTrue, IfOk, OnOk, OnErr, IsOkUnless};
+ghost use Rattle.ark_math.specs.Forms.{IsPolynomials};
+ghost use Rattle.ark_math.specs.Module.{ModuleOn};
 
 use crate::error::PolyError;
 use crate::field::Field;
@@ -32,16 +34,13 @@ pub trait Polynomial<F: Field>: Clone + Debug + Hash + Eq + Drop {
 
     ghost has_value: { Meaning → Self.Point → F → Type 0 };
 
+    // Whether evaluation takes no memory, and so never fails.
+    ghost always_evaluates: { Type 0 };
+
     ghost addable: { Meaning → Meaning → Type 0 };
 
-    ghost zero: { Meaning };
-
-    ghost sum: { Meaning → Meaning → Meaning };
-
-    ghost negated: { Meaning → Meaning };
-
-    // A multiple; that by zero may keep the variables.
-    ghost scaled: { F → Meaning → Meaning };
+    // Zero, sums, opposites and multiples; a multiple by zero may keep the variables.
+    ghost operations: { ModuleOn F Meaning };
 
     /// The total degree; 0 for zero. A multilinear extension answers its number of variables.
     fn degree(&self) -> usize
@@ -51,21 +50,22 @@ pub trait Polynomial<F: Field>: Clone + Debug + Hash + Eq + Drop {
     fn point_fits(&self, point: &Self::Point) -> bool
         ensures { IsTrue result ↔ fits (variables self.now) point.now };
 
-    /// The value at a point that fits.
+    /// The value at a point that fits. A form that keeps coefficients never fails.
     fn evaluate(&self, alloc: Global, point: &Self::Point) -> Result<F, PolyError>
         requires { fits (variables self.now) point.now }
         ensures value { IfOk result (λ y. has_value (meaning self.now) point.now y) }
+        ensures succeeds { always_evaluates → IsOk result }
         ensures memory { IsOkUnless result PolyError.Memory };
 
     /// The zero polynomial.
     fn zero(alloc: Global) -> Result<Self, PolyError>
-        ensures zero { IfOk result (λ p. meaning p ≡ zero) }
+        ensures zero { IfOk result (λ p. meaning p ≡ operations.zero) }
         ensures variables { IfOk result (λ p. variables p ≡ 0) }
         ensures memory { IsOkUnless result PolyError.Memory };
 
     /// Whether it equals `zero`. A multilinear extension of zeros with variables doesn't.
     fn is_zero(&self) -> bool
-        ensures { IsTrue result ↔ (meaning self.now ≡ zero) };
+        ensures { IsTrue result ↔ (meaning self.now ≡ operations.zero) };
 
     /// Whether it has a sum with the other one.
     fn addable(&self, other: &Self) -> bool
@@ -74,7 +74,7 @@ pub trait Polynomial<F: Field>: Clone + Debug + Hash + Eq + Drop {
     /// The sum of two polynomials that can be added. A point that fits both fits it.
     fn add(&self, alloc: Global, other: &Self) -> Result<Self, PolyError>
         requires { addable (meaning self.now) (meaning other.now) }
-        ensures sum { IfOk result (λ p. meaning p ≡ sum (meaning self.now) (meaning other.now)) }
+        ensures sum { IfOk result (λ p. meaning p ≡ operations.plus (meaning self.now) (meaning other.now)) }
         ensures variables { IfOk result (λ p. variables p ≡ max (variables self.now) (variables other.now)) }
         ensures memory { IsOkUnless result PolyError.Memory };
 
@@ -82,13 +82,13 @@ pub trait Polynomial<F: Field>: Clone + Debug + Hash + Eq + Drop {
     fn sub(&self, alloc: Global, other: &Self) -> Result<Self, PolyError>
         requires { addable (meaning self.now) (meaning other.now) }
         ensures difference { IfOk result (λ p.
-            meaning p ≡ sum (meaning self.now) (negated (meaning other.now))) }
+            meaning p ≡ operations.plus (meaning self.now) (operations.negated (meaning other.now))) }
         ensures variables { IfOk result (λ p. variables p ≡ max (variables self.now) (variables other.now)) }
         ensures memory { IsOkUnless result PolyError.Memory };
 
     /// The opposite, which the same points fit.
     fn neg(&self, alloc: Global) -> Result<Self, PolyError>
-        ensures opposite { IfOk result (λ p. meaning p ≡ negated (meaning self.now)) }
+        ensures opposite { IfOk result (λ p. meaning p ≡ operations.negated (meaning self.now)) }
         ensures variables { IfOk result (λ p. variables p ≡ variables self.now) }
         ensures memory { IsOkUnless result PolyError.Memory };
 
@@ -96,7 +96,8 @@ pub trait Polynomial<F: Field>: Clone + Debug + Hash + Eq + Drop {
     /// fits it either way.
     fn add_assign(&mut self, alloc: Global, other: &Self) -> Result<(), PolyError>
         requires { addable (meaning self.old) (meaning other.now) }
-        ensures sum { OnOk result (meaning self.new ≡ sum (meaning self.old) (meaning other.now)) }
+        ensures sum { OnOk result (meaning self.new
+            ≡ operations.plus (meaning self.old) (meaning other.now)) }
         ensures kept { OnErr result (self.new ≡ self.old) }
         ensures variables { OnOk result (variables self.new
             ≡ max (variables self.old) (variables other.now)) }
@@ -107,7 +108,7 @@ pub trait Polynomial<F: Field>: Clone + Debug + Hash + Eq + Drop {
     fn sub_assign(&mut self, alloc: Global, other: &Self) -> Result<(), PolyError>
         requires { addable (meaning self.old) (meaning other.now) }
         ensures difference { OnOk result (meaning self.new
-            ≡ sum (meaning self.old) (negated (meaning other.now))) }
+            ≡ operations.plus (meaning self.old) (operations.negated (meaning other.now))) }
         ensures kept { OnErr result (self.new ≡ self.old) }
         ensures variables { OnOk result (variables self.new
             ≡ max (variables self.old) (variables other.now)) }
@@ -118,7 +119,7 @@ pub trait Polynomial<F: Field>: Clone + Debug + Hash + Eq + Drop {
     fn add_assign_scaled(&mut self, alloc: Global, factor: F, other: &Self) -> Result<(), PolyError>
         requires { addable (meaning self.old) (meaning other.now) }
         ensures sum { OnOk result (meaning self.new
-            ≡ sum (meaning self.old) (scaled factor (meaning other.now))) }
+            ≡ operations.plus (meaning self.old) (operations.scale factor (meaning other.now))) }
         ensures kept { OnErr result (self.new ≡ self.old) }
         ensures variables { OnOk result (variables self.new
             ≡ max (variables self.old) (variables other.now)) }
@@ -132,44 +133,5 @@ pub trait Polynomial<F: Field>: Clone + Debug + Hash + Eq + Drop {
 
     ghost fits_max: { (m n : ℕ) (x : Self.Point) → fits m x → fits n x → fits (max m n) x };
 
-    ghost degree_zero: { has_degree zero 0 };
-
-    ghost degree_law: { (a : Meaning) (d e : ℕ) → has_degree a d → has_degree a e → d ≡ e };
-
-    ghost value_law: { (a : Meaning) (x : Self.Point) (y z : F) → has_value a x y → has_value a x z → y ≡ z };
-
-    ghost addable_zero: { (a : Meaning) → addable a zero };
-
-    ghost addable_comm: { (a b : Meaning) → addable a b → addable b a };
-
-    ghost addable_negated: { (a b : Meaning) → addable a b → addable a (negated b) };
-
-    ghost addable_scaled: { (c : F) (a b : Meaning) → addable a b → addable a (scaled c b) };
-
-    ghost sum_zero: { (a : Meaning) → sum a zero ≡ a };
-
-    ghost sum_comm: { (a b : Meaning) → addable a b → sum a b ≡ sum b a };
-
-    ghost sum_assoc: { (a b c : Meaning) → addable a b → addable b c → sum (sum a b) c ≡ sum a (sum b c) };
-
-    ghost scaled_one: { (a : Meaning) → scaled F.field.one a ≡ a };
-
-    ghost scaled_times: { (c d : F) (a : Meaning) → scaled (F.field.times c d) a ≡ scaled c (scaled d a) };
-
-    ghost scaled_plus: { (c d : F) (a : Meaning) → scaled (F.field.plus c d) a
-        ≡ sum (scaled c a) (scaled d a) };
-
-    ghost scaled_sum: { (c : F) (a b : Meaning) → addable a b
-        → scaled c (sum a b) ≡ sum (scaled c a) (scaled c b) };
-
-    ghost scaled_zero: { (c : F) → scaled c zero ≡ zero };
-
-    ghost value_sum: { (a b : Meaning) (x : Self.Point) (y z : F) → addable a b
-        → has_value a x y → has_value b x z → has_value (sum a b) x (F.field.plus y z) };
-
-    ghost value_negated: { (a : Meaning) (x : Self.Point) (y : F) → has_value a x y
-        → has_value (negated a) x (F.field.negated y) };
-
-    ghost value_scaled: { (c : F) (a : Meaning) (x : Self.Point) (y : F) → has_value a x y
-        → has_value (scaled c a) x (F.field.times c y) };
+    ghost polynomial_laws: { IsPolynomials F.field operations addable has_degree has_value };
 }

@@ -1,5 +1,5 @@
 //! Where calls write bytes.
-ghost use Rattle.std.specs.Prelude.{◌≡◌, ℕ, List, [], Option, OnOk, OnErr, IfOk, IsOk};
+ghost use Rattle.std.specs.Prelude.{◌≡◌, ℕ, List, [], Option, OnOk, OnErr, IfOk, IsOk, IsSome};
 ghost use Rattle.std.specs.Io.KnownBytes.{Appends};
 ghost use Rattle.ark_traits.specs.Transfer.{AppendsBeginning, CountsFailure};
 
@@ -76,6 +76,10 @@ impl<W: Write> Sink for IoSink<W> {
         ensures counted { CountsFailure result
             (io_sink_failures self.old) (io_sink_failures self.new) }
         ensures empty { bytes.now ≡ [] → IsOk result × (self.new ≡ self.old) }
+
+        // Where it is known what the writer holds, a failure is seen there: not all bytes were taken.
+        ensures short { IsSome (W.contents (io_sink_inner self.old)) → OnErr result
+            (¬ Appends (W.contents (io_sink_inner self.old)) (W.contents (io_sink_inner self.new)) bytes.now) }
     {
         let mut rest = bytes;
         while !rest.is_empty() {

@@ -74,7 +74,7 @@ pub fn forward<F: FftField, D: EvaluationDomain<F>>(domain: &D, items: &mut [F])
     passes(items, domain.group_gen());
 }
 
-/// Its inverse.
+/// The inverse transform by plain passes, in place.
 pub fn inverse<F: FftField, D: EvaluationDomain<F>>(domain: &D, values: &mut [F]) {
     passes(values, domain.group_gen_inv());
     D::distribute_powers_and_mul_by_const(values, domain.coset_offset_inv(), domain.size_inv());

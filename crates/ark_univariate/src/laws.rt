@@ -3,13 +3,13 @@
 
 ghost use Rattle.std.specs.Prelude.{◌≡◌, ◌≢◌, ◌↔◌, ◌⊎◌, ℕ, ◌+◌, List, IsTrue, IfOk, IfErr, IfSome};
 ghost use Rattle.std.specs.Prelude.{IsOk, IsOkUnless, IsSome};
-ghost use Rattle.ark_math.specs.Outcome.{IsOkUnlessEither};
 ghost use Rattle.ark_math.specs.Linear.{constant, linear_factor};
 ghost use Rattle.ark_math.specs.Module.{itself, sum_below};
+ghost use Rattle.ark_math.specs.Outcome.{IsOkUnlessEither};
 ghost use Rattle.ark_math.specs.Points.{AreValues, AreWeights};
-ghost use Rattle.ark_univariate.specs.DenseOrSparse.{denoted};
 ghost use Rattle.ark_math.specs.Univariate.{IsBelow, IsDegree, IsDivision, IsQuotient, IsTrimmed, IsValue};
 ghost use Rattle.ark_math.specs.Univariate.{added, nothing, of_list, of_pairs, product};
+ghost use Rattle.ark_univariate.specs.DenseOrSparse.{denoted};
 
 use crate::domain::EvaluationDomain;
 use crate::evaluations::univariate::Evaluations;
@@ -224,7 +224,7 @@ pub fn division_at_point<F: Field>(
     ensures only { IfOk result (λ p. (q : ℕ → F) (n : ℕ) → IsBelow F.field n q
         → of_list F.field polynomial.now ≡ added F.field (product F.field q (linear_factor F.field point))
         (constant F.field p.2) → q ≡ of_list F.field p.0) }
-    ensures errors { IsOkUnlessEither result PolyError.Memory PolyError.Overflow }
+    ensures memory { IsOkUnless result PolyError.Memory }
 {
     let divisor = linear(alloc, point)?;
     let (quotient, remainder) = quotient_and_remainder(alloc, polynomial, &divisor)?;
@@ -278,8 +278,10 @@ fn quotient_and_remainder<F: Field>(
     requires { of_list F.field divisor.now ≢ nothing F.field }
     ensures division { IfOk result (λ p. IsQuotient F.field (of_list F.field dividend.now)
         (of_list F.field divisor.now) (of_list F.field p.0) (of_list F.field p.1)) }
-    ensures errors { IsOkUnlessEither result PolyError.Memory PolyError.Overflow }
+    ensures memory { IsOkUnless result PolyError.Memory }
 {
+    // No list is so long that its degree is `usize::MAX`.
+    dividend.coeffs().len();
     let dividend = DenseOrSparsePolynomial::from(dividend);
     let divisor = DenseOrSparsePolynomial::from(divisor);
     let Some(pair) = dividend.divide_with_q_and_r(alloc, &divisor)? else {

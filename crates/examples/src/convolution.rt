@@ -1,6 +1,7 @@
 //! The convolution of two lists, by the product of polynomials.
 
-ghost use Rattle.std.specs.Prelude.{◌≡◌, ◌⊎◌, IfOk, IfErr};
+ghost use Rattle.std.specs.Prelude.{◌≡◌, IfOk};
+ghost use Rattle.ark_math.specs.Outcome.{IsOkUnlessEither};
 ghost use Rattle.ark_math.specs.Univariate.{IsTrimmed, of_list, product};
 
 use ark_base::{FftField, PolyError};
@@ -15,7 +16,7 @@ pub fn convolution<F: FftField>(alloc: Global, left: &[F], right: &[F]) -> Resul
     ensures product { IfOk result (λ both. of_list F.field both.items
         ≡ product F.field (of_list F.field left.now) (of_list F.field right.now)) }
     ensures trimmed { IfOk result (λ both. IsTrimmed F.field both.items) }
-    ensures errors { IfErr result (λ e. (e ≡ PolyError.Memory) ⊎ (e ≡ PolyError.Overflow)) }
+    ensures errors { IsOkUnlessEither result PolyError.Memory PolyError.Overflow }
 {
     let left = DensePolynomial::from_coefficients_slice(alloc, left)?;
     let right = DensePolynomial::from_coefficients_slice(alloc, right)?;

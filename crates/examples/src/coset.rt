@@ -1,6 +1,7 @@
 //! A coset of a domain, and the values that a polynomial has there.
 
-ghost use Rattle.std.specs.Prelude.{◌≡◌, ◌↔◌, ◌⊎◌, ℕ, length, IfOk, IfErr, Err};
+ghost use Rattle.std.specs.Prelude.{◌≡◌, ◌↔◌, ℕ, length, IfOk, Err};
+ghost use Rattle.ark_math.specs.Outcome.{IsOkUnlessEither};
 ghost use Rattle.ark_math.specs.Univariate.{IsBelow};
 ghost use Rattle.ark_math.specs.Points.{AreValues};
 
@@ -22,7 +23,7 @@ pub fn values_on_coset<F: FftField, D: EvaluationDomain<F>>(
         × AreValues F.field (D.domain domain.now) p values.now
         × AreValues F.field (record (D.domain domain.now) { offset = offset }) p others.items) }
     ensures zero { (result ≡ Err PolyError.NoDomain) ↔ (offset ≡ F.field.zero) }
-    ensures errors { IfErr result (λ e. (e ≡ PolyError.Memory) ⊎ (e ≡ PolyError.NoDomain)) }
+    ensures errors { IsOkUnlessEither result PolyError.Memory PolyError.NoDomain }
 {
     let coset = domain.get_coset(offset).ok_or(PolyError::NoDomain)?;
     let coeffs = domain.ifft(alloc, values)?;

@@ -1,6 +1,6 @@
 //! Small callers, as a user of the crates writes them: a transform and back, values on a coset, an interpolation, the
-//! convolution of two lists, a combination of two polynomials, exact costs, the first round of a sum-check, what chooses a
-//! value of a table, fields and a module of one's own. The program prints what each gives.
+//! convolution of two lists, a combination of two polynomials, an opening, exact costs, the first round of a sum-check,
+//! what chooses a value of a table, fields and a module of one's own. The program prints what each gives.
 #![tactic(auto)]
 
 mod combination;
@@ -11,6 +11,7 @@ mod field;
 mod interpolation;
 mod large_field;
 mod module;
+mod opening;
 mod selector;
 mod sum_check;
 mod there_and_back;
@@ -29,10 +30,11 @@ use field::{F97, quotient};
 use interpolation::interpolated_value;
 use large_field::size_for_a_hundred_million;
 use module::{Point, points_of_curve};
+use opening::opening;
 use selector::selector;
 use std::alloc::Global;
 use std::io::Print;
-use sum_check::{first_round, next_claim};
+use sum_check::{first_round, last_value, next_claim};
 use there_and_back::there_and_back;
 
 fn main(rt: HostRuntime) -> anyhow::Result<()> {
@@ -49,22 +51,19 @@ fn main(rt: HostRuntime) -> anyhow::Result<()> {
         &[4, 5].map(F65537::from),
     )?;
     print_list(&rt, alloc, "convolution", &both)?;
-    let mixed = twice_and_thrice(alloc, &[1, 2].map(F97::from), &[10, 20, 30].map(F97::from))?;
-    print_list(
-        &rt,
-        alloc,
-        "twice one polynomial and three times another",
-        &mixed,
-    )?;
+    print_polynomials(&rt, alloc)?;
     let items = over_sixteen(alloc, [1, 2, 3, 4].map(F65537::from))?;
     print_list(&rt, alloc, "over sixteen elements and back", &items)?;
-    let [low, high] = round(alloc, [1, 2, 3, 4].map(F65537::from))?;
-    let claim = next_claim(low, high, F65537::from(5));
+    let checked = round(
+        alloc,
+        [1, 2, 3, 4].map(F65537::from),
+        [5, 7].map(F65537::from),
+    )?;
     print_list(
         &rt,
         alloc,
-        "first round of a sum-check, and the next claim",
-        &[low, high, claim],
+        "first round of a sum-check, the next claim, and the last value",
+        &checked,
     )?;
     let counts = counts_at(alloc, [2, 3].map(F65537::from))?;
     print_list(
@@ -107,6 +106,16 @@ fn twice_and_thrice<F: Field>(alloc: Global, left: &[F], right: &[F]) -> Result<
     Ok(Vec::from_slice(alloc, both.coeffs())?)
 }
 
+/// The value at a point, and the coefficients of the quotient that shows it.
+fn opened_at<F: Field>(alloc: Global, coeffs: &[F], point: F) -> Result<Vec<F>, PolyError> {
+    let polynomial = DensePolynomial::from_coefficients_slice(alloc, coeffs)?;
+    let (value, quotient) = opening(alloc, &polynomial, point)?;
+    let mut opened = Vec::new(alloc);
+    opened.push(value)?;
+    opened.extend_from_slice(quotient.coeffs())?;
+    Ok(opened)
+}
+
 /// Four items over sixteen elements, and back.
 fn over_sixteen<F: FftField>(alloc: Global, items: [F; 4]) -> Result<Vec<F>, PolyError> {
     let [first, second, third, fourth] = items;
@@ -119,14 +128,15 @@ fn over_sixteen<F: FftField>(alloc: Global, items: [F; 4]) -> Result<Vec<F>, Pol
     Ok(items)
 }
 
-/// The first round for a table of two variables.
-fn round<F: Field>(alloc: Global, values: [F; 4]) -> Result<[F; 2], PolyError> {
+/// Of a table of two variables, the two numbers of the first round, the next claim, and the value at the drawn point.
+fn round<F: Field>(alloc: Global, values: [F; 4], drawn: [F; 2]) -> Result<[F; 4], PolyError> {
     let table = DenseMultilinearExtension::from_evaluations_slice(alloc, 2, &values)?;
-    if table.num_vars() == 0 {
-        return Err(PolyError::NoDomain);
-    }
+    let [first, second] = drawn;
     let (low, high) = first_round(alloc, &table)?;
-    Ok([low, high])
+    let claim = next_claim(low, high, first);
+    let point = vec![in alloc; first, second]?;
+    let last = last_value(alloc, &table, &point)?;
+    Ok([low, high, claim, last])
 }
 
 /// How much each value of a table of two variables counts at a point.
@@ -158,6 +168,23 @@ fn print_list<M: PrimeModulus>(
         .collect(alloc)?;
     println!(rt; "{name}: {numbers:?}")?;
     Ok(())
+}
+
+fn print_polynomials(rt: &impl Print, alloc: Global) -> anyhow::Result<()> {
+    let both = twice_and_thrice(alloc, &[1, 2].map(F97::from), &[10, 20, 30].map(F97::from))?;
+    print_list(
+        rt,
+        alloc,
+        "twice one polynomial and three times another",
+        &both,
+    )?;
+    let opened = opened_at(alloc, &[1, 2, 3].map(F97::from), F97::from(2))?;
+    print_list(
+        rt,
+        alloc,
+        "the value at 2, and the quotient by x - 2",
+        &opened,
+    )
 }
 
 fn print_fields(rt: &impl Print) -> anyhow::Result<()> {

@@ -1,10 +1,11 @@
-//! The first round of a sum-check over the values of a table, and what is claimed of the next one.
+//! The first round of a sum-check over the values of a table, what is claimed of the next one, and the last value.
 
-ghost use Rattle.std.specs.Prelude.{◌≡◌, ◌-◌, ◌<◌, ◌^◌, ℕ, [], ◌∷◌, length, IfOk, IsOkUnless};
+ghost use Rattle.std.specs.Prelude.{◌≡◌, ◌<◌, length, IfOk, IsOkUnless};
 ghost use Rattle.ark_math.specs.Field.{minus};
 ghost use Rattle.ark_math.specs.Module.{itself, sum_below};
-ghost use Rattle.ark_math.specs.Multilinear.{fixed};
+ghost use Rattle.ark_math.specs.Multilinear.{Table, extension};
 ghost use Rattle.ark_math.specs.Univariate.{of_list};
+ghost use Rattle.examples.specs.SumCheck.{sum_of_all, sum_of_others};
 
 use ark_base::{Field, PolyError};
 use ark_poly::MultilinearExtension;
@@ -16,13 +17,10 @@ pub fn first_round<F: Field, E: MultilinearExtension<F>>(
     alloc: Global,
     table: &E,
 ) -> Result<(F, F), PolyError>
-    requires variables { 0 < E.variables table.now }
-    ensures zero { IfOk result (λ g. g.0 ≡ sum_below (itself F.field) (2 ^ (E.variables table.now - 1))
-        (fixed F.field (E.table table.now).value (F.field.zero ∷ []))) }
-    ensures one { IfOk result (λ g. g.1 ≡ sum_below (itself F.field) (2 ^ (E.variables table.now - 1))
-        (fixed F.field (E.table table.now).value (F.field.one ∷ []))) }
-    ensures claim { IfOk result (λ g. F.field.plus g.0 g.1
-        ≡ sum_below (itself F.field) (2 ^ E.variables table.now) (E.table table.now).value) }
+    requires variables { 0 < (E.table table.now).variables }
+    ensures zero { IfOk result (λ g. g.0 ≡ sum_of_others F.field (E.table table.now) F.field.zero) }
+    ensures one { IfOk result (λ g. g.1 ≡ sum_of_others F.field (E.table table.now) F.field.one) }
+    ensures claim { IfOk result (λ g. F.field.plus g.0 g.1 ≡ sum_of_all F.field (E.table table.now)) }
     ensures memory { IsOkUnless result PolyError.Memory }
 {
     Ok((
@@ -36,10 +34,8 @@ pub fn first_round<F: Field, E: MultilinearExtension<F>>(
 /// is `x`.
 pub fn next_claim<F: Field>(low: F, high: F, x: F) -> F
     ensures line { result ≡ F.field.plus low (F.field.times x (minus F.field high low)) }
-    ensures honest { (n : ℕ) (t : ℕ → F)
-        → low ≡ sum_below (itself F.field) n (fixed F.field t (F.field.zero ∷ []))
-        → high ≡ sum_below (itself F.field) n (fixed F.field t (F.field.one ∷ []))
-        → result ≡ sum_below (itself F.field) n (fixed F.field t (x ∷ [])) }
+    ensures honest { (t : Table F) → low ≡ sum_of_others F.field t F.field.zero
+        → high ≡ sum_of_others F.field t F.field.one → result ≡ sum_of_others F.field t x }
 {
     low + x * (high - low)
 }
@@ -50,15 +46,27 @@ pub fn sum_over_others<F: Field, E: MultilinearExtension<F>>(
     table: &E,
     x: F,
 ) -> Result<F, PolyError>
-    requires variables { 0 < E.variables table.now }
-    ensures sum { IfOk result (λ y. y ≡ sum_below (itself F.field) (2 ^ (E.variables table.now - 1))
-        (fixed F.field (E.table table.now).value (x ∷ []))) }
+    requires variables { 0 < (E.table table.now).variables }
+    ensures sum { IfOk result (λ y. y ≡ sum_of_others F.field (E.table table.now) x) }
     ensures memory { IsOkUnless result PolyError.Memory }
 {
     let mut first = Vec::new(alloc);
     first.push(x)?;
     let rest = table.fix_variables(alloc, &first)?;
     Ok(sum(&rest.to_evaluations(alloc)?))
+}
+
+/// The value at the point of all that the verifier has drawn, which the last claim is compared with.
+pub fn last_value<F: Field, E: MultilinearExtension<F>>(
+    alloc: Global,
+    table: &E,
+    drawn: &Vec<F>,
+) -> Result<F, PolyError>
+    requires { length drawn.now.items ≡ (E.table table.now).variables }
+    ensures value { IfOk result (λ y. y ≡ extension F.field (E.table table.now).value drawn.now.items) }
+    ensures memory { IsOkUnless result PolyError.Memory }
+{
+    table.evaluate(alloc, drawn)
 }
 
 fn sum<F: Field>(values: &[F]) -> F

@@ -1,302 +1,230 @@
-//! Drawn extensions of both forms, of up to twelve variables and more.
+//! What drawn extensions look like, and how much is drawn for them.
 
-use crate::building::{fixed, relabelled, value};
-use ark_base::{F65537, Field, PolyError, Polynomial};
+use crate::forms::{TRIES, drawn};
+use ark_base::{F5, F65537, Field, Polynomial};
 use ark_multi::multilinear::{
     DenseMultilinearExtension, MultilinearExtension, SparseMultilinearExtension,
 };
+use ark_test_types::counting::Counting;
 use rand_core::Rng;
 use rand_pcg::Pcg64;
-use std::alloc::{AllocError, Global};
+use std::alloc::Global;
+use std::collections::HashSet;
 use std::test::Fail;
 
-type Dense = DenseMultilinearExtension<F65537>;
+// How many different values a dense draw has.
+fn different_values<F: Field>(alloc: Global, rng: &mut Pcg64, num_vars: usize) -> usize {
+    let Some(p) = drawn::<F, DenseMultilinearExtension<F>>(alloc, rng, num_vars) else {
+        return 0;
+    };
+    let Ok(mut values) = p.to_evaluations(alloc) else {
+        return 0;
+    };
+    values.sort_unstable();
+    values.dedup();
+    values.len()
+}
 
-type Sparse = SparseMultilinearExtension<F65537>;
+#[test]
+fn dense_draws_have_many_values(rt: HostRuntime) -> Result<(), Fail> {
+    let mut rng = Pcg64::new(47, 1);
+    assert!(rt; different_values::<F65537>(rt.alloc(), &mut rng, 10) > 1000);
+    assert!(rt; different_values::<F65537>(rt.alloc(), &mut rng, 4) == 16);
+    assert!(rt; different_values::<F5>(rt.alloc(), &mut rng, 10) == 5);
+    Ok(())
+}
 
-/// What a form that draws places may try for one.
-pub const TRIES: usize = 1000;
-
-pub fn drawn<F: Field, E: MultilinearExtension<F>>(
+// A sparse draw of so many entries with so many tries, where the table has room for them.
+fn drawn_with<F: Field, R: Rng>(
     alloc: Global,
-    rng: &mut Pcg64,
-    num_vars: usize,
+    rng: &mut R,
+    (num_vars, entries): (usize, usize),
     tries: usize,
-) -> Result<Option<E>, PolyError> {
-    if num_vars >= 64 {
-        return Ok(None);
+) -> Option<SparseMultilinearExtension<F>> {
+    if num_vars >= 64 || entries > 1 << num_vars {
+        return None;
     }
-    E::rand(alloc, num_vars, rng, tries)
+    SparseMultilinearExtension::rand_with_config(alloc, num_vars, entries, rng, tries).ok()?
 }
 
-pub fn drawn_point<F: Field>(
+// The least and the greatest index of an entry, and how many entries there are.
+fn range_of<F: Field>(p: &SparseMultilinearExtension<F>) -> (usize, usize, usize) {
+    let (mut least, mut greatest, mut count) = (usize::MAX, 0, 0_usize);
+    for (index, _) in p.iter() {
+        least = least.min(*index);
+        greatest = greatest.max(*index);
+        count = count.saturating_add(1);
+    }
+    (least, greatest, count)
+}
+
+// Whether a draw has at most as many entries as are asked for, and at least so many, in both halves of the table.
+fn has_entries<F: Field>(
     alloc: Global,
     rng: &mut Pcg64,
-    len: usize,
-) -> Result<Vec<F>, AllocError> {
-    let mut point = Vec::new(alloc);
-    for _ in 0..len {
-        point.push(F::from(rng.next_u64()))?;
-    }
-    Ok(point)
-}
-
-// What is left of a table when its first variable is bound. A value that is missing at the end counts as zero.
-fn halved<F: Field>(alloc: Global, table: &[F], x: F) -> Result<Vec<F>, AllocError> {
-    let mut half = Vec::new(alloc);
-    for pair in table.chunks(2) {
-        let low = pair.first().copied().unwrap_or(F::zero());
-        let high = pair.get(1).copied().unwrap_or(F::zero());
-        half.push(low + x * (high - low))?;
-    }
-    Ok(half)
-}
-
-/// What is left of a table when its first variables are bound one at a time.
-pub fn one_at_a_time<F: Field>(
-    alloc: Global,
-    table: &[F],
-    point: &[F],
-) -> Result<Vec<F>, AllocError> {
-    let mut left = Vec::from_slice(alloc, table)?;
-    for x in point {
-        left = halved(alloc, &left, *x)?;
-    }
-    Ok(left)
-}
-
-fn leaves<F: Field, E: MultilinearExtension<F>>(
-    alloc: Global,
-    p: &E,
-    point: &[F],
-    table: &[F],
-) -> Result<bool, PolyError> {
-    let Some(left) = fixed(alloc, p, point)? else {
-        return Ok(false);
+    (num_vars, entries): (usize, usize),
+    at_least: usize,
+) -> bool {
+    let Some(p) = drawn_with::<F, Pcg64>(alloc, rng, (num_vars, entries), TRIES) else {
+        return false;
     };
-    Ok(left.to_evaluations(alloc)?.as_slice() == table)
-}
-
-/// Whether binding the first variables at once leaves what binding them one at a time does, however many they are.
-pub fn binds_as_one_at_a_time<F: Field, E: MultilinearExtension<F>>(
-    alloc: Global,
-    p: &E,
-    point: &Vec<F>,
-) -> Result<bool, PolyError> {
-    let table = p.to_evaluations(alloc)?;
-    let mut right = true;
-    for len in 0..point.len() {
-        let bound = one_at_a_time(alloc, &table, &point[..len])?;
-        right = right && leaves(alloc, p, &point[..len], &bound)?;
-    }
-    let last = one_at_a_time(alloc, &table, point)?;
-    Ok(right && leaves(alloc, p, point, &last)? && value(alloc, p, point)? == last.first().copied())
-}
-
-fn draws_and_binds<F: Field, E: MultilinearExtension<F>>(
-    alloc: Global,
-    rng: &mut Pcg64,
-    num_vars: usize,
-) -> Result<bool, PolyError> {
-    let point = drawn_point(alloc, rng, num_vars)?;
-    let Some(p) = drawn::<F, E>(alloc, rng, num_vars, TRIES)? else {
-        return Ok(false);
-    };
-    binds_as_one_at_a_time(alloc, &p, &point)
+    let half = (1_usize << num_vars.min(63)) / 2;
+    let (least, greatest, count) = range_of(&p);
+    let in_both_halves = entries < 8 || (least < half && half <= greatest);
+    p.num_vars() == num_vars && at_least <= count && count <= entries && in_both_halves
 }
 
 #[test]
-fn variables_bound_at_once_and_one_at_a_time(rt: HostRuntime) -> Result<(), Fail> {
-    let mut rng = Pcg64::new(43, 1);
-    for num_vars in 0..13 {
-        assert!(rt; draws_and_binds::<F65537, Dense>(rt.alloc(), &mut rng, num_vars)?);
-        assert!(rt; draws_and_binds::<F65537, Sparse>(rt.alloc(), &mut rng, num_vars)?);
+fn sparse_draws_have_the_entries_asked_for(rt: HostRuntime) -> Result<(), Fail> {
+    let mut rng = Pcg64::new(55, 1);
+    let rows: [(usize, usize); 11] = [
+        (0, 0),
+        (0, 1),
+        (1, 2),
+        (2, 4),
+        (4, 5),
+        (6, 0),
+        (6, 10),
+        (6, 64),
+        (10, 100),
+        (40, 50),
+        (63, 40),
+    ];
+    for (num_vars, entries) in rows {
+        // Of the values that are drawn one may be zero, which isn't stored.
+        let at_least = entries.saturating_sub(1);
+        let row = (num_vars, entries);
+        assert!(rt;
+            has_entries::<F65537>(rt.alloc(), &mut rng, row, at_least),
+            "{row:?}"
+        );
+        assert!(rt;
+            has_entries::<F5>(rt.alloc(), &mut rng, row, entries / 3),
+            "{row:?}"
+        );
     }
     Ok(())
 }
 
-// The corner of the cube with this index.
-fn corner<F: Field>(alloc: Global, num_vars: usize, index: usize) -> Result<Vec<F>, AllocError> {
-    let mut point = Vec::new(alloc);
-    let mut left = index;
-    for _ in 0..num_vars {
-        point.push(F::from((left % 2) as u64))?;
-        left /= 2;
-    }
-    Ok(point)
-}
-
-fn has_values_at_corners<F: Field, E: MultilinearExtension<F>>(
-    alloc: Global,
-    rng: &mut Pcg64,
-    num_vars: usize,
-) -> Result<bool, PolyError> {
-    let Some(p) = drawn::<F, E>(alloc, rng, num_vars, TRIES)? else {
-        return Ok(false);
-    };
-    let mut right = true;
-    for (index, number) in p.to_evaluations(alloc)?.iter().enumerate() {
-        right = right && value(alloc, &p, &corner(alloc, num_vars, index)?)? == Some(*number);
-    }
-    Ok(right)
-}
-
-#[test]
-fn values_at_corners(rt: HostRuntime) -> Result<(), Fail> {
-    let mut rng = Pcg64::new(44, 1);
-    for num_vars in 0..8 {
-        assert!(rt; has_values_at_corners::<F65537, Dense>(rt.alloc(), &mut rng, num_vars)?);
-        assert!(rt; has_values_at_corners::<F65537, Sparse>(rt.alloc(), &mut rng, num_vars)?);
-    }
-    Ok(())
-}
-
-// Whether the value with the first so many variables bound is that at the whole point.
-fn has_value_when_bound<F: Field, E: MultilinearExtension<F>>(
-    alloc: Global,
-    p: &E,
-    point: &Vec<F>,
-    len: usize,
-) -> Result<bool, PolyError> {
-    let (first, rest) = point.split_at(len.min(point.len()));
-    let Some(left) = fixed(alloc, p, first)? else {
-        return Ok(false);
-    };
-    let rest = Vec::from_slice(alloc, rest)?;
-    Ok(value(alloc, &left, &rest)? == value(alloc, p, point)?)
-}
-
-// Where the variable is after two windows are exchanged.
-fn exchanged_place(place: usize, a: usize, b: usize, k: usize) -> usize {
-    if place >= a && place - a < k {
-        b.saturating_add(place - a)
-    } else if place >= b && place - b < k {
-        a.saturating_add(place - b)
-    } else {
-        place
-    }
-}
-
-/// The point with the items of two windows exchanged.
-pub fn exchanged<F: Field>(
-    alloc: Global,
-    point: &[F],
-    (a, b, k): (usize, usize, usize),
-) -> Result<Vec<F>, AllocError> {
-    let mut exchanged = Vec::new(alloc);
-    for place in 0..point.len() {
-        let item = point.get(exchanged_place(place, a, b, k));
-        exchanged.push(item.copied().unwrap_or(F::zero()))?;
-    }
-    Ok(exchanged)
-}
-
-// Whether the value with two windows exchanged is that at the point with its items exchanged.
-fn has_value_when_relabelled<F: Field, E: MultilinearExtension<F>>(
-    alloc: Global,
-    p: &E,
-    point: &Vec<F>,
-    windows: (usize, usize, usize),
-) -> Result<bool, PolyError> {
-    let (a, b, k) = windows;
-    let Some(q) = relabelled(alloc, p, a, b, k)? else {
-        return Ok(false);
-    };
-    Ok(value(alloc, &q, point)? == value(alloc, p, &exchanged(alloc, point, windows)?)?)
-}
-
-const WINDOWS: [(usize, usize, usize); 7] = [
-    (2, 2, 1),
-    (3, 4, 1),
-    (7, 5, 1),
-    (2, 5, 3),
-    (7, 0, 2),
-    (0, 9, 1),
-    (5, 0, 5),
-];
-
-fn has_values_of_parts<F: Field, E: MultilinearExtension<F>>(
-    alloc: Global,
-    rng: &mut Pcg64,
-) -> Result<bool, PolyError> {
-    let point = drawn_point(alloc, rng, 10)?;
-    let Some(p) = drawn::<F, E>(alloc, rng, 10, TRIES)? else {
-        return Ok(false);
-    };
-    let mut right = true;
-    for windows in WINDOWS {
-        right = right && has_value_when_relabelled(alloc, &p, &point, windows)?;
-    }
-    for len in 0..11 {
-        right = right && has_value_when_bound(alloc, &p, &point, len)?;
-    }
-    Ok(right)
-}
-
-#[test]
-fn values_when_variables_are_bound_and_exchanged(rt: HostRuntime) -> Result<(), Fail> {
-    let mut rng = Pcg64::new(45, 1);
-    for _ in 0..20 {
-        assert!(rt; has_values_of_parts::<F65537, Dense>(rt.alloc(), &mut rng)?);
-        assert!(rt; has_values_of_parts::<F65537, Sparse>(rt.alloc(), &mut rng)?);
-    }
-    Ok(())
-}
-
-// Whether sums, differences and opposites have the sums, differences and opposites of the values.
-fn values_add_up<F: Field, E: MultilinearExtension<F>>(
-    alloc: Global,
-    p: &E,
-    q: &E,
-    point: &Vec<F>,
-) -> Result<bool, PolyError> {
-    let (Some(x), Some(y)) = (value(alloc, p, point)?, value(alloc, q, point)?) else {
-        return Ok(false);
-    };
-    if !p.addable(q) {
-        return Ok(false);
-    }
-    Ok(
-        value(alloc, &p.add(alloc, q)?, point)? == Some(x + y)
-            && value(alloc, &p.sub(alloc, q)?, point)? == Some(x - y)
-            && value(alloc, &p.neg(alloc)?, point)? == Some(-x),
-    )
-}
-
-// Whether two draws differ, and their values add up.
-fn draws_add_up<F: Field, E: MultilinearExtension<F>>(
-    alloc: Global,
-    rng: &mut Pcg64,
-    num_vars: usize,
-) -> Result<bool, PolyError> {
+// Whether two draws differ, and each has between half and all of so many entries.
+fn draws_between<F: Field>(alloc: Global, rng: &mut Pcg64, num_vars: usize, most: usize) -> bool {
     let (Some(p), Some(q)) = (
-        drawn::<F, E>(alloc, rng, num_vars, TRIES)?,
-        drawn::<F, E>(alloc, rng, num_vars, TRIES)?,
+        drawn::<F, SparseMultilinearExtension<F>>(alloc, rng, num_vars),
+        drawn::<F, SparseMultilinearExtension<F>>(alloc, rng, num_vars),
     ) else {
-        return Ok(false);
+        return false;
     };
-    let point = drawn_point(alloc, rng, num_vars)?;
-    Ok(p != q && p.num_vars() == num_vars && values_add_up(alloc, &p, &q, &point)?)
+    let (_, _, count) = range_of(&p);
+    p != q && most / 2 <= count && count <= most
 }
 
 #[test]
-fn draws_differ_and_add_up(rt: HostRuntime) -> Result<(), Fail> {
-    let mut rng = Pcg64::new(46, 1);
-    for _ in 0..20 {
-        assert!(rt; draws_add_up::<F65537, Dense>(rt.alloc(), &mut rng, 10)?);
-        assert!(rt; draws_add_up::<F65537, Sparse>(rt.alloc(), &mut rng, 10)?);
-        assert!(rt; draws_add_up::<F65537, Sparse>(rt.alloc(), &mut rng, 18)?);
+fn sparse_draws_store_the_root_of_the_table(rt: HostRuntime) -> Result<(), Fail> {
+    let mut rng = Pcg64::new(51, 1);
+    let rows = [
+        (0, 1),
+        (1, 1),
+        (2, 2),
+        (3, 2),
+        (4, 4),
+        (9, 16),
+        (16, 256),
+        (20, 1024),
+    ];
+    for (num_vars, most) in rows {
+        assert!(rt; draws_between::<F65537>(rt.alloc(), &mut rng, num_vars, most));
     }
     Ok(())
 }
 
-// Whether the dense form draws without tries.
-fn draws_without_tries<F: Field>(alloc: Global, rng: &mut Pcg64) -> Result<bool, PolyError> {
-    Ok(drawn::<F, DenseMultilinearExtension<F>>(alloc, rng, 5, 0)?.is_some())
+// How many tries a new index takes.
+fn tries_for_new(
+    rng: &mut Counting<Pcg64>,
+    taken: &mut HashSet<u64>,
+    num_vars: usize,
+) -> Option<usize> {
+    for tries in 1..=TRIES {
+        if taken.insert(rng.next_u64() % (1 << num_vars.min(63))).ok()? {
+            return Some(tries);
+        }
+    }
+    None
+}
+
+// The words of a generator that so many entries take, each an index that is new and a value, and the greatest number of
+// tries that an index takes.
+fn words_taken<F: Field>(
+    alloc: Global,
+    seed: u128,
+    (num_vars, entries): (usize, usize),
+) -> Option<(u64, usize)> {
+    let mut rng = Counting::new(Pcg64::new(seed, 1));
+    let mut taken = HashSet::new(alloc);
+    let mut most = 0;
+    for _ in 0..entries {
+        let tries = tries_for_new(&mut rng, &mut taken, num_vars)?;
+        most = most.max(tries);
+        F::rand(&mut rng);
+    }
+    Some((rng.draws, most))
+}
+
+// Whether just so many tries suffice for a draw that takes just so many words, and one less does not.
+fn takes_tries<F: Field>(alloc: Global, seed: u128, shape: (usize, usize)) -> bool {
+    let Some((words, tries)) = words_taken::<F>(alloc, seed, shape) else {
+        return false;
+    };
+    let mut rng = Counting::new(Pcg64::new(seed, 1));
+    let comes = drawn_with::<F, _>(alloc, &mut rng, shape, tries).is_some();
+    let mut other = Counting::new(Pcg64::new(seed, 1));
+    let fewer = drawn_with::<F, _>(alloc, &mut other, shape, tries.saturating_sub(1));
+    comes && rng.draws == words && fewer.is_none() && other.draws < words
+}
+
+// Whether nothing is drawn without tries but an extension of no entries.
+fn needs_tries<F: Field>(alloc: Global) -> bool {
+    let mut rng = Counting::new(Pcg64::new(50, 1));
+    let Some(p) = drawn_with::<F, _>(alloc, &mut rng, (2, 0), 0) else {
+        return false;
+    };
+    let none = SparseMultilinearExtension::<F>::rand(alloc, 5, &mut rng, 0);
+    p.num_vars() == 2
+        && p.iter().count() == 0
+        && drawn_with::<F, _>(alloc, &mut rng, (2, 4), 0).is_none()
+        && matches!(none, Ok(None))
+        && rng.draws == 0
 }
 
 #[test]
-fn dense_draws_need_no_tries(rt: HostRuntime) -> Result<(), Fail> {
-    assert!(rt; draws_without_tries::<F65537>(rt.alloc(), &mut Pcg64::new(48, 1))?);
+fn sparse_draws_take_their_tries(rt: HostRuntime) -> Result<(), Fail> {
+    assert!(rt; needs_tries::<F65537>(rt.alloc()));
+    for seed in 0..20 {
+        for shape in [(0, 1), (1, 2), (2, 4), (5, 32), (8, 20)] {
+            assert!(rt;
+                takes_tries::<F65537>(rt.alloc(), seed, shape),
+                "{seed}, {shape:?}"
+            );
+        }
+    }
+    Ok(())
+}
+
+// Whether a dense draw takes a word for each value.
+fn takes_a_word_each<F: Field>(alloc: Global, num_vars: usize) -> bool {
+    if num_vars >= 64 {
+        return false;
+    }
+    let mut rng = Counting::new(Pcg64::new(48, 1));
+    match DenseMultilinearExtension::<F>::rand(alloc, num_vars, &mut rng, 0) {
+        Ok(Some(_)) => rng.draws == 1 << num_vars,
+        _ => false,
+    }
+}
+
+#[test]
+fn dense_draws_take_a_word_for_each_value(rt: HostRuntime) -> Result<(), Fail> {
+    for num_vars in 0..8 {
+        assert!(rt; takes_a_word_each::<F65537>(rt.alloc(), num_vars));
+    }
     Ok(())
 }

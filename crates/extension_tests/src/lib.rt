@@ -1,17 +1,15 @@
-//! Tests of multilinear extensions.
+//! Tests of multilinear extensions. What they give for listed tables stands in the rows of `row_tests`.
 #![tactic(auto)]
 
 #[cfg(test)]
-mod building;
-#[cfg(test)]
-mod dense;
+mod bound;
 #[cfg(test)]
 mod drawn;
 #[cfg(test)]
-mod laws;
+mod exchanged;
 #[cfg(test)]
-mod rows;
+mod forms;
 #[cfg(test)]
-mod sparse;
+mod joined;
 #[cfg(test)]
 mod sums;

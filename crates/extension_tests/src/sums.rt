@@ -1,241 +1,178 @@
-//! Sums, differences and multiples, of both forms.
+//! Sums, differences and multiples of drawn extensions have the sums, differences and multiples of their values.
 
-use crate::building::{added, added_scaled, dense, has_table, sparse, subtracted};
-use ark_base::{F5, F65537, Field, PolyError, Polynomial};
-use ark_multi::multilinear::MultilinearExtension;
+use crate::forms::{Form, Trial, drawn, drawn_elements, holds_of_all, holds_of_sparse, value};
+use ark_base::{F65537, Field, PolyError, Polynomial};
+use ark_multi::multilinear::{DenseMultilinearExtension, MultilinearExtension};
+use rand_pcg::Pcg64;
 use std::alloc::Global;
 use std::test::Fail;
 
-// Two tables, that of their sum, that of their difference, and that of the first with twice the second.
+// Whether the call gave one with this value at the point.
+fn has_value<F: Field, E: MultilinearExtension<F>>(
+    alloc: Global,
+    answer: Result<E, PolyError>,
+    point: &Vec<F>,
+    known: F,
+) -> bool {
+    match answer {
+        Ok(p) => value(alloc, &p, point) == Some(known),
+        Err(_) => false,
+    }
+}
+
+// Whether the sum, the difference and the opposite have the values of these two.
+fn add_up<F: Field, E: MultilinearExtension<F>>(
+    alloc: Global,
+    p: &E,
+    q: &E,
+    point: &Vec<F>,
+    (x, y): (F, F),
+) -> bool {
+    p.addable(q)
+        && has_value(alloc, p.add(alloc, q), point, x + y)
+        && has_value(alloc, p.sub(alloc, q), point, x - y)
+        && has_value(alloc, p.neg(alloc), point, -x)
+}
+
 #[derive(Clone, Copy)]
-struct Row<'a> {
-    left: &'a [u64],
-    right: &'a [u64],
-    sum: &'a [u64],
-    difference: &'a [u64],
-    with_twice: &'a [u64],
+enum Change<F> {
+    Add,
+    Sub,
+    AddScaled(F),
 }
 
-const ROWS: [Row<'static>; 7] = [
-    Row {
-        left: &[1, 2],
-        right: &[4, 4],
-        sum: &[0, 1],
-        difference: &[2, 3],
-        with_twice: &[4, 0],
-    },
-    Row {
-        left: &[0, 1, 0, 3],
-        right: &[2, 0, 0, 3],
-        sum: &[2, 1, 0, 1],
-        difference: &[3, 1, 0, 0],
-        with_twice: &[4, 1, 0, 4],
-    },
-    Row {
-        left: &[0, 0],
-        right: &[0, 0],
-        sum: &[0, 0],
-        difference: &[0, 0],
-        with_twice: &[0, 0],
-    },
-    Row {
-        left: &[3],
-        right: &[4],
-        sum: &[2],
-        difference: &[4],
-        with_twice: &[1],
-    },
-    Row {
-        left: &[0],
-        right: &[1, 2],
-        sum: &[1, 2],
-        difference: &[4, 3],
-        with_twice: &[2, 4],
-    },
-    Row {
-        left: &[1, 2],
-        right: &[0],
-        sum: &[1, 2],
-        difference: &[1, 2],
-        with_twice: &[1, 2],
-    },
-    Row {
-        left: &[0],
-        right: &[0, 0],
-        sum: &[0, 0],
-        difference: &[0, 0],
-        with_twice: &[0, 0],
-    },
-];
-
-fn has_sums<F: Field, E: MultilinearExtension<F>>(
+// The first, changed in place by the second, where the two can be added.
+fn changed<F: Field, E: MultilinearExtension<F>>(
     alloc: Global,
     p: &E,
+    change: Change<F>,
     q: &E,
-    row: Row<'_>,
-) -> Result<bool, PolyError> {
+) -> Result<E, PolyError> {
+    let mut p = p.clone()?;
     if !p.addable(q) {
-        return Ok(false);
+        return Ok(p);
     }
-    Ok(
-        has_table(alloc, &p.add(alloc, q)?, row.sum)?
-            && has_table(alloc, &p.sub(alloc, q)?, row.difference)?,
-    )
+    match change {
+        Change::Add => p.add_assign(alloc, q)?,
+        Change::Sub => p.sub_assign(alloc, q)?,
+        Change::AddScaled(factor) => p.add_assign_scaled(alloc, factor, q)?,
+    }
+    Ok(p)
 }
 
-fn is_added_in_place<F: Field, E: MultilinearExtension<F>>(
+// Whether they do so in place.
+fn add_up_in_place<F: Field, E: MultilinearExtension<F>>(
     alloc: Global,
     p: &E,
-    q: &E,
-    sum: &[u64],
-) -> Result<bool, PolyError> {
-    let Some(changed) = added(alloc, p, q)? else {
-        return Ok(false);
+    (factor, q): (F, &E),
+    point: &Vec<F>,
+    (x, y): (F, F),
+) -> bool {
+    let scaled = changed(alloc, p, Change::AddScaled(factor), q);
+    has_value(alloc, changed(alloc, p, Change::Add, q), point, x + y)
+        && has_value(alloc, changed(alloc, p, Change::Sub, q), point, x - y)
+        && has_value(alloc, scaled, point, x + factor * y)
+}
+
+fn gave<E: PartialEq + Drop>(answer: Result<E, PolyError>, p: &E) -> bool {
+    match answer {
+        Ok(given) => given == *p,
+        Err(_) => false,
+    }
+}
+
+// Whether zero changes nothing on either side, and becomes the multiple.
+fn is_kept_by_zero<F: Field, E: MultilinearExtension<F>>(
+    alloc: Global,
+    p: &E,
+    factor: F,
+    point: &Vec<F>,
+    x: F,
+) -> bool {
+    let Ok(zero) = E::zero(alloc) else {
+        return false;
     };
-    has_table(alloc, &changed, sum)
+    let scaled = changed(alloc, &zero, Change::AddScaled(factor), p);
+    p.addable(&zero)
+        && zero.addable(p)
+        && gave(p.add(alloc, &zero), p)
+        && gave(zero.add(alloc, p), p)
+        && gave(changed(alloc, p, Change::Add, &zero), p)
+        && has_value(alloc, scaled, point, factor * x)
 }
 
-fn is_subtracted_in_place<F: Field, E: MultilinearExtension<F>>(
-    alloc: Global,
-    p: &E,
-    q: &E,
-    difference: &[u64],
-) -> Result<bool, PolyError> {
-    let Some(changed) = subtracted(alloc, p, q)? else {
-        return Ok(false);
-    };
-    has_table(alloc, &changed, difference)
+/// Two draws differ, and their values add up.
+#[derive(Clone, Copy)]
+struct AddUp {
+    num_vars: usize,
 }
 
-fn is_added_scaled<F: Field, E: MultilinearExtension<F>>(
-    alloc: Global,
-    p: &E,
-    (factor, q): (u64, &E),
-    sum: &[u64],
-) -> Result<bool, PolyError> {
-    let Some(changed) = added_scaled(alloc, p, (F::from(factor), q))? else {
-        return Ok(false);
-    };
-    has_table(alloc, &changed, sum)
-}
-
-fn has_all_sums<F: Field, E: MultilinearExtension<F>>(
-    alloc: Global,
-    p: &E,
-    q: &E,
-    row: Row<'_>,
-) -> Result<bool, PolyError> {
-    Ok(
-        has_sums(alloc, p, q, row)?
-            && is_added_in_place(alloc, p, q, row.sum)?
-            && is_subtracted_in_place(alloc, p, q, row.difference)?
-            && is_added_scaled(alloc, p, (2, q), row.with_twice)?,
-    )
-}
-
-fn tables_have_sums<F: Field>(alloc: Global, row: Row<'_>) -> Result<bool, PolyError> {
-    let (p, q) = (dense::<F>(alloc, row.left)?, dense(alloc, row.right)?);
-    let (few, others) = (sparse::<F>(alloc, row.left)?, sparse(alloc, row.right)?);
-    Ok(has_all_sums(alloc, &p, &q, row)? && has_all_sums(alloc, &few, &others, row)?)
+impl Trial for AddUp {
+    fn holds<F: Field, E: Form<F>>(&self, alloc: Global, rng: &mut Pcg64) -> bool {
+        let (Some(p), Some(q)) = (
+            drawn::<F, E>(alloc, rng, self.num_vars),
+            drawn::<F, E>(alloc, rng, self.num_vars),
+        ) else {
+            return false;
+        };
+        let Ok(point) = drawn_elements(alloc, rng, self.num_vars) else {
+            return false;
+        };
+        let (Some(x), Some(y)) = (value(alloc, &p, &point), value(alloc, &q, &point)) else {
+            return false;
+        };
+        let factor = F::rand(rng);
+        p != q
+            && add_up(alloc, &p, &q, &point, (x, y))
+            && add_up_in_place(alloc, &p, (factor, &q), &point, (x, y))
+            && is_kept_by_zero(alloc, &p, factor, &point, x)
+    }
 }
 
 #[test]
-fn sums_of_rows(rt: HostRuntime) -> Result<(), Fail> {
-    for row in ROWS {
-        assert!(rt; tables_have_sums::<F5>(rt.alloc(), row)?);
+fn draws_differ_and_add_up(rt: HostRuntime) -> Result<(), Fail> {
+    let mut rng = Pcg64::new(46, 1);
+    for _ in 0..20 {
+        assert!(rt; holds_of_all(rt.alloc(), &mut rng, &AddUp { num_vars: 10 }));
+        assert!(rt; holds_of_sparse(rt.alloc(), &mut rng, &AddUp { num_vars: 18 }));
     }
     Ok(())
 }
 
-fn has_opposite<F: Field, E: MultilinearExtension<F>>(
+// Whether factors one, this one and zero in a row, in place, leave the value, multiply it, and give zero.
+fn scales_in_place<F: Field>(
     alloc: Global,
-    p: &E,
-    opposite: &[u64],
-) -> Result<bool, PolyError> {
-    let q = p.neg(alloc)?;
-    Ok(has_table(alloc, &q, opposite)? && q.neg(alloc)? == *p)
+    mut p: DenseMultilinearExtension<F>,
+    factor: F,
+    point: &Vec<F>,
+    x: F,
+) -> bool {
+    let kept = p.mul_assign(alloc, F::one()).is_ok() && value(alloc, &p, point) == Some(x);
+    let scaled = p.mul_assign(alloc, factor).is_ok() && value(alloc, &p, point) == Some(factor * x);
+    kept && scaled && p.mul_assign(alloc, F::zero()).is_ok() && p.is_zero()
 }
 
-fn table_has_opposite<F: Field>(
-    alloc: Global,
-    table: &[u64],
-    opposite: &[u64],
-) -> Result<bool, PolyError> {
-    Ok(
-        has_opposite(alloc, &dense::<F>(alloc, table)?, opposite)?
-            && has_opposite(alloc, &sparse::<F>(alloc, table)?, opposite)?,
-    )
+// Whether a draw's multiple, new and in place, has the multiple of its value at a drawn point.
+fn draw_has_multiples<F: Field>(alloc: Global, rng: &mut Pcg64) -> bool {
+    let Some(p) = drawn::<F, DenseMultilinearExtension<F>>(alloc, rng, 10) else {
+        return false;
+    };
+    let Ok(point) = drawn_elements(alloc, rng, 10) else {
+        return false;
+    };
+    let Some(x) = value(alloc, &p, &point) else {
+        return false;
+    };
+    let factor = F::rand(rng);
+    has_value(alloc, p.mul_scalar(alloc, factor), &point, factor * x)
+        && scales_in_place(alloc, p, factor, &point, x)
 }
 
 #[test]
-fn opposites(rt: HostRuntime) -> Result<(), Fail> {
-    let rows: [(&[u64], &[u64]); 4] = [
-        (&[0], &[0]),
-        (&[2], &[3]),
-        (&[0, 0], &[0, 0]),
-        (&[0, 1, 2, 4], &[0, 4, 3, 1]),
-    ];
-    for (table, opposite) in rows {
-        assert!(rt; table_has_opposite::<F5>(rt.alloc(), table, opposite)?);
+fn multiples_of_draws(rt: HostRuntime) -> Result<(), Fail> {
+    let mut rng = Pcg64::new(71, 1);
+    for _ in 0..20 {
+        assert!(rt; draw_has_multiples::<F65537>(rt.alloc(), &mut rng));
     }
-    Ok(())
-}
-
-fn can_be_added<F: Field, E: MultilinearExtension<F>>(p: &E, q: &E, addable: bool) -> bool {
-    p.addable(q) == addable && q.addable(p) == addable
-}
-
-fn tables_can_be_added<F: Field>(
-    alloc: Global,
-    left: &[u64],
-    right: &[u64],
-    addable: bool,
-) -> Result<bool, PolyError> {
-    Ok(
-        can_be_added(&dense::<F>(alloc, left)?, &dense(alloc, right)?, addable)
-            && can_be_added(&sparse::<F>(alloc, left)?, &sparse(alloc, right)?, addable),
-    )
-}
-
-#[test]
-fn addable_by_variables_or_as_zero(rt: HostRuntime) -> Result<(), Fail> {
-    let rows: [(&[u64], &[u64], bool); 7] = [
-        (&[3], &[1, 2], false),
-        (&[0], &[1, 2], true),
-        (&[5], &[1, 2], true),
-        (&[1, 2], &[3, 4], true),
-        (&[0, 0], &[0, 0, 0, 0], false),
-        (&[0, 0], &[2], false),
-        (&[0], &[0, 0, 0, 0], true),
-    ];
-    for (left, right, addable) in rows {
-        assert!(rt; tables_can_be_added::<F5>(rt.alloc(), left, right, addable)?);
-    }
-    assert!(rt; tables_can_be_added::<F65537>(rt.alloc(), &[5], &[1, 2], false)?);
-    Ok(())
-}
-
-fn keeps_variables<F: Field, E: MultilinearExtension<F>>(
-    alloc: Global,
-    p: &E,
-) -> Result<bool, PolyError> {
-    let zero = E::zero(alloc)?;
-    Ok(
-        zero.is_zero()
-            && has_table(alloc, &zero, &[0])?
-            && is_added_scaled(alloc, &zero, (0, p), &[0, 0])?,
-    )
-}
-
-fn table_keeps_variables<F: Field>(alloc: Global) -> Result<bool, PolyError> {
-    Ok(
-        keeps_variables(alloc, &dense::<F>(alloc, &[1, 2])?)?
-            && keeps_variables(alloc, &sparse::<F>(alloc, &[1, 2])?)?,
-    )
-}
-
-#[test]
-fn zero_with_no_multiple_gains_the_variables(rt: HostRuntime) -> Result<(), Fail> {
-    assert!(rt; table_keeps_variables::<F65537>(rt.alloc())?);
     Ok(())
 }

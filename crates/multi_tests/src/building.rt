@@ -3,8 +3,7 @@
 use ark_base::{Field, PolyError, Polynomial};
 use ark_multi::DenseMVPolynomial;
 use ark_multi::multivariate::{SparsePolynomial, Term};
-use std::alloc::{AllocError, Global};
-use std::hash::{DefaultHasher, Hash, Hasher};
+use std::alloc::Global;
 
 /// A term by its powers, as pairs of variable and power.
 pub type Powers<'a> = &'a [(usize, usize)];
@@ -14,15 +13,6 @@ pub type Terms<'a> = &'a [(u64, Powers<'a>)];
 
 pub fn term<T: Term>(alloc: Global, powers: Powers<'_>) -> Result<T, PolyError> {
     T::new(alloc, Vec::from_slice(alloc, powers)?)
-}
-
-/// The numbers as elements.
-pub fn elements<F: Field>(alloc: Global, numbers: &[u64]) -> Result<Vec<F>, AllocError> {
-    let mut elements = Vec::with_capacity(alloc, numbers.len())?;
-    for number in numbers {
-        elements.push(F::from(*number))?;
-    }
-    Ok(elements)
 }
 
 /// The polynomial with these terms, whose variables are below the number; zero where one isn't.
@@ -50,30 +40,23 @@ pub fn polynomial<F: Field, T: Term>(
     from_terms(alloc, num_vars, list)
 }
 
-/// Its value at a point that fits.
+/// The value at a point that fits.
 pub fn value<F: Field, T: Term>(
     alloc: Global,
     p: &SparsePolynomial<F, T>,
     point: &Vec<F>,
-) -> Result<Option<F>, PolyError> {
+) -> Option<F> {
     if !p.point_fits(point) {
-        return Ok(None);
+        return None;
     }
-    Ok(Some(p.evaluate(alloc, point)?))
+    p.evaluate(alloc, point).ok()
 }
 
-/// Whether these are its terms, in this order.
+/// Whether these are the terms, in this order.
 pub fn has_terms<F: Field, T: Term>(p: &SparsePolynomial<F, T>, terms: Terms<'_>) -> bool {
     let mut same = p.terms().len() == terms.len();
     for ((coefficient, term), (number, powers)) in p.terms().iter().zip(terms) {
         same = same && *coefficient == F::from(*number) && term.pairs() == *powers;
     }
     same
-}
-
-/// The hash of the value.
-pub fn hash_of<T: Hash>(value: &T) -> u64 {
-    let mut hasher = DefaultHasher::new();
-    value.hash(&mut hasher);
-    hasher.finish()
 }

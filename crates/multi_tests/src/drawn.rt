@@ -5,6 +5,7 @@ use crate::lexicographic::LexicographicTerm;
 use ark_base::{F65537, Field, PolyError, Polynomial};
 use ark_multi::DenseMVPolynomial;
 use ark_multi::multivariate::{SparsePolynomial, SparseTerm, Term};
+use ark_test_types::counting::Counting;
 use rand_core::Rng;
 use rand_pcg::Pcg64;
 use std::alloc::{AllocError, Global};
@@ -65,13 +66,22 @@ fn sums_agree<F: Field, T: Term>(
     alloc: Global,
     a: &SparsePolynomial<F, T>,
     b: &SparsePolynomial<F, T>,
-) -> Result<bool, PolyError> {
-    let difference = a.sub(alloc, b)?;
-    Ok(
-        a.add(alloc, b)? == b.add(alloc, a)?
-            && difference == b.sub(alloc, a)?.neg(alloc)?
-            && difference.add(alloc, b)? == *a,
-    )
+) -> bool {
+    let (Ok(sum), Ok(difference), Ok(turned)) = (a.add(alloc, b), a.sub(alloc, b), b.sub(alloc, a))
+    else {
+        return false;
+    };
+    gave(b.add(alloc, a), &sum)
+        && gave(turned.neg(alloc), &difference)
+        && gave(difference.add(alloc, b), a)
+}
+
+// Whether the call gave this value.
+fn gave<P: PartialEq + Drop>(answer: Result<P, PolyError>, value: &P) -> bool {
+    match answer {
+        Ok(given) => given == *value,
+        Err(_) => false,
+    }
 }
 
 // Whether the value of the sum is the sum of the values.
@@ -80,11 +90,14 @@ fn values_add_up<F: Field, T: Term>(
     a: &SparsePolynomial<F, T>,
     b: &SparsePolynomial<F, T>,
     point: &Vec<F>,
-) -> Result<bool, PolyError> {
-    let (Some(x), Some(y)) = (value(alloc, a, point)?, value(alloc, b, point)?) else {
-        return Ok(false);
+) -> bool {
+    let (Some(x), Some(y)) = (value(alloc, a, point), value(alloc, b, point)) else {
+        return false;
     };
-    Ok(value(alloc, &a.add(alloc, b)?, point)? == Some(x + y))
+    match a.add(alloc, b) {
+        Ok(sum) => value(alloc, &sum, point) == Some(x + y),
+        Err(_) => false,
+    }
 }
 
 // The sum of all terms at the point, power by power.
@@ -101,20 +114,19 @@ fn term_by_term<F: Field, T: Term>(p: &SparsePolynomial<F, T>, point: &[F]) -> F
     sum
 }
 
-fn holds<F: Field, T: Term>(
-    alloc: Global,
-    rng: &mut Pcg64,
-    left: usize,
-    right: usize,
-) -> Result<bool, PolyError> {
-    let a: SparsePolynomial<F, T> = drawn(alloc, rng, left)?;
-    let b: SparsePolynomial<F, T> = drawn(alloc, rng, right)?;
-    let point = drawn_point(alloc, rng, left.max(right))?;
-    Ok(
-        sums_agree(alloc, &a, &b)?
-            && values_add_up(alloc, &a, &b, &point)?
-            && value(alloc, &a, &point)? == Some(term_by_term(&a, &point)),
-    )
+fn holds<F: Field, T: Term>(alloc: Global, rng: &mut Pcg64, left: usize, right: usize) -> bool {
+    let (Ok(a), Ok(b)) = (
+        drawn::<F, T>(alloc, rng, left),
+        drawn::<F, T>(alloc, rng, right),
+    ) else {
+        return false;
+    };
+    let Ok(point) = drawn_point(alloc, rng, left.max(right)) else {
+        return false;
+    };
+    sums_agree(alloc, &a, &b)
+        && values_add_up(alloc, &a, &b, &point)
+        && value(alloc, &a, &point) == Some(term_by_term(&a, &point))
 }
 
 #[test]
@@ -122,9 +134,9 @@ fn sums_and_values_of_drawn_polynomials(rt: HostRuntime) -> Result<(), Fail> {
     let mut rng = Pcg64::new(31, 1);
     for left in 1..20 {
         for right in 1..20 {
-            assert!(rt; holds::<F65537, SparseTerm>(rt.alloc(), &mut rng, left, right)?);
+            assert!(rt; holds::<F65537, SparseTerm>(rt.alloc(), &mut rng, left, right));
         }
-        assert!(rt; holds::<F65537, LexicographicTerm>(rt.alloc(), &mut rng, left, 20 - left)?);
+        assert!(rt; holds::<F65537, LexicographicTerm>(rt.alloc(), &mut rng, left, 20 - left));
     }
     Ok(())
 }
@@ -177,30 +189,44 @@ fn product_of_all_terms(rt: HostRuntime) -> Result<(), Fail> {
     Ok(())
 }
 
-// Whether a drawn polynomial has a constant and powers of single variables alone, at most the d-th.
-fn has_shape<F: Field, T: Term>(p: &SparsePolynomial<F, T>, d: usize, num_vars: usize) -> bool {
+// Whether a draw has a constant and the first d powers of each variable alone, and takes a word for each coefficient.
+// None of these is zero over the large field with this seed.
+fn has_shape<F: Field, T: Term>(alloc: Global, d: usize, num_vars: usize) -> bool {
+    let mut rng = Counting::new(Pcg64::new(32, 1));
+    let Ok(p) = SparsePolynomial::<F, T>::rand(alloc, d, num_vars, &mut rng) else {
+        return false;
+    };
+    let count = d.saturating_mul(num_vars).saturating_add(1);
     let mut right = p.num_vars() == num_vars
-        && p.degree() <= d
-        && p.terms().len() <= d.saturating_mul(num_vars).saturating_add(1);
+        && p.degree() == if num_vars == 0 { 0 } else { d }
+        && p.terms().len() == count
+        && rng.draws == count as u64;
     for (_, term) in p.terms() {
         right = right && term.pairs().len() <= 1;
     }
     right
 }
 
+// Whether two draws differ.
+fn draws_differ<F: Field, T: Term>(alloc: Global, d: usize, num_vars: usize) -> bool {
+    let mut rng = Pcg64::new(32, 1);
+    let (Ok(p), Ok(q)) = (
+        SparsePolynomial::<F, T>::rand(alloc, d, num_vars, &mut rng),
+        SparsePolynomial::<F, T>::rand(alloc, d, num_vars, &mut rng),
+    ) else {
+        return false;
+    };
+    p != q
+}
+
 #[test]
 fn drawn_by_the_polynomial(rt: HostRuntime) -> Result<(), Fail> {
-    let mut rng = Pcg64::new(32, 1);
     for (d, num_vars) in [(0, 0), (3, 0), (0, 4), (1, 1), (7, 2), (4, 5)] {
-        let p = SparsePolynomial::<F65537, SparseTerm>::rand(rt.alloc(), d, num_vars, &mut rng)?;
-        let other = SparsePolynomial::<F65537, SparseTerm>::rand(
-            rt.alloc(),
-            d,
-            num_vars,
-            &mut rng,
-        )?;
-        assert!(rt; has_shape(&p, d, num_vars) && p != other);
-        assert!(rt; num_vars == 0 || p.degree() == d);
+        assert!(rt;
+            has_shape::<F65537, SparseTerm>(rt.alloc(), d, num_vars),
+            "{d}, {num_vars}"
+        );
+        assert!(rt; draws_differ::<F65537, SparseTerm>(rt.alloc(), d, num_vars));
     }
     Ok(())
 }

@@ -1,4 +1,4 @@
-//! Tests of terms and of polynomials in several variables.
+//! Tests of terms and of polynomials in several variables. What listed ones give stands in the rows of `row_tests`.
 #![tactic(auto)]
 
 #[cfg(test)]
@@ -8,8 +8,4 @@ mod drawn;
 #[cfg(test)]
 mod lexicographic;
 #[cfg(test)]
-mod polynomials;
-#[cfg(test)]
-mod sums;
-#[cfg(test)]
-mod terms;
+mod orders;

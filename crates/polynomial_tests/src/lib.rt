@@ -1,31 +1,20 @@
-//! Tests of polynomials, of their values over a domain, and of what domains give at points.
+//! Tests of polynomials, of their values over a domain, and of what domains give at points. What listed polynomials give
+//! stands in the rows of `row_tests`.
 #![tactic(auto)]
 
 #[cfg(test)]
-mod changes;
-#[cfg(test)]
-mod conversions;
-#[cfg(test)]
 mod division;
 #[cfg(test)]
-mod drawn;
-#[cfg(test)]
-mod evaluations;
-#[cfg(test)]
-mod fast_division;
+mod draws;
 #[cfg(test)]
 mod forms;
 #[cfg(test)]
-mod places;
+mod mixed;
 #[cfg(test)]
 mod points;
 #[cfg(test)]
-mod polynomials;
-#[cfg(test)]
 mod products;
 #[cfg(test)]
-mod sparse;
+mod sums;
 #[cfg(test)]
-mod sparse_products;
-#[cfg(test)]
-mod sparse_sums;
+mod values;

@@ -1,13 +1,11 @@
 -- What is written of rows, line by line, up to the end of the rows, a failure of the writer or want of memory.
 use Rattle.std.proofs.Common.{◌≡◌, ◌⊎◌, ◌≢◌, ℕ, ◌+◌, ◌<◌, Bool, true, false, List, [], ◌∷◌, ◌++◌, length, map, take, get_or, inl, inr, refl, sym, ap, ap₂, subst, ◌∙◌, suc, arith, append-nil, codes, ltb, ltb-true, ltb-false, IsTrue, ◌↔◌, true≢false, bytes_eq, string_bytes, Result, Ok, Err, not, zero, vec_items}
-use Rattle.std.specs.Prelude.{Option, Vec}
+use Rattle.std.specs.Prelude.{Vec}
 use Rattle.std.specs.List.{concat}
-use Rattle.std.specs.Io.KnownBytes.{Appends}
 use denote.Ref.{Bor}
 use Rattle.std.proofs.KnownBytes.{Appends-trans}
 use Rattle.std.proofs.lemmas.List.{append_cancel_right, length-map, length-take, take_more, take_all}
 use Rattle.std.proofs.lemmas.List.Folds.{concat-append}
-use Rattle.ark_base.specs.Transfer.{AppendsBeginning}
 use Rattle.ark_traits.proofs.Transfer.{AppendsBeginning-more, AppendsBeginning-after}
 use Rattle.ark_traits.specs.declared.error.PolyError.{PolyError}
 use Rattle.std.specs.declared.string.String.{String}
@@ -15,7 +13,8 @@ use Rattle.std.specs.declared.alloc.Global.{Global}
 use Rattle.std.proofs.lemmas.Slice.Eq.{bytes_eq-Decides}
 use Rattle.ark_traits.specs.declared.error.PolyError.TheVariants.{Memory}
 use Rattle.polyrun_lib.specs.Lines.{ended, row_line_of, refusal_line_of, usage_text}
-use Rattle.polyrun_lib.specs.Answer.{Known, IsCommand, IsPlainAnswer, IsWritten}
+use Rattle.polyrun_lib.specs.Answer.{Known, IsCommand, IsPlainAnswer}
+use Rattle.polyrun_lib.specs.Written.{Writer, TookAll, TookBeginning, IsWritten, IsOneWritten}
 use Rattle.polyrun_lib.specs.Commands.{Command}
 use Rattle.polyrun_lib.specs.Outcome.{MayRefuse, IsOutcome, IsOutcomeOf}
 use Rattle.polyrun_lib.specs.Vectors.{Row}
@@ -66,19 +65,30 @@ status_of-push : (verdicts : List Bool) (good : Bool) → status_of (verdicts ++
 status_of-push verdicts true = status_of-good verdicts
 status_of-push verdicts false = status_of-bad verdicts
 
+-- ---- what a writer takes in turn
+
+TookAll-after : (old now next : Writer) (first text : List ℕ) → TookAll old now first → TookAll now next text → TookAll old next (first ++ text)
+TookAll-after old now next first text before after = (Appends-trans old.contents now.contents next.contents first text before.0 after.0, after.1 ∙ before.1)
+
+TookBeginning-after : (old now next : Writer) (first text : List ℕ) → TookAll old now first → TookBeginning now next text → TookBeginning old next (first ++ text)
+TookBeginning-after old now next first text before after =
+    (AppendsBeginning-after old.contents now.contents next.contents first text before.0 after.0, after.1 ∙ ap (λ n. n + 1) before.1)
+
+IsWritten-after : (old now next : Writer) (first text : List ℕ) (status result : ℕ) → TookAll old now first → IsWritten now next text status result → IsWritten old next (first ++ text) status result
+IsWritten-after old now next first text status result before (inl written) = inl (TookAll-after old now next first text before written.0, written.1)
+IsWritten-after old now next first text status result before (inr failed) = inr (TookBeginning-after old now next first text before failed.0, failed.1)
+
 -- ---- what the writer has after some rows
 
-pub record IsUnderWay (field : List ℕ) (rows : List Row) (i status : ℕ) (old now : Option (List ℕ)) (failures_old failures_now : ℕ) : Type 0 where
+pub record IsUnderWay (field : List ℕ) (rows : List Row) (i status : ℕ) (old now : Writer) : Type 0 where
   pub verdicts : List Bool
   pub are : AreVerdicts field (take i rows) verdicts
-  pub appends : Appends old now (lines_text verdicts)
-  pub kept : failures_now ≡ failures_old
+  pub took : TookAll old now (lines_text verdicts)
   pub ends : status ≡ status_of verdicts
 
 -- what is to be shown of `check`
-abbrev pub IsDone : List ℕ → List Row → Option (List ℕ) → Option (List ℕ) → ℕ → ℕ → ℕ → Type 0
-IsDone field rows old new failures_old failures_new result =
-    (text : List ℕ) × (status : ℕ) × MayCheck field rows text status × IsWritten old new failures_old failures_new text status result
+abbrev pub IsDone : List ℕ → List Row → Writer → Writer → ℕ → Type 0
+IsDone field rows old new result = IsOneWritten (MayCheck field rows) old new result
 
 -- the verdicts with a row's
 verdicts_more : (field : List ℕ) (rows : List Row) (i : ℕ) (row : Row) (verdicts : List Bool) (good : Bool) → i < length rows → get_or rows i row ≡ row → AreVerdicts field (take i rows) verdicts → IsVerdict field row good
@@ -93,14 +103,13 @@ lines_more field rows i verdicts good below are =
     lines_text-push verdicts good ∙ ap (λ m. lines_text verdicts ++ row_line_of m good) e
 
 -- a line that was written
-pub under_way-more : (field : List ℕ) (rows : List Row) (i : ℕ) (row : Row) (good : Bool) (status : ℕ) (old now next : Option (List ℕ)) (failures_old failures_now failures_next : ℕ)
-    → IsUnderWay field rows i status old now failures_old failures_now → i < length rows → get_or rows i row ≡ row → HasLine field row (i + 1) now next failures_now failures_next good
-    → (status_next : ℕ) → status_next ≡ status_after good status → IsUnderWay field rows (i + 1) status_next old next failures_old failures_next
-under_way-more field rows i row good status old now next failures_old failures_now failures_next way below at has status_next after = record {
+pub under_way-more : (field : List ℕ) (rows : List Row) (i : ℕ) (row : Row) (good : Bool) (status : ℕ) (old now next : Writer)
+    → IsUnderWay field rows i status old now → i < length rows → get_or rows i row ≡ row → HasLine field row (i + 1) now next good
+    → (status_next : ℕ) → status_next ≡ status_after good status → IsUnderWay field rows (i + 1) status_next old next
+under_way-more field rows i row good status old now next way below at has status_next after = record {
   verdicts = way.verdicts ++ good ∷ [];
   are = verdicts_more field rows i row way.verdicts good below at way.are has.0;
-  appends = rw (lines_more field rows i way.verdicts good below way.are) (Appends-trans old now next (lines_text way.verdicts) (row_line_of (i + 1) good) way.appends has.1);
-  kept = has.2 ∙ way.kept;
+  took = rw (lines_more field rows i way.verdicts good below way.are) (TookAll-after old now next (lines_text way.verdicts) (row_line_of (i + 1) good) way.took has.1);
   ends = after ∙ ap (status_after good) way.ends ∙ sym (status_of-push way.verdicts good);
 }
 
@@ -113,55 +122,46 @@ rest_cases i n below = by_test (ltb (i + 1) n) refl
     by_test false e = let most = ltb-false (i + 1) n e in inl (omega arith)
 
 -- a beginning of the lines of the first rows is one of what may be written
-done-beginning : (field : List ℕ) (rows : List Row) (i : ℕ) (verdicts : List Bool) (old new : Option (List ℕ)) (failures_old failures_new : ℕ) → i < length rows → AreVerdicts field (take (i + 1) rows) verdicts
-    → AppendsBeginning old new (lines_text verdicts) → failures_new ≡ failures_old + 1 → IsDone field rows old new failures_old failures_new 3
-done-beginning field rows i verdicts old new failures_old failures_new below are written failed = by_cases (rest_cases i (length rows) below)
+done-beginning : (field : List ℕ) (rows : List Row) (i : ℕ) (verdicts : List Bool) (old new : Writer) → i < length rows → AreVerdicts field (take (i + 1) rows) verdicts
+    → TookBeginning old new (lines_text verdicts) → IsDone field rows old new 3
+done-beginning field rows i verdicts old new below are took = by_cases (rest_cases i (length rows) below)
   where
-    by_cases : (length rows ≡ i + 1) ⊎ (i + 1 < length rows) → IsDone field rows old new failures_old failures_new 3
+    by_cases : (length rows ≡ i + 1) ⊎ (i + 1 < length rows) → IsDone field rows old new 3
     by_cases (inl all) = (
       lines_text verdicts,
       status_of verdicts,
       inl (verdicts, subst (λ l. AreVerdicts field l verdicts) (take_all (i + 1) rows (omega (arith, all))) are, refl, refl),
-      inr (written, failed, refl),
+      inr (took, refl),
     )
     by_cases (inr more) = (
       lines_text verdicts ++ refusal_line_of Memory,
       1,
       inr (i + 1, more, (verdicts, are, refl, refl)),
-      inr (AppendsBeginning-more old new (lines_text verdicts) (refusal_line_of Memory) written, failed, refl),
+      inr ((AppendsBeginning-more old.contents new.contents (lines_text verdicts) (refusal_line_of Memory) took.0, took.1), refl),
     )
 
--- what was written, and then more
-IsWritten-after : (old now next : Option (List ℕ)) (failures_old failures_now failures_next : ℕ) (first text : List ℕ) (status result : ℕ) → Appends old now first → failures_now ≡ failures_old
-    → IsWritten now next failures_now failures_next text status result → IsWritten old next failures_old failures_next (first ++ text) status result
-IsWritten-after old now next failures_old failures_now failures_next first text status result appends kept (inl written) = inl (Appends-trans old now next first text appends written.0, written.1 ∙ kept, written.2)
-IsWritten-after old now next failures_old failures_now failures_next first text status result appends kept (inr failed) =
-    inr (AppendsBeginning-after old now next first text appends failed.0, failed.1 ∙ ap (λ n. n + 1) kept, failed.2)
-
 -- no line comes after a row's
-pub done-ended : (field : List ℕ) (rows : List Row) (i : ℕ) (row : Row) (status : ℕ) (old now next : Option (List ℕ)) (failures_old failures_now failures_next result : ℕ)
-    → IsUnderWay field rows i status old now failures_old failures_now → i < length rows → get_or rows i row ≡ row → EndsAt field row (i + 1) now next failures_now failures_next result
-    → IsDone field rows old next failures_old failures_next result
-done-ended field rows i row status old now next failures_old failures_now failures_next result way below at (inl refused) = (
+pub done-ended : (field : List ℕ) (rows : List Row) (i : ℕ) (row : Row) (status : ℕ) (old now next : Writer) (result : ℕ)
+    → IsUnderWay field rows i status old now → i < length rows → get_or rows i row ≡ row → EndsAt field row (i + 1) now next result → IsDone field rows old next result
+done-ended field rows i row status old now next result way below at (inl refused) = (
   lines_text way.verdicts ++ refusal_line_of Memory,
   1,
   inr (i, below, (way.verdicts, way.are, refl, refl)),
-  IsWritten-after old now next failures_old failures_now failures_next (lines_text way.verdicts) (refusal_line_of Memory) 1 result way.appends way.kept refused,
+  IsWritten-after old now next (lines_text way.verdicts) (refusal_line_of Memory) 1 result way.took refused,
 )
-done-ended field rows i row status old now next failures_old failures_now failures_next result way below at (inr failed) =
+done-ended field rows i row status old now next result way below at (inr failed) =
     let good = failed.0 in
-    subst (IsDone field rows old next failures_old failures_next) (sym failed.4)
-    (done-beginning field rows i (way.verdicts ++ good ∷ []) old next failures_old failures_next below (verdicts_more field rows i row way.verdicts good below at way.are failed.1)
-    (rw (lines_more field rows i way.verdicts good below way.are) (AppendsBeginning-after old now next (lines_text way.verdicts) (row_line_of (i + 1) good) way.appends failed.2))
-    (failed.3 ∙ ap (λ n. n + 1) way.kept))
+    subst (IsDone field rows old next) (sym failed.3)
+    (done-beginning field rows i (way.verdicts ++ good ∷ []) old next below (verdicts_more field rows i row way.verdicts good below at way.are failed.1)
+    (rw (lines_more field rows i way.verdicts good below way.are) (TookBeginning-after old now next (lines_text way.verdicts) (row_line_of (i + 1) good) way.took failed.2)))
 
 -- ---- one line
 
 -- the writer failed
-pub ends_failed : (field : List ℕ) (row : Row) (n : ℕ) (good : Bool) (line : List ℕ) (old new : Option (List ℕ)) (failures_old failures_new result : ℕ) → IsVerdict field row good → line ≡ row_line_of n good
-    → IsWritten old new failures_old failures_new line 0 result → result ≡ 3 → EndsAt field row n old new failures_old failures_new 3
-ends_failed field row n good line old new failures_old failures_new result verdict is (inl written) e = let none = written.2 in absurd (omega (arith, none, e))
-ends_failed field row n good line old new failures_old failures_new result verdict is (inr failed) e = inr (good, verdict, subst (AppendsBeginning old new) is failed.0, failed.1, refl)
+pub ends_failed : (field : List ℕ) (row : Row) (n : ℕ) (good : Bool) (line : List ℕ) (old new : Writer) (result : ℕ) → IsVerdict field row good → line ≡ row_line_of n good
+    → IsWritten old new line 0 result → result ≡ 3 → EndsAt field row n old new 3
+ends_failed field row n good line old new result verdict is (inl written) e = let none = written.1 in absurd (omega (arith, none, e))
+ends_failed field row n good line old new result verdict is (inr failed) e = inr (good, verdict, subst (TookBeginning old new) is failed.0, refl)
 
 -- ---- a verdict
 
@@ -227,18 +227,8 @@ get_or-map f [] i x = refl
 get_or-map f (y ∷ ys) zero x = refl
 get_or-map f (y ∷ ys) (suc i) x = get_or-map f ys i x
 
-get_or-twice : {A : Type 0} (xs : List A) (i : ℕ) (x : A) → get_or xs i (get_or xs i x) ≡ get_or xs i x
-get_or-twice [] i x = refl
-get_or-twice (y ∷ ys) zero x = refl
-get_or-twice (y ∷ ys) (suc i) x = get_or-twice ys i x
-
-pub row_at : (rows : List (Vec (String Global) Global × String Global)) (i : ℕ) (item : Vec (String Global) Global × String Global) (words : List (String Global)) (text : List ℕ) → item ≡ get_or rows i item → words ≡ vec_items item.0 → text ≡ string_bytes item.1
-    → get_or (map row_of rows) i (map string_bytes words, text) ≡ (map string_bytes words, text)
-row_at rows i item words text e f h =
-    subst (λ row. get_or (map row_of rows) i row ≡ row) (ap₂ (λ w t. (map string_bytes w, t)) (sym f) (sym h)) (get_or-map row_of rows i item ∙ ap row_of (sym e))
-
-pub vector_at : (rows : List (Bor (List (Bor (List ℕ))) × Bor (List ℕ))) (i : ℕ) (item : Bor (List (Bor (List ℕ))) × Bor (List ℕ)) → get_or (map shown_row rows) i (shown_row (get_or rows i item)) ≡ shown_row (get_or rows i item)
-vector_at rows i item = get_or-map shown_row rows i (get_or rows i item) ∙ ap shown_row (get_or-twice rows i item)
+pub row_at : {R : Type 0} (row : R → Row) (rows : List R) (i : ℕ) (item : R) → item ≡ get_or rows i item → get_or (map row rows) i (row item) ≡ row item
+row_at row rows i item e = get_or-map row rows i item ∙ ap row (sym e)
 
 pub below_map : {A B : Type 0} (f : A → B) (xs : List A) (i : ℕ) → i < length xs → i < length (map f xs)
 below_map f xs i below = subst (λ n. i < n) (sym (length-map xs f)) below

@@ -1,5 +1,5 @@
 -- A word spells at most one number and at most one list, and the list is in the pieces between its commas.
-use Rattle.std.proofs.Common.{◌≡◌, ◌⊎◌, ◌↔◌, ℕ, ◌<◌, ◌≤◌, ◌^◌, Bool, true, false, cond, ◌&&◌, eqb, ltb, List, [], ◌∷◌, length, Option, Some, None, is_some, IsTrue, IfSome, IfNone, sym, refl, ap, ap₂, ◌∙◌, inl, inr, arith, lt-ltb, ltb-true, ne_eqb, subst, lt_irrefl}
+use Rattle.std.proofs.Common.{◌≡◌, ◌⊎◌, ◌↔◌, ℕ, ◌<◌, ◌≤◌, ◌^◌, Bool, true, false, cond, ◌&&◌, eqb, ltb, List, [], ◌∷◌, length, Option, Some, None, is_some, suc, IsTrue, IfSome, IfNone, sym, refl, ap, ap₂, ◌∙◌, inl, inr, arith, lt-ltb, ltb-true, ne_eqb, subst, lt_irrefl}
 use Rattle.std.specs.Bool.{MatchBool}
 use Rattle.std.specs.List.{All, AllWithin, HoldsAt, slice_split, filter_map}
 use Rattle.std.specs.Str.{all_ascii_digits}
@@ -68,6 +68,25 @@ IsList-same word ms ns first second = by_cases (pieces_from_IsList word ms first
     by_cases (inl empty) (inr are) = let P : List ℕ → Type 0 = λ w. AreNumbers (pieces w) ns in absurd (no_number ns (subst P empty.0 are))
     by_cases (inr are) (inl empty) = let P : List ℕ → Type 0 = λ w. AreNumbers (pieces w) ms in absurd (no_number ms (subst P empty.0 are))
     by_cases (inr are) (inr also) = AreNumbers-same (pieces word) ms ns are also
+
+-- a word that isn't empty has as many pieces as its list has numbers
+AreNumbers-length : (words : List (List ℕ)) (numbers : List ℕ) → AreNumbers words numbers → length words ≡ length numbers
+AreNumbers-length [] [] are = refl
+AreNumbers-length [] (n ∷ ns) are = absurd are
+AreNumbers-length (w ∷ ws) [] are = absurd are
+AreNumbers-length (w ∷ ws) (n ∷ ns) are = ap suc (AreNumbers-length ws ns are.1)
+
+pub numbers_of_pieces : (word numbers : List ℕ) → (word ≡ [] → ⊥) → IsList word numbers → length (pieces word) ≡ length numbers
+numbers_of_pieces word numbers some list = by_cases (pieces_from_IsList word numbers list)
+  where
+    by_cases : ((word ≡ []) × (numbers ≡ [])) ⊎ AreNumbers (pieces word) numbers → length (pieces word) ≡ length numbers
+    by_cases (inl empty) = absurd (some empty.0)
+    by_cases (inr are) = AreNumbers-length (pieces word) numbers are
+
+-- and the empty word's list has none
+pub no_numbers : (word numbers : List ℕ) → length word ≡ 0 → IsList word numbers → 0 ≡ length numbers
+no_numbers [] numbers none list = ap length (IsList-same [] [] numbers (record { words = []; joins = refl; spelled = tt }) list)
+no_numbers (b ∷ word) numbers none list = absurd (omega (arith, none))
 
 -- the number of a word that spells one, as a function
 is_number : List ℕ → Bool

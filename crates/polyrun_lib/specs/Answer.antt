@@ -1,6 +1,5 @@
--- What the program answers to the words of one command, and how an answer is written.
+-- What the program answers to the words of one command.
 use Rattle.std.specs.Prelude.{◌≡◌, ◌≢◌, ℕ, ◌+◌, ◌-◌, ◌*◌, ◌/◌, ◌%◌, ◌<◌, ◌==◌, ◌⊎◌, Option, List, [], ◌∷◌, ◌++◌, Some, None, length, map, codes}
-use Rattle.std.specs.Io.KnownBytes.{Appends}
 use Rattle.ark_math.specs.Field.{FieldOn, power}
 use Rattle.ark_math.specs.Module.{itself}
 use Rattle.ark_math.specs.Root.{Adicity}
@@ -12,7 +11,6 @@ use Rattle.ark_math.specs.Univariate.{of_list, product, IsTrimmed, IsQuotient}
 use Rattle.ark_math.specs.Multilinear.{extension}
 use Rattle.ark_traits.specs.declared.error.PolyError.{PolyError}
 use Rattle.ark_traits.specs.declared.error.PolyError.TheVariants.{Memory, NoDomain, ZeroDivisor}
-use Rattle.ark_base.specs.Transfer.{AppendsBeginning}
 use Rattle.polyrun_lib.specs.declared.command.Direction.{Direction}
 use Rattle.polyrun_lib.specs.declared.command.Direction.TheVariants.{Forward, Inverse}
 use Rattle.polyrun_lib.specs.Commands.{Command, transform_of, product_of, division_of, value_of, extension_of, size_for, Reads}
@@ -115,7 +113,7 @@ Gives f (size_for k) text = (kind : Kind) × (n : ℕ) × IsChosen f.adicity k k
 abbrev pub HasNoDomain : Known → ℕ → ℕ → Type 0
 HasNoDomain f k h = HasNoSize (IsChosen f.adicity) k ⊎ (h % f.modulus ≡ 0)
 
--- and where it has none
+-- the error that a command comes to where it has no answer
 abbrev pub Refuses : Known → Command → PolyError → Type 0
 Refuses f (transform_of direction k h xs) error = HasNoDomain f k h × (error ≡ NoDomain)
 Refuses f (product_of xs ys) error = HasNoProduct f (coefficients f xs) (coefficients f ys) × (error ≡ NoDomain)
@@ -151,10 +149,3 @@ MayAnswer words text status =
 -- no two texts or statuses are P
 abbrev pub HasAtMostOne : (List ℕ → ℕ → Type 0) → Type 0
 HasAtMostOne P = (text other : List ℕ) (status ending : ℕ) → P text status → P other ending → (other ≡ text) × (ending ≡ status)
-
--- all of the text was written, and its status is the result; or the writer failed, in this call, after a beginning of
--- the text, and the result is 3
-abbrev pub IsWritten : Option (List ℕ) → Option (List ℕ) → ℕ → ℕ → List ℕ → ℕ → ℕ → Type 0
-IsWritten old new failures_old failures_new text status result =
-    (Appends old new text × (failures_new ≡ failures_old) × (result ≡ status))
-    ⊎ (AppendsBeginning old new text × (failures_new ≡ failures_old + 1) × (result ≡ 3))

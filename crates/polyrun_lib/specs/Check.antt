@@ -1,20 +1,19 @@
 -- What is said of rows, each on a line, and so what the program writes for `vectors`.
 use Rattle.std.specs.Prelude.{◌≡◌, ℕ, ◌+◌, ◌<◌, ◌⊎◌, ◌↔◌, Bool, true, false, IsTrue, Option, List, [], ◌∷◌, ◌++◌, length, take, map, codes, string_bytes, vec_items, Vec, String}
 use Rattle.std.specs.List.{concat}
-use Rattle.std.specs.Io.KnownBytes.{Appends}
-use Rattle.ark_base.specs.Transfer.{AppendsBeginning}
 use Rattle.std.specs.declared.alloc.Global.{Global}
 use denote.Ref.{Bor}
 use Rattle.ark_traits.specs.declared.error.PolyError.TheVariants.{Memory}
 use Rattle.polyrun_lib.specs.Lines.{ended, row_line_of, refusal_line_of}
-use Rattle.polyrun_lib.specs.Answer.{IsPlainAnswer, MayAnswer, IsWritten}
+use Rattle.polyrun_lib.specs.Answer.{IsPlainAnswer, MayAnswer}
+use Rattle.polyrun_lib.specs.Written.{Writer, TookAll, TookBeginning, IsWritten}
 use Rattle.polyrun_lib.specs.Vectors.{Row, HasRows}
 
 -- a row as it is passed
 abbrev pub row_of : Vec (String Global) Global × String Global → Row
 row_of row = (map string_bytes (vec_items row.0), string_bytes row.1)
 
--- and as it is borrowed
+-- a row as it is borrowed
 abbrev pub shown_row : Bor (List (Bor (List ℕ))) × Bor (List ℕ) → Row
 shown_row row = (map (λ word. word.now) row.0.now, row.1.now)
 
@@ -30,15 +29,14 @@ IsVerdict field row good =
     × (IsTrue good ↔ (answer ≡ ended row.1))))
 
 -- the line of row n was written, with this verdict
-abbrev pub HasLine : List ℕ → Row → ℕ → Option (List ℕ) → Option (List ℕ) → ℕ → ℕ → Bool → Type 0
-HasLine field row n old new failures_old failures_new good =
-    IsVerdict field row good × Appends old new (row_line_of n good) × (failures_new ≡ failures_old)
+abbrev pub HasLine : List ℕ → Row → ℕ → Writer → Writer → Bool → Type 0
+HasLine field row n old new good = IsVerdict field row good × TookAll old new (row_line_of n good)
 
 -- no line comes after: want of memory is written in place of the line of row n, or the writer failed within that line
-abbrev pub EndsAt : List ℕ → Row → ℕ → Option (List ℕ) → Option (List ℕ) → ℕ → ℕ → ℕ → Type 0
-EndsAt field row n old new failures_old failures_new status =
-    IsWritten old new failures_old failures_new (refusal_line_of Memory) 1 status
-    ⊎ ((good : Bool) × IsVerdict field row good × AppendsBeginning old new (row_line_of n good) × (failures_new ≡ failures_old + 1) × (status ≡ 3))
+abbrev pub EndsAt : List ℕ → Row → ℕ → Writer → Writer → ℕ → Type 0
+EndsAt field row n old new status =
+    IsWritten old new (refusal_line_of Memory) 1 status
+    ⊎ ((good : Bool) × IsVerdict field row good × TookBeginning old new (row_line_of n good) × (status ≡ 3))
 
 -- one verdict for each row
 abbrev pub AreVerdicts : List ℕ → List Row → List Bool → Type 0

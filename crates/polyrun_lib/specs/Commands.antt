@@ -46,7 +46,7 @@ AreEvaluated words xs x = (a : List ℕ) × (b : List ℕ) × (words ≡ a ∷ b
 abbrev pub AreValuesAndPoint : ℕ → List ℕ → List ℕ → Type 0
 AreValuesAndPoint n xs x = (n < 64) × (length xs ≡ 2 ^ n) × (length x ≡ n)
 
--- and the words for them
+-- the words for a number of variables, a value for each corner, and a point
 abbrev pub AreExtended : List (List ℕ) → ℕ → List ℕ → List ℕ → Type 0
 AreExtended words n xs x = (a : List ℕ) × (b : List ℕ) × (c : List ℕ) × (words ≡ a ∷ b ∷ c ∷ []) × IsNumber a n × IsList b xs × IsList c x
     × AreValuesAndPoint n xs x

@@ -1,16 +1,16 @@
 -- Words that spell a number or a list, words that spell none, and lines, all computed from the definitions.
 use Rattle.std.specs.Prelude.{◌≡◌, ℕ, ◌<◌, ◌≤◌, ◌^◌, [], ◌∷◌, ◌++◌, codes}
 use Rattle.std.specs.Fmt.{digits}
-use Rattle.std.proofs.Common.{refl, sym, subst, inr, true≢false, lit<, lit≤, lt→ltb}
+use Rattle.std.proofs.Common.{refl, sym, subst, inl, inr, true≢false, lit<, lit≤, lt→ltb}
 use Rattle.std.proofs.Math.Nat.{pow-le-pow_right, lt_of_le_of_lt, not-le_of_lt}
 use Rattle.ark_math.specs.Domain.{radix2, mixed_radix, IsSize}
 use Rattle.ark_math.proofs.Domains.Sizes.{power_lt, size_power}
-use Rattle.ark_traits.specs.declared.error.PolyError.TheVariants.{NoDomain}
+use Rattle.ark_traits.specs.declared.error.PolyError.TheVariants.{NoDomain, ZeroDivisor}
 use Rattle.polyrun_lib.specs.declared.command.Direction.TheVariants.{Forward, Inverse}
 use Rattle.polyrun_lib.specs.Words.{IsNumber, IsList}
 use Rattle.polyrun_lib.specs.Lines.{line_of}
-use Rattle.polyrun_lib.specs.Commands.{transform_of, value_of, size_for}
-use Rattle.polyrun_lib.specs.Answer.{Known, field_5, field_433, domain_of, IsDomainFor, Gives, Refuses}
+use Rattle.polyrun_lib.specs.Commands.{transform_of, product_of, division_of, value_of, extension_of, size_for}
+use Rattle.polyrun_lib.specs.Answer.{Known, field_5, field_433, field_65537, domain_of, IsDomainFor, Gives, Refuses}
 
 -- zeros may stand first
 zeros : IsNumber (codes "007") 7
@@ -89,6 +89,24 @@ no_value : Gives field_5 (value_of [] 4) (codes "0" ++ 10 ∷ [])
 unfolding digits
 no_value = refl
 
+-- the extension of the values 0, 0, 1, 0 at a point
+some_extension : Gives field_65537 (extension_of 2 (0 ∷ 0 ∷ 1 ∷ 0 ∷ []) (65535 ∷ 17 ∷ [])) (codes "51" ++ 10 ∷ [])
+unfolding digits
+some_extension = refl
+
+-- zero by another polynomial has two empty lines
+zero_divided : Gives field_5 (division_of (5 ∷ 0 ∷ []) (1 ∷ 1 ∷ [])) (10 ∷ 10 ∷ [])
+zero_divided = (
+  [],
+  [],
+  (inl (refl, refl, refl), ((λ some zero. lt→ltb _ _ some), refl), ((λ some zero. lt→ltb _ _ some), refl)),
+  refl,
+)
+
+-- the divisor's numbers are reduced
+by_zero : Refuses field_5 (division_of (1 ∷ 2 ∷ []) (5 ∷ 10 ∷ [])) ZeroDivisor
+by_zero = ((lit< tt, refl), refl)
+
 zero_offset : Refuses field_5 (transform_of Forward 4 0 (1 ∷ [])) NoDomain
 zero_offset = (inr refl, refl)
 
@@ -116,7 +134,7 @@ size_8 = (
   refl,
 )
 
--- and a mixed size where there is none
+-- a mixed size where there is no power of two
 size_18 : Gives field_433 (size_for 18) (codes "18" ++ 10 ∷ [])
 unfolding digits
 size_18 = (
@@ -141,3 +159,7 @@ no_size = (
   ],
   refl,
 )
+
+-- the product of two polynomials would have five coefficients
+no_product : Refuses field_5 (product_of (1 ∷ 0 ∷ 1 ∷ []) (1 ∷ 0 ∷ 1 ∷ [])) NoDomain
+no_product = ((lit< tt, lit< tt, no_size.0), refl)

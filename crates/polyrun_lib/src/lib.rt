@@ -1,6 +1,7 @@
 //! The program's answers: it reads the words of a command line, and writes the lines of an answer.
 #![tactic(auto)]
 
+mod args;
 mod command;
 pub mod laws;
 mod lines;
@@ -9,6 +10,7 @@ mod rows;
 mod vectors;
 mod words;
 
-pub use lines::{refusal_line, usage_line};
-pub use program::{run, write};
+pub use args::{arguments, run_arguments};
+pub use lines::refusal_line;
+pub use program::run;
 pub use rows::check;

@@ -3,6 +3,7 @@
 ghost use Rattle.std.specs.Prelude.{◌≡◌, ◌≢◌, ◌⊎◌, ◌%◌, ◌∷◌, ◌++◌, ℕ, List, map, IfOk, IfErr, IfSome, IfNone};
 ghost use Rattle.std.specs.Prelude.{IsOkUnless};
 ghost use Rattle.std.specs.Prelude.{string_bytes};
+ghost use Rattle.ark_math.specs.Outcome.{IsOkUnlessEither};
 ghost use Rattle.ark_math.specs.Domain.{HasNoSize, IsDomain};
 ghost use Rattle.ark_math.specs.Univariate.{of_list, nothing, IsQuotient};
 ghost use Rattle.ark_base.specs.Element.{number};
@@ -11,14 +12,16 @@ ghost use Rattle.polyrun_lib.specs.Commands.{Command as Asked, Spells, IsSpelled
 ghost use Rattle.polyrun_lib.specs.Commands.{transform_of, product_of, division_of, value_of, extension_of, size_for};
 ghost use Rattle.polyrun_lib.specs.Commands.{SpellExtended};
 ghost use Rattle.polyrun_lib.specs.Lines.{line_of};
-ghost use Rattle.polyrun_lib.specs.Answer.{Known, known_by, coefficients, IsCommand, HasAtMostOne, MayAnswer, IsWritten};
+ghost use Rattle.polyrun_lib.specs.Answer.{Known, known_by, coefficients, IsCommand, HasAtMostOne, MayAnswer};
+ghost use Rattle.polyrun_lib.specs.Written.{writer, IsWritten, IsOneWritten};
 ghost use Rattle.polyrun_lib.specs.Check.{IsAnswer, MayWrite};
 ghost use Rattle.polyrun_lib.specs.Outcome.{IsOutcome, IsOutcomeOf};
 
 use crate::command::{Command, Direction, parse};
 use crate::laws::one_answer;
 use crate::lines::{line, refusal_line, usage_line};
-use crate::vectors::{check_vectors, vectors_of};
+use crate::rows::check_rows;
+use crate::vectors::vectors_of;
 use crate::words::list;
 use ark_base::{
     FftField, Field, Modulus5, Modulus433, Modulus65537, PolyError, PrimeField, PrimeModulus, Sink,
@@ -50,25 +53,23 @@ type Domain<M> = GeneralEvaluationDomain<PrimeField<M>>;
 /// - `size K`, the size of that domain,
 /// - `vectors`, what `check` writes for the field's own rows, with its status.
 pub fn run<W: Sink>(alloc: Global, words: &[String], out: &mut W) -> u8
-    ensures written { (text : List ℕ) × (status : ℕ) × MayWrite (map string_bytes words.now) text status
-        × IsWritten (W.contents out.old) (W.contents out.new) (W.failures out.old) (W.failures out.new)
-        text status result }
+    ensures written { IsOneWritten (MayWrite (map string_bytes words.now))
+        (writer W.Sink out.old) (writer W.Sink out.new) result }
 
     // There is no second answer.
     ensures only { HasAtMostOne (IsAnswer (map string_bytes words.now)) }
 {
     one_answer(words);
     match vectors_of(words) {
-        Some((field, rows)) => check_vectors(alloc, field, rows, out),
+        Some((field, rows)) => check_rows(alloc, field, rows, out),
         None => run_command(alloc, words, out),
     }
 }
 
 /// Writes the answer to words that don't ask for `vectors`, and gives its status.
 fn run_command<W: Sink>(alloc: Global, words: &[String], out: &mut W) -> u8
-    ensures { (text : List ℕ) × (status : ℕ) × MayAnswer (map string_bytes words.now) text status
-        × IsWritten (W.contents out.old) (W.contents out.new) (W.failures out.old) (W.failures out.new)
-        text status result }
+    ensures { IsOneWritten (MayAnswer (map string_bytes words.now))
+        (writer W.Sink out.old) (writer W.Sink out.new) result }
 {
     match answer(alloc, words) {
         Some(Ok(text)) => write(out, text.as_str(), 0),
@@ -79,8 +80,7 @@ fn run_command<W: Sink>(alloc: Global, words: &[String], out: &mut W) -> u8
 
 /// Writes a text, and gives its status, or 3 where the writer failed.
 pub fn write<W: Sink>(out: &mut W, text: &str, status: u8) -> u8
-    ensures { IsWritten (W.contents out.old) (W.contents out.new) (W.failures out.old) (W.failures out.new)
-        text.now status result }
+    ensures { IsWritten (writer W.Sink out.old) (writer W.Sink out.new) text.now status result }
 {
     match out.put(text.as_bytes()) {
         Ok(()) => status,
@@ -99,7 +99,8 @@ fn answer(alloc: Global, words: &[String]) -> Option<Result<String, PolyError>>
     answer_in(alloc, field.as_str(), words)
 }
 
-/// The same for a field and the words after it.
+/// The text of the answer to a field and the words after it or the error in its place, and `None` where these are no
+/// command.
 pub fn answer_in(alloc: Global, field: &str, words: &[String]) -> Option<Result<String, PolyError>>
     ensures some { IfSome result (IsOutcomeOf (field.now ∷ map string_bytes words.now)) }
     ensures none { IfNone result ((f : Known) (c : Asked)
@@ -152,6 +153,7 @@ fn transform_line<M: PrimeModulus>(
 {
     let domain: Domain<M> = coset(size, PrimeField::from(offset))?;
     let mut items = elements::<M>(alloc, list)?;
+    // The counts are for contracts alone.
     let work = &mut Work::new();
     match direction {
         Direction::Forward => domain.fft_counted(alloc, &mut items, work)?,
@@ -205,9 +207,9 @@ fn divided<F: Field>(
         × (of_list F.field p.0 ≡ nothing F.field) × (of_list F.field p.1 ≡ nothing F.field))
         ⊎ IsQuotient F.field (of_list F.field dividend.now) (of_list F.field divisor.now)
         (of_list F.field p.0) (of_list F.field p.1)) }
-    ensures none { (result ≡ Err PolyError.ZeroDivisor)
+    ensures zero { (result ≡ Err PolyError.ZeroDivisor)
         → (of_list F.field dividend.now ≢ nothing F.field) × (of_list F.field divisor.now ≡ nothing F.field) }
-    ensures errors { IfErr result (λ e. (e ≡ PolyError.Memory) ⊎ (e ≡ PolyError.ZeroDivisor)) }
+    ensures errors { IsOkUnlessEither result PolyError.Memory PolyError.ZeroDivisor }
 {
     // By these neither has a zero at its end, and no list is so long that its degree is `usize::MAX`.
     dividend.coeffs();
@@ -263,7 +265,7 @@ fn coset<F: FftField, D: EvaluationDomain<F>>(size: u64, offset: F) -> Result<D,
     ensures chosen { IfOk result (λ d. D.chooses size (D.domain d).kind (D.domain d).size) }
     ensures offset { IfOk result (λ d. (D.domain d).offset ≡ offset) }
     ensures lawful { IfOk result (λ d. IsDomain F.field F.adicity F.root (D.domain d)) }
-    ensures none { IfErr result (λ e. (offset ≡ F.field.zero) ⊎ HasNoSize D.chooses size) }
+    ensures cause { IfErr result (λ e. (offset ≡ F.field.zero) ⊎ HasNoSize D.chooses size) }
     ensures error { IsOkUnless result PolyError.NoDomain }
 {
     D::new_coset(size as usize, offset).ok_or(PolyError::NoDomain)

@@ -1,8 +1,10 @@
 //! What is said of rows of words and texts, a line for each.
 
-ghost use Rattle.std.specs.Prelude.{◌≡◌, ◌↔◌, ℕ, List, map, IfOk, IfErr, IsTrue, string_bytes, decimal};
+ghost use Rattle.std.specs.Prelude.{◌≡◌, ◌↔◌, map, IfOk, IfErr, IsTrue, string_bytes, decimal};
 ghost use Rattle.polyrun_lib.specs.Lines.{ended, refusal_line_of};
-ghost use Rattle.polyrun_lib.specs.Answer.{HasAtMostOne, IsWritten};
+ghost use Rattle.polyrun_lib.specs.Answer.{HasAtMostOne};
+ghost use Rattle.polyrun_lib.specs.Written.{writer, IsWritten, IsOneWritten};
+ghost use Rattle.polyrun_lib.specs.Vectors.{Row};
 ghost use Rattle.polyrun_lib.specs.Check.{row_of, IsVectors, IsVerdict, HasLine, EndsAt, IsChecked, MayCheck};
 
 use crate::laws::one_check;
@@ -19,18 +21,58 @@ use std::alloc::{AllocError, Global};
 /// always bad. Each line's memory is taken before that line is written: where it is refused, the lines before stand, and
 /// the error's line follows.
 pub fn check<W: Sink>(alloc: Global, field: u64, rows: &[(Vec<String>, String)], out: &mut W) -> u8
-    ensures written { (text : List ℕ) × (status : ℕ)
-        × MayCheck (decimal field) (map row_of rows.now) text status
-        × IsWritten (W.contents out.old) (W.contents out.new) (W.failures out.old) (W.failures out.new)
-        text status result }
+    ensures written { IsOneWritten (MayCheck (decimal field) (map row_of rows.now))
+        (writer W.Sink out.old) (writer W.Sink out.new) result }
 
     // There are no other verdicts.
     ensures only { HasAtMostOne (IsChecked (decimal field) (map row_of rows.now)) }
 {
     one_check(field, rows);
+    check_rows(alloc, field, rows, out)
+}
+
+/// A row that can be checked.
+pub trait Checked {
+    // What its words and its text spell.
+    ghost shown: { Self → Row };
+
+    /// Writes the row's line, and tells whether the row is good. Where memory for the line is refused, or the writer
+    /// fails, no line comes after it, and the error is the status.
+    fn check<W: Sink>(
+        &self,
+        alloc: Global,
+        field: u64,
+        number: u64,
+        out: &mut W,
+    ) -> Result<bool, u8>
+        ensures line { IfOk result (HasLine (decimal field) (shown self.now) number
+            (writer W.Sink out.old) (writer W.Sink out.new)) }
+        ensures end { IfErr result (EndsAt (decimal field) (shown self.now) number
+            (writer W.Sink out.old) (writer W.Sink out.new)) };
+}
+
+impl Checked for (Vec<String>, String) {
+    ghost shown = { row_of };
+
+    fn check<W: Sink>(
+        &self,
+        alloc: Global,
+        field: u64,
+        number: u64,
+        out: &mut W,
+    ) -> Result<bool, u8> {
+        check_row(alloc, field, number, &self.0, self.1.as_str(), out)
+    }
+}
+
+/// Writes what `check` writes for rows of either kind, and gives its status.
+pub fn check_rows<R: Checked, W: Sink>(alloc: Global, field: u64, rows: &[R], out: &mut W) -> u8
+    ensures { IsOneWritten (MayCheck (decimal field) (map R.shown rows.now))
+        (writer W.Sink out.old) (writer W.Sink out.new) result }
+{
     let mut status = 0;
-    for (i, (words, text)) in rows.iter().enumerate() {
-        match check_row(alloc, field, i as u64 + 1, words, text.as_str(), out) {
+    for (i, row) in rows.iter().enumerate() {
+        match row.check(alloc, field, i as u64 + 1, out) {
             Ok(is_good) => {
                 if !is_good {
                     status = 1;
@@ -42,8 +84,7 @@ pub fn check<W: Sink>(alloc: Global, field: u64, rows: &[(Vec<String>, String)],
     status
 }
 
-/// Writes a row's line, and tells whether the row is good. Where memory for the line is refused, or the writer fails, no
-/// line comes after it, and the error is the status.
+/// Writes the line of the row with these words and this text, and tells whether the row is good.
 pub fn check_row<W: Sink>(
     alloc: Global,
     field: u64,
@@ -53,9 +94,9 @@ pub fn check_row<W: Sink>(
     out: &mut W,
 ) -> Result<bool, u8>
     ensures line { IfOk result (HasLine (decimal field) (map string_bytes words.now, text.now) number
-        (W.contents out.old) (W.contents out.new) (W.failures out.old) (W.failures out.new)) }
+        (writer W.Sink out.old) (writer W.Sink out.new)) }
     ensures end { IfErr result (EndsAt (decimal field) (map string_bytes words.now, text.now) number
-        (W.contents out.old) (W.contents out.new) (W.failures out.old) (W.failures out.new)) }
+        (writer W.Sink out.old) (writer W.Sink out.new)) }
 {
     let Ok(is_good) = is_good(alloc, field, words, text) else {
         return Err(refuse(out));
@@ -71,7 +112,7 @@ pub fn check_row<W: Sink>(
 
 /// Writes that memory was refused, and gives the status.
 pub fn refuse<W: Sink>(out: &mut W) -> u8
-    ensures { IsWritten (W.contents out.old) (W.contents out.new) (W.failures out.old) (W.failures out.new)
+    ensures { IsWritten (writer W.Sink out.old) (writer W.Sink out.new)
         (refusal_line_of PolyError.Memory) 1 result }
 {
     write(out, refusal_line(PolyError::Memory), 1)

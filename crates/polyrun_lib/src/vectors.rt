@@ -1,11 +1,10 @@
 //! The rows of each field.
 
-ghost use Rattle.std.specs.Prelude.{◌≡◌, ℕ, List, map, IfOk, IfErr, IfSome, IfNone, string_bytes, decimal};
-ghost use Rattle.polyrun_lib.specs.Answer.{IsWritten};
+ghost use Rattle.std.specs.Prelude.{◌≡◌, ℕ, List, map, IfOk, IfSome, IfNone, string_bytes, decimal};
 ghost use Rattle.polyrun_lib.specs.Vectors.{Row};
-ghost use Rattle.polyrun_lib.specs.Check.{shown_row, AsksVectors, HasLine, EndsAt, MayCheck};
+ghost use Rattle.polyrun_lib.specs.Check.{shown_row, AsksVectors};
 
-use crate::rows::{check_row, refuse};
+use crate::rows::{Checked, check_row, refuse};
 use ark_base::Sink;
 use std::alloc::{AllocError, Global};
 
@@ -68,49 +67,21 @@ pub fn vectors_of(words: &[String]) -> Option<(u64, &'static [Vector])>
     }
 }
 
-/// Writes what `check` writes for these rows, and gives its status. A row's words are copied only when its turn has come,
-/// so that where memory is refused, the lines before stand.
-pub fn check_vectors<W: Sink>(
-    alloc: Global,
-    field: u64,
-    rows: &[(&[&str], &str)],
-    out: &mut W,
-) -> u8
-    ensures { (text : List ℕ) × (status : ℕ) × MayCheck (decimal field) (map shown_row rows.now) text status
-        × IsWritten (W.contents out.old) (W.contents out.new) (W.failures out.old) (W.failures out.new)
-        text status result }
-{
-    let mut status = 0;
-    for (i, (words, text)) in rows.iter().enumerate() {
-        match check_vector(alloc, field, i as u64 + 1, words, text, out) {
-            Ok(is_good) => {
-                if !is_good {
-                    status = 1;
-                }
-            }
-            Err(ended) => return ended,
-        }
-    }
-    status
-}
+/// A row's words are copied only when its turn has come, so that where memory is refused, the lines before stand.
+impl Checked for Vector {
+    ghost shown = { shown_row };
 
-/// Writes a row's line, and tells whether the row is good. Where no line comes after it, the error is the status.
-fn check_vector<W: Sink>(
-    alloc: Global,
-    field: u64,
-    number: u64,
-    words: &[&str],
-    text: &str,
-    out: &mut W,
-) -> Result<bool, u8>
-    ensures line { IfOk result (HasLine (decimal field) (map (λ word. word.now) words.now, text.now) number
-        (W.contents out.old) (W.contents out.new) (W.failures out.old) (W.failures out.new)) }
-    ensures end { IfErr result (EndsAt (decimal field) (map (λ word. word.now) words.now, text.now) number
-        (W.contents out.old) (W.contents out.new) (W.failures out.old) (W.failures out.new)) }
-{
-    match owned_words(alloc, words) {
-        Ok(words) => check_row(alloc, field, number, &words, text, out),
-        Err(_) => Err(refuse(out)),
+    fn check<W: Sink>(
+        &self,
+        alloc: Global,
+        field: u64,
+        number: u64,
+        out: &mut W,
+    ) -> Result<bool, u8> {
+        match owned_words(alloc, self.0) {
+            Ok(words) => check_row(alloc, field, number, &words, self.1, out),
+            Err(_) => Err(refuse(out)),
+        }
     }
 }
 

@@ -24,13 +24,16 @@ pub fn is_list(word: &str) -> bool
     word.is_empty() || word.split(',').all(|part| number(part).is_some())
 }
 
-/// How many numbers are in the list that a word spells. It takes no memory.
+/// How many numbers are in the list that a word spells: as many as there are pieces between commas. It takes no memory.
 pub fn list_len(word: &str) -> usize
     requires { SpellsList word.now }
     ensures { (numbers : List ℕ) → IsList word.now numbers → result ≡ length numbers }
 {
-    // The empty word has one piece, which is no number.
-    word.split(',').filter_map(number).count()
+    if word.is_empty() {
+        0
+    } else {
+        word.split(',').count()
+    }
 }
 
 /// The list that a word spells.

@@ -48,7 +48,7 @@ fn over<F: FftField + Numbered, D: EvaluationDomain<F>>(
 }
 
 /// The domain that `new_coset` gives.
-fn coset<F: FftField + Numbered, D: EvaluationDomain<F>>(
+pub fn coset<F: FftField + Numbered, D: EvaluationDomain<F>>(
     num_coeffs: &str,
     offset: &str,
 ) -> Result<D, PolyError> {

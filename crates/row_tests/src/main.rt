@@ -6,8 +6,13 @@
 #![tactic(auto)]
 
 mod domains;
+mod extensions;
 mod fields;
+mod forms;
+mod multivariate;
 mod program;
+mod univariate;
+mod values;
 mod words;
 
 use ark_base::{F5, F433, F65537, FftField, PolyError};
@@ -66,6 +71,14 @@ fn answer_over<F: FftField + Numbered>(
         "radix2" => Some(domains::over_radix2::<F>(alloc, arguments)),
         "mixed" => Some(domains::over_mixed::<F>(alloc, arguments)),
         "general" => Some(domains::over_general::<F>(alloc, arguments)),
+        "values" => Some(values::answer::<F>(alloc, arguments)),
+        "dense" => Some(univariate::dense::<F>(alloc, arguments)),
+        "sparse" => Some(univariate::sparse::<F>(alloc, arguments)),
+        "either" => Some(univariate::either::<F>(alloc, arguments)),
+        "term" => Some(multivariate::term::<F>(alloc, arguments)),
+        "multivariate" => Some(multivariate::sparse::<F>(alloc, arguments)),
+        "dense_extension" => Some(extensions::dense::<F>(alloc, arguments)),
+        "sparse_extension" => Some(extensions::sparse::<F>(alloc, arguments)),
         _ => None,
     }
 }

@@ -84,6 +84,16 @@ pub fn text_of_terms<F: Numbered>(
     Ok(text)
 }
 
+/// The terms that stand between commas: degree, colon, coefficient.
+pub fn terms_of<F: Numbered>(alloc: Global, word: &str) -> Result<Vec<(usize, F)>, AllocError> {
+    let mut terms = Vec::new(alloc);
+    for term in words_of(alloc, word, ',')? {
+        let (degree, coefficient) = term.as_str().split_once(':').unwrap_or(("", ""));
+        terms.push((size(degree), element::<F>(coefficient)))?;
+    }
+    Ok(terms)
+}
+
 /// The answer to words that say nothing to a module.
 pub fn no_row(alloc: Global) -> Result<String, PolyError> {
     Ok("no row".to_string(alloc)?)

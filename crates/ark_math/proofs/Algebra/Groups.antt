@@ -1,7 +1,8 @@
 -- The laws of a module that follow from its definition.
-use Rattle.std.proofs.Common.{◌≡◌, Bool, ◌&&◌, Decides, sym, ◌∙◌, ap, ap₂}
+use Rattle.std.proofs.Common.{◌≡◌, Bool, ◌&&◌, Decides, sym, ◌∙◌, ap, ap₂, refl}
 use Rattle.std.proofs.lemmas.Bool.Decides.{Decides-and}
 use Rattle.ark_math.specs.Field.{FieldOn, IsField}
+use Rattle.ark_math.specs.Forms.{IsEmbedding}
 use Rattle.ark_math.specs.Module.{ModuleOn, IsModule, itself, paired}
 
 -- a field is a module over itself
@@ -72,3 +73,7 @@ one_times K L x = L.times_comm K.one x ∙ L.times_one x
 module _ {F M : Type 0} {K : FieldOn F} {V : ModuleOn F M} (N : IsField K) (L : IsModule K V) where
   pub zero_scale : (x : M) → V.scale K.zero x ≡ V.zero
   zero_scale x = zero_unique L (V.scale K.zero x) (sym (L.plus_scale K.zero K.zero x) ∙ ap (λ t. V.scale t x) (N.plus_zero K.zero))
+
+-- the identity is an embedding
+pub identity_embeds : {F M : Type 0} (V : ModuleOn F M) → IsEmbedding V V (λ a. a)
+identity_embeds V = record { one_to_one = λ a b e. e; zero_kept = refl; plus_kept = λ a b. refl; negated_kept = λ a. refl; scale_kept = λ s a. refl }

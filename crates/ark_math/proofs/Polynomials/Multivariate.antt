@@ -5,7 +5,8 @@ use Rattle.std.proofs.lemmas.Bool.{cases_order, cond-true, cond-false, cond_both
 use Rattle.std.proofs.lemmas.List.Elements.{All-head, All-tail}
 use Rattle.ark_math.specs.Field.{FieldOn, IsField}
 use Rattle.ark_math.specs.Term.{total_degree, term_value}
-use Rattle.ark_math.specs.Univariate.{nothing, added, opposite, scaled}
+use Rattle.ark_math.specs.Forms.{IsPolynomials}
+use Rattle.ark_math.specs.Univariate.{nothing, added, opposite, scaled, coefficient_operations}
 use Rattle.ark_math.specs.Multivariate.{same_term, single, of_terms, sum_at, IsValueAt, IsTotalDegree}
 use Rattle.ark_math.proofs.Algebra.Groups.{itself_is_module, zero_plus, scale_zero}
 use Rattle.ark_math.proofs.Algebra.Permuted.{total-permutation}
@@ -248,3 +249,29 @@ module _ {F : Type 0} (K : FieldOn F) (N : IsField K) where
 
   pub IsValueAt-scaled : (c : F) (a : List (ℕ × ℕ) → F) (x : List F) (y : F) → IsValueAt K a x y → IsValueAt K (scaled K c a) x (K.times c y)
   IsValueAt-scaled c a x y h = (with_each (K.times c) h.0, of_terms-scaled c h.0 ∙ ap (scaled K c) h.1, ap (K.times c) h.2 ∙ sym (sum_at-scaled c h.0 x))
+
+-- ---- the laws of polynomials in several variables, at points that show a list
+
+pub multivariate_polynomials : {F X : Type 0} (K : FieldOn F) → IsField K → (items : X → List F) → IsPolynomials K (coefficient_operations K) (λ _ _. Unit {0}) (IsTotalDegree K) (λ a x y. IsValueAt K a (items x) y)
+multivariate_polynomials K N items =
+    let L = coefficients_are_module K N in
+    record {
+      addable_zero = λ a. tt;
+      addable_comm = λ a b _. tt;
+      addable_negated = λ a b _. tt;
+      addable_scale = λ s a b _. tt;
+      plus_zero = L.plus_zero;
+      plus_comm = λ a b _. L.plus_comm a b;
+      plus_assoc = λ a b c _ _. L.plus_assoc a b c;
+      scale_plus = λ s a b _. L.scale_plus s a b;
+      scale_zero = scale_zero L;
+      plus_scale = L.plus_scale;
+      times_scale = L.times_scale;
+      one_scale = L.one_scale;
+      degree_zero = nothing_total_degree K;
+      one_degree = one_total_degree K;
+      one_value = λ a x. one_value_at K N a (items x);
+      value_plus = λ a b x y z _. IsValueAt-added K N a b (items x) y z;
+      value_negated = λ a x. IsValueAt-opposite K N a (items x);
+      value_scale = λ s a x. IsValueAt-scaled K N s a (items x);
+    }

@@ -4,8 +4,9 @@ use Rattle.std.proofs.lemmas.Bool.{cases_eq, cases_lt, cond-true, cond-false, eq
 use Rattle.std.proofs.lemmas.Bool.Decides.{Decides-and}
 use mathlib.Core.Path.{fun_ext}
 use Rattle.ark_math.specs.Field.{FieldOn, IsField}
+use Rattle.ark_math.specs.Forms.{IsPolynomials}
 use Rattle.ark_math.specs.Univariate.{monomial, IsBelow, of_list, of_pairs, IsSparse}
-use Rattle.ark_math.specs.Multilinear.{Table, zero_table, table_sum, table_opposite, table_scaled, AreAddable, extension, weight, written, IsConcat}
+use Rattle.ark_math.specs.Multilinear.{Table, zero_table, table_sum, table_opposite, table_scaled, table_operations, AreAddable, extension, weight, written, IsConcat}
 use Rattle.ark_math.proofs.Algebra.Groups.{itself_is_module, scale_zero}
 use Rattle.ark_math.proofs.Algebra.Regrouped.{sum_below-single}
 use Rattle.ark_math.proofs.Algebra.Solve.{nought, unit, negative, ◌⊗◌}
@@ -96,6 +97,29 @@ module _ {F : Type 0} (K : FieldOn F) (N : IsField K) where
 
   pub value_of-scaled : (c : F) (a : Table F) (x : List F) (y : F) → y ≡ extension K a.value x → K.times c y ≡ extension K (table_scaled K c a).value x
   value_of-scaled c a x y e = ap (K.times c) e ∙ sym (extension-scaled K N c a.value x)
+
+  -- the laws of multilinear extensions, at points that show a list
+  pub multilinear_polynomials : {X : Type 0} (items : X → List F) → IsPolynomials K (table_operations K) (AreAddable K) (λ a d. d ≡ a.variables) (λ a x y. y ≡ extension K a.value (items x))
+  multilinear_polynomials items = record {
+    addable_zero = AreAddable-zero;
+    addable_comm = AreAddable-comm;
+    addable_negated = AreAddable-opposite;
+    addable_scale = AreAddable-scaled;
+    plus_zero = table_sum-zero;
+    plus_comm = λ a b _. table_sum-comm a b;
+    plus_assoc = λ a b c _ _. table_sum-assoc a b c;
+    scale_plus = λ s a b _. table_scaled-sum s a b;
+    scale_zero = table_scaled-zero;
+    plus_scale = table_scaled-plus;
+    times_scale = table_scaled-times;
+    one_scale = table_scaled-one;
+    degree_zero = refl;
+    one_degree = λ a d e f g. f ∙ sym g;
+    one_value = λ a x y z f g. f ∙ sym g;
+    value_plus = λ a b x y z _. value_of-sum a b (items x) y z;
+    value_negated = λ a x. value_of-opposite a (items x);
+    value_scale = λ s a x. value_of-scaled s a (items x);
+  }
 
 -- lists of one length that denote one table are equal
 pub same_values : {F : Type 0} (K : FieldOn F) (c d : List F) → length c ≡ length d → of_list K c ≡ of_list K d → c ≡ d

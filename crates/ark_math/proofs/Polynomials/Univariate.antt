@@ -3,17 +3,14 @@ use Rattle.std.proofs.Common.{◌≡◌, ◌≢◌, ℕ, suc, ◌<◌, ◌≤◌
 use mathlib.Core.Path.{fun_ext}
 use Rattle.std.proofs.lemmas.Bool.{cases_eq, cases_lt, cases_order, cond-true, cond-false, eq-eqb, ne_eqb}
 use Rattle.ark_math.specs.Field.{FieldOn, IsField}
-use Rattle.ark_math.specs.Module.{ModuleOn, IsModule}
-use Rattle.ark_math.specs.Univariate.{nothing, added, difference, opposite, scaled, IsBelow, monomial, IsDegree}
+use Rattle.ark_math.specs.Module.{IsModule}
+use Rattle.ark_math.specs.Univariate.{nothing, added, difference, opposite, scaled, coefficient_operations, IsBelow, monomial, IsDegree}
 use Rattle.ark_math.proofs.Algebra.Groups.{itself_is_module, scale_zero}
 use Rattle.ark_math.proofs.Algebra.Solve.{nought, unit, negative, ◌⊗◌}
 use Rattle.ark_math.proofs.Algebra.Ring.{ring1}
 
-abbrev pub coefficients : {I F : Type 0} → FieldOn F → ModuleOn F (I → F)
-coefficients K = record { zero = nothing K; plus = added K; negated = opposite K; scale = scaled K }
-
 -- so the solver closes their equations
-pub coefficients_are_module : {I F : Type 0} (K : FieldOn F) → IsField K → IsModule K (coefficients {I = I} K)
+pub coefficients_are_module : {I F : Type 0} (K : FieldOn F) → IsField K → IsModule K (coefficient_operations {I = I} K)
 coefficients_are_module K N =
     let L = itself_is_module K N in
     record {

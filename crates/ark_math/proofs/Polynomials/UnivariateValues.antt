@@ -1,18 +1,19 @@
 -- The value of a polynomial at a point, and Horner's step.
-use Rattle.std.proofs.Common.{◌≡◌, ℕ, suc, ◌+◌, ◌<◌, ◌≤◌, List, ◌∷◌, length, get_or, drop, sym, ◌∙◌, ap, ap₂, subst, refl, arith, ⊎_elim}
+use Rattle.std.proofs.Common.{◌≡◌, ℕ, suc, ◌+◌, ◌<◌, ◌≤◌, List, [], ◌∷◌, length, get_or, drop, sym, ◌∙◌, ap, ap₂, subst, refl, arith, ⊎_elim}
 use Rattle.std.proofs.lemmas.Bool.{cases_lt}
 use Rattle.std.proofs.lemmas.List.{drop_more}
 use Rattle.ark_math.specs.Field.{FieldOn, IsField, power, minus}
 use Rattle.ark_math.specs.Module.{ModuleOn, IsModule, itself, sum_below, item}
 use Rattle.ark_math.specs.Transform.{value_at}
-use Rattle.ark_math.specs.Univariate.{nothing, added, difference, opposite, scaled, monomial, IsBelow, value_below, IsValue, of_list}
+use Rattle.ark_math.specs.Forms.{IsPolynomials}
+use Rattle.ark_math.specs.Univariate.{nothing, added, difference, opposite, scaled, coefficient_operations, monomial, IsBelow, value_below, IsValue, IsDegree, of_list}
 use Rattle.ark_math.proofs.Algebra.Groups.{itself_is_module, scale_zero}
 use Rattle.ark_math.proofs.Algebra.Sums.{sum_below-same, sum_below-plus, sum_below-scale}
 use Rattle.ark_math.proofs.Algebra.Regrouped.{sum_below-past, sum_below-first, sum_below-single, sum_below-negated}
 use Rattle.ark_math.proofs.Algebra.Solve.{◌⊕◌, ◌⊗◌, negative}
 use Rattle.ark_math.proofs.Algebra.Ring.{ring2, ring3, ring6}
-use Rattle.ark_math.proofs.Polynomials.Univariate.{added-below, opposite-below, scaled-below, nothing-below, IsBelow-more, monomial-below, monomial-same, monomial-other}
-use Rattle.ark_math.proofs.Polynomials.UnivariateLists.{of_list-below}
+use Rattle.ark_math.proofs.Polynomials.Univariate.{added-below, opposite-below, scaled-below, coefficients_are_module, one_degree, nothing-below, IsBelow-more, monomial-below, monomial-same, monomial-other}
+use Rattle.ark_math.proofs.Polynomials.UnivariateLists.{of_list-below, trimmed-nil, trimmed_degree}
 
 -- ---- Horner's step, from the last item to the first
 
@@ -119,6 +120,32 @@ module _ {F : Type 0} (K : FieldOn F) (N : IsField K) where
 
   pub value_below-first : (n : ℕ) (a : ℕ → F) (x : F) → value_below K (suc n) a x ≡ K.plus (a 0) (K.times x (value_below K n (λ i. a (suc i)) x))
   value_below-first n a x = horner (itself_is_module K N) n a x
+
+-- ---- the laws of polynomials in one variable
+
+pub univariate_polynomials : {F : Type 0} (K : FieldOn F) → IsField K → IsPolynomials K (coefficient_operations K) (λ _ _. Unit {0}) (IsDegree K) (IsValue K)
+univariate_polynomials K N =
+    let L = coefficients_are_module K N in
+    record {
+      addable_zero = λ a. tt;
+      addable_comm = λ a b _. tt;
+      addable_negated = λ a b _. tt;
+      addable_scale = λ s a b _. tt;
+      plus_zero = L.plus_zero;
+      plus_comm = λ a b _. L.plus_comm a b;
+      plus_assoc = λ a b c _ _. L.plus_assoc a b c;
+      scale_plus = λ s a b _. L.scale_plus s a b;
+      scale_zero = scale_zero L;
+      plus_scale = L.plus_scale;
+      times_scale = L.times_scale;
+      one_scale = L.one_scale;
+      degree_zero = trimmed_degree K [] (trimmed-nil K);
+      one_degree = one_degree K;
+      one_value = one_value K N;
+      value_plus = λ a b x y z _. value-added K N a b x y z;
+      value_negated = value-opposite K N;
+      value_scale = value-scaled K N;
+    }
 
 -- ---- Horner's steps, as a loop takes them from the end of a list
 

@@ -6,7 +6,7 @@ ghost use Rattle.std.specs.Prelude.{IfErr, IfOk, IfSome, IsOkUnless, IsSome, IsT
 ghost use Rattle.std.specs.Slice.Iter.{iter_rest};
 ghost use Rattle.std.specs.Iterator.Adapters.{IterYieldsInOrder};
 ghost use Rattle.ark_math.specs.Multilinear.{AreAddable, AreWindows, IsConcat, extension, exchanged, fixed};
-ghost use Rattle.ark_math.specs.Multilinear.{zero_table, table_sum, table_opposite, table_scaled};
+ghost use Rattle.ark_math.specs.Multilinear.{table_operations, table_sum, table_scaled, zero_table};
 ghost use Rattle.ark_math.specs.Univariate.{of_list};
 
 use crate::multilinear::MultilinearExtension;
@@ -57,14 +57,9 @@ impl<F: Field> Debug for DenseMultilinearExtension<F> {
 impl<F: Field> Polynomial<F> for DenseMultilinearExtension<F> {
     ghost use Rattle.ark_multi.specs.Extensions.{dense_table};
     ghost use Rattle.ark_math.specs.Multilinear.{Table};
-    ghost use Rattle.ark_math.proofs.Polynomials.Tables.{AreAddable-zero, AreAddable-comm};
-    ghost use Rattle.ark_math.proofs.Polynomials.Tables.{AreAddable-opposite, AreAddable-scaled};
-    ghost use Rattle.ark_math.proofs.Polynomials.Tables.{table_sum-zero, table_sum-comm, table_sum-assoc};
-    ghost use Rattle.ark_math.proofs.Polynomials.Tables.{table_scaled-one, table_scaled-times};
-    ghost use Rattle.ark_math.proofs.Polynomials.Tables.{table_scaled-plus, table_scaled-sum, table_scaled-zero};
-    ghost use Rattle.ark_math.proofs.Polynomials.Tables.{value_of-sum, value_of-opposite, value_of-scaled};
+    ghost use Rattle.ark_math.proofs.Polynomials.Tables.{multilinear_polynomials};
     ghost use Rattle.ark_lists.proofs.DenseTables.{equal_tables, listed, same_length};
-    ghost use Rattle.std.proofs.Common.{◌∙◌, ap, ap₂, refl, sym};
+    ghost use Rattle.std.proofs.Common.{ap};
 
     type Point = Vec<F>;
 
@@ -80,15 +75,11 @@ impl<F: Field> Polynomial<F> for DenseMultilinearExtension<F> {
 
     ghost has_value = { λ a x y. y ≡ extension F.field a.value x.items };
 
+    ghost always_evaluates = { ⊥ };
+
     ghost addable = { AreAddable F.field };
 
-    ghost zero = { zero_table F.field };
-
-    ghost sum = { table_sum F.field };
-
-    ghost negated = { table_opposite F.field };
-
-    ghost scaled = { table_scaled F.field };
+    ghost operations = { table_operations F.field };
 
     fn degree(&self) -> usize {
         self.num_vars
@@ -176,48 +167,14 @@ impl<F: Field> Polynomial<F> for DenseMultilinearExtension<F> {
 
     ghost fits_max = { λ m n x left right. same_length m n x.items left right };
 
-    ghost degree_zero = { refl };
-
-    ghost degree_law = { λ a d e left right. left ∙ sym right };
-
-    ghost value_law = { λ a x y z left right. left ∙ sym right };
-
-    ghost addable_zero = { AreAddable-zero F.field F.field_laws };
-
-    ghost addable_comm = { AreAddable-comm F.field F.field_laws };
-
-    ghost addable_negated = { AreAddable-opposite F.field F.field_laws };
-
-    ghost addable_scaled = { AreAddable-scaled F.field F.field_laws };
-
-    ghost sum_zero = { table_sum-zero F.field F.field_laws };
-
-    ghost sum_comm = { λ a b addable. table_sum-comm F.field F.field_laws a b };
-
-    ghost sum_assoc = { λ a b c left right. table_sum-assoc F.field F.field_laws a b c };
-
-    ghost scaled_one = { table_scaled-one F.field F.field_laws };
-
-    ghost scaled_times = { table_scaled-times F.field F.field_laws };
-
-    ghost scaled_plus = { table_scaled-plus F.field F.field_laws };
-
-    ghost scaled_sum = { λ c a b addable. table_scaled-sum F.field F.field_laws c a b };
-
-    ghost scaled_zero = { table_scaled-zero F.field F.field_laws };
-
-    ghost value_sum = { λ a b x y z addable. value_of-sum F.field F.field_laws a b x.items y z };
-
-    ghost value_negated = { λ a x. value_of-opposite F.field F.field_laws a x.items };
-
-    ghost value_scaled = { λ c a x. value_of-scaled F.field F.field_laws c a x.items };
+    ghost polynomial_laws = { multilinear_polynomials F.field F.field_laws (λ x. x.items) };
 }
 
 impl<F: Field> MultilinearExtension<F> for DenseMultilinearExtension<F> {
     ghost use Rattle.ark_multi.specs.Extensions.{dense_table};
     ghost use Rattle.ark_math.specs.Multilinear.{Table};
-    ghost use Rattle.ark_math.specs.Univariate.{IsBelow};
     ghost use Rattle.std.proofs.Common.{refl};
+    ghost use Rattle.ark_math.proofs.Algebra.Groups.{identity_embeds};
     ghost use Rattle.ark_lists.proofs.DenseTables.{list_below};
 
     ghost table = { dense_table F.field };
@@ -233,7 +190,7 @@ impl<F: Field> MultilinearExtension<F> for DenseMultilinearExtension<F> {
         _tries: usize,
     ) -> Result<Option<Self>, PolyError>
         requires { num_vars < 64 }
-        ensures some { IfOk result IsSome }
+        ensures drawn { IfOk result IsSome }
         ensures variables { IfOk result (λ drawn. IfSome drawn (λ p.
             (dense_table F.field p).variables ≡ num_vars)) }
         ensures memory { IsOkUnless result PolyError.Memory }
@@ -267,21 +224,13 @@ impl<F: Field> MultilinearExtension<F> for DenseMultilinearExtension<F> {
 
     ghost table_law = { λ p. refl };
 
-    ghost one_to_one = { λ a b same. same };
-
     ghost variables_law = { λ p. refl };
 
     ghost few = { λ p. p.few };
 
     ghost below = { λ p. list_below F.field p.evaluations.items p.num_vars p.whole };
 
-    ghost table_of_zero = { refl };
-
-    ghost table_of_sum = { λ a b. refl };
-
-    ghost table_of_negated = { λ a. refl };
-
-    ghost table_of_scaled = { λ c a. refl };
+    ghost tables_embed = { identity_embeds (table_operations F.field) };
 
     ghost degree_table = { λ a d. (λ h. h, λ h. h) };
 

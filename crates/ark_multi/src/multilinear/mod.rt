@@ -3,7 +3,8 @@
 ghost use Rattle.std.specs.Prelude.{◌≡◌, ◌↔◌, ◌-◌, ◌<◌, ◌≤◌, ◌^◌, ℕ, List, length};
 ghost use Rattle.std.specs.Prelude.{IfOk, IfSome, IsOkUnless, IsTrue, Vec};
 ghost use Rattle.std.specs.declared.alloc.Global.{Global};
-ghost use Rattle.ark_math.specs.Multilinear.{Table, zero_table, table_sum, table_opposite, table_scaled};
+ghost use Rattle.ark_math.specs.Multilinear.{Table, table_operations};
+ghost use Rattle.ark_math.specs.Forms.{IsEmbedding, IsShown};
 ghost use Rattle.ark_math.specs.Multilinear.{AreAddable, AreWindows, exchanged, extension, fixed};
 ghost use Rattle.ark_math.specs.Univariate.{IsBelow, of_list};
 
@@ -24,6 +25,9 @@ use std::alloc::Global;
 /// variables are equal, or one of them is zero of no variables; then the sum is the other one. Two are equal where
 /// their numbers of variables and their tables are.
 pub trait MultilinearExtension<F: Field>: Polynomial<F, Point = Vec<F>> {
+    ghost use Rattle.std.proofs.Common.{ap, ◌∙◌};
+    ghost use Rattle.ark_math.proofs.Callers.Forms.{embedding_shows};
+
     // The table that a value extends.
     ghost table: { Self → Table F };
 
@@ -54,8 +58,8 @@ pub trait MultilinearExtension<F: Field>: Polynomial<F, Point = Vec<F>> {
         a == b || k == 0 || (k <= higher - lower && higher <= num_vars && k <= num_vars - higher)
     }
 
-    /// The same with the `k` variables from `a` on and the `k` from `b` on exchanged: its value at a point is the old
-    /// one at the point with these items exchanged.
+    /// The extension with the `k` variables from `a` on and the `k` from `b` on exchanged: its value at a point is the
+    /// old one at the point with these items exchanged.
     fn relabel(&self, alloc: Global, a: usize, b: usize, k: usize) -> Result<Self, PolyError>
         requires { AreWindows (Self.variables self.now) a b k }
         ensures values { IfOk result (λ p. (x : List F) → length x ≡ Self.variables self.now
@@ -83,24 +87,13 @@ pub trait MultilinearExtension<F: Field>: Polynomial<F, Point = Vec<F>> {
 
     ghost table_law: { (p : Self) → table_of (Self.meaning p) ≡ table p };
 
-    ghost one_to_one: { (a b : Self.Polynomial.Meaning) → table_of a ≡ table_of b → a ≡ b };
-
     ghost variables_law: { (p : Self) → Self.variables p ≡ (table p).variables };
 
     ghost few: { (p : Self) → (table p).variables < 64 };
 
     ghost below: { (p : Self) → IsBelow F.field (2 ^ (table p).variables) (table p).value };
 
-    ghost table_of_zero: { table_of Self.Polynomial.zero ≡ zero_table F.field };
-
-    ghost table_of_sum: { (a b : Self.Polynomial.Meaning) → table_of (Self.sum a b)
-        ≡ table_sum F.field (table_of a) (table_of b) };
-
-    ghost table_of_negated: { (a : Self.Polynomial.Meaning) → table_of (Self.negated a)
-        ≡ table_opposite F.field (table_of a) };
-
-    ghost table_of_scaled: { (c : F) (a : Self.Polynomial.Meaning) → table_of (Self.scaled c a)
-        ≡ table_scaled F.field c (table_of a) };
+    ghost tables_embed: { IsEmbedding Self.operations (table_operations F.field) table_of };
 
     ghost degree_table: { (a : Self.Polynomial.Meaning) (d : ℕ) → Self.has_degree a d
         ↔ (d ≡ (table_of a).variables) };
@@ -112,4 +105,13 @@ pub trait MultilinearExtension<F: Field>: Polynomial<F, Point = Vec<F>> {
 
     ghost addable_law: { (a b : Self.Polynomial.Meaning) → Self.addable a b
         ↔ AreAddable F.field (table_of a) (table_of b) };
+
+    // What calls say of meanings, said of tables.
+    ghost by_tables: { IsShown Self.operations (table_operations F.field) Self.meaning table } = { embedding_shows table_of tables_embed table_law };
+
+    ghost evaluate_is: { (p : Self) (x : Vec F Global) (y : F) → Self.has_value (Self.meaning p) x y
+        → y ≡ extension F.field (table p).value x.items } = { λ p x y h. (value_table (Self.meaning p) x y).0 h
+            ∙ ap (λ t. extension F.field t.value x.items) (table_law p) };
+
+    ghost degree_is: { (p : Self) (d : ℕ) → Self.has_degree (Self.meaning p) d → d ≡ (table p).variables } = { λ p d h. (degree_table (Self.meaning p) d).0 h ∙ ap (λ t. t.variables) (table_law p) };
 }

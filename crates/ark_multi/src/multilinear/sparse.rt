@@ -5,8 +5,8 @@ ghost use Rattle.std.specs.Prelude.{All, IfOk, IfSome, IsNone, IsOkUnless, IsSom
 ghost use Rattle.std.specs.Slice.Iter.{iter_rest};
 ghost use Rattle.std.specs.Iterator.Adapters.{IterYieldsInOrder};
 ghost use Rattle.ark_math.specs.Multilinear.{AreAddable, extension, written};
-ghost use Rattle.ark_math.specs.Multilinear.{zero_table, table_sum, table_opposite, table_scaled};
-ghost use Rattle.ark_math.specs.Univariate.{IsSparse, of_list, of_pairs};
+ghost use Rattle.ark_math.specs.Multilinear.{table_operations, table_sum, table_scaled};
+ghost use Rattle.ark_math.specs.Univariate.{HasAtMost, IsSparse, of_list, of_pairs};
 
 use crate::multilinear::{DenseMultilinearExtension, MultilinearExtension};
 use ark_coeffs::sparse::sum_of_terms;
@@ -67,15 +67,10 @@ impl<F: Field> Debug for SparseMultilinearExtension<F> {
 impl<F: Field> Polynomial<F> for SparseMultilinearExtension<F> {
     ghost use Rattle.ark_multi.specs.Extensions.{sparse_table};
     ghost use Rattle.ark_math.specs.Multilinear.{Table};
-    ghost use Rattle.ark_math.proofs.Polynomials.Tables.{AreAddable-zero, AreAddable-comm};
-    ghost use Rattle.ark_math.proofs.Polynomials.Tables.{AreAddable-opposite, AreAddable-scaled};
-    ghost use Rattle.ark_math.proofs.Polynomials.Tables.{table_sum-zero, table_sum-comm, table_sum-assoc};
-    ghost use Rattle.ark_math.proofs.Polynomials.Tables.{table_scaled-one, table_scaled-times};
-    ghost use Rattle.ark_math.proofs.Polynomials.Tables.{table_scaled-plus, table_scaled-sum, table_scaled-zero};
-    ghost use Rattle.ark_math.proofs.Polynomials.Tables.{value_of-sum, value_of-opposite, value_of-scaled};
+    ghost use Rattle.ark_math.proofs.Polynomials.Tables.{multilinear_polynomials};
     ghost use Rattle.ark_lists.proofs.DenseTables.{same_length};
     ghost use Rattle.ark_lists.proofs.SparseTables.{equal_entries};
-    ghost use Rattle.std.proofs.Common.{◌∙◌, ap, ap₂, refl, sym};
+    ghost use Rattle.std.proofs.Common.{ap};
 
     type Point = Vec<F>;
 
@@ -91,15 +86,11 @@ impl<F: Field> Polynomial<F> for SparseMultilinearExtension<F> {
 
     ghost has_value = { λ a x y. y ≡ extension F.field a.value x.items };
 
+    ghost always_evaluates = { ⊥ };
+
     ghost addable = { AreAddable F.field };
 
-    ghost zero = { zero_table F.field };
-
-    ghost sum = { table_sum F.field };
-
-    ghost negated = { table_opposite F.field };
-
-    ghost scaled = { table_scaled F.field };
+    ghost operations = { table_operations F.field };
 
     fn degree(&self) -> usize {
         self.num_vars
@@ -175,46 +166,13 @@ impl<F: Field> Polynomial<F> for SparseMultilinearExtension<F> {
 
     ghost fits_max = { λ m n x left right. same_length m n x.items left right };
 
-    ghost degree_zero = { refl };
-
-    ghost degree_law = { λ a d e left right. left ∙ sym right };
-
-    ghost value_law = { λ a x y z left right. left ∙ sym right };
-
-    ghost addable_zero = { AreAddable-zero F.field F.field_laws };
-
-    ghost addable_comm = { AreAddable-comm F.field F.field_laws };
-
-    ghost addable_negated = { AreAddable-opposite F.field F.field_laws };
-
-    ghost addable_scaled = { AreAddable-scaled F.field F.field_laws };
-
-    ghost sum_zero = { table_sum-zero F.field F.field_laws };
-
-    ghost sum_comm = { λ a b addable. table_sum-comm F.field F.field_laws a b };
-
-    ghost sum_assoc = { λ a b c left right. table_sum-assoc F.field F.field_laws a b c };
-
-    ghost scaled_one = { table_scaled-one F.field F.field_laws };
-
-    ghost scaled_times = { table_scaled-times F.field F.field_laws };
-
-    ghost scaled_plus = { table_scaled-plus F.field F.field_laws };
-
-    ghost scaled_sum = { λ c a b addable. table_scaled-sum F.field F.field_laws c a b };
-
-    ghost scaled_zero = { table_scaled-zero F.field F.field_laws };
-
-    ghost value_sum = { λ a b x y z addable. value_of-sum F.field F.field_laws a b x.items y z };
-
-    ghost value_negated = { λ a x. value_of-opposite F.field F.field_laws a x.items };
-
-    ghost value_scaled = { λ c a x. value_of-scaled F.field F.field_laws c a x.items };
+    ghost polynomial_laws = { multilinear_polynomials F.field F.field_laws (λ x. x.items) };
 }
 
 impl<F: Field> MultilinearExtension<F> for SparseMultilinearExtension<F> {
     ghost use Rattle.ark_multi.specs.Extensions.{sparse_table};
     ghost use Rattle.std.proofs.Common.{refl};
+    ghost use Rattle.ark_math.proofs.Algebra.Groups.{identity_embeds};
     ghost use Rattle.ark_math.proofs.Polynomials.Tables.{pairs_below};
 
     ghost table = { sparse_table F.field };
@@ -234,8 +192,7 @@ impl<F: Field> MultilinearExtension<F> for SparseMultilinearExtension<F> {
         ensures variables { IfOk result (λ drawn. IfSome drawn (λ p.
             (sparse_table F.field p).variables ≡ num_vars)) }
         ensures entries { IfOk result (λ drawn. IfSome drawn (λ p.
-            (es : List (ℕ × F)) × (length es ≤ 2 ^ (num_vars / 2)) × IsSparse F.field es
-            × (of_pairs F.field es ≡ (sparse_table F.field p).value))) }
+            HasAtMost F.field (2 ^ (num_vars / 2)) (sparse_table F.field p).value)) }
         ensures spent { tries ≡ 0 → IfOk result IsNone }
         ensures memory { IsOkUnless result PolyError.Memory }
     {
@@ -272,21 +229,13 @@ impl<F: Field> MultilinearExtension<F> for SparseMultilinearExtension<F> {
 
     ghost table_law = { λ p. refl };
 
-    ghost one_to_one = { λ a b same. same };
-
     ghost variables_law = { λ p. refl };
 
     ghost few = { λ p. p.few };
 
     ghost below = { λ p. pairs_below F.field F.field_laws (2 ^ p.num_vars) p.evaluations.items p.within };
 
-    ghost table_of_zero = { refl };
-
-    ghost table_of_sum = { λ a b. refl };
-
-    ghost table_of_negated = { λ a. refl };
-
-    ghost table_of_scaled = { λ c a. refl };
+    ghost tables_embed = { identity_embeds (table_operations F.field) };
 
     ghost degree_table = { λ a d. (λ h. h, λ h. h) };
 
@@ -333,12 +282,11 @@ impl<F: Field> SparseMultilinearExtension<F> {
         tries: usize,
     ) -> Result<Option<Self>, PolyError>
         requires few { num_vars < 64 }
-        requires enough { entries ≤ 2 ^ num_vars }
+        requires room { entries ≤ 2 ^ num_vars }
         ensures variables { IfOk result (λ drawn. IfSome drawn (λ p.
             (sparse_table F.field p).variables ≡ num_vars)) }
         ensures entries { IfOk result (λ drawn. IfSome drawn (λ p.
-            (es : List (ℕ × F)) × (length es ≤ entries) × IsSparse F.field es × (of_pairs F.field es
-            ≡ (sparse_table F.field p).value))) }
+            HasAtMost F.field entries (sparse_table F.field p).value)) }
         ensures spent { tries ≡ 0 → 0 < entries → IfOk result IsNone }
         ensures unasked { entries ≡ 0 → IfOk result IsSome }
         ensures memory { IsOkUnless result PolyError.Memory }

@@ -3,10 +3,9 @@
 ghost use Rattle.std.specs.Prelude.{◌≡◌, ◌≢◌, ℕ, ◌≤◌, ◌<◌, ◌⊎◌, List, [], ◌∷◌, length, map, max, All, AllPairs};
 ghost use Rattle.std.specs.Prelude.{IfOk, IsOk, OnOk, IsOkUnless};
 ghost use Rattle.std.specs.declared.cmp.Ordering.TheVariants.{Less};
-ghost use Rattle.ark_math.specs.Term.{IsWithin};
-ghost use Rattle.ark_math.specs.Multivariate.{of_terms, IsValueAt, IsTotalDegree, of_listed};
-ghost use Rattle.ark_multi.specs.SortedTerms.{IsOnePower};
-ghost use Rattle.ark_math.specs.Univariate.{nothing, added, opposite, scaled as multiple};
+ghost use Rattle.ark_math.specs.Term.{IsOnePower, IsWithin};
+ghost use Rattle.ark_math.specs.Multivariate.{each_listed, of_listed, of_terms, IsValueAt, IsTotalDegree};
+ghost use Rattle.ark_math.specs.Univariate.{added, coefficient_operations, scaled as multiple};
 
 use crate::multivariate::Term;
 use crate::multivariate::merging::{degree_of_terms, gathered_terms, sum_of_terms, value_of_terms};
@@ -27,14 +26,13 @@ pub struct SparsePolynomial<F: Field, T: Term> {
     num_vars: usize,
     terms: Vec<(F, T)>,
     ghost rising: { AllPairs (λ c d. T.cmp c.1 d.1 ≡ Less) terms.items },
-    ghost some: { All (λ c. c.0 ≢ F.field.zero) terms.items },
+    ghost not_zero: { All (λ c. c.0 ≢ F.field.zero) terms.items },
     ghost within: { All (λ c. IsWithin num_vars (T.listed c.1)) terms.items },
 }
 
 impl<F: Field, T: Term> Clone for SparsePolynomial<F, T> {
     ghost is_clone = { λ p q. (q.num_vars ≡ p.num_vars)
-        × (map {B = F × List (ℕ × ℕ)} (λ c. (c.0, T.listed c.1)) q.terms.items
-        ≡ map (λ c. (c.0, T.listed c.1)) p.terms.items) };
+        × (each_listed T.listed q.terms.items ≡ each_listed T.listed p.terms.items) };
 
     fn clone(&self) -> Result<Self, AllocError> {
         Ok(SparsePolynomial {
@@ -58,12 +56,8 @@ impl<F: Field, T: Term> Debug for SparsePolynomial<F, T> {
 }
 
 impl<F: Field, T: Term> Polynomial<F> for SparsePolynomial<F, T> {
-    ghost use Rattle.ark_math.proofs.Algebra.Groups.{scale_zero};
-    ghost use Rattle.ark_math.proofs.Polynomials.Multivariate.{nothing_total_degree, one_total_degree};
-    ghost use Rattle.ark_math.proofs.Polynomials.Multivariate.{one_value_at, IsValueAt-added};
-    ghost use Rattle.ark_math.proofs.Polynomials.Multivariate.{IsValueAt-opposite, IsValueAt-scaled};
+    ghost use Rattle.ark_math.proofs.Polynomials.Multivariate.{multivariate_polynomials};
     ghost use Rattle.ark_math.proofs.Polynomials.TermLists.{strict_order, sorted_Decides};
-    ghost use Rattle.ark_math.proofs.Polynomials.Univariate.{coefficients_are_module};
     ghost use Rattle.std.proofs.Common.{ap};
     ghost use Rattle.std.proofs.Math.Nat.{max-le};
 
@@ -81,15 +75,11 @@ impl<F: Field, T: Term> Polynomial<F> for SparsePolynomial<F, T> {
 
     ghost has_value = { λ a x y. IsValueAt F.field a x.items y };
 
+    ghost always_evaluates = { Unit {0} };
+
     ghost addable = { λ _ _. Unit {0} };
 
-    ghost zero = { nothing F.field };
-
-    ghost sum = { added F.field };
-
-    ghost negated = { opposite F.field };
-
-    ghost scaled = { multiple F.field };
+    ghost operations = { coefficient_operations F.field };
 
     fn degree(&self) -> usize {
         degree_of_terms(&self.terms)
@@ -158,7 +148,7 @@ impl<F: Field, T: Term> Polynomial<F> for SparsePolynomial<F, T> {
 
     ghost equality_law = { λ a b. sorted_Decides F.field F.field_laws T.listed
         (strict_order T.listed T.total T.matches_eq T.equality_law) F.equality_law T.equality_law
-        a.terms.items b.terms.items a.rising b.rising a.some b.some };
+        a.terms.items b.terms.items a.rising b.rising a.not_zero b.not_zero };
 
     ghost clone_law = { λ a b same. ap (of_terms F.field) same.1 };
 
@@ -166,41 +156,7 @@ impl<F: Field, T: Term> Polynomial<F> for SparsePolynomial<F, T> {
 
     ghost fits_max = { λ m n x left right. max-le left right };
 
-    ghost degree_zero = { nothing_total_degree F.field };
-
-    ghost degree_law = { one_total_degree F.field };
-
-    ghost value_law = { λ a x. one_value_at F.field F.field_laws a x.items };
-
-    ghost addable_zero = { λ a. tt };
-
-    ghost addable_comm = { λ a b addable. tt };
-
-    ghost addable_negated = { λ a b addable. tt };
-
-    ghost addable_scaled = { λ c a b addable. tt };
-
-    ghost sum_zero = { (coefficients_are_module F.field F.field_laws).plus_zero };
-
-    ghost sum_comm = { λ a b addable. (coefficients_are_module F.field F.field_laws).plus_comm a b };
-
-    ghost sum_assoc = { λ a b c left right. (coefficients_are_module F.field F.field_laws).plus_assoc a b c };
-
-    ghost scaled_one = { (coefficients_are_module F.field F.field_laws).one_scale };
-
-    ghost scaled_times = { (coefficients_are_module F.field F.field_laws).times_scale };
-
-    ghost scaled_plus = { (coefficients_are_module F.field F.field_laws).plus_scale };
-
-    ghost scaled_sum = { λ c a b addable. (coefficients_are_module F.field F.field_laws).scale_plus c a b };
-
-    ghost scaled_zero = { scale_zero (coefficients_are_module F.field F.field_laws) };
-
-    ghost value_sum = { λ a b x y z addable. IsValueAt-added F.field F.field_laws a b x.items y z };
-
-    ghost value_negated = { λ a x. IsValueAt-opposite F.field F.field_laws a x.items };
-
-    ghost value_scaled = { λ c a x. IsValueAt-scaled F.field F.field_laws c a x.items };
+    ghost polynomial_laws = { multivariate_polynomials F.field F.field_laws (λ x. x.items) };
 }
 
 impl<F: Field, T: Term> SparsePolynomial<F, T> {
@@ -221,10 +177,11 @@ impl<F: Field, T: Term> SparsePolynomial<F, T> {
 
 impl<F: Field, T: Term> DenseMVPolynomial<F> for SparsePolynomial<F, T> {
     ghost use Rattle.std.proofs.Common.{refl};
+    ghost use Rattle.ark_math.proofs.Algebra.Groups.{identity_embeds};
 
     type Term = T;
 
-    ghost listed = { λ p. map (λ c. (c.0, T.listed c.1)) p.terms.items };
+    ghost listed = { λ p. each_listed T.listed p.terms.items };
 
     fn from_coefficients_slice(
         alloc: Global,
@@ -279,15 +236,7 @@ impl<F: Field, T: Term> DenseMVPolynomial<F> for SparsePolynomial<F, T> {
 
     ghost coefficients_law = { λ p. refl };
 
-    ghost one_to_one = { λ a b same. same };
-
-    ghost zero_coefficients = { refl };
-
-    ghost sum_coefficients = { λ a b. refl };
-
-    ghost negated_coefficients = { λ a. refl };
-
-    ghost scaled_coefficients = { λ c a. refl };
+    ghost coefficients_embed = { identity_embeds (coefficient_operations F.field) };
 
     ghost degree_coefficients = { λ a d. (λ h. h, λ h. h) };
 
@@ -296,6 +245,8 @@ impl<F: Field, T: Term> DenseMVPolynomial<F> for SparsePolynomial<F, T> {
     ghost fits_law = { λ n x. (λ h. h, λ h. h) };
 
     ghost addable_law = { λ a b. tt };
+
+    ghost evaluates = { tt };
 }
 
 /// The constant term.

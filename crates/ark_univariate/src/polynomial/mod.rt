@@ -2,7 +2,8 @@
 
 ghost use Rattle.std.specs.Prelude.{◌≡◌, ◌↔◌, ℕ, ◌+◌, List, length, IfOk, IfSome, IsNone, IsOkUnless};
 ghost use Rattle.ark_math.specs.Outcome.{IsOkUnlessEither};
-ghost use Rattle.ark_math.specs.Univariate.{of_list, nothing, added, opposite, scaled};
+ghost use Rattle.ark_math.specs.Forms.{IsEmbedding, IsShown};
+ghost use Rattle.ark_math.specs.Univariate.{coefficient_operations, of_list};
 ghost use Rattle.ark_math.specs.Univariate.{IsTrimmed, IsDegree, IsValue};
 
 pub mod univariate;
@@ -14,8 +15,11 @@ use std::alloc::Global;
 
 /// A polynomial in one variable that keeps all its coefficients, the lowest first.
 ///
-/// Every point fits, and every two of them can be added.
+/// Every point fits, evaluation never fails, and every two of them can be added.
 pub trait DenseUVPolynomial<F: Field>: Polynomial<F, Point = F> {
+    ghost use Rattle.std.proofs.Common.{subst};
+    ghost use Rattle.ark_math.proofs.Callers.Forms.{embedding_shows};
+
     // What `coeffs()` shows.
     ghost listed: { Self → List F };
 
@@ -57,18 +61,7 @@ pub trait DenseUVPolynomial<F: Field>: Polynomial<F, Point = F> {
 
     ghost coefficients_law: { (p : Self) → coefficients (Self.meaning p) ≡ of_list F.field (listed p) };
 
-    ghost one_to_one: { (a b : Self.Polynomial.Meaning) → coefficients a ≡ coefficients b → a ≡ b };
-
-    ghost zero_coefficients: { coefficients Self.Polynomial.zero ≡ nothing F.field };
-
-    ghost sum_coefficients: { (a b : Self.Polynomial.Meaning) → coefficients (Self.sum a b)
-        ≡ added F.field (coefficients a) (coefficients b) };
-
-    ghost negated_coefficients: { (a : Self.Polynomial.Meaning) → coefficients (Self.negated a)
-        ≡ opposite F.field (coefficients a) };
-
-    ghost scaled_coefficients: { (c : F) (a : Self.Polynomial.Meaning) → coefficients (Self.scaled c a)
-        ≡ scaled F.field c (coefficients a) };
+    ghost coefficients_embed: { IsEmbedding Self.operations (coefficient_operations F.field) coefficients };
 
     ghost degree_coefficients: { (a : Self.Polynomial.Meaning) (d : ℕ) → Self.has_degree a d
         ↔ IsDegree F.field (coefficients a) d };
@@ -79,4 +72,18 @@ pub trait DenseUVPolynomial<F: Field>: Polynomial<F, Point = F> {
     ghost fits_law: { (n : ℕ) (x : F) → Self.fits n x };
 
     ghost addable_law: { (a b : Self.Polynomial.Meaning) → Self.addable a b };
+
+    ghost evaluates: { Self.always_evaluates };
+
+    // What calls say of meanings, said of the coefficients.
+    ghost by_coefficients: { IsShown Self.operations (coefficient_operations F.field) Self.meaning
+        (λ p. of_list F.field (listed p)) } = { embedding_shows coefficients coefficients_embed coefficients_law };
+
+    ghost evaluate_is: { (p : Self) (x y : F) → Self.has_value (Self.meaning p) x y
+        → IsValue F.field (of_list F.field (listed p)) x y } = { λ p x y h. subst (λ a. IsValue F.field a x y) (coefficients_law p)
+            ((value_coefficients (Self.meaning p) x y).0 h) };
+
+    ghost degree_is: { (p : Self) (d : ℕ) → Self.has_degree (Self.meaning p) d
+        → IsDegree F.field (of_list F.field (listed p)) d } = { λ p d h. subst (λ a. IsDegree F.field a d) (coefficients_law p)
+            ((degree_coefficients (Self.meaning p) d).0 h) };
 }

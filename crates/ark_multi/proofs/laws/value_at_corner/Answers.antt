@@ -1,4 +1,4 @@
-use Rattle.std.proofs.Common.{◌≡◌, ◌<◌, ◌^◌, ◌∙◌, sym, subst, ap, length}
+use Rattle.std.proofs.Common.{◌<◌, ◌^◌, ◌∙◌, sym, subst, ap, length}
 use Rattle.std.proofs.lemmas.Result.{IfOk-weaker}
 use Rattle.ark_math.specs.Multilinear.{extension}
 use Rattle.ark_math.proofs.Polynomials.Multilinear.{extension-corner}
@@ -23,7 +23,7 @@ returns-clause-value g c =
     let x = c.in_ok-point.point in
     let below : b < 2 ^ n = subst (λ m. b < 2 ^ m) (sym c.num_vars.ensures) c.requires in
     IfOk-weaker c.evaluate.result _ _
-    (λ y h. subst (λ s. y ≡ extension K s.value x.items) (E.table_law p) ((E.value_table _ x y).0 h)
+    (λ y h. E.evaluate_is p x y h
     ∙ ap (extension K t.value) c.in_ok-point.ensures.corner
     ∙ extension-corner K N t.value n b below)
     c.evaluate.ensures.value

@@ -1,4 +1,4 @@
-use Rattle.std.proofs.Common.{◌≡◌, ◌∙◌, ◌++◌, sym, subst, ap, ap₂}
+use Rattle.std.proofs.Common.{◌≡◌, ◌∙◌, ◌++◌, sym, ap, ap₂}
 use Rattle.ark_math.specs.Multilinear.{extension}
 use Rattle.ark_math.proofs.Polynomials.Multilinear.{extension-append}
 use Rattle.ark_multi.proofs.laws.values_with_bound_variables.Goals as goal
@@ -9,7 +9,7 @@ returns-clause-bound g c =
     let E = g.met.E.MultilinearExtension in
     let rest = c.in_ok-rest.rest in
     let others = c.args.others.now in
-    subst (λ s. c.in_ok-evaluate-2.field-0 ≡ extension K s.value others.items) (E.table_law rest) ((E.value_table _ others _).0 c.in_ok-evaluate-2.ensures.value)
+    E.evaluate_is rest others c.in_ok-evaluate-2.field-0 c.in_ok-evaluate-2.ensures.value
     ∙ ap (λ t. extension K t others.items) c.in_ok-rest.ensures.values
 
 pub returns-clause-same : goal.returns-clause-same
@@ -23,9 +23,7 @@ returns-clause-same g c =
     let whole = c.extend_from_slice.new.self in
     let joined : whole.items ≡ first ++ others.items =
     c.in_ok-extend_from_slice.ensures.items ∙ ap₂ (λ xs ys. xs ++ ys) c.in_ok-whole.ensures.items c.deref.ensures.value in
-    let at_once : c.in_ok-evaluate.field-0 ≡ extension K (table p).value whole.items =
-    subst (λ s. c.in_ok-evaluate.field-0 ≡ extension K s.value whole.items) (E.table_law p) ((E.value_table _ whole _).0 c.in_ok-evaluate.ensures.value) in
     returns-clause-bound g c
     ∙ sym (extension-append K g.met.F.Field.field_laws (table p).value first others.items)
     ∙ ap (extension K (table p).value) (sym joined)
-    ∙ sym at_once
+    ∙ sym (E.evaluate_is p whole c.in_ok-evaluate.field-0 c.in_ok-evaluate.ensures.value)

@@ -8,9 +8,7 @@ pub returns : goal.returns
 returns g c =
     let K = g.F.Field.field in
     let P = g.met.P.DenseUVPolynomial in
-    let meaning = g.P.Polynomial.meaning c.args.polynomial.now in
     let coeffs = c.coeffs.result.now in
-    let denotes = P.coefficients_law c.args.polynomial.now ∙ ap (of_list K) (sym c.coeffs.ensures.same) in
-    let degree = subst (λ a. IsDegree K a c.degree.result) denotes ((P.degree_coefficients meaning c.degree.result).0 c.degree.ensures) in
+    let degree = subst (λ a. IsDegree K a c.degree.result) (ap (of_list K) (sym c.coeffs.ensures.same)) (P.degree_is c.args.polynomial.now c.degree.result c.degree.ensures) in
     let is : c.degree.result ≡ length coeffs - 1 = trimmed_degree_is K coeffs c.degree.result c.coeffs.ensures.trimmed degree in
     (unsigned_Decides _ _).1 (is ∙ sym c.saturating_sub.ensures)

@@ -11,7 +11,7 @@ ghost use Rattle.ark_math.specs.NormalForms.{trim};
 ghost use Rattle.ark_math.specs.Domain.{HasNoSize, IsGeneral};
 ghost use Rattle.ark_math.specs.Points.{AreValues, vanishing};
 ghost use Rattle.ark_univariate.specs.Domains.{general_domain};
-ghost use Rattle.ark_math.specs.Univariate.{IsTrimmed, IsDegree, IsValue, of_list, nothing, added, opposite};
+ghost use Rattle.ark_math.specs.Univariate.{IsTrimmed, IsDegree, IsValue, of_list, nothing, added, coefficient_operations};
 ghost use Rattle.ark_math.specs.Univariate.{IsBelow, IsDivision, IsQuotient, product, scaled as multiple};
 ghost use Rattle.ark_math.specs.Univariate.{difference, of_pairs};
 
@@ -104,13 +104,9 @@ impl<F: Field> Debug for DensePolynomial<F> {
 }
 
 impl<F: Field> Polynomial<F> for DensePolynomial<F> {
-    ghost use Rattle.std.proofs.Common.{[], ap, refl};
-    ghost use Rattle.ark_math.proofs.Algebra.Groups.{scale_zero};
-    ghost use Rattle.ark_math.proofs.Polynomials.Univariate.{coefficients_are_module, one_degree};
+    ghost use Rattle.std.proofs.Common.{ap, refl};
     ghost use Rattle.ark_math.proofs.Polynomials.Trimmed.{trim_equality};
-    ghost use Rattle.ark_math.proofs.Polynomials.UnivariateLists.{trimmed-nil, trimmed_degree};
-    ghost use Rattle.ark_math.proofs.Polynomials.UnivariateValues.{one_value, value-added, value-opposite};
-    ghost use Rattle.ark_math.proofs.Polynomials.UnivariateValues.{value-scaled};
+    ghost use Rattle.ark_math.proofs.Polynomials.UnivariateValues.{univariate_polynomials};
 
     type Point = F;
 
@@ -126,15 +122,11 @@ impl<F: Field> Polynomial<F> for DensePolynomial<F> {
 
     ghost has_value = { IsValue F.field };
 
+    ghost always_evaluates = { Unit {0} };
+
     ghost addable = { λ _ _. Unit {0} };
 
-    ghost zero = { nothing F.field };
-
-    ghost sum = { added F.field };
-
-    ghost negated = { opposite F.field };
-
-    ghost scaled = { multiple F.field };
+    ghost operations = { coefficient_operations F.field };
 
     fn degree(&self) -> usize {
         self.coeffs.len().saturating_sub(1)
@@ -218,45 +210,12 @@ impl<F: Field> Polynomial<F> for DensePolynomial<F> {
 
     ghost fits_max = { λ m n x left right. tt };
 
-    ghost degree_zero = { trimmed_degree F.field [] (trimmed-nil F.field) };
-
-    ghost degree_law = { one_degree F.field };
-
-    ghost value_law = { one_value F.field F.field_laws };
-
-    ghost addable_zero = { λ a. tt };
-
-    ghost addable_comm = { λ a b addable. tt };
-
-    ghost addable_negated = { λ a b addable. tt };
-
-    ghost addable_scaled = { λ c a b addable. tt };
-
-    ghost sum_zero = { (coefficients_are_module F.field F.field_laws).plus_zero };
-
-    ghost sum_comm = { λ a b addable. (coefficients_are_module F.field F.field_laws).plus_comm a b };
-
-    ghost sum_assoc = { λ a b c left right. (coefficients_are_module F.field F.field_laws).plus_assoc a b c };
-
-    ghost scaled_one = { (coefficients_are_module F.field F.field_laws).one_scale };
-
-    ghost scaled_times = { (coefficients_are_module F.field F.field_laws).times_scale };
-
-    ghost scaled_plus = { (coefficients_are_module F.field F.field_laws).plus_scale };
-
-    ghost scaled_sum = { λ c a b addable. (coefficients_are_module F.field F.field_laws).scale_plus c a b };
-
-    ghost scaled_zero = { scale_zero (coefficients_are_module F.field F.field_laws) };
-
-    ghost value_sum = { λ a b x y z addable. value-added F.field F.field_laws a b x y z };
-
-    ghost value_negated = { value-opposite F.field F.field_laws };
-
-    ghost value_scaled = { value-scaled F.field F.field_laws };
+    ghost polynomial_laws = { univariate_polynomials F.field F.field_laws };
 }
 
 impl<F: Field> DenseUVPolynomial<F> for DensePolynomial<F> {
     ghost use Rattle.std.proofs.Common.{refl};
+    ghost use Rattle.ark_math.proofs.Algebra.Groups.{identity_embeds};
 
     ghost listed = { λ p. p };
 
@@ -299,15 +258,7 @@ impl<F: Field> DenseUVPolynomial<F> for DensePolynomial<F> {
 
     ghost coefficients_law = { λ p. refl };
 
-    ghost one_to_one = { λ a b e. e };
-
-    ghost zero_coefficients = { refl };
-
-    ghost sum_coefficients = { λ a b. refl };
-
-    ghost negated_coefficients = { λ a. refl };
-
-    ghost scaled_coefficients = { λ c a. refl };
+    ghost coefficients_embed = { identity_embeds (coefficient_operations F.field) };
 
     ghost degree_coefficients = { λ a d. ((λ h. h), (λ h. h)) };
 
@@ -316,6 +267,8 @@ impl<F: Field> DenseUVPolynomial<F> for DensePolynomial<F> {
     ghost fits_law = { λ p x. tt };
 
     ghost addable_law = { λ a b. tt };
+
+    ghost evaluates = { tt };
 }
 
 impl<F: Field> DensePolynomial<F> {

@@ -10,8 +10,8 @@ ghost use Rattle.std.specs.Hash.{and-Alike, items_Alike, on_Alike, same_Alike};
 ghost use Rattle.ark_math.specs.Outcome.{IsOkUnlessEither};
 ghost use Rattle.ark_math.specs.NormalForms.{gather};
 ghost use Rattle.ark_math.specs.Points.{AreValues};
-ghost use Rattle.ark_math.specs.Univariate.{IsSparse, IsDegree, IsValue, of_list, of_pairs, nothing};
-ghost use Rattle.ark_math.specs.Univariate.{added, opposite, product, scaled as multiple};
+ghost use Rattle.ark_math.specs.Univariate.{IsSparse, IsDegree, IsValue, of_list, of_pairs};
+ghost use Rattle.ark_math.specs.Univariate.{coefficient_operations, product, scaled as multiple};
 
 use crate::domain::EvaluationDomain;
 use crate::evaluations::univariate::Evaluations;
@@ -103,13 +103,9 @@ impl<F: Field> Debug for SparsePolynomial<F> {
 
 impl<F: Field> Polynomial<F> for SparsePolynomial<F> {
     ghost use Rattle.std.specs.Prelude.{ℕ};
-    ghost use Rattle.std.proofs.Common.{[], ap, refl};
-    ghost use Rattle.ark_math.proofs.Algebra.Groups.{scale_zero};
-    ghost use Rattle.ark_math.proofs.Polynomials.Univariate.{coefficients_are_module, one_degree};
+    ghost use Rattle.std.proofs.Common.{ap, refl};
     ghost use Rattle.ark_math.proofs.Polynomials.Gathered.{gather_equality};
-    ghost use Rattle.ark_math.proofs.Polynomials.UnivariateLists.{trimmed-nil, trimmed_degree};
-    ghost use Rattle.ark_math.proofs.Polynomials.UnivariateValues.{one_value, value-added, value-opposite};
-    ghost use Rattle.ark_math.proofs.Polynomials.UnivariateValues.{value-scaled};
+    ghost use Rattle.ark_math.proofs.Polynomials.UnivariateValues.{univariate_polynomials};
 
     type Point = F;
 
@@ -125,15 +121,11 @@ impl<F: Field> Polynomial<F> for SparsePolynomial<F> {
 
     ghost has_value = { IsValue F.field };
 
+    ghost always_evaluates = { Unit {0} };
+
     ghost addable = { λ _ _. Unit {0} };
 
-    ghost zero = { nothing F.field };
-
-    ghost sum = { added F.field };
-
-    ghost negated = { opposite F.field };
-
-    ghost scaled = { multiple F.field };
+    ghost operations = { coefficient_operations F.field };
 
     fn degree(&self) -> usize {
         match self.coeffs.last() {
@@ -212,41 +204,7 @@ impl<F: Field> Polynomial<F> for SparsePolynomial<F> {
 
     ghost fits_max = { λ m n x left right. tt };
 
-    ghost degree_zero = { trimmed_degree F.field [] (trimmed-nil F.field) };
-
-    ghost degree_law = { one_degree F.field };
-
-    ghost value_law = { one_value F.field F.field_laws };
-
-    ghost addable_zero = { λ a. tt };
-
-    ghost addable_comm = { λ a b addable. tt };
-
-    ghost addable_negated = { λ a b addable. tt };
-
-    ghost addable_scaled = { λ c a b addable. tt };
-
-    ghost sum_zero = { (coefficients_are_module F.field F.field_laws).plus_zero };
-
-    ghost sum_comm = { λ a b addable. (coefficients_are_module F.field F.field_laws).plus_comm a b };
-
-    ghost sum_assoc = { λ a b c left right. (coefficients_are_module F.field F.field_laws).plus_assoc a b c };
-
-    ghost scaled_one = { (coefficients_are_module F.field F.field_laws).one_scale };
-
-    ghost scaled_times = { (coefficients_are_module F.field F.field_laws).times_scale };
-
-    ghost scaled_plus = { (coefficients_are_module F.field F.field_laws).plus_scale };
-
-    ghost scaled_sum = { λ c a b addable. (coefficients_are_module F.field F.field_laws).scale_plus c a b };
-
-    ghost scaled_zero = { scale_zero (coefficients_are_module F.field F.field_laws) };
-
-    ghost value_sum = { λ a b x y z addable. value-added F.field F.field_laws a b x y z };
-
-    ghost value_negated = { value-opposite F.field F.field_laws };
-
-    ghost value_scaled = { value-scaled F.field F.field_laws };
+    ghost polynomial_laws = { univariate_polynomials F.field F.field_laws };
 }
 
 impl<F: Field> SparsePolynomial<F> {

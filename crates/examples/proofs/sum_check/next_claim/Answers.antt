@@ -1,4 +1,4 @@
-use Rattle.std.proofs.Common.{◌≡◌, ◌∙◌, sym, ap, ap₂}
+use Rattle.std.proofs.Common.{◌≡◌, ◌-◌, ◌^◌, ◌∙◌, sym, ap, ap₂}
 use Rattle.ark_math.specs.Field.{minus}
 use Rattle.ark_math.proofs.Polynomials.Multilinear.{cube_sum-affine}
 use Rattle.examples.proofs.sum_check.next_claim.Goals as goal
@@ -12,5 +12,5 @@ returns g c =
     F.add_law _ _ _ c.add.ensures ∙ ap (K.plus c.args.low) (F.mul_law _ _ _ c.mul.ensures ∙ ap (K.times x) (F.sub_law _ _ _ c.sub.ensures)) in
     record {
       line = line;
-      honest = λ n t low high. line ∙ ap₂ (λ u v. K.plus u (K.times x (minus K v u))) low high ∙ sym (cube_sum-affine K F.field_laws n t x);
+      honest = λ t low high. line ∙ ap₂ (λ u v. K.plus u (K.times x (minus K v u))) low high ∙ sym (cube_sum-affine K F.field_laws (2 ^ (t.variables - 1)) t.value x);
     }

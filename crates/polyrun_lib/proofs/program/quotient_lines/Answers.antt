@@ -21,7 +21,7 @@ returns-in_err-quotient g c xs ys left_spelled right_spelled =
     (⊎_elim
     (λ memory. inr (inr (xs, ys, inr refl), memory))
     (λ zero.
-    let none = c.in_err-quotient.ensures.none (ap Err zero) in
+    let none = c.in_err-quotient.ensures.zero (ap Err zero) in
     inl (no_quotient g.row.M.Denot g.M.PrimeModulus S xs ys c.in_ok-dividend.dividend c.in_ok-divisor.divisor (c.in_ok-dividend.ensures xs left_spelled) (c.in_ok-divisor.ensures ys right_spelled) none.0 none.1, zero))
     c.in_err-quotient.ensures.errors)
 

@@ -3,7 +3,7 @@ use Rattle.polyrun_lib.proofs.program.run.Goals as goal
 
 pub returns-in-Some-clause-written : goal.returns-in-Some-clause-written
 returns-in-Some-clause-written g c =
-    let done = c.check_vectors.ensures in
+    let done = c.check_rows.ensures in
     (done.0, done.1, inl (_, _, c.in-Some.ensures.some, done.2), done.3)
 
 pub returns-in-None-clause-written : goal.returns-in-None-clause-written

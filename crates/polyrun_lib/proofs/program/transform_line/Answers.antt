@@ -7,7 +7,7 @@ use Rattle.polyrun_lib.proofs.program.transform_line.Goals.{in-Forward+in_ok-fft
 pub returns-in_err-domain : goal.returns-in_err-domain
 returns-in_err-domain g c xs spelled =
     outcome_error (shown_field g.M.PrimeModulus) (transform_of c.args.direction c.args.size c.args.offset xs) _ _ c.from_residual.ensures.1
-    (inl (has_no_domain g.row.M.Denot g.M.PrimeModulus g.M.PrimeModulus.modulus c.args.size c.args.offset _ c.from.ensures c.in_err-domain.ensures.none, c.in_err-domain.ensures.error))
+    (inl (has_no_domain g.row.M.Denot g.M.PrimeModulus g.M.PrimeModulus.modulus c.args.size c.args.offset _ c.from.ensures c.in_err-domain.ensures.cause, c.in_err-domain.ensures.error))
 
 pub returns-in_err-items : goal.returns-in_err-items
 returns-in_err-items g c xs spelled =

@@ -40,6 +40,6 @@ returns g c =
     let h = c.loop-term.invariant in
     let d = c.loop-term.degree in
     let all : take c.loop-term.term-index terms ≡ terms = take_all c.loop-term.term-index terms (omega (arith, c.loop-term-test.false)) in
-    sorted_degree g.F.Field.field g.met.F.Field.field_laws listed (strict_order listed g.met.T.Ord.total g.met.T.Ord.matches_eq g.met.T.Term.equality_law) terms d c.requires.rising c.requires.some
+    sorted_degree g.F.Field.field g.met.F.Field.field_laws listed (strict_order listed g.met.T.Ord.total g.met.T.Ord.matches_eq g.met.T.Term.equality_law) terms d c.requires.rising c.requires.not_zero
     (subst (All (λ c. total_degree (listed c.1) ≤ d)) all h.bounded)
     (λ l. subst (Any (λ c. total_degree (listed c.1) ≡ d)) all (h.reached l))

@@ -1,6 +1,5 @@
 use Rattle.std.specs.List.{All}
-use Rattle.ark_multi.specs.SortedTerms.{IsOnePower}
-use Rattle.ark_math.specs.Term.{IsWithin}
+use Rattle.ark_math.specs.Term.{IsOnePower, IsWithin}
 use Rattle.ark_multi.proofs.multivariate.sparse.push_powers.Given as goal
 
 abbrev pub invariant-loop-power : goal.invariant-loop-power

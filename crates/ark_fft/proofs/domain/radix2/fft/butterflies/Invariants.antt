@@ -1,4 +1,4 @@
-use Rattle.std.proofs.Common.{◌≡◌, map, ◌≤◌, ◌<◌, ◌*◌, ◌+◌, ℕ, get_or}
+use Rattle.std.proofs.Common.{◌≡◌, map, ◌≤◌, ◌<◌, ◌*◌, ℕ, get_or}
 use Rattle.ark_math.specs.Cost.{GrowsBy, butterfly_counts}
 use Rattle.ark_math.specs.Module.{item}
 use Rattle.ark_fft.proofs.domain.radix2.fft.butterflies.Given as goal

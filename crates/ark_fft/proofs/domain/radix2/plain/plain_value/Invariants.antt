@@ -1,5 +1,5 @@
 -- What the loop of a plain sum keeps.
-use Rattle.std.proofs.Common.{◌≡◌, ◌+◌, map}
+use Rattle.std.proofs.Common.{◌≡◌, map}
 use Rattle.ark_math.specs.Field.{power}
 use Rattle.ark_math.specs.Cost.{GrowsBy, counts}
 use Rattle.ark_math.specs.Module.{item, sum_below}

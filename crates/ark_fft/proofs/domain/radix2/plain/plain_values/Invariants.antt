@@ -1,5 +1,5 @@
 -- What the loop over the places keeps.
-use Rattle.std.proofs.Common.{◌≡◌, ℕ, ◌+◌, ◌*◌, ◌<◌, map, length}
+use Rattle.std.proofs.Common.{◌≡◌, ℕ, ◌*◌, ◌<◌, map, length}
 use Rattle.ark_math.specs.Field.{power}
 use Rattle.ark_math.specs.Cost.{GrowsBy, counts}
 use Rattle.ark_math.specs.Module.{item}

@@ -18,7 +18,7 @@ invariant_of-result g c =
     let greater : c.max.result ≡ max m n = search rules in
     record {
       rising = made.rising.rising;
-      some = made.rising.some;
+      not_zero = made.rising.not_zero;
       within = sum_within K g.met.F.Field.field_laws o m n c.max.result c.args.factor self.terms.items other.terms.items c.in_ok-sum_of_terms.field-0.items
           (subst (λ k. m ≤ k) (sym greater) (le-max_left m n)) (subst (λ k. n ≤ k) (sym greater) (le-max_right m n)) self.within other.within made.rising
           (made.sum ∙ ap₂ (λ x y. added K (of_listed K listed x) (scaled K c.args.factor (of_listed K listed y))) c.deref.ensures.value c.deref-2.ensures.value);

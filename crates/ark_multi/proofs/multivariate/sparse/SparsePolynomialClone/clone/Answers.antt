@@ -10,10 +10,10 @@ invariant_of-result g c =
     let o = term_order g.met.T.Ord.total g.met.T.Ord.matches_eq g.met.T.Term.equality_law in
     let self = c.args.self.now in
     let same = keyed_clones K N o (λ x y. g.F.Clone.is_clone x.0 y.0 × g.T.Clone.is_clone x.1 y.1) (λ x y made. (g.met.F.Field.clone_law x.0 y.0 made.0, g.met.T.Term.clone_law x.1 y.1 made.1)) self.terms.items c.in_ok-clone.field-0.items c.in_ok-clone.ensures.cases.0 in
-    let rising = rising_like K N o self.terms.items c.in_ok-clone.field-0.items same (record { rising = self.rising; some = self.some }) in
+    let rising = rising_like K N o self.terms.items c.in_ok-clone.field-0.items same (record { rising = self.rising; not_zero = self.not_zero }) in
     record {
       rising = rising.rising;
-      some = rising.some;
+      not_zero = rising.not_zero;
       within = All_like K N o (λ p. IsWithin self.num_vars p.1) self.terms.items c.in_ok-clone.field-0.items same self.within;
     }
 

@@ -9,6 +9,6 @@ invariant_of-result g c =
     let made = c.in_ok-gathered_terms.ensures in
     record {
       rising = made.rising.rising;
-      some = made.rising.some;
+      not_zero = made.rising.not_zero;
       within = same_sum_All g.F.Field.field g.met.F.Field.field_laws o (IsWithin n) (cases_within n) c.args.terms.items c.in_ok-gathered_terms.field-0.items c.requires made.rising made.sum;
     }

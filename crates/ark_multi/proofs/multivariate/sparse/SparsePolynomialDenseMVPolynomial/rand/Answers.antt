@@ -1,14 +1,14 @@
 use Rattle.std.proofs.lemmas.List.Elements.{All-map}
-use Rattle.ark_multi.specs.SortedTerms.{IsOnePower}
+use Rattle.ark_math.specs.Term.{IsOnePower}
 use Rattle.ark_math.proofs.Outcomes.Results.{IfOk_more}
 use Rattle.ark_multi.proofs.SortedTerms.{term_order, same_sum_All, cases_one_power}
 use Rattle.ark_multi.proofs.multivariate.sparse.SparsePolynomialDenseMVPolynomial.rand.Goals as goal
 
-pub returns-clause-terms : goal.returns-clause-terms
-returns-clause-terms g c =
+pub returns-clause-powers : goal.returns-clause-powers
+returns-clause-powers g c =
     let o = term_order g.met.T.Ord.total g.met.T.Ord.matches_eq g.met.T.Term.equality_law in
     let d = c.args.d in
     IfOk_more c.from_coefficients_vec.result
     (λ p e. All-map (λ x. IsOnePower d x.1) (λ x. (x.0, g.T.Term.listed x.1)) p.terms.items
-    (same_sum_All g.F.Field.field g.met.F.Field.field_laws o (IsOnePower d) (cases_one_power d) c.loop-variable.terms.items p.terms.items c.loop-variable.invariant.powers (record { rising = p.rising; some = p.some }) e))
+    (same_sum_All g.F.Field.field g.met.F.Field.field_laws o (IsOnePower d) (cases_one_power d) c.loop-variable.terms.items p.terms.items c.loop-variable.invariant.powers (record { rising = p.rising; not_zero = p.not_zero }) e))
     c.from_coefficients_vec.ensures.sum

@@ -1,0 +1,80 @@
+//! How much is drawn for a polynomial.
+
+use ark_base::{F5, F65537, Field};
+use ark_test_types::counting::Counting;
+use ark_univariate::univariate::DensePolynomial;
+use ark_univariate::{DenseUVPolynomial, Polynomial};
+use rand_pcg::Pcg64;
+use std::alloc::Global;
+use std::test::Fail;
+
+// How many tries the leading coefficient takes after so many others, up to 100.
+fn tries_taken<F: Field>(seed: u128, degree: usize) -> u64 {
+    let mut rng = Pcg64::new(seed, 1);
+    for _ in 0..degree {
+        F::rand(&mut rng);
+    }
+    for tries in 1..100 {
+        if !F::rand(&mut rng).is_zero() {
+            return tries;
+        }
+    }
+    100
+}
+
+// Whether one of this degree is drawn with so many tries, and how many words are taken.
+fn draws<F: Field>(alloc: Global, seed: u128, degree: usize, tries: u64) -> (bool, u64) {
+    let mut rng = Counting::new(Pcg64::new(seed, 1));
+    let comes = match DensePolynomial::<F>::rand(alloc, degree, &mut rng, tries as usize) {
+        Ok(Some(p)) => p.degree() == degree,
+        _ => false,
+    };
+    (comes, rng.draws)
+}
+
+// Whether just so many tries suffice, one less does not, and each word is a coefficient or a try.
+fn takes_its_tries<F: Field>(alloc: Global, seed: u128, degree: usize) -> bool {
+    let tries = tries_taken::<F>(seed, degree);
+    let words = (degree as u64).saturating_add(tries);
+    draws::<F>(alloc, seed, degree, tries) == (true, words)
+        && draws::<F>(alloc, seed, degree, tries.saturating_sub(1))
+            == (false, words.saturating_sub(1))
+        && draws::<F>(alloc, seed, degree, 100) == (true, words)
+}
+
+#[test]
+fn draws_take_their_tries(rt: HostRuntime) -> Result<(), Fail> {
+    for seed in 0..50 {
+        for degree in 0..31 {
+            assert!(rt;
+                takes_its_tries::<F5>(rt.alloc(), seed, degree),
+                "{seed}, {degree}"
+            );
+            assert!(rt;
+                takes_its_tries::<F65537>(rt.alloc(), seed, degree),
+                "{seed}, {degree}"
+            );
+        }
+    }
+    Ok(())
+}
+
+// Whether two draws of this degree differ.
+fn differ<F: Field>(alloc: Global, degree: usize) -> bool {
+    let mut rng = Pcg64::new(5, 3);
+    let (Ok(Some(p)), Ok(Some(q))) = (
+        DensePolynomial::<F>::rand(alloc, degree, &mut rng, 100),
+        DensePolynomial::<F>::rand(alloc, degree, &mut rng, 100),
+    ) else {
+        return false;
+    };
+    p != q
+}
+
+#[test]
+fn draws_differ(rt: HostRuntime) -> Result<(), Fail> {
+    for degree in [3, 40] {
+        assert!(rt; differ::<F65537>(rt.alloc(), degree));
+    }
+    Ok(())
+}

@@ -1,0 +1,11 @@
+//! The program on arguments for which there is no domain: it writes the error's line, and its status is 1.
+#![tactic(auto)]
+
+use ark_base::IoSink;
+use polyrun_lib::{arguments, run_arguments};
+use std::process::ExitCode;
+
+fn main(rt: HostRuntime) -> ExitCode {
+    let mut out = IoSink::new(rt.stdout());
+    ExitCode::from(run_arguments(rt.alloc(), arguments(&rt), &mut out))
+}
