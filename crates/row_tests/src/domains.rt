@@ -224,15 +224,11 @@ fn reindexed<F: FftField, D: EvaluationDomain<F>>(
     domain: &D,
     part: D,
 ) -> Result<String, PolyError> {
-    let mut text = String::new(alloc);
-    if part.size() == 0 || domain.size() % part.size() != 0 {
-        return Ok(text);
-    }
-    for i in 0..domain.size() {
-        if i > 0 {
-            text.push(',')?;
+    let mut order = Vec::new(alloc);
+    if part.size() != 0 && domain.size() % part.size() == 0 {
+        for i in 0..domain.size() {
+            order.push(domain.reindex_by_subdomain(part, i) as u64)?;
         }
-        write!(text, "{}", domain.reindex_by_subdomain(part, i))?;
     }
-    Ok(text)
+    Ok(text_of_numbers(alloc, &order)?)
 }

@@ -4,7 +4,9 @@
 //! Windows of variables are two starts and a length.
 
 use crate::forms::{self, Form, no_fit};
-use crate::words::{element, elements, no_row, one, size, terms_of, text_of, text_of_terms};
+use crate::words::{
+    element, elements, no_row, one, size, terms_of, text_of, text_of_numbers, text_of_terms,
+};
 use ark_base::{Field, PolyError};
 use ark_poly::laws::{
     only_multilinear, value_at_corner, values_with_bound_variables, values_with_exchanged_variables,
@@ -264,7 +266,7 @@ fn bound<F: Field + Numbered, E: MultilinearExtension<F>>(
         return no_fit(alloc);
     }
     let (at_once, bound) = values_with_bound_variables(alloc, p, first, others)?;
-    Ok(text_of(alloc, &[at_once, bound])?)
+    Ok(text_of_numbers(alloc, &[at_once.number(), bound.number()])?)
 }
 
 /// The answer to an operation that takes windows of variables.
@@ -301,5 +303,5 @@ fn exchanged<F: Field + Numbered, E: MultilinearExtension<F>>(
         return no_fit(alloc);
     }
     let (by_items, by_variables) = values_with_exchanged_variables(alloc, p, a, b, k, point)?;
-    Ok(text_of(alloc, &[by_items, by_variables])?)
+    Ok(text_of_numbers(alloc, &[by_items.number(), by_variables.number()])?)
 }
