@@ -1,16 +1,16 @@
 use Rattle.std.proofs.Common.{◌≡◌, ◌≢◌, ◌∙◌, sym, refl, subst, true≢false}
-use Rattle.ark_math.specs.Linear.{linear_factor}
 use Rattle.ark_math.specs.Univariate.{of_list, product, IsQuotient, IsValue}
 use Rattle.ark_math.proofs.Polynomials.UnivariateValues.{one_value}
 use Rattle.ark_math.proofs.Callers.Remainders.{divided_root, linear_not_zero, root_divides}
 use Rattle.ark_univariate.proofs.laws.without_root.Given as given
+use Rattle.ark_univariate.proofs.laws.without_root.Goals.{Then-not-is_zero}
 use Rattle.ark_univariate.proofs.laws.without_root.Goals as goal
 
 pub quotient_of-requires : goal.quotient_of-requires
 quotient_of-requires g c e = linear_not_zero g.F.Field.field g.met.F.Field.field_laws c.args.point (sym c.in_ok-divisor.ensures.same ∙ e)
 
 -- where the value isn't zero, there is no root
-no_root : (g : given.Over) (c : goal.Then-not-is_zero g) → IsValue g.F.Field.field (of_list g.F.Field.field c.args.polynomial.now) c.args.point g.F.Field.field.zero → ⊥
+no_root : (g : given.Over) (c : Then-not-is_zero g) → IsValue g.F.Field.field (of_list g.F.Field.field c.args.polynomial.now) c.args.point g.F.Field.field.zero → ⊥
 no_root g c root =
     let K = g.F.Field.field in
     let y = c.in_ok-value.value in
@@ -26,28 +26,21 @@ returns-then-not-is_zero-clause-multiple g c = (
   λ h. absurd (no_root g c (divided_root g.F.Field.field g.met.F.Field.field_laws (of_list g.F.Field.field c.args.polynomial.now) h.0 h.1 c.args.point h.2 h.3)),
 )
 
-root_at : (g : given.Over) (c : goal.In_ok-quotient_of g) → IsValue g.F.Field.field (of_list g.F.Field.field c.args.polynomial.now) c.args.point g.F.Field.field.zero
-root_at g c =
+pub returns-clause-root : goal.returns-clause-root
+returns-clause-root g c =
     let zero = (g.met.F.Field.equality_law _ _).0 (sym c.is_zero.ensures ∙ c.if-not-is_zero.false) ∙ g.met.F.Field.zero_law in
-    subst (IsValue g.F.Field.field (of_list g.F.Field.field c.args.polynomial.now) c.args.point) zero c.in_ok-value.ensures.value
-
-division : (g : given.Over) (c : goal.In_ok-quotient_of g) → IsQuotient g.F.Field.field (of_list g.F.Field.field c.args.polynomial.now) (linear_factor g.F.Field.field c.args.point)
-    (of_list g.F.Field.field c.in_ok-quotient_of.field-0) c.in_ok-quotient_of.ensures.division.0
-division g c =
-    let K = g.F.Field.field in
-    subst (λ d. IsQuotient K (of_list K c.args.polynomial.now) d (of_list K c.in_ok-quotient_of.field-0) c.in_ok-quotient_of.ensures.division.0)
-    c.in_ok-divisor.ensures.same c.in_ok-quotient_of.ensures.division.1
+    ((λ _. subst (IsValue g.F.Field.field (of_list g.F.Field.field c.args.polynomial.now) c.args.point) zero c.in_ok-value.ensures.value), (λ _. refl))
 
 pub returns-clause-quotient : goal.returns-clause-quotient
 returns-clause-quotient g c =
     let K = g.F.Field.field in
-    root_divides K g.met.F.Field.field_laws (of_list K c.args.polynomial.now) (of_list K c.in_ok-quotient_of.field-0) c.in_ok-quotient_of.ensures.division.0
-    c.args.point (division g c) (root_at g c)
-
-pub returns-clause-root : goal.returns-clause-root
-returns-clause-root g c = ((λ _. root_at g c), (λ _. refl))
+    let a = of_list K c.args.polynomial.now in
+    let q = of_list K c.in_ok-quotient_of.field-0 in
+    let r = c.in_ok-quotient_of.ensures.division.0 in
+    root_divides K g.met.F.Field.field_laws a q r c.args.point
+    (subst (λ d. IsQuotient K a d q r) c.in_ok-divisor.ensures.same c.in_ok-quotient_of.ensures.division.1) ((returns-clause-root g c).0 refl)
 
 pub returns-clause-multiple : goal.returns-clause-multiple
 returns-clause-multiple g c =
-    let finite = (division g c).finite in
+    let finite = c.in_ok-quotient_of.ensures.division.1.finite in
     ((λ _. (of_list g.F.Field.field c.in_ok-quotient_of.field-0, finite.0, finite.1, returns-clause-quotient g c)), (λ _. refl))
