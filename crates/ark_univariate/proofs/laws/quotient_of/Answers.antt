@@ -1,4 +1,4 @@
-use Rattle.std.proofs.Common.{◌≡◌, ◌↔◌, ◌⊎◌, inl, inr, Result, Ok, Err, IsOkUnless, ap}
+use Rattle.std.proofs.Common.{◌≡◌, ◌↔◌, inl, inr, Result, Ok, Err, IsOkUnless, ap}
 use Rattle.ark_math.specs.Outcome.{IsOkUnlessEither}
 use Rattle.ark_math.proofs.Outcomes.Results.{IfOk_more}
 use Rattle.ark_univariate.proofs.laws.quotient_of.Goals as goal

@@ -1,5 +1,5 @@
-use Rattle.std.proofs.Common.{◌≡◌, ◌≢◌, ◌∙◌, sym, refl, subst, true≢false}
-use Rattle.ark_math.specs.Univariate.{of_list, product, IsQuotient, IsValue}
+use Rattle.std.proofs.Common.{◌≡◌, ◌∙◌, sym, refl, subst, true≢false}
+use Rattle.ark_math.specs.Univariate.{of_list, IsQuotient, IsValue}
 use Rattle.ark_math.proofs.Polynomials.UnivariateValues.{one_value}
 use Rattle.ark_math.proofs.Callers.Remainders.{divided_root, linear_not_zero, root_divides}
 use Rattle.ark_univariate.proofs.laws.without_root.Given as given
