@@ -97,13 +97,16 @@ pub trait DenseMVPolynomial<F: Field>: Polynomial<F, Point = Vec<F>> {
 
     // What calls say of meanings, said of the coefficients.
     ghost by_coefficients: { IsShown Self.operations (coefficient_operations F.field) Self.meaning
-        (λ p. of_terms F.field (listed p)) } = { embedding_shows coefficients coefficients_embed coefficients_law };
+        (λ p. of_terms F.field (listed p)) } = { embedding_shows
+            coefficients coefficients_embed coefficients_law };
 
     ghost evaluate_is: { (p : Self) (x : Vec F Global) (y : F) → Self.has_value (Self.meaning p) x y
-        → IsValueAt F.field (of_terms F.field (listed p)) x.items y } = { λ p x y h. subst (λ a. IsValueAt F.field a x.items y) (coefficients_law p)
+        → IsValueAt F.field (of_terms F.field (listed p)) x.items y } = { λ p x y h.
+            subst (λ a. IsValueAt F.field a x.items y) (coefficients_law p)
             ((value_coefficients (Self.meaning p) x y).0 h) };
 
     ghost degree_is: { (p : Self) (d : ℕ) → Self.has_degree (Self.meaning p) d
-        → IsTotalDegree F.field (of_terms F.field (listed p)) d } = { λ p d h. subst (λ a. IsTotalDegree F.field a d) (coefficients_law p)
+        → IsTotalDegree F.field (of_terms F.field (listed p)) d } = { λ p d h.
+            subst (λ a. IsTotalDegree F.field a d) (coefficients_law p)
             ((degree_coefficients (Self.meaning p) d).0 h) };
 }

@@ -107,11 +107,14 @@ pub trait MultilinearExtension<F: Field>: Polynomial<F, Point = Vec<F>> {
         ↔ AreAddable F.field (table_of a) (table_of b) };
 
     // What calls say of meanings, said of tables.
-    ghost by_tables: { IsShown Self.operations (table_operations F.field) Self.meaning table } = { embedding_shows table_of tables_embed table_law };
+    ghost by_tables: { IsShown Self.operations (table_operations F.field) Self.meaning table } = { embedding_shows
+        table_of tables_embed table_law };
 
     ghost evaluate_is: { (p : Self) (x : Vec F Global) (y : F) → Self.has_value (Self.meaning p) x y
         → y ≡ extension F.field (table p).value x.items } = { λ p x y h. (value_table (Self.meaning p) x y).0 h
             ∙ ap (λ t. extension F.field t.value x.items) (table_law p) };
 
-    ghost degree_is: { (p : Self) (d : ℕ) → Self.has_degree (Self.meaning p) d → d ≡ (table p).variables } = { λ p d h. (degree_table (Self.meaning p) d).0 h ∙ ap (λ t. t.variables) (table_law p) };
+    ghost degree_is: { (p : Self) (d : ℕ) → Self.has_degree (Self.meaning p) d → d
+        ≡ (table p).variables } = { λ p d h. (degree_table (Self.meaning p) d).0 h
+            ∙ ap (λ t. t.variables) (table_law p) };
 }

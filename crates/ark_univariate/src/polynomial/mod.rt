@@ -77,13 +77,16 @@ pub trait DenseUVPolynomial<F: Field>: Polynomial<F, Point = F> {
 
     // What calls say of meanings, said of the coefficients.
     ghost by_coefficients: { IsShown Self.operations (coefficient_operations F.field) Self.meaning
-        (λ p. of_list F.field (listed p)) } = { embedding_shows coefficients coefficients_embed coefficients_law };
+        (λ p. of_list F.field (listed p)) } = { embedding_shows
+            coefficients coefficients_embed coefficients_law };
 
     ghost evaluate_is: { (p : Self) (x y : F) → Self.has_value (Self.meaning p) x y
-        → IsValue F.field (of_list F.field (listed p)) x y } = { λ p x y h. subst (λ a. IsValue F.field a x y) (coefficients_law p)
+        → IsValue F.field (of_list F.field (listed p)) x y } = { λ p x y h.
+            subst (λ a. IsValue F.field a x y) (coefficients_law p)
             ((value_coefficients (Self.meaning p) x y).0 h) };
 
     ghost degree_is: { (p : Self) (d : ℕ) → Self.has_degree (Self.meaning p) d
-        → IsDegree F.field (of_list F.field (listed p)) d } = { λ p d h. subst (λ a. IsDegree F.field a d) (coefficients_law p)
+        → IsDegree F.field (of_list F.field (listed p)) d } = { λ p d h.
+            subst (λ a. IsDegree F.field a d) (coefficients_law p)
             ((degree_coefficients (Self.meaning p) d).0 h) };
 }
