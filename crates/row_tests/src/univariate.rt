@@ -1,8 +1,9 @@
 //! Rows of polynomials in one variable: the dense ones spelled by their coefficients, the sparse ones by their terms.
 
 use crate::forms::{self, Form};
-use crate::words::{element, elements, no_row, terms_of, text_of, text_of_terms};
+use crate::words::{element, elements, no_row, one, terms_of, text_of, text_of_terms};
 use ark_base::{FftField, Field, PolyError};
+use ark_poly::laws::{division_at_point, without_root};
 use ark_poly::univariate::{DenseOrSparsePolynomial, DensePolynomial, SparsePolynomial};
 use ark_poly::{DenseUVPolynomial, Polynomial};
 use ark_test_types::numbered::Numbered;
@@ -51,6 +52,9 @@ pub fn dense<F: FftField + Numbered>(alloc: Global, words: &[String]) -> Result<
         ("mul" | "naive_mul" | "div" | "divide_by_transforms", [other]) => {
             let q = Form::of(alloc, other.as_str())?;
             answer_with_dense(alloc, name.as_str(), &p, &q)
+        }
+        ("divide_at" | "without_root", [point]) => {
+            answer_at_point(alloc, name.as_str(), &p, element(point.as_str()))
         }
         (name, [other]) if name.ends_with("_sparse") => {
             let q = Form::of(alloc, other.as_str())?;
@@ -111,6 +115,26 @@ pub fn text_of_pair<F: Field + Numbered>(
     Ok(text)
 }
 
+/// The answer to a division by x - z.
+fn answer_at_point<F: Field + Numbered>(
+    alloc: Global,
+    name: &str,
+    p: &DensePolynomial<F>,
+    point: F,
+) -> Result<String, PolyError> {
+    if name == "without_root" {
+        return match without_root(alloc, p, point)? {
+            Some(quotient) => Ok(quotient.text(alloc)?),
+            None => Ok("none".to_string(alloc)?),
+        };
+    }
+    let (quotient, remainder, value) = division_at_point(alloc, p, point)?;
+    let mut text = text_of_pair(alloc, Some((quotient, remainder)))?;
+    text.push(';')?;
+    text.push_str(one(alloc, value)?.as_str())?;
+    Ok(text)
+}
+
 /// The answer to an operation on a sparse polynomial.
 pub fn sparse<F: Field + Numbered>(alloc: Global, words: &[String]) -> Result<String, PolyError> {
     let [name, terms, arguments @ ..] = words else {
@@ -146,6 +170,7 @@ pub fn either<F: Field + Numbered>(alloc: Global, words: &[String]) -> Result<St
             let divisor = held::<F>(alloc, divisor.as_str())?;
             text_of_pair(alloc, p.divide_with_q_and_r(alloc, &divisor)?)
         }
+        ("value", [point]) => one(alloc, p.evaluate(&element(point.as_str()))),
         ("borrowed", [name]) => answer_borrowed::<F>(alloc, name.as_str(), word.as_str()),
         (name, []) => answer_of_either(alloc, name, p),
         _ => no_row(alloc),
