@@ -9,8 +9,8 @@ use std::alloc::Global;
 use std::test::Fail;
 
 // How many tries the leading coefficient takes after so many others, up to 100.
-fn tries_taken<F: Field>(seed: u128, degree: usize) -> u64 {
-    let mut rng = Pcg64::new(seed, 1);
+fn tries_taken<F: Field>(seed: u64, degree: usize) -> u64 {
+    let mut rng = Pcg64::new(u128::from(seed), 1);
     for _ in 0..degree {
         F::rand(&mut rng);
     }
@@ -23,8 +23,8 @@ fn tries_taken<F: Field>(seed: u128, degree: usize) -> u64 {
 }
 
 // Whether one of this degree is drawn with so many tries, and how many words are taken.
-fn draws<F: Field>(alloc: Global, seed: u128, degree: usize, tries: u64) -> (bool, u64) {
-    let mut rng = Counting::new(Pcg64::new(seed, 1));
+fn draws<F: Field>(alloc: Global, seed: u64, degree: usize, tries: u64) -> (bool, u64) {
+    let mut rng = Counting::new(Pcg64::new(u128::from(seed), 1));
     let comes = match DensePolynomial::<F>::rand(alloc, degree, &mut rng, tries as usize) {
         Ok(Some(p)) => p.degree() == degree,
         _ => false,
@@ -33,7 +33,7 @@ fn draws<F: Field>(alloc: Global, seed: u128, degree: usize, tries: u64) -> (boo
 }
 
 // Whether just so many tries suffice, one less does not, and each word is a coefficient or a try.
-fn takes_its_tries<F: Field>(alloc: Global, seed: u128, degree: usize) -> bool {
+fn takes_its_tries<F: Field>(alloc: Global, seed: u64, degree: usize) -> bool {
     let tries = tries_taken::<F>(seed, degree);
     let words = (degree as u64).saturating_add(tries);
     draws::<F>(alloc, seed, degree, tries) == (true, words)
