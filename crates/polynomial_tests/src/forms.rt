@@ -100,5 +100,7 @@ pub fn some<F: Field>(
 
 /// The polynomial of degree 0 with this coefficient, or zero.
 pub fn constant<F: Field>(alloc: Global, value: F) -> Result<DensePolynomial<F>, PolyError> {
-    DensePolynomial::from_coefficients_slice(alloc, &[value])
+    let mut coeffs = Vec::new(alloc);
+    coeffs.push(value)?;
+    Ok(DensePolynomial::from_coefficients_vec(coeffs))
 }

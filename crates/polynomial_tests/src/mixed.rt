@@ -46,17 +46,17 @@ fn are_like_dense<F: Field>(
 }
 
 // Whether both forms have one value, and come back from the other one.
-fn are_one<F: Field>(
-    alloc: Global,
-    q: &SparsePolynomial<F>,
-    dense: &DensePolynomial<F>,
-    point: F,
-) -> bool {
+fn are_one<F: Field>(alloc: Global, q: &SparsePolynomial<F>, point: F) -> bool {
+    let Ok(dense) = DensePolynomial::from_sparse(alloc, q) else {
+        return false;
+    };
+    let Ok((value, other)) = values_of_both_forms(alloc, &dense, q, point) else {
+        return false;
+    };
     let known = q.term_by_term(point);
-    gave(
-        values_of_both_forms(alloc, dense, q, point),
-        &(known, known),
-    ) && gave(sparse_and_back(alloc, dense), dense)
+    value == known
+        && other == known
+        && gave(sparse_and_back(alloc, &dense), &dense)
         && gave(dense_and_back(alloc, q), q)
 }
 
@@ -90,7 +90,7 @@ fn holds_with_all<F: Field>(alloc: Global, rng: &mut Pcg64, degree: usize) -> bo
     let Ok(dense) = DensePolynomial::from_sparse(alloc, &q) else {
         return false;
     };
-    let mut right = are_one(alloc, &q, &dense, F::rand(rng));
+    let mut right = are_one(alloc, &q, F::rand(rng));
     for other in 0..70 {
         let (Some(p), Some(terms)) = (
             DensePolynomial::drawn(alloc, rng, other),

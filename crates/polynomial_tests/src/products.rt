@@ -94,13 +94,13 @@ fn is_sparse_product_with_constant<F: Field>(
     p: &SparsePolynomial<F>,
     factor: F,
 ) -> bool {
-    let (Ok(known), Ok(multiple)) = (
-        SparsePolynomial::from_coefficients_slice(alloc, &[(0, factor)]),
-        p.mul_scalar(alloc, factor),
-    ) else {
+    let (Ok(dense), Ok(multiple)) = (constant(alloc, factor), p.mul_scalar(alloc, factor)) else {
         return false;
     };
-    gave(p.mul(alloc, &known), &multiple)
+    match SparsePolynomial::from_dense(alloc, &dense) {
+        Ok(known) => gave(p.mul(alloc, &known), &multiple),
+        Err(_) => false,
+    }
 }
 
 // Whether this holds of drawn terms of this degree, and of products with those of degrees up to 20.

@@ -37,12 +37,13 @@ fn doubles<F: Field, P: Polynomial<F>>(alloc: Global, p: &P) -> bool {
     let Ok(triple) = changed(alloc, &double, Change::Add, p) else {
         return false;
     };
-    triple.addable(p)
-        && double.addable(&double)
-        && matches!(
-            (triple.add(alloc, p), double.add(alloc, &double)),
-            (Ok(four), Ok(other)) if four == other
-        )
+    if !triple.addable(p) || !double.addable(&double) {
+        return false;
+    }
+    let (Ok(four), Ok(other)) = (triple.add(alloc, p), double.add(alloc, &double)) else {
+        return false;
+    };
+    four == other
 }
 
 #[derive(Clone, Copy)]

@@ -30,10 +30,14 @@ fn values_of<F: FftField, D: EvaluationDomain<F>>(
     alloc: Global,
     domain: D,
     p: &DensePolynomial<F>,
-    q: &SparsePolynomial<F>,
 ) -> Option<Evaluations<F, D>> {
+    let Ok(sparse) = SparsePolynomial::from_dense(alloc, p) else {
+        return None;
+    };
     let either = DenseOrSparsePolynomial::from(p);
-    let (dense, sparse, either) = values_of_all_forms(alloc, p, q, either, domain).ok()?;
+    let Ok((dense, sparse, either)) = values_of_all_forms(alloc, p, &sparse, either, domain) else {
+        return None;
+    };
     if dense == sparse && dense == either {
         Some(dense)
     } else {
@@ -82,7 +86,7 @@ fn is_valued<F: FftField, D: EvaluationDomain<F>>(
     let Ok(q) = SparsePolynomial::from_dense(alloc, p) else {
         return false;
     };
-    let Some(values) = values_of(alloc, domain, p, &q) else {
+    let Some(values) = values_of(alloc, domain, p) else {
         return false;
     };
     are_at_elements(alloc, &values, p)
