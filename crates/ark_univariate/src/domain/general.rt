@@ -55,8 +55,8 @@ impl<F: FftField> EvaluationDomain<F> for GeneralEvaluationDomain<F> {
     ghost chooses = { IsGeneral F.adicity };
 
     fn new(num_coeffs: usize) -> Option<Self> {
-        if let Some(domain) = Radix2EvaluationDomain::new(num_coeffs) {
-            return Some(GeneralEvaluationDomain::Radix2(domain));
+        if let Some(by_twos) = Radix2EvaluationDomain::new(num_coeffs) {
+            return Some(GeneralEvaluationDomain::Radix2(by_twos));
         }
         let mixed = MixedRadixEvaluationDomain::new(num_coeffs)?;
         Some(GeneralEvaluationDomain::MixedRadix(mixed))
@@ -64,11 +64,11 @@ impl<F: FftField> EvaluationDomain<F> for GeneralEvaluationDomain<F> {
 
     fn get_coset(&self, offset: F) -> Option<Self> {
         Some(match self {
-            GeneralEvaluationDomain::Radix2(domain) => {
-                GeneralEvaluationDomain::Radix2(domain.get_coset(offset)?)
+            GeneralEvaluationDomain::Radix2(by_twos) => {
+                GeneralEvaluationDomain::Radix2(by_twos.get_coset(offset)?)
             }
-            GeneralEvaluationDomain::MixedRadix(domain) => {
-                GeneralEvaluationDomain::MixedRadix(domain.get_coset(offset)?)
+            GeneralEvaluationDomain::MixedRadix(mixed) => {
+                GeneralEvaluationDomain::MixedRadix(mixed.get_coset(offset)?)
             }
         })
     }
