@@ -1,7 +1,6 @@
 //! Terms, polynomials in several variables, and multilinear extensions.
 #![tactic(auto)]
 
-pub mod laws;
 pub mod multilinear;
 pub mod multivariate;
 mod polynomial;

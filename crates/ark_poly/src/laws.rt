@@ -1,11 +1,9 @@
 //! Laws of calls together, stated as contracts of functions that callers may cite: each function promises nothing but its
 //! contract.
 
-pub use ark_multi::laws::{
-    graded_order, only_multilinear, value_at_corner, values_with_bound_variables,
-    values_with_exchanged_variables,
-};
-pub use ark_univariate::laws::{
+pub use ark_laws::{
     both_products, degree_of_product, dense_and_back, division_at_point, divisions_of_all_forms,
-    sparse_and_back, values_of_all_forms, values_of_both_forms, weighted_sum, without_root,
+    graded_order, only_multilinear, sparse_and_back, value_at_corner, values_of_all_forms,
+    values_of_both_forms, values_with_bound_variables, values_with_exchanged_variables,
+    weighted_sum, without_root,
 };

@@ -3,7 +3,6 @@
 
 pub mod domain;
 pub mod evaluations;
-pub mod laws;
 pub mod polynomial;
 
 pub use domain::{

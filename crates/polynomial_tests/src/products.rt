@@ -2,7 +2,7 @@
 
 use crate::forms::{Form, constant, gave, some};
 use ark_base::{F433, F65537, FftField, Field, PolyError};
-use ark_univariate::laws::{both_products, degree_of_product};
+use ark_laws::{both_products, degree_of_product};
 use ark_univariate::univariate::{DensePolynomial, SparsePolynomial};
 use ark_univariate::{DenseUVPolynomial, Polynomial};
 use rand_pcg::Pcg64;

@@ -1,7 +1,0 @@
-use Rattle.std.proofs.Common.{◌≡◌}
-use Rattle.ark_math.specs.Module.{itself, item, tabulate}
-use Rattle.ark_math.specs.Multilinear.{place}
-use Rattle.ark_multi.proofs.laws.exchanged_point.Given as goal
-
-abbrev pub invariant-loop-variable : goal.invariant-loop-variable
-invariant-loop-variable g l = l.turned.items ≡ tabulate l.variable (λ i. item (itself g.F.Field.field) l.point (place l.a l.b l.k i))
