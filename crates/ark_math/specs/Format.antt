@@ -137,7 +137,7 @@ EitherHas first second (inr y) = second.HasSpelling y
 abbrev pub IsTagFault : {X Y : Type 0} → Format X → Format Y → List ℕ → Type 0
 IsTagFault first second [] = ⊥
 IsTagFault first second (tag ∷ bytes) =
-    ((tag ≡ 0) × first.IsFault bytes) ⊎ ((tag ≡ 1) × second.IsFault bytes) ⊎ ((1 < tag) × (bytes ≡ []))
+    ((tag ≡ 0) × first.IsFault bytes) ⊎ ((tag ≡ 1) × second.IsFault bytes) ⊎ ((1 < tag) × (tag < 256) × (bytes ≡ []))
 
 -- a value of one type or of another, with a tag before it
 abbrev pub either : {X Y : Type 0} → Format X → Format Y → Format (X ⊎ Y)
@@ -146,3 +146,8 @@ either first second = record {
   HasSpelling = λ v. EitherHas first second v;
   IsFault = IsTagFault first second;
 }
+
+-- what two views show of one of two
+abbrev pub shown_either : {X Y V W : Type 0} → (X → V) → (Y → W) → X ⊎ Y → V ⊎ W
+shown_either left right (inl x) = inl (left x)
+shown_either left right (inr y) = inr (right y)

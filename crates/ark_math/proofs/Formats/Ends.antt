@@ -249,19 +249,19 @@ module _ {X Y : Type 0} (first : Format X) (second : Format Y) where
   pub data TagEnd : List ℕ → Type 0 where
     of_first : (bytes : List ℕ) → IsEnd first bytes → TagEnd (0 ∷ bytes)
     of_second : (bytes : List ℕ) → IsEnd second bytes → TagEnd (1 ∷ bytes)
-    of_neither : (tag : ℕ) → 1 < tag → TagEnd (tag ∷ [])
+    of_neither : (tag : ℕ) → 1 < tag → tag < 256 → TagEnd (tag ∷ [])
 
   module _ (A : IsFormat first) (B : IsFormat second) where
     pub tag_ends : (a b x y : List ℕ) → TagEnd a → TagEnd b → a ++ x ≡ b ++ y → a ≡ b
     tag_ends _ _ x y (of_first a p) (of_first b q) e = let tails : a ++ x ≡ b ++ y = cc in ap (λ l. 0 ∷ l) (A.one_end a b x y p q tails)
     tag_ends _ _ x y (of_first a p) (of_second b q) e = cc
-    tag_ends _ _ x y (of_first a p) (of_neither t h) e = let heads : 0 ≡ t = cc in absurd (omega (arith, heads, h))
+    tag_ends _ _ x y (of_first a p) (of_neither t h k) e = let heads : 0 ≡ t = cc in absurd (omega (arith, heads, h))
     tag_ends _ _ x y (of_second a p) (of_first b q) e = cc
     tag_ends _ _ x y (of_second a p) (of_second b q) e = let tails : a ++ x ≡ b ++ y = cc in ap (λ l. 1 ∷ l) (B.one_end a b x y p q tails)
-    tag_ends _ _ x y (of_second a p) (of_neither t h) e = let heads : 1 ≡ t = cc in absurd (omega (arith, heads, h))
-    tag_ends _ _ x y (of_neither t h) (of_first b q) e = let heads : t ≡ 0 = cc in absurd (omega (arith, heads, h))
-    tag_ends _ _ x y (of_neither t h) (of_second b q) e = let heads : t ≡ 1 = cc in absurd (omega (arith, heads, h))
-    tag_ends _ _ x y (of_neither t h) (of_neither s g) e = let heads : t ≡ s = cc in ap (λ n. n ∷ []) heads
+    tag_ends _ _ x y (of_second a p) (of_neither t h k) e = let heads : 1 ≡ t = cc in absurd (omega (arith, heads, h))
+    tag_ends _ _ x y (of_neither t h k) (of_first b q) e = let heads : t ≡ 0 = cc in absurd (omega (arith, heads, h))
+    tag_ends _ _ x y (of_neither t h k) (of_second b q) e = let heads : t ≡ 1 = cc in absurd (omega (arith, heads, h))
+    tag_ends _ _ x y (of_neither t h k) (of_neither s g j) e = let heads : t ≡ s = cc in ap (λ n. n ∷ []) heads
 
   tagged_value : (v : X ⊎ Y) (bytes : List ℕ) → EitherHas first second v → bytes ≡ either_spelling first second v → TagEnd bytes
   tagged_value (inl x) bytes has e = subst TagEnd (sym e) (of_first (first.spelling x) (inl (spelled first x has)))
@@ -271,7 +271,7 @@ module _ {X Y : Type 0} (first : Format X) (second : Format Y) where
   tagged_fault [] f = absurd f
   tagged_fault (tag ∷ bytes) (inl f) = subst (λ n. TagEnd (n ∷ bytes)) (sym f.0) (of_first bytes (inr f.1))
   tagged_fault (tag ∷ bytes) (inr (inl f)) = subst (λ n. TagEnd (n ∷ bytes)) (sym f.0) (of_second bytes (inr f.1))
-  tagged_fault (tag ∷ bytes) (inr (inr f)) = subst (λ l. TagEnd (tag ∷ l)) (sym f.1) (of_neither tag f.0)
+  tagged_fault (tag ∷ bytes) (inr (inr f)) = subst (λ l. TagEnd (tag ∷ l)) (sym f.2) (of_neither tag f.0 f.1)
 
   pub tagged : (bytes : List ℕ) → IsEnd (either first second) bytes → TagEnd bytes
   tagged bytes (inl s) = tagged_value s.value bytes s.has s.is

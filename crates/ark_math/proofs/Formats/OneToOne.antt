@@ -1,7 +1,7 @@
 -- A spelling tells its value, or what a view shows of it, and where it ends.
-use Rattle.std.proofs.Common.{◌≡◌, ℕ, List, [], ◌∷◌, ◌++◌, length, map, map-id, ◌⊎◌, inl, inr, refl, sym, ap, ◌∙◌, arith}
+use Rattle.std.proofs.Common.{◌≡◌, ℕ, List, [], ◌∷◌, ◌++◌, length, map, map-id, inl, inr, refl, sym, ap, ◌∙◌, arith}
 use Rattle.std.proofs.lemmas.List.{append_cancel_left}
-use Rattle.ark_math.specs.Format.{Format, IsFormat, Tells, IsOneToOne, number, word, ◌⊗◌, items, HaveSpellings, list, lawful, either}
+use Rattle.ark_math.specs.Format.{Format, IsFormat, Tells, IsOneToOne, number, word, ◌⊗◌, items, HaveSpellings, list, lawful, either, shown_either}
 use Rattle.ark_math.proofs.Formats.Ends.{one_number, spelled, number_is_format}
 
 pub number_tells : (width : ℕ) → IsOneToOne (number width)
@@ -53,12 +53,8 @@ pub lawful_tells : {X Y : Type 0} (layout : Format X) (fields : Y → X) (IsLawf
 lawful_tells layout fields IsLawful one told = lawful_shows layout fields IsLawful (λ x. x) (λ y. y) one told
 
 module _ {X Y V W : Type 0} (first : Format X) (second : Format Y) (left : X → V) (right : Y → W) (one : Tells left first) (two : Tells right second) where
-  -- what is shown of one of two
-  abbrev pub shown_either : X ⊎ Y → V ⊎ W
-  shown_either (inl x) = inl (left x)
-  shown_either (inr y) = inr (right y)
-
-  pub either_shows : Tells shown_either (either first second)
+  -- one of two tells what the spelling of that one does
+  pub either_shows : Tells (shown_either left right) (either first second)
   either_shows (inl x) (inl y) p q e = let tails : first.spelling x ≡ first.spelling y = cc in ap (λ v. inl v) (one x y p q tails)
   either_shows (inl x) (inr y) p q e = cc
   either_shows (inr x) (inl y) p q e = cc

@@ -1,5 +1,5 @@
 -- Bytes within which reading doesn't stop.
-use Rattle.std.proofs.Common.{◌≡◌, ℕ, suc, zero, ◌^◌, ◌<◌, List, [], ◌∷◌, ◌++◌, length, ◌⊎◌, inl, inr, sym, ap, ◌∙◌, append_assoc, length-append, arith, subst}
+use Rattle.std.proofs.Common.{◌≡◌, ℕ, suc, zero, ◌^◌, ◌<◌, List, [], ◌∷◌, ◌++◌, length, ◌⊎◌, inl, inr, sym, ap, ◌∙◌, append_assoc, length-append, arith, subst, lit<, mod-eq_of_lt}
 use Rattle.std.proofs.lemmas.List.{append_cancel_left}
 use Rattle.ark_math.specs.Format.{Format, IsSpelled, IsEnd, IsUnfinished, IsFormat, number, word, ◌⊗◌, items, HaveSpellings, list, lawful, either}
 use Rattle.ark_math.proofs.Formats.Ends.{length-little_endian, one_number, spelled, fault_not_front, number_is_format, IsPast, past, Stops, all, at_fault, run, less, lawful_end, TagEnd, of_first, of_second, of_neither, tagged}
@@ -82,19 +82,20 @@ module _ {X : Type 0} (item : Format X) (I : IsFormat item) where
       (rests ∙ append_assoc (items item r.front) r.rest rest)
 
 module _ {X Y : Type 0} (first : Format X) (second : Format Y) where
-  before_tag : (front rest : List ℕ) → [] ≡ front ++ rest → TagEnd first second front → ⊥
-  before_tag _ rest e (of_first a p) = cc
-  before_tag _ rest e (of_second a p) = cc
-  before_tag _ rest e (of_neither tag h) = cc
+  before_tag : (bytes front rest : List ℕ) → IsUnfinished (number 1) bytes → bytes ≡ front ++ rest → TagEnd first second front → ⊥
+  before_tag bytes _ rest h e (of_first a p) = h (0 ∷ []) (a ++ rest) e (inl (spelled (number 1) 0 (lit< tt)))
+  before_tag bytes _ rest h e (of_second a p) = h (1 ∷ []) (a ++ rest) e (inl (spelled (number 1) 1 (lit< tt)))
+  before_tag bytes _ rest h e (of_neither tag above below) =
+      h (tag ∷ []) rest e (inl (record { value = tag; has = below; is = ap (λ n. n ∷ []) (sym (mod-eq_of_lt below)) }))
 
-  -- before the tag
-  pub unfinished_tag : IsUnfinished (either first second) []
-  unfinished_tag front rest e end = before_tag front rest e (tagged first second front end)
+  -- in the tag
+  pub unfinished_tag : (bytes : List ℕ) → IsUnfinished (number 1) bytes → IsUnfinished (either first second) bytes
+  unfinished_tag bytes h front rest e end = before_tag bytes front rest h e (tagged first second front end)
 
   in_left : (bytes front rest : List ℕ) → IsUnfinished first bytes → 0 ∷ bytes ≡ front ++ rest → TagEnd first second front → ⊥
   in_left bytes _ rest h e (of_first a p) = let tails : bytes ≡ a ++ rest = cc in h a rest tails p
   in_left bytes _ rest h e (of_second a p) = cc
-  in_left bytes _ rest h e (of_neither tag above) = let heads : 0 ≡ tag = cc in omega (arith, heads, above)
+  in_left bytes _ rest h e (of_neither tag above below) = let heads : 0 ≡ tag = cc in omega (arith, heads, above)
 
   -- after the tag, what is unfinished of that one
   pub unfinished_left : (bytes : List ℕ) → IsUnfinished first bytes → IsUnfinished (either first second) (0 ∷ bytes)
@@ -103,7 +104,7 @@ module _ {X Y : Type 0} (first : Format X) (second : Format Y) where
   in_right : (bytes front rest : List ℕ) → IsUnfinished second bytes → 1 ∷ bytes ≡ front ++ rest → TagEnd first second front → ⊥
   in_right bytes _ rest h e (of_first a p) = cc
   in_right bytes _ rest h e (of_second a p) = let tails : bytes ≡ a ++ rest = cc in h a rest tails p
-  in_right bytes _ rest h e (of_neither tag above) = let heads : 1 ≡ tag = cc in omega (arith, heads, above)
+  in_right bytes _ rest h e (of_neither tag above below) = let heads : 1 ≡ tag = cc in omega (arith, heads, above)
 
   pub unfinished_right : (bytes : List ℕ) → IsUnfinished second bytes → IsUnfinished (either first second) (1 ∷ bytes)
   unfinished_right bytes h front rest e end = in_right bytes front rest h e (tagged first second front end)
