@@ -1,4 +1,4 @@
 -- Lemmas of this crate, beside those of `ark_math`.
 pub mod Element
 pub use Rattle.ark_traits.proofs.Cost
-pub use Rattle.ark_traits.proofs.Transfer
+pub use Rattle.ark_bytes.proofs.Transfer

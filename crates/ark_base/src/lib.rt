@@ -4,8 +4,10 @@
 mod prime_field;
 
 pub use ark_traits::{
-    DomainCoeff, Failed, FftField, Field, IoSink, Lanes, One, PolyError, Polynomial, Sink, Work,
-    Zero, batch_inversion, k_adicity, log2,
+    CanonicalDeserialize, CanonicalSerialize, Compress, DomainCoeff, Either, Failed, FftField,
+    Field, IoSink, IoSource, Lanes, One, PolyError, Polynomial, SerializationError, Sink, Source,
+    Spelled, Valid, Work, Zero, batch_inversion, fill, k_adicity, list_size, log2, read_list,
+    read_number, recompress, write_list, write_number, written_then_read,
 };
 pub use prime_field::{
     F5, F433, F65537, Modulus5, Modulus433, Modulus65537, PrimeField, PrimeModulus,

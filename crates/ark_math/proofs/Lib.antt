@@ -3,6 +3,7 @@
 pub mod Algebra
 pub mod Callers
 pub mod Domains
+pub mod Formats
 pub mod Lists
 pub mod Numbers
 pub mod Outcomes

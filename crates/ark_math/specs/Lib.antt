@@ -1,7 +1,8 @@
 -- The definitions that contracts speak of, each in the words of a textbook, in the order in which they are met: fields,
 -- modules and roots of unity; domains, transforms and their cost; polynomials in one variable, and at the elements of a
 -- domain; terms, polynomials in several variables, multilinear extensions, and what all of these share; what calls
--- answer; the constants of a prime field. Rows has examples.
+-- answer; the constants of a prime field; how values are spelled in bytes, and the layout of each type. Rows has
+-- examples.
 pub mod Field
 pub mod Module
 pub mod Root
@@ -19,4 +20,6 @@ pub mod Forms
 pub mod Outcome
 pub mod Prime
 pub mod Generator
+pub mod Format
+pub mod Layouts
 pub mod Rows

@@ -1,5 +1,6 @@
 -- Examples, computed from the definitions.
-use Rattle.std.specs.Prelude.{◌≡◌, ℕ, ◌+◌, ◌-◌, ◌*◌, ◌%◌, [], ◌∷◌, ◌==◌, refl}
+use Rattle.std.specs.Prelude.{◌≡◌, ℕ, ◌+◌, ◌-◌, ◌*◌, ◌%◌, List, [], ◌∷◌, ◌++◌, length, ◌==◌, refl}
+use Rattle.std.proofs.Common.{inl}
 use Rattle.ark_math.specs.Field.{FieldOn}
 use Rattle.ark_math.specs.Module.{itself, tabulate, sum_below}
 use Rattle.ark_math.specs.Domain.{Domain, element, radix2, mixed_radix}
@@ -11,6 +12,8 @@ use Rattle.ark_math.specs.Multivariate.{of_terms, sum_at}
 use Rattle.ark_math.specs.Points.{vanishing, reindexed}
 use Rattle.ark_math.specs.Multilinear.{corner, weight, extension, fixed, exchanged, written}
 use Rattle.ark_math.specs.NormalForms.{trim, gather}
+use Rattle.ark_math.specs.Format.{number}
+use Rattle.ark_math.specs.Layouts.{width_of, dense, sparse, term, multivariate, dense_extension, sparse_extension, long_domain, short_domain, general_domain, evaluations}
 
 abbrev modulo : ℕ → FieldOn ℕ
 modulo p = record { zero = 0; one = 1; plus = λ x y. (x + y) % p; times = λ x y. (x * y) % p; negated = λ x. (p - x) % p }
@@ -140,3 +143,71 @@ exchanged_point_after = refl
 
 last_written_wins : tabulate {M = ℕ} 4 (written 0 ((1, 3) ∷ (2, 4) ∷ (1, 2) ∷ [])) ≡ 0 ∷ 2 ∷ 4 ∷ 0 ∷ []
 last_written_wins = refl
+
+-- ---- bytes
+
+-- a number below 256 as a word
+abbrev byte_word : ℕ → List ℕ
+byte_word n = n ∷ 0 ∷ 0 ∷ 0 ∷ 0 ∷ 0 ∷ 0 ∷ 0 ∷ []
+
+-- 1 + 2x
+dense_bytes : (dense (modulo 65537) (number 3)).spelling (1 ∷ 2 ∷ []) ≡ byte_word 2 ++ 1 ∷ 0 ∷ 0 ∷ 2 ∷ 0 ∷ 0 ∷ []
+dense_bytes = refl
+
+zero_bytes : (dense (modulo 65537) (number 3)).spelling [] ≡ byte_word 0
+zero_bytes = refl
+
+-- 4x^2
+sparse_bytes : (sparse (modulo 5) (number 1)).spelling ((2, 4) ∷ []) ≡ byte_word 1 ++ byte_word 2 ++ 4 ∷ []
+sparse_bytes = refl
+
+-- 3x1 of two variables
+multivariate_bytes : (multivariate (number 1) (term (λ ps. ps)) (λ p. p)).spelling (2, (3, (1, 1) ∷ []) ∷ [])
+    ≡ byte_word 2 ++ byte_word 1 ++ 3 ∷ [] ++ byte_word 1 ++ byte_word 1 ++ byte_word 1
+multivariate_bytes = refl
+
+-- one variable
+dense_extension_bytes : (dense_extension (number 1) (λ t. t)).spelling (0 ∷ 1 ∷ [], 1) ≡ byte_word 2 ++ 0 ∷ 1 ∷ [] ++ byte_word 1
+dense_extension_bytes = refl
+
+-- two variables, and 432 at index 2
+sparse_extension_bytes : (sparse_extension (number 2) (λ t. t)).spelling ((2, 432) ∷ [], (2, 0))
+    ≡ byte_word 1 ++ byte_word 2 ++ 176 ∷ 1 ∷ [] ++ byte_word 2 ++ 0 ∷ 0 ∷ []
+sparse_extension_bytes = refl
+
+abbrev long_two : List ℕ
+long_two = byte_word 2 ++ 1 ∷ 0 ∷ 0 ∷ 0 ∷ [] ++ 2 ∷ 3 ∷ 4 ∷ 4 ∷ 2 ∷ 3 ∷ 4 ∷ []
+
+long_two_bytes : (long_domain (number 1) (λ d. d)).spelling (2, (1, (2, (3, (4, (4, (2, (3, 4)))))))) ≡ long_two
+long_two_bytes = refl
+
+long_four_bytes : (long_domain (number 1) (λ d. d)).spelling (4, (2, (4, (4, (2, (3, (1, (1, 1)))))))) ≡ byte_word 4 ++ 2 ∷ 0 ∷ 0 ∷ 0 ∷ [] ++ 4 ∷ 4 ∷ 2 ∷ 3 ∷ 1 ∷ 1 ∷ 1 ∷ []
+long_four_bytes = refl
+
+long_mixed_bytes : (long_domain (number 2) (λ d. d)).spelling (6, (1, (6, (361, (199, (235, (1, (1, 1))))))))
+    ≡ byte_word 6 ++ 1 ∷ 0 ∷ 0 ∷ 0 ∷ [] ++ 6 ∷ 0 ∷ 105 ∷ 1 ∷ 199 ∷ 0 ∷ 235 ∷ 0 ∷ 1 ∷ 0 ∷ 1 ∷ 0 ∷ 1 ∷ 0 ∷ []
+long_mixed_bytes = refl
+
+long_general_bytes : (general_domain (long_domain (number 1) (λ d. d)) (long_domain (number 1) (λ d. d)) (λ d. d)).spelling (inl (2, (1, (2, (3, (4, (4, (2, (3, 4)))))))))
+    ≡ 0 ∷ [] ++ long_two
+long_general_bytes = refl
+
+short_two_bytes : (short_domain (number 1) (λ d. d)).spelling (2, 2) ≡ byte_word 2 ++ 2 ∷ []
+short_two_bytes = refl
+
+short_mixed_bytes : (short_domain (number 2) (λ d. d)).spelling (6, 1) ≡ byte_word 6 ++ 1 ∷ 0 ∷ []
+short_mixed_bytes = refl
+
+short_general_bytes : (general_domain (short_domain (number 1) (λ d. d)) (short_domain (number 1) (λ d. d)) (λ d. d)).spelling (inl (2, 2)) ≡ 0 ∷ [] ++ byte_word 2 ++ 2 ∷ []
+short_general_bytes = refl
+
+sizes_of_two : (length (byte_word 2 ++ 2 ∷ []) ≡ 9) × (length long_two ≡ 19)
+sizes_of_two = (refl, refl)
+
+-- the values 3 and 4 over that domain
+short_evaluations_bytes : (evaluations (number 1) (short_domain (number 1) (λ d. d)) (λ v. v) (λ v. Unit {0})).spelling (3 ∷ 4 ∷ [], (2, 2))
+    ≡ byte_word 2 ++ 3 ∷ 4 ∷ [] ++ byte_word 2 ++ 2 ∷ []
+short_evaluations_bytes = refl
+
+widths : (width_of 5 ≡ 1) × (width_of 433 ≡ 2) × (width_of 65537 ≡ 3) × (width_of 2147483647 ≡ 4)
+widths = (refl, refl, refl, refl)

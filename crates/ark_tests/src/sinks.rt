@@ -48,7 +48,7 @@ impl Write for Scripted {
 }
 
 // Two calls together keep what one promises.
-#[tactic(auto, using(ark_traits::proofs::Transfer::beginnings))]
+#[tactic(auto, using(ark_bytes::proofs::Transfer::beginnings))]
 fn put_both<S: Sink>(sink: &mut S, first: &[u8], second: &[u8]) -> Result<(), Failed>
     ensures ok { OnOk result (Appends (S.contents sink.old) (S.contents sink.new)
         (first.now ++ second.now)) }

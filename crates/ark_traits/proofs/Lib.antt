@@ -1,3 +1,2 @@
 -- Lemmas of this crate, beside those of `ark_math`.
 pub mod Cost
-pub mod Transfer

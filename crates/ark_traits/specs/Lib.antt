@@ -1,5 +1,3 @@
--- What writers do, how a transform moves the counts, and two elements side by side.
-pub mod IoSink
+-- How a transform moves the counts, and two elements side by side.
 pub mod Lanes
-pub mod Transfer
 pub mod Cost

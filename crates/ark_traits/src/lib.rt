@@ -1,21 +1,24 @@
-//! Fields and modules with laws, the trait of polynomials, counts, errors and writers: what all crates above share.
+//! Fields and modules with laws, the trait of polynomials, counts and errors: what all crates above share. It shows
+//! what writes and reads bytes again.
 #![tactic(auto)]
 
-mod counter;
 mod error;
 mod field;
 mod inversion;
 mod lanes;
 mod numbers;
 mod polynomial;
-mod sink;
 mod work;
 
+pub use ark_bytes::{
+    CanonicalDeserialize, CanonicalSerialize, Compress, Either, Failed, IoSink, IoSource,
+    SerializationError, Sink, Source, Spelled, Valid, fill, list_size, read_list, read_number,
+    recompress, write_list, write_number, written_then_read,
+};
 pub use error::PolyError;
 pub use field::{DomainCoeff, FftField, Field, One, Zero};
 pub use inversion::batch_inversion;
 pub use lanes::Lanes;
 pub use numbers::{k_adicity, log2};
 pub use polynomial::Polynomial;
-pub use sink::{Failed, IoSink, Sink};
 pub use work::Work;

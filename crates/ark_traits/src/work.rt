@@ -3,8 +3,8 @@
 ghost use Rattle.std.specs.Prelude.{◌≡◌};
 ghost use Rattle.ark_math.specs.Cost.{counts, GrowsBy};
 
-use crate::counter::Counter;
 use crate::field::{DomainCoeff, Field};
+use ark_bytes::counter::Counter;
 use std::marker::Model;
 
 /// Counts of what a kernel did. They have no greatest value, and take no bytes at run time.

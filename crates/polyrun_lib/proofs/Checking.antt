@@ -6,7 +6,7 @@ use denote.Ref.{Bor}
 use Rattle.std.proofs.KnownBytes.{Appends-trans}
 use Rattle.std.proofs.lemmas.List.{append_cancel_right, length-map, length-take, take_more, take_all}
 use Rattle.std.proofs.lemmas.List.Folds.{concat-append}
-use Rattle.ark_traits.proofs.Transfer.{AppendsBeginning-more, AppendsBeginning-after}
+use Rattle.ark_bytes.proofs.Transfer.{AppendsBeginning-more, AppendsBeginning-after}
 use Rattle.ark_traits.specs.declared.error.PolyError.{PolyError}
 use Rattle.std.specs.declared.string.String.{String}
 use Rattle.std.specs.declared.alloc.Global.{Global}

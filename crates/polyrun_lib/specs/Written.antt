@@ -1,8 +1,8 @@
 -- What a writer took of a text, and the status of the call that wrote it.
 use Rattle.std.specs.Prelude.{◌≡◌, ℕ, ◌+◌, ◌⊎◌, Option, List}
 use Rattle.std.specs.Io.KnownBytes.{Appends}
-use Rattle.ark_traits.specs.Transfer.{AppendsBeginning}
-use Rattle.ark_traits.specs.declared.sink.Sink.{Ghosts}
+use Rattle.ark_bytes.specs.Transfer.{AppendsBeginning}
+use Rattle.ark_bytes.specs.declared.sink.Sink.{Ghosts}
 
 -- a writer at one time: the bytes that it holds, where they are known, and how many of its calls failed so far
 pub record Writer : Type 0 where

@@ -1,0 +1,6 @@
+-- Lemmas of this crate, beside those of `ark_math`.
+pub mod NumberBytes
+pub mod ReadBack
+pub mod Reading
+pub mod Transfer
+pub mod Writing

@@ -1,0 +1,27 @@
+//! What writing and reading give together.
+
+ghost use Rattle.std.specs.Prelude.{◌≡◌, ◌≢◌, IfOk, IfErr};
+
+use crate::compress::Compress;
+use crate::error::SerializationError;
+use crate::sink::IoSink;
+use crate::source::IoSource;
+use crate::traits::{CanonicalDeserialize, CanonicalSerialize};
+use std::alloc::Global;
+
+/// A value that is written, and read back from just these bytes, is the same one, as far as its type's spellings tell, and
+/// no fault is found in them.
+pub fn written_then_read<T: CanonicalSerialize + CanonicalDeserialize>(
+    alloc: Global,
+    value: &T,
+    mode: Compress,
+) -> Result<T, SerializationError>
+    ensures same { IfOk result (λ read. T.shown read ≡ T.shown value.now) }
+    ensures faultless { IfErr result (λ e. e ≢ SerializationError.InvalidData) }
+{
+    let mut sink = IoSink::new(Vec::new(alloc));
+    value.serialize_with_mode(&mut sink, mode)?;
+    let bytes = sink.into_inner();
+    let mut source = IoSource::new(bytes.as_slice());
+    T::deserialize_with_mode(alloc, &mut source, mode)
+}

@@ -1,0 +1,6 @@
+-- Spellings in bytes: where reading stops, and that it stops at one place alone; what is unfinished; that a spelling tells
+-- its value; how many bytes an element has.
+pub mod Ends
+pub mod OneToOne
+pub mod Unfinished
+pub mod Widths

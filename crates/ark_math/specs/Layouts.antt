@@ -1,0 +1,73 @@
+-- The layout of each type, over the format e of its field's elements. Where a type has lawful values alone, its `fields`
+-- are all that is said. The modes differ for domains only: long is all fields, and short is size and offset.
+use Rattle.std.specs.Prelude.{◌≡◌, ◌⊎◌, ℕ, ◌^◌, ◌<◌, List, length, nat_lt, if◌then◌else◌}
+use Rattle.ark_math.specs.Field.{FieldOn}
+use Rattle.ark_math.specs.Univariate.{IsTrimmed, IsSparse}
+use Rattle.ark_math.specs.Format.{Format, word, number, ◌⊗◌, list, lawful, stored, either, IsOneToOne}
+
+-- ---- elements of a field
+
+-- every element has a spelling of its own, of one length
+pub record AreElements {F : Type 0} (e : Format F) (size : ℕ) : Type 0 where
+  pub positive : 0 < size
+  pub all : (x : F) → e.HasSpelling x
+  pub lengths : (x : F) → length (e.spelling x) ≡ size
+  pub one_to_one : IsOneToOne e
+
+-- how many bytes a number below 2^32 has
+abbrev pub width_of : ℕ → ℕ
+width_of n = if nat_lt n (2 ^ 8) then 1 else if nat_lt n (2 ^ 16) then 2 else if nat_lt n (2 ^ 24) then 3 else 4
+
+-- an element of a prime field: its number below the modulus, in as many bytes as the modulus has
+abbrev pub residue : {F : Type 0} → ℕ → (F → ℕ) → Format F
+residue modulus number_of_element = stored (number (width_of modulus)) number_of_element
+
+-- ---- polynomials
+
+-- coefficients, the last one not zero
+abbrev pub dense : {F : Type 0} → FieldOn F → Format F → Format (List F)
+dense K e = lawful (list e) (λ cs. cs) (IsTrimmed K)
+
+-- pairs (degree, coefficient), degrees rising, no coefficient zero
+abbrev pub sparse : {F : Type 0} → FieldOn F → Format F → Format (List (ℕ × F))
+sparse K e = lawful (list (word ⊗ e)) (λ ps. ps) (IsSparse K)
+
+-- pairs (variable, power)
+abbrev pub term : {T : Type 0} → (T → List (ℕ × ℕ)) → Format T
+term pairs = stored (list (word ⊗ word)) pairs
+
+-- a number of variables, and pairs (coefficient, term). An unlawful term is a fault as soon as it is read
+abbrev pub multivariate : {F T P : Type 0} → Format F → Format T → (P → ℕ × List (F × T)) → Format P
+multivariate e t fields = stored (word ⊗ list (e ⊗ t)) fields
+
+-- ---- multilinear extensions
+
+-- evaluations, and a number of variables
+abbrev pub dense_extension : {F E : Type 0} → Format F → (E → List F × ℕ) → Format E
+dense_extension e fields = stored (list e ⊗ word) fields
+
+-- pairs (index, value), a number of variables, and an element zero
+abbrev pub sparse_extension : {F E : Type 0} → Format F → (E → List (ℕ × F) × (ℕ × F)) → Format E
+sparse_extension e fields = stored (list (word ⊗ e) ⊗ (word ⊗ e)) fields
+
+-- ---- domains
+
+-- size, its exponent of two, and seven elements: the size, its inverse, the root, its inverse, the offset, its inverse, and
+-- its power to the size
+abbrev pub DomainFields : Type 0 → Type 0
+DomainFields F = ℕ × (ℕ × (F × (F × (F × (F × (F × (F × F)))))))
+
+abbrev pub long_domain : {F D : Type 0} → Format F → (D → DomainFields F) → Format D
+long_domain e fields = stored (word ⊗ (number 4 ⊗ (e ⊗ (e ⊗ (e ⊗ (e ⊗ (e ⊗ (e ⊗ e)))))))) fields
+
+-- size and offset
+abbrev pub short_domain : {F D : Type 0} → Format F → (D → ℕ × F) → Format D
+short_domain e fields = stored (word ⊗ e) fields
+
+-- 0 for a radix 2 domain, 1 for a mixed one, and then that domain
+abbrev pub general_domain : {A B D : Type 0} → Format A → Format B → (D → A ⊎ B) → Format D
+general_domain radix2 mixed kind = stored (either radix2 mixed) kind
+
+-- values, and their domain, of as many elements
+abbrev pub evaluations : {F D V : Type 0} → Format F → Format D → (V → List F × D) → (V → Type 0) → Format V
+evaluations e d fields AreAsMany = lawful (list e ⊗ d) fields AreAsMany
