@@ -2,8 +2,8 @@
 
 use crate::forms::{gave, some};
 use ark_base::{F5, F433, F65537, FftField, Field, PolyError};
-use ark_univariate::Polynomial;
 use ark_laws::divisions_of_all_forms;
+use ark_univariate::Polynomial;
 use ark_univariate::univariate::{DenseOrSparsePolynomial, DensePolynomial, SparsePolynomial};
 use rand_pcg::Pcg64;
 use std::alloc::Global;

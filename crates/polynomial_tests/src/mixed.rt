@@ -2,8 +2,8 @@
 
 use crate::forms::{Form, gave};
 use ark_base::{F5, F65537, Field, PolyError};
-use ark_univariate::Polynomial;
 use ark_laws::{dense_and_back, sparse_and_back, values_of_both_forms};
+use ark_univariate::Polynomial;
 use ark_univariate::univariate::{DensePolynomial, SparsePolynomial};
 use rand_pcg::Pcg64;
 use std::alloc::Global;

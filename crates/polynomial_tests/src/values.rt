@@ -3,9 +3,9 @@
 
 use crate::forms::{Form, gave, some};
 use ark_base::{F433, F65537, FftField, Field, PolyError};
+use ark_laws::{values_of_all_forms, weighted_sum};
 use ark_trials::calls::coset;
 use ark_trials::trials::{Trial, over_general, over_mixed, over_radix2};
-use ark_laws::{values_of_all_forms, weighted_sum};
 use ark_univariate::univariate::{DenseOrSparsePolynomial, DensePolynomial, SparsePolynomial};
 use ark_univariate::{DenseUVPolynomial, EvaluationDomain, Evaluations, Polynomial};
 use rand_pcg::Pcg64;
