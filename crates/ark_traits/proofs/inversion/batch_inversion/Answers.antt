@@ -1,9 +1,127 @@
-use Rattle.std.proofs.Common.{◌≡◌, Decides, ◌∙◌, ◌-◌, ◌+◌, ◌<◌, length, sym, ap, subst, arith, rules, [], ◌∷◌, ◌++◌, get_or}
+use Rattle.std.proofs.Common.{◌≡◌, ℕ, IfSome, Decides, ◌∙◌, ◌-◌, ◌+◌, ◌<◌, ◌≤◌, Bool, List, length, refl, sym, ap, subst, arith, rules, [], ◌∷◌, ◌++◌, get_or}
 use Rattle.std.proofs.lemmas.Bool.{true_from_ne_false}
 use Rattle.std.proofs.lemmas.List.{get_or_read}
+use borrow.Author.Rules.{scaled_Fits}
+use borrow.Author.Count.{falls}
+use Rattle.ark_math.specs.Field.{FieldOn, IsField}
+use Rattle.ark_math.proofs.Algebra.Solve.{◌⊗◌}
+use Rattle.ark_math.proofs.Algebra.Ring.{ring3}
 use Rattle.ark_math.proofs.Algebra.Inversions.{AreInverted, AreProducts, products_not_zero, products_zero, products_some, inverted_zero, inverted_some}
 use Rattle.ark_traits.proofs.inversion.batch_inversion.Goals.{then-not-is_zero, else-not-is_zero}
 use Rattle.ark_traits.proofs.inversion.batch_inversion.Goals as goal
+
+-- before the first item the products are those of none
+no_products : {F : Type 0} (K : FieldOn F) (t : F → Bool) (xs ps : List F) (p q : F) → ps ≡ [] → p ≡ K.one → q ≡ K.one → AreProducts K t xs ps 0 p q
+no_products K t xs ps p q none next after = record {
+  count = ap length none;
+  before = λ k l. absurd (omega arith);
+  next = next;
+  after = after;
+}
+
+-- after the last item the inverse of the whole product gives those of its two parts
+none_inverted : {F : Type 0} (K : FieldOn F) → IsField K → (t : F → Bool) (xs ps : List F) (n : ℕ) (p q u a b : F) → AreProducts K t xs ps n p q → length xs ≤ n → K.times (K.times p q) u ≡ K.one → a ≡ K.times u q → b ≡ K.times u p → AreInverted K t xs xs n a b
+none_inverted K N t xs ps n p q u a b h all whole next after = record {
+  next = ap (λ v. K.times v a) (sym h.next) ∙ ap (K.times p) next ∙ ring3 K N (λ p q u. (p ⊗ (u ⊗ q), (p ⊗ q) ⊗ u)) refl p q u ∙ whole;
+  after = ap (λ v. K.times v b) (sym h.after) ∙ ap (K.times q) after ∙ ring3 K N (λ p q u. (q ⊗ (u ⊗ p), (p ⊗ q) ⊗ u)) refl p q u ∙ whole;
+  done = λ k l m. absurd (omega arith);
+  rest = λ k l. refl;
+}
+
+lower : (i : ℕ) → 0 < i → i - 1 - 0 < i - 0
+lower i some = omega arith
+
+pub one-next-requires : goal.one-next-requires
+one-next-requires g c κs = λ l. l
+
+pub one-after-requires : goal.one-after-requires
+one-after-requires g c κs = λ l. l
+
+pub loop-i-init : goal.loop-i-init
+loop-i-init g c = no_products g.F.Field.field _ c.args.items.now c.in_ok-products.products.items c.one-next.result c.one-after.result c.in_ok-products.ensures.items (c.one-next.ensures ∙ g.met.F.Field.one_law) (c.one-after.ensures ∙ g.met.F.Field.one_law)
+
+pub offset_bounds-items-i : goal.offset_bounds-items-i
+offset_bounds-items-i g c = let inside : c.loop-i.i < length c.args.items.now = c.loop-i-test.true in search scaled_Fits
+
+pub bounds-items-i : goal.bounds-items-i
+bounds-items-i g c = c.loop-i-test.true
+
+pub is_zero-requires : goal.is_zero-requires
+is_zero-requires g c κs = λ l. l
+
+pub offset_bounds-items-i-then-not-is_zero : goal.offset_bounds-items-i-then-not-is_zero
+offset_bounds-items-i-then-not-is_zero g c = let inside : c.loop-i.i < length c.args.items.now = c.loop-i-test.true in search scaled_Fits
+
+pub bounds-items-i-then-not-is_zero : goal.bounds-items-i-then-not-is_zero
+bounds-items-i-then-not-is_zero g c = c.loop-i-test.true
+
+pub mul_assign-requires : goal.mul_assign-requires
+mul_assign-requires g c = g.met.F.Field.can_mul_assign_law _ _
+
+pub loop-i-smaller : goal.loop-i-smaller
+loop-i-smaller g c = falls (length c.args.items.now) c.loop-i.i c.loop-i-test.true
+
+pub mul-requires : goal.mul-requires
+mul-requires g c = g.met.F.Field.can_mul_law _ _
+
+pub inverse-requires : goal.inverse-requires
+inverse-requires g c κs = λ l. l
+
+pub mul-next_inverse-requires : goal.mul-next_inverse-requires
+mul-next_inverse-requires g c = g.met.F.Field.can_mul_law _ _
+
+pub mul-after_inverse-requires : goal.mul-after_inverse-requires
+mul-after_inverse-requires g c = g.met.F.Field.can_mul_law _ _
+
+pub loop-i-2-init : goal.loop-i-2-init
+loop-i-2-init g c =
+    let K = g.F.Field.field in
+    let whole : K.times c.mul.result c.unwrap-inverse.result ≡ K.one = subst (λ r. IfSome r (λ y. K.times c.mul.result y ≡ K.one)) c.unwrap-inverse.ensures c.inverse.ensures.some in
+    none_inverted K g.met.F.Field.field_laws _ c.args.items.now c.loop-i.products.items _ c.loop-i.next c.loop-i.after c.unwrap-inverse.result c.mul-next_inverse.result c.mul-after_inverse.result
+    (subst (λ n. AreProducts K (λ x. g.F.PartialEq.eq x g.F.Zero.zero) c.args.items.now c.loop-i.products.items n c.loop-i.next c.loop-i.after) (omega arith) c.loop-i.invariant)
+    (omega arith)
+    (ap (λ v. K.times v c.unwrap-inverse.result) (sym (g.met.F.Field.mul_law _ _ _ c.mul.ensures)) ∙ whole)
+    (g.met.F.Field.mul_law _ _ _ c.mul-next_inverse.ensures)
+    (g.met.F.Field.mul_law _ _ _ c.mul-after_inverse.ensures)
+
+pub overflow_step-i-in-loop-i-2 : goal.overflow_step-i-in-loop-i-2
+overflow_step-i-in-loop-i-2 g c = c.loop-i-2-test.true
+
+pub offset_bounds-items-i-in-loop-i-2 : goal.offset_bounds-items-i-in-loop-i-2
+offset_bounds-items-i-in-loop-i-2 g c = let inside : c.loop-i-2.i - 1 < length c.args.items.now = omega arith in search scaled_Fits
+
+pub bounds-items-i-in-loop-i-2 : goal.bounds-items-i-in-loop-i-2
+bounds-items-i-in-loop-i-2 g c = omega arith
+
+pub is_zero-requires-in-loop-i-2 : goal.is_zero-requires-in-loop-i-2
+is_zero-requires-in-loop-i-2 g c κs = λ l. l
+
+pub index-requires : goal.index-requires
+index-requires g c = omega (arith, c.loop-i.invariant.count, c.loop-i.products.ok.0)
+
+pub mul-requires-then-not-is_zero-2 : goal.mul-requires-then-not-is_zero-2
+mul-requires-then-not-is_zero-2 g c = g.met.F.Field.can_mul_law _ _
+
+pub offset_bounds-items-i-then-not-is_zero-2 : goal.offset_bounds-items-i-then-not-is_zero-2
+offset_bounds-items-i-then-not-is_zero-2 g c = let inside : c.loop-i-2.i - 1 < length c.args.items.now = omega arith in search scaled_Fits
+
+pub bounds-items-i-then-not-is_zero-2 : goal.bounds-items-i-then-not-is_zero-2
+bounds-items-i-then-not-is_zero-2 g c = omega arith
+
+pub mul_assign-requires-then-not-is_zero-2 : goal.mul_assign-requires-then-not-is_zero-2
+mul_assign-requires-then-not-is_zero-2 g c = g.met.F.Field.can_mul_assign_law _ _
+
+pub loop-i-2-smaller-then-not-is_zero-2 : goal.loop-i-2-smaller-then-not-is_zero-2
+loop-i-2-smaller-then-not-is_zero-2 g c = lower c.loop-i-2.i c.loop-i-2-test.true
+
+pub loop-i-2-smaller : goal.loop-i-2-smaller
+loop-i-2-smaller g c = lower c.loop-i-2.i c.loop-i-2-test.true
+
+pub returns-clause-inverses : goal.returns-clause-inverses
+returns-clause-inverses g c = λ i l. c.loop-i-2.invariant.done i (omega (arith, c.loop-i-2-test.false)) l
+
+pub returns-clause-kept : goal.returns-clause-kept
+returns-clause-kept g c = tt
 
 pub unwrap-inverse-requires : goal.unwrap-inverse-requires
 unwrap-inverse-requires g c =
