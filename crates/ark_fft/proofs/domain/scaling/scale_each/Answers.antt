@@ -1,8 +1,10 @@
 use Rattle.std.proofs.Common.{refl, ◌<◌, ℕ, map, length, ap, sym, subst, ◌∙◌}
 use Rattle.ark_math.specs.Module.{item}
 use Rattle.ark_math.proofs.Lists.Lists.{read_at, written_more, written_rest}
-use Rattle.ark_traits.proofs.Cost.{grows_twice}
-use Rattle.ark_fft.proofs.Counts.{itself, ended}
+use Rattle.ark_traits.proofs.Cost.{none_grown, grows_twice}
+use Rattle.ark_fft.proofs.Counts.{itself, ended, none_yet}
+use borrow.Author.Rules.{scaled_Fits}
+use borrow.Author.Count.{falls}
 use Rattle.ark_fft.proofs.domain.scaling.scale_each.Goals as goal
 
 pub loop-i-preserved : goal.loop-i-preserved
@@ -24,3 +26,19 @@ loop-i-preserved g c =
 
 pub returns-clause-items : goal.returns-clause-items
 returns-clause-items g c = λ i l. c.loop-i.invariant.before i (subst (λ k. i < k) (sym (ended c.loop-i.i (length c.args.xs.now) c.loop-i.auto.i-end c.loop-i-test.false)) l)
+
+pub loop-i-init : goal.loop-i-init
+loop-i-init g c = record {
+  counted = none_grown _;
+  before = λ i l. none_yet i l;
+  rest = λ i l. refl;
+}
+
+pub offset_bounds-xs-i : goal.offset_bounds-xs-i
+offset_bounds-xs-i g c = let inside : c.loop-i.i < length c.args.xs.now = c.loop-i-test.true in search scaled_Fits
+
+pub bounds-xs-i : goal.bounds-xs-i
+bounds-xs-i g c = subst (λ k. c.loop-i.i < k) (sym c.loop-i.auto.xs) c.loop-i-test.true
+
+pub loop-i-smaller : goal.loop-i-smaller
+loop-i-smaller g c = falls (length c.args.xs.now) c.loop-i.i c.loop-i-test.true

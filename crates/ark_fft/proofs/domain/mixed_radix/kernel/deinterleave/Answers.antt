@@ -2,6 +2,7 @@ use Rattle.std.proofs.Common.{rules, ◌≡◌, ◌≢◌, length, get_or, ◌+�
 use Rattle.std.proofs.lemmas.Bool.{cases_eq}
 use Rattle.std.proofs.lemmas.List.{get_or_read}
 use Rattle.ark_fft.proofs.Parts.{place_below, columns_differ, rows_differ}
+use borrow.Author.Count.{falls}
 use Rattle.ark_fft.proofs.domain.mixed_radix.kernel.deinterleave.Goals as goal
 
 pub offset_bounds-parts-r : goal.offset_bounds-parts-r
@@ -44,3 +45,19 @@ loop-r-preserved g c = λ r i d rl il.
     (λ (e : r ≡ c.loop-r.r). subst (λ t. get_or c.loop-i.parts (t * c.args.m + i) d ≡ get_or c.args.whole.now (c.args.base * i + t) d) (sym e) (v.row i d (omega arith)))
     (λ (ne : r ≢ c.loop-r.r). v.rows r i d (omega arith) il)
     (cases_eq r c.loop-r.r)
+
+pub bounds-whole-base : goal.bounds-whole-base
+bounds-whole-base g c =
+    let k = place_below c.args.m c.args.base c.loop-i.i c.loop-r.r c.loop-i-test.true c.loop-r-test.true in
+    omega arith
+
+pub bounds-parts-r : goal.bounds-parts-r
+bounds-parts-r g c =
+    let l = place_below c.args.base c.args.m c.loop-r.r c.loop-i.i c.loop-r-test.true c.loop-i-test.true in
+    omega arith
+
+pub loop-i-smaller : goal.loop-i-smaller
+loop-i-smaller g c = falls c.args.m c.loop-i.i c.loop-i-test.true
+
+pub loop-r-smaller : goal.loop-r-smaller
+loop-r-smaller g c = falls c.args.base c.loop-r.r c.loop-r-test.true

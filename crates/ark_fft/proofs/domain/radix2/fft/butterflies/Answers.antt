@@ -3,8 +3,10 @@ use Rattle.std.proofs.lemmas.Nat.{mul-add-lt}
 use Rattle.std.proofs.lemmas.List.{get_or_read}
 use Rattle.ark_math.specs.Module.{item}
 use Rattle.ark_math.proofs.Lists.Lists.{read_at, written_more, written_rest}
-use Rattle.ark_traits.proofs.Cost.{grows_twice}
-use Rattle.ark_fft.proofs.Counts.{below_is_within, ended, itself}
+use Rattle.ark_traits.proofs.Cost.{none_grown, grows_twice}
+use Rattle.ark_fft.proofs.Counts.{below_is_within, ended, itself, none_yet}
+use borrow.Author.Rules.{scaled_Fits}
+use borrow.Author.Count.{falls}
 use Rattle.ark_fft.proofs.domain.radix2.fft.butterflies.Goals as goal
 
 index_within : (i n s size : ℕ) → i < n → 0 < s → n * s ≤ size → i * s < size
@@ -56,3 +58,27 @@ loop-i-preserved g c =
       rest_lo = written_rest m V.zero lo0 c.loop-i.lo i c.butterfly.new.lo v.rest_lo;
       rest_hi = written_rest m V.zero hi0 c.loop-i.hi i c.butterfly.new.hi v.rest_hi;
     }
+
+pub loop-i-init : goal.loop-i-init
+loop-i-init g c = record {
+  counted = none_grown _;
+  sums = λ i l. none_yet i l;
+  differences = λ i l. none_yet i l;
+  rest_lo = λ i l. refl;
+  rest_hi = λ i l. refl;
+}
+
+pub offset_bounds-lo-i : goal.offset_bounds-lo-i
+offset_bounds-lo-i g c = let inside : c.loop-i.i < length c.args.lo.now = c.loop-i-test.true in search scaled_Fits
+
+pub bounds-lo-i : goal.bounds-lo-i
+bounds-lo-i g c = subst (λ k. c.loop-i.i < k) (sym c.loop-i.auto.lo) c.loop-i-test.true
+
+pub offset_bounds-hi-i : goal.offset_bounds-hi-i
+offset_bounds-hi-i g c = let inside : c.loop-i.i < length c.args.hi.now = subst (λ k. c.loop-i.i < k) c.requires.same c.loop-i-test.true in search scaled_Fits
+
+pub bounds-hi-i : goal.bounds-hi-i
+bounds-hi-i g c = subst (λ k. c.loop-i.i < k) (sym (c.loop-i.auto.hi ∙ sym c.requires.same)) c.loop-i-test.true
+
+pub loop-i-smaller : goal.loop-i-smaller
+loop-i-smaller g c = falls (length c.args.lo.now) c.loop-i.i c.loop-i-test.true

@@ -2,8 +2,10 @@ use Rattle.std.proofs.Common.{refl, ◌≡◌, ◌<◌, ℕ, map, length, get_or
 use Rattle.std.proofs.lemmas.List.{get_or_read}
 use Rattle.ark_math.specs.Module.{item}
 use Rattle.ark_math.proofs.Lists.Lists.{read_at, written_more, written_rest}
-use Rattle.ark_traits.proofs.Cost.{grows_twice}
-use Rattle.ark_fft.proofs.Counts.{ended, itself}
+use Rattle.ark_traits.proofs.Cost.{none_grown, grows_twice}
+use Rattle.ark_fft.proofs.Counts.{below_is_within, ended, itself, none_yet}
+use borrow.Author.Rules.{scaled_Fits}
+use borrow.Author.Count.{falls}
 use Rattle.ark_fft.proofs.domain.radix2.fft.join_butterflies.Goals as goal
 
 pub loop-i-preserved : goal.loop-i-preserved
@@ -37,3 +39,33 @@ returns-clause-sums g c = λ i l. c.loop-i.invariant.sums i (subst (λ k. i < k)
 
 pub returns-clause-differences : goal.returns-clause-differences
 returns-clause-differences g c = λ i l. c.loop-i.invariant.differences i (subst (λ k. i < k) (sym (ended c.loop-i.i (length c.args.lo.now) c.loop-i.auto.i-end c.loop-i-test.false)) l)
+
+pub loop-i-init : goal.loop-i-init
+loop-i-init g c = record {
+  counted = none_grown _;
+  sums = λ i l. none_yet i l;
+  differences = λ i l. none_yet i l;
+  rest_lo = λ i l. refl;
+  rest_hi = λ i l. refl;
+}
+
+pub offset_bounds-lo-i : goal.offset_bounds-lo-i
+offset_bounds-lo-i g c = let inside : c.loop-i.i < length c.args.lo.now = c.loop-i-test.true in search scaled_Fits
+
+pub bounds-lo-i : goal.bounds-lo-i
+bounds-lo-i g c = subst (λ k. c.loop-i.i < k) (sym c.loop-i.auto.lo) c.loop-i-test.true
+
+pub offset_bounds-hi-i : goal.offset_bounds-hi-i
+offset_bounds-hi-i g c = let inside : c.loop-i.i < length c.args.hi.now = subst (λ k. c.loop-i.i < k) c.requires.same c.loop-i-test.true in search scaled_Fits
+
+pub bounds-hi-i : goal.bounds-hi-i
+bounds-hi-i g c = subst (λ k. c.loop-i.i < k) (sym (c.loop-i.auto.hi ∙ sym c.requires.same)) c.loop-i-test.true
+
+pub offset_bounds-twiddles-i : goal.offset_bounds-twiddles-i
+offset_bounds-twiddles-i g c = below_is_within _ _ (subst (λ k. c.loop-i.i < k) c.requires.enough c.loop-i-test.true)
+
+pub bounds-twiddles-i : goal.bounds-twiddles-i
+bounds-twiddles-i g c = subst (λ k. c.loop-i.i < k) c.requires.enough c.loop-i-test.true
+
+pub loop-i-smaller : goal.loop-i-smaller
+loop-i-smaller g c = falls (length c.args.lo.now) c.loop-i.i c.loop-i-test.true
