@@ -65,3 +65,12 @@ returns-after-loop-i-clause-items g c = λ i l. c.loop-i.invariant.before i (sub
 pub returns-after-loop-i-clause-counted : goal.returns-after-loop-i-clause-counted
 returns-after-loop-i-clause-counted g c =
     subst (λ k. GrowsBy (counts k 0 0) c.args.work.now c.loop-i.work) (ended c.loop-i.i (length c.args.xs.now) c.loop-i.auto.i-end c.loop-i-test.false) c.loop-i.invariant.counted
+
+pub mul-square-requires : goal.mul-square-requires
+mul-square-requires g c = g.met.F.Field.can_mul_law _ _
+
+pub mul-after-requires : goal.mul-after-requires
+mul-after-requires g c = g.met.F.Field.can_mul_law _ _
+
+pub mul-later-requires : goal.mul-later-requires
+mul-later-requires g c = g.met.F.Field.can_mul_law _ _

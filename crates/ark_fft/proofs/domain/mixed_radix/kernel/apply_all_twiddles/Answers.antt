@@ -1,7 +1,9 @@
-use Rattle.std.proofs.Common.{refl, ◌≡◌, ◌≢◌, ℕ, map, get_or, ◌+◌, ◌*◌, ◌≤◌, ap, sym, ◌∙◌, arith, subst, ⊎_elim}
+use Rattle.std.proofs.Common.{refl, ◌≡◌, ◌≢◌, ℕ, map, get_or, ◌+◌, ◌*◌, ◌-◌, ◌<◌, ◌≤◌, ap, sym, ◌∙◌, arith, subst, ⊎_elim}
 use Rattle.std.proofs.lemmas.Bool.{cases_eq}
 use Rattle.ark_math.specs.Module.{item}
 use Rattle.ark_traits.proofs.Cost.{grows_twice}
+use borrow.Author.Count.{falls}
+use Rattle.ark_fft.proofs.Counts.{none_yet, no_part, ended}
 use Rattle.ark_fft.proofs.domain.mixed_radix.kernel.apply_all_twiddles.Goals as goal
 
 pub loop-i-preserved : goal.loop-i-preserved
@@ -27,3 +29,16 @@ loop-i-preserved g c =
           let ne : k ≢ i0 = omega arith in
           c.apply_twiddles.ensures.other_parts r k km ne ∙ v.rest r k (omega arith) km;
     }
+
+pub loop-i-init : goal.loop-i-init
+loop-i-init g c = record {
+  counted = no_part (c.args.base - 1) c.args.work.now;
+  done = λ one r i rl il. none_yet i il;
+  rest = λ r k kl km. refl;
+}
+
+pub loop-i-smaller : goal.loop-i-smaller
+loop-i-smaller g c = falls c.args.m c.loop-i.i c.loop-i-test.true
+
+pub returns-clause-twisted : goal.returns-clause-twisted
+returns-clause-twisted g c = λ one r i rl il. c.loop-i.invariant.done one r i rl (subst (λ k. i < k) (sym (ended c.loop-i.i c.args.m c.loop-i.auto.i-end c.loop-i-test.false)) il)

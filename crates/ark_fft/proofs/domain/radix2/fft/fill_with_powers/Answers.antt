@@ -44,3 +44,6 @@ double-preserved g c =
           is ∙ ap₂ K.times next next ∙ sym (power-add K N c.args.root n n) ∙ ap (λ t. power K c.args.root (n + t)) (sym all);
       before = λ k l w. continued K N c.args.root n m front back rest c.double.next c.split_at_mut-front.ensures.front_len left next (λ k h. ap (λ t. get_or t k K.zero) (sym c.split_at_mut-front.ensures.value) ∙ c.double.invariant.before k h (omega (arith, h, c.double-test.true))) c.continue_powers.ensures.products k l;
     }
+
+pub mul-next-requires : goal.mul-next-requires
+mul-next-requires g c = g.met.F.Field.can_mul_law _ _

@@ -9,3 +9,12 @@ returns-clause-fitted g c = λ j l.
     let m = g.T.DomainCoeff.meaning in
     ap (λ t. item V (map m t) j) c.in_ok-resize.ensures.items
     ∙ read_fitted m V.zero c.args.coeffs.now.items c.args.n _ c.zero.result (ap m c.zero.ensures ∙ g.met.T.DomainCoeff.zero_meaning) j l
+
+pub returns-clause-table : goal.returns-clause-table
+returns-clause-table g c = c.in_ok-table.ensures
+
+pub returns-clause-len : goal.returns-clause-len
+returns-clause-len g c = c.in_ok-resize.ensures.len
+
+pub returns-clause-kept : goal.returns-clause-kept
+returns-clause-kept g c = tt

@@ -4,6 +4,8 @@ use Rattle.ark_math.specs.Field.{power}
 use Rattle.ark_math.specs.Module.{item, sum_below}
 use Rattle.ark_math.proofs.Lists.Lists.{read_as}
 use Rattle.ark_traits.proofs.Cost.{grows_twice}
+use Rattle.ark_fft.proofs.Counts.{below_is_within}
+use borrow.Author.Count.{falls}
 use Rattle.ark_fft.proofs.domain.radix2.plain.plain_value.Goals as goal
 
 pub loop-i-preserved : goal.loop-i-preserved
@@ -28,3 +30,18 @@ loop-i-preserved g c =
           (c.scale.ensures.product ∙ ap₂ V.scale v.next_factor (read_as m V.zero items i c.index-items-i.result inside c.index-items-i.is))
           ∙ ap (λ n. sum_below V n term) (sym (add-one i)));
     }
+
+pub add_assign-requires : goal.add_assign-requires
+add_assign-requires g c = g.met.T.DomainCoeff.can_add_assign_meaning _ _
+
+pub mul-factor-requires : goal.mul-factor-requires
+mul-factor-requires g c = g.met.F.Field.can_mul_law _ _
+
+pub bounds-items-i : goal.bounds-items-i
+bounds-items-i g c = c.loop-i-test.true
+
+pub offset_bounds-items-i : goal.offset_bounds-items-i
+offset_bounds-items-i g c = below_is_within _ _ c.loop-i-test.true
+
+pub loop-i-smaller : goal.loop-i-smaller
+loop-i-smaller g c = falls (length c.args.items.now) c.loop-i.i c.loop-i-test.true

@@ -29,3 +29,6 @@ loop-i-preserved g c =
       before = written_more m V.zero (λ k. value_at K V items (point k)) c.loop-i.values i c.plain_value.result inside v.before
           (c.plain_value.ensures.value ∙ ap (value_at K V items) v.next_point);
     }
+
+pub mul-point-requires : goal.mul-point-requires
+mul-point-requires g c = g.met.F.Field.can_mul_law _ _
