@@ -172,7 +172,7 @@ impl<F: Field> Polynomial<F> for DensePolynomial<F> {
     }
 
     fn neg(&self, alloc: Global) -> Result<Self, PolyError> {
-        DensePolynomial::zero(alloc)?.sub(alloc, self)
+        DensePolynomial::from_coefficients_vec(Vec::new(alloc)).sub(alloc, self)
     }
 
     // Sums and differences in place take memory only where the other polynomial is longer, and no copy.

@@ -13,7 +13,6 @@ use crate::polynomial::univariate::{DensePolynomial, SparsePolynomial};
 use crate::polynomial::{DenseUVPolynomial, Polynomial};
 use ark_coeffs::dense::value_at;
 use ark_coeffs::sparse::value_of_terms;
-use ark_quotients::conversions::coefficients_of;
 use ark_quotients::division::{Coefficients, divided};
 use ark_traits::{FftField, Field, PolyError};
 use std::alloc::{AllocError, Global};
@@ -157,10 +156,7 @@ impl<'a, F: Field> DenseOrSparsePolynomial<'a, F> {
         ensures errors { IsOkUnlessEither result PolyError.Memory PolyError.Overflow }
     {
         match self {
-            SPolynomial(p) => {
-                let coeffs = coefficients_of(alloc, p.coeffs())?;
-                Ok(DensePolynomial::from_coefficients_vec(coeffs))
-            }
+            SPolynomial(p) => DensePolynomial::from_sparse(alloc, &p),
             DPolynomial(p) => Ok(p.into_owned()?),
         }
     }

@@ -46,7 +46,10 @@ impl<F: FftField> DensePolynomial<F> {
             return Ok(Some(self.divided(alloc, divisor, inverted)?));
         }
         if self.is_zero() {
-            return Ok(Some((Self::zero(alloc)?, Self::zero(alloc)?)));
+            return Ok(Some((
+                Self::from_coefficients_vec(Vec::new(alloc)),
+                Self::from_coefficients_vec(Vec::new(alloc)),
+            )));
         }
         Ok(None)
     }
@@ -176,9 +179,7 @@ impl<F: FftField> DensePolynomial<F> {
         ensures errors { IsOkUnlessEither result PolyError.Memory PolyError.NoDomain }
     {
         if len == 1 {
-            let mut coeffs = Vec::with_capacity(alloc, 1)?;
-            coeffs.push(first_inverted)?;
-            return Ok(Self::from_coefficients_vec(coeffs));
+            return Ok(Self::from_coefficients_vec(vec![in alloc; first_inverted; 1]?));
         }
         let known = len - len / 2;
         let inverse = self.inverse_series(alloc, first_inverted, known)?;

@@ -1,4 +1,4 @@
-use Rattle.std.proofs.Common.{◌≤◌, [], ◌∷◌, ◌++◌, ap, ◌∙◌, arith}
+use Rattle.std.proofs.Common.{◌≤◌, [], ◌∷◌, ap, ◌∙◌, arith}
 use Rattle.ark_math.specs.Univariate.{of_list}
 use Rattle.ark_quotients.proofs.PowerSeries.{inverse_constant}
 use Rattle.ark_math.proofs.Polynomials.UnivariateLists.{of_list-past}
@@ -9,7 +9,7 @@ returns-then-len-eq1-clause-inverse g t c =
     let K = g.F.Field.field in
     let x = c.args.first_inverted in
     inverse_constant K g.met.F.Field.field_laws c.args.len (of_list K c.args.self.now) (of_list K c.from_coefficients_vec.result) x c.if-len-eq1.true c.requires.first
-    (ap (λ t. t 0) (c.from_coefficients_vec.ensures.coefficients ∙ ap (of_list K) (c.in_ok-push.ensures.items ∙ ap (λ t. t ++ x ∷ []) c.in_ok-coeffs.ensures.items)))
+    (ap (λ t. t 0) (c.from_coefficients_vec.ensures.coefficients ∙ ap (of_list K) (c.in_ok-vec.ensures.items_if_clones_equal (λ y h. g.met.F.Field.clone_law _ _ h))))
 
 pub returns-then-len-eq1-clause-below : goal.returns-then-len-eq1-clause-below
 returns-then-len-eq1-clause-below g t c i l =
@@ -17,7 +17,7 @@ returns-then-len-eq1-clause-below g t c i l =
     let x = c.args.first_inverted in
     let one = c.if-len-eq1.true in
     let past : 1 ≤ i = omega (arith, l, one) in
-    ap (λ t. t i) (c.from_coefficients_vec.ensures.coefficients ∙ ap (of_list K) (c.in_ok-push.ensures.items ∙ ap (λ t. t ++ x ∷ []) c.in_ok-coeffs.ensures.items))
+    ap (λ t. t i) (c.from_coefficients_vec.ensures.coefficients ∙ ap (of_list K) (c.in_ok-vec.ensures.items_if_clones_equal (λ y h. g.met.F.Field.clone_law _ _ h)))
     ∙ of_list-past K (x ∷ []) i past
 
 pub refined_inverse-requires : goal.refined_inverse-requires

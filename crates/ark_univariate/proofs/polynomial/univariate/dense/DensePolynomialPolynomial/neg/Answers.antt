@@ -10,5 +10,5 @@ returns-clause-opposite g c =
     let K = g.F.Field.field in
     let negative = opposite K (of_list K c.args.self.now) in
     IfOk_more c.sub-2.result
-    (λ p e. e ∙ ap (λ t. added K t negative) c.in_ok-zero.ensures.zero ∙ zero_plus (coefficients_are_module K g.met.F.Field.field_laws) negative)
+    (λ p e. e ∙ ap (λ t. added K t negative) (c.from_coefficients_vec.ensures.coefficients ∙ ap (of_list K) c.new.ensures.items) ∙ zero_plus (coefficients_are_module K g.met.F.Field.field_laws) negative)
     c.sub-2.ensures.difference
