@@ -177,12 +177,12 @@ impl<F: Field> Polynomial<F> for SparsePolynomial<F> {
 
     // Sums and differences in place make a list of the terms of both, and then put it in place of the old one.
     fn add_assign(&mut self, alloc: Global, other: &Self) -> Result<(), PolyError> {
-        self.coeffs = sum_of_terms(alloc, &self.coeffs, F::one(), &other.coeffs)?;
+        *self = self.add(alloc, other)?;
         Ok(())
     }
 
     fn sub_assign(&mut self, alloc: Global, other: &Self) -> Result<(), PolyError> {
-        self.coeffs = difference_of_terms(alloc, &self.coeffs, &other.coeffs)?;
+        *self = self.sub(alloc, other)?;
         Ok(())
     }
 
