@@ -1,9 +1,9 @@
 -- The powers of like variables summed up, of pairs whose variables don't fall.
-use Rattle.std.proofs.Common.{◌≡◌, ◌≢◌, ℕ, ◌+◌, ◌<◌, ◌≤◌, ◌==◌, Bool, true, false, List, length, get_or, take, if◌then◌else◌, sym, ap, refl, subst, arith}
+use Rattle.std.proofs.Common.{◌≡◌, ◌≢◌, ℕ, ◌+◌, ◌<◌, ◌≤◌, ◌==◌, Bool, true, false, List, length, get_or, take, if◌then◌else◌, ◌^◌, sym, ap, refl, subst, arith}
 use Rattle.std.specs.List.{All}
 use Rattle.std.specs.List.Sorted.{IsNonDecreasingBy}
 use Rattle.std.proofs.lemmas.List.{get_or_default}
-use Rattle.std.proofs.lemmas.List.Sums.{sum_by_more}
+use Rattle.std.proofs.lemmas.List.Sums.{sum_by_more, sum_by-take-le}
 use Rattle.ark_math.specs.Term.{IsTerm, power_of, total_degree}
 
 pub if_plus : (b : Bool) (m n : ℕ) → (if b then m + n else 0) ≡ (if b then m else 0) + (if b then n else 0)
@@ -75,3 +75,10 @@ pub gathered_step_next : (ps c e f : List (ℕ × ℕ)) (i v n w m : ℕ) → Is
 gathered_step_next ps c e f i v n w m h rises l ne term powers total below g j k =
     let x = get_or ps i (0, 0) in
     gathered_step_same ps e f i x.0 0 w m (gathered_next ps c e i v n h rises l ne term powers total below) l refl g j k
+
+-- what waits fits beside what is done
+pub gathered_fits : (ps c : List (ℕ × ℕ)) (i v n : ℕ) → IsGathered ps c i v n → total_degree ps < 2 ^ 64 → total_degree c + n < 2 ^ 64
+gathered_fits ps c i v n h l =
+    let part : total_degree (take i ps) ≤ total_degree ps = sum_by-take-le (λ p. p.1) ps i in
+    let all = h.total in
+    omega arith
