@@ -1,6 +1,7 @@
 -- What a prime field's elements are, with their laws beside them, and the words of the crate that this one shows again.
 pub mod Element
 pub mod ElementLaws
+pub mod ElementBytes
 pub use Rattle.ark_bytes.specs.IoSink
 pub use Rattle.ark_bytes.specs.IoSource
 pub use Rattle.ark_bytes.specs.Reading

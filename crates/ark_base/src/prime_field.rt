@@ -10,6 +10,8 @@ ghost use Rattle.ark_math.specs.Generator.{IsModulus};
 ghost use Rattle.ark_math.proofs.Numbers.Prime.{prime_from_test};
 ghost use Rattle.ark_math.proofs.Roots.Generator.{generator_from_test};
 
+mod bytes;
+
 use ark_traits::{DomainCoeff, FftField, Field, One, Zero};
 use rand::{Rng, RngExt};
 use std::alloc::AllocError;

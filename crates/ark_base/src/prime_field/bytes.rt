@@ -1,0 +1,83 @@
+//! Elements of prime fields in bytes: the number below the modulus, the low byte first.
+
+ghost use Rattle.std.specs.Prelude.{◌≡◌};
+ghost use Rattle.ark_math.specs.Layouts.{width_of};
+
+use crate::prime_field::{PrimeField, PrimeModulus};
+use ark_bytes::{
+    CanonicalDeserialize, CanonicalSerialize, Compress, SerializationError, Sink, Source, Spelled,
+    Valid, read_number, write_number,
+};
+use std::alloc::Global;
+use std::marker::PhantomData;
+
+impl<M: PrimeModulus> PrimeField<M> {
+    /// How many bytes an element has: as many as the modulus.
+    fn width() -> usize
+        ensures { result ≡ width_of M.MODULUS }
+    {
+        if M::MODULUS < 1 << 8 {
+            1
+        } else if M::MODULUS < 1 << 16 {
+            2
+        } else if M::MODULUS < 1 << 24 {
+            3
+        } else {
+            4
+        }
+    }
+}
+
+impl<M: PrimeModulus> Spelled for PrimeField<M> {
+    ghost use Rattle.ark_math.specs.Layouts.{residue};
+    ghost use Rattle.ark_base.specs.Element.{number};
+    ghost use Rattle.ark_base.specs.ElementBytes.{prime_format, prime_tells};
+
+    ghost format = { λ _. residue M.MODULUS number };
+
+    ghost format_law = { λ _. prime_format };
+
+    ghost Shown = { Self };
+
+    ghost shown = { λ x. x };
+
+    ghost tells = { λ _. prime_tells };
+}
+
+impl<M: PrimeModulus> CanonicalSerialize for PrimeField<M> {
+    fn serialize_with_mode<W: Sink>(
+        &self,
+        writer: &mut W,
+        _mode: Compress,
+    ) -> Result<(), SerializationError> {
+        write_number(self.value, writer, PrimeField::<M>::width())
+    }
+
+    fn serialized_size(&self, _mode: Compress) -> Option<usize> {
+        Some(PrimeField::<M>::width())
+    }
+}
+
+impl<M: PrimeModulus> Valid for PrimeField<M> {
+    fn check(&self) -> Result<(), SerializationError> {
+        Ok(())
+    }
+}
+
+impl<M: PrimeModulus> CanonicalDeserialize for PrimeField<M> {
+    fn deserialize_with_mode<R: Source>(
+        _alloc: Global,
+        reader: &mut R,
+        _mode: Compress,
+    ) -> Result<Self, SerializationError> {
+        let value = read_number(reader, PrimeField::<M>::width())?;
+        if value < M::MODULUS {
+            Ok(PrimeField {
+                value,
+                marker: PhantomData,
+            })
+        } else {
+            Err(SerializationError::InvalidData)
+        }
+    }
+}
