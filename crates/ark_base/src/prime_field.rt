@@ -300,8 +300,13 @@ impl<M: PrimeModulus> Neg for PrimeField<M> {
 impl<M: PrimeModulus> Field for PrimeField<M> {
     ghost use Rattle.ark_base.specs.Element.{field_of};
     ghost use Rattle.ark_base.specs.ElementLaws.{prime_field_laws, prime_field_equals, natural_residue};
+    ghost use Rattle.ark_base.specs.ElementBytes.{prime_elements};
+    ghost use Rattle.ark_math.specs.Layouts.{width_of};
+    ghost use Rattle.ark_math.proofs.Formats.Modes.{one_format};
 
     ghost field = { field_of M.modulus };
+
+    ghost element_size = { width_of M.MODULUS };
 
     /// By Euclid's algorithm. At each step a factor times the value leaves the remainder beside it.
     fn inverse(&self) -> Option<Self> {
@@ -376,6 +381,10 @@ impl<M: PrimeModulus> Field for PrimeField<M> {
     ghost can_neg_law = { λ a. tt };
 
     ghost neg_law = { λ a r e. e };
+
+    ghost elements_law = { λ _. prime_elements M.modulus };
+
+    ghost modes_law = { λ _ _. one_format _ };
 }
 
 impl<M: PrimeModulus> DomainCoeff<PrimeField<M>> for PrimeField<M> {

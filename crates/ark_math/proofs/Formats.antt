@@ -1,6 +1,7 @@
 -- Spellings in bytes: where reading stops, and that it stops at one place alone; what is unfinished; that a spelling tells
--- its value; how many bytes an element has.
+-- its value; how many bytes an element has; that modes are alike.
 pub mod Ends
 pub mod OneToOne
 pub mod Unfinished
 pub mod Widths
+pub mod Modes

@@ -1,6 +1,6 @@
 -- The layout of each type, over the format e of its field's elements. Where a type has lawful values alone, its `fields`
 -- are all that is said. The modes differ for domains only: long is all fields, and short is size and offset.
-use Rattle.std.specs.Prelude.{◌≡◌, ◌⊎◌, ℕ, ◌^◌, ◌<◌, List, length, nat_lt, if◌then◌else◌}
+use Rattle.std.specs.Prelude.{◌≡◌, ◌⊎◌, ◌↔◌, ℕ, ◌^◌, ◌<◌, List, length, nat_lt, if◌then◌else◌}
 use Rattle.ark_math.specs.Field.{FieldOn}
 use Rattle.ark_math.specs.Univariate.{IsTrimmed, IsSparse}
 use Rattle.ark_math.specs.Format.{Format, word, number, ◌⊗◌, list, lawful, stored, either, IsOneToOne}
@@ -13,6 +13,12 @@ pub record AreElements {F : Type 0} (e : Format F) (size : ℕ) : Type 0 where
   pub all : (x : F) → e.HasSpelling x
   pub lengths : (x : F) → length (e.spelling x) ≡ size
   pub one_to_one : IsOneToOne e
+
+-- two formats of one field that are the same, as those of its modes are
+pub record AreAlike {F : Type 0} (e other : Format F) : Type 0 where
+  pub spellings : (x : F) → e.spelling x ≡ other.spelling x
+  pub have : (x : F) → e.HasSpelling x ↔ other.HasSpelling x
+  pub faults : (bytes : List ℕ) → e.IsFault bytes ↔ other.IsFault bytes
 
 -- how many bytes a number below 2^32 has
 abbrev pub width_of : ℕ → ℕ

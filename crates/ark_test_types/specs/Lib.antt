@@ -1,4 +1,5 @@
--- A field of four elements with its laws, and a module of one value.
+-- A field of four elements with its laws and its spellings in bytes, and a module of one value.
 pub mod Four
 pub mod FourLaws
+pub mod FourBytes
 pub mod Nothing

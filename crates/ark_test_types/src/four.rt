@@ -6,6 +6,8 @@ ghost use Rattle.ark_math.specs.Field.{minus, natural};
 ghost use Rattle.ark_math.specs.Module.{itself};
 ghost use Rattle.ark_test_types.specs.Four.{bits, four, thirds, root_of_four};
 ghost use Rattle.ark_test_types.specs.FourLaws.{four_laws, four_module, four_itself, four_roots, four_greatest, four_equality};
+ghost use Rattle.ark_math.proofs.Formats.Modes.{one_format};
+ghost use Rattle.ark_test_types.specs.FourBytes.{four_elements};
 
 use ark_base::{DomainCoeff, FftField, Field, One, Zero};
 use rand::{Rng, RngExt};
@@ -141,6 +143,8 @@ impl Neg for Four {
 impl Field for Four {
     ghost field = { four };
 
+    ghost element_size = { 1 };
+
     /// The square, since every value but zero is one to the power of three.
     fn inverse(&self) -> Option<Four> {
         if self.is_zero() {
@@ -198,6 +202,10 @@ impl Field for Four {
     ghost can_neg_law = { λ a. tt };
 
     ghost neg_law = { λ a r e. e };
+
+    ghost elements_law = { λ _. four_elements };
+
+    ghost modes_law = { λ _ _. one_format _ };
 }
 
 impl DomainCoeff<Four> for Four {

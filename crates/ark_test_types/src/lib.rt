@@ -4,6 +4,7 @@
 
 pub mod counting;
 pub mod four;
+mod four_bytes;
 pub mod nothing;
 pub mod numbered;
 pub mod traced;

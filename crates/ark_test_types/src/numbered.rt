@@ -25,7 +25,7 @@ impl<M: PrimeModulus> Numbered for PrimeField<M> {
 /// The low bit counts one, and the high one a root of `x^2 + x + 1`.
 impl Numbered for Four {
     fn number(self) -> u64 {
-        u64::from(self.high) * 2 + u64::from(self.low)
+        self.to_number()
     }
 
     fn of_number(number: u64) -> Four {

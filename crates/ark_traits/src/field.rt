@@ -5,7 +5,9 @@ ghost use Rattle.ark_math.specs.Field.{FieldOn, IsField, minus, power, natural};
 ghost use Rattle.ark_math.specs.Module.{ModuleOn, IsModule, IsItself};
 ghost use Rattle.ark_math.specs.Root.{Adicity, IsSupported, AreRoots, AreGreatest};
 ghost use Rattle.ark_math.specs.Root.{adicity_of};
+ghost use Rattle.ark_math.specs.Layouts.{AreElements, AreAlike};
 
+use ark_bytes::{CanonicalDeserialize, CanonicalSerialize};
 use rand::Rng;
 use std::fmt::Debug;
 use std::hash::Hash;
@@ -37,7 +39,8 @@ pub trait One: PartialEq {
         ensures { result ≡ Self.eq self.now one };
 }
 
-/// A field: a commutative ring with 1 different from 0, in which every value but 0 has an inverse.
+/// A field: a commutative ring with 1 different from 0, in which every value but 0 has an inverse. In bytes each element
+/// has a spelling of its own, all of one length, and both modes are the same.
 pub trait Field: Copy
     + Eq
     + Ord
@@ -53,8 +56,15 @@ pub trait Field: Copy
     + AddAssign<Self>
     + SubAssign<Self>
     + MulAssign<Self>
-    + Neg<Output = Self> {
+    + Neg<Output = Self>
+    + CanonicalSerialize
+    + CanonicalDeserialize {
+    ghost use Rattle.ark_bytes.specs.declared.compress.Compress.{Compress};
+
     ghost field: { FieldOn Self };
+
+    // How many bytes the spelling of an element has.
+    ghost element_size: { ℕ };
 
     /// The inverse, and `None` exactly at zero.
     fn inverse(&self) -> Option<Self>
@@ -129,6 +139,10 @@ pub trait Field: Copy
     ghost can_neg_law: { (a : Self) → Self.can_neg a };
 
     ghost neg_law: { (a r : Self) → Self.neg_gives a r → r ≡ field.negated a };
+
+    ghost elements_law: { (mode : Compress) → AreElements (Self.format mode) element_size };
+
+    ghost modes_law: { (mode other : Compress) → AreAlike (Self.format mode) (Self.format other) };
 }
 
 /// A module over a field: the values that domains transform. Each value has a meaning, and the laws speak of
