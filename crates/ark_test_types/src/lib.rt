@@ -1,5 +1,5 @@
-//! What the tests have of their own: a field of characteristic two, a module of no size, elements that remember the
-//! products behind them, and a generator that counts what is drawn from it.
+//! Fields and modules with laws that only the tests use, a generator that counts what is drawn from it, what is tried
+//! over several fields, and what sums of polynomials of any form are compared with.
 #![tactic(auto)]
 
 pub mod counting;
@@ -7,4 +7,6 @@ pub mod four;
 mod four_bytes;
 pub mod nothing;
 pub mod numbered;
+pub mod sums;
 pub mod traced;
+pub mod trials;
