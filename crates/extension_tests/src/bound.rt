@@ -1,144 +1,93 @@
 //! Variables that are bound at once, against one at a time.
 
-use crate::forms::{Form, Trial, drawn, drawn_elements, holds_of_all, one_at_a_time, value};
-use ark_base::{F65537, Field};
-use ark_multi::multilinear::{MultilinearExtension, SparseMultilinearExtension};
-use rand_core::Rng;
+use crate::drawn::drawn_with;
+use crate::forms::{drawn, one_at_a_time};
+use ark_base::Field;
+use ark_multi::multilinear::{
+    DenseMultilinearExtension, MultilinearExtension, SparseMultilinearExtension,
+};
+use ark_test_types::sums::{same, value};
+use ark_test_types::trials::drawn_elements;
 use rand_pcg::Pcg64;
-use std::alloc::{AllocError, Global};
-use std::test::Fail;
+use std::alloc::Global;
 
-// Whether binding the first variables leaves what binding them one at a time leaves of the table.
-fn leaves<F: Field, E: MultilinearExtension<F>>(
-    alloc: Global,
-    p: &E,
-    table: &[F],
-    first: &[F],
-) -> bool {
+// The table that is left when the first variables are bound, where there are so many.
+fn left<F: Field, E: MultilinearExtension<F>>(alloc: Global, p: &E, first: &[F]) -> Option<Vec<F>> {
     if first.len() > p.num_vars() {
-        return false;
+        return None;
     }
-    let Ok(bound) = one_at_a_time(alloc, table, first) else {
-        return false;
-    };
-    let Ok(left) = p.fix_variables(alloc, first) else {
-        return false;
-    };
-    is_table_of(alloc, &left, &bound)
+    let left = p.fix_variables(alloc, first).ok()?;
+    left.to_evaluations(alloc).ok()
 }
 
-fn is_table_of<F: Field, E: MultilinearExtension<F>>(alloc: Global, p: &E, table: &[F]) -> bool {
-    match p.to_evaluations(alloc) {
-        Ok(values) => values.as_slice() == table,
+// Whether every part of a drawn point leaves what binding it one at a time leaves of the table, and the value is what is
+// left of all.
+fn binds<F: Field, E: MultilinearExtension<F>>(
+    alloc: Global,
+    rng: &mut Pcg64,
+    p: Option<E>,
+) -> bool {
+    let Some(p) = p else {
+        return false;
+    };
+    let (Ok(table), Ok(point)) = (
+        p.to_evaluations(alloc),
+        drawn_elements(alloc, rng, p.num_vars()),
+    ) else {
+        return false;
+    };
+    let mut right = true;
+    for len in 0..=point.len() {
+        let first = point.split_at(len).0;
+        let known = one_at_a_time(alloc, &table, first).ok();
+        right = right && same(left(alloc, &p, first), known);
+    }
+    match one_at_a_time(alloc, &table, &point) {
+        Ok(last) => right && value(alloc, &p, &point) == last.first().copied(),
         Err(_) => false,
     }
 }
 
-// Whether it does so for every part of the point, and the value at the point is what is left of all.
-fn binds_each_part<F: Field, E: MultilinearExtension<F>>(
-    alloc: Global,
-    p: &E,
-    table: &[F],
-    point: &Vec<F>,
-) -> bool {
-    let mut right = is_table_of(alloc, p, table);
-    for len in 0..=point.len() {
-        right = right && leaves(alloc, p, table, point.split_at(len).0);
-    }
-    let Ok(last) = one_at_a_time(alloc, table, point) else {
-        return false;
-    };
-    right && value(alloc, p, point) == last.first().copied()
-}
-
-/// A drawn table, of whose values about one in so many isn't zero.
-#[derive(Clone, Copy)]
-struct Bound {
-    num_vars: u32,
-    one_in: u64,
-}
-
-impl Bound {
-    fn table<F: Field>(&self, alloc: Global, rng: &mut Pcg64) -> Result<Vec<F>, AllocError> {
-        let mut table = Vec::new(alloc);
-        for _ in 0..1_usize.checked_shl(self.num_vars).unwrap_or(0) {
-            let drawn = F::rand(rng);
-            let kept = rng.next_u64() % self.one_in.max(1) == 0;
-            table.push(if kept { drawn } else { F::zero() })?;
-        }
-        Ok(table)
-    }
-}
-
-impl Trial for Bound {
-    fn holds<F: Field, E: Form<F>>(&self, alloc: Global, rng: &mut Pcg64) -> bool {
-        let Ok(table) = self.table::<F>(alloc, rng) else {
-            return false;
-        };
-        let Ok(point) = drawn_elements(alloc, rng, self.num_vars as usize) else {
-            return false;
-        };
-        let Ok(p) = E::of_table(alloc, &table) else {
-            return false;
-        };
-        binds_each_part(alloc, &p, &table, &point)
-    }
-}
-
-#[test]
-fn variables_bound_at_once_and_one_at_a_time(rt: HostRuntime) -> Result<(), Fail> {
+/// Dense draws, and sparse ones with few, with half and with all of the entries.
+pub fn at_once<F: Field>(alloc: Global) -> bool {
     let mut rng = Pcg64::new(43, 1);
+    let mut right = true;
     for num_vars in 0..13 {
+        let dense = drawn::<F, DenseMultilinearExtension<F>>(alloc, &mut rng, num_vars);
+        right = right && binds(alloc, &mut rng, dense);
         for one_in in [1, 2, 1 << (num_vars / 2)] {
-            let trial = Bound { num_vars, one_in };
-            assert!(rt;
-                holds_of_all(rt.alloc(), &mut rng, &trial),
-                "{num_vars} variables"
-            );
+            let shape = (num_vars, (1 << num_vars) / one_in);
+            let sparse = drawn_with::<F, Pcg64>(alloc, &mut rng, shape, 1_000_000);
+            right = right && binds(alloc, &mut rng, sparse);
         }
     }
-    Ok(())
+    right
 }
 
 // Whether a draw by entries and the same by all values agree at a point, and with their first three variables bound.
-fn draws_agree<F: Field>(alloc: Global, rng: &mut Pcg64) -> bool {
-    let Some(p) = drawn::<F, SparseMultilinearExtension<F>>(alloc, rng, 12) else {
+fn draw_agrees<F: Field>(alloc: Global, rng: &mut Pcg64) -> bool {
+    let (Some(p), Ok(point)) = (
+        drawn::<F, SparseMultilinearExtension<F>>(alloc, rng, 12),
+        drawn_elements(alloc, rng, 12),
+    ) else {
         return false;
     };
-    let Ok(point) = drawn_elements(alloc, rng, 12) else {
-        return false;
-    };
-    let Ok(q) = p.to_dense_multilinear_extension(alloc) else {
-        return false;
-    };
-    value(alloc, &p, &point) == value(alloc, &q, &point)
-        && leave_the_same(alloc, &p, &q, point.split_at(3.min(point.len())).0)
-}
-
-fn leave_the_same<F: Field, P: MultilinearExtension<F>, Q: MultilinearExtension<F>>(
-    alloc: Global,
-    p: &P,
-    q: &Q,
-    first: &[F],
-) -> bool {
-    if first.len() > p.num_vars() || first.len() > q.num_vars() {
-        return false;
-    }
-    let (Ok(left), Ok(other)) = (p.fix_variables(alloc, first), q.fix_variables(alloc, first))
-    else {
-        return false;
-    };
-    match left.to_evaluations(alloc) {
-        Ok(table) => is_table_of(alloc, &other, &table),
+    let first = point.split_at(3.min(point.len())).0;
+    match p.to_dense_multilinear_extension(alloc) {
+        Ok(q) => {
+            value(alloc, &p, &point) == value(alloc, &q, &point)
+                && same(left(alloc, &p, first), left(alloc, &q, first))
+        }
         Err(_) => false,
     }
 }
 
-#[test]
-fn values_as_those_of_the_dense_form(rt: HostRuntime) -> Result<(), Fail> {
+/// Draws by entries, and the same by all values.
+pub fn both_forms<F: Field>(alloc: Global) -> bool {
     let mut rng = Pcg64::new(54, 1);
+    let mut right = true;
     for _ in 0..20 {
-        assert!(rt; draws_agree::<F65537>(rt.alloc(), &mut rng));
+        right = right && draw_agrees::<F>(alloc, &mut rng);
     }
-    Ok(())
+    right
 }

@@ -1,7 +1,7 @@
 //! What drawn extensions look like, and how much is drawn for them.
 
 use crate::forms::{TRIES, drawn};
-use ark_base::{F5, F65537, Field, Polynomial};
+use ark_base::Field;
 use ark_multi::multilinear::{
     DenseMultilinearExtension, MultilinearExtension, SparseMultilinearExtension,
 };
@@ -10,32 +10,36 @@ use rand_core::Rng;
 use rand_pcg::Pcg64;
 use std::alloc::Global;
 use std::collections::HashSet;
-use std::test::Fail;
 
-// How many different values a dense draw has.
-fn different_values<F: Field>(alloc: Global, rng: &mut Pcg64, num_vars: usize) -> usize {
-    let Some(p) = drawn::<F, DenseMultilinearExtension<F>>(alloc, rng, num_vars) else {
-        return 0;
-    };
-    let Ok(mut values) = p.to_evaluations(alloc) else {
-        return 0;
-    };
+// How many different values a dense draw has, where a word was taken for each value.
+fn different_values<F: Field>(alloc: Global, num_vars: usize) -> Option<usize> {
+    let mut rng = Counting::new(Pcg64::new(48, 1));
+    if num_vars >= 64 {
+        return None;
+    }
+    let p: DenseMultilinearExtension<F> = DenseMultilinearExtension::rand(
+        alloc, num_vars, &mut rng, 0,
+    ).ok()??;
+    let mut values = p.to_evaluations(alloc).ok()?;
+    if rng.draws != values.len() as u64 || values.len() != 1 << num_vars {
+        return None;
+    }
     values.sort_unstable();
     values.dedup();
-    values.len()
+    Some(values.len())
 }
 
-#[test]
-fn dense_draws_have_many_values(rt: HostRuntime) -> Result<(), Fail> {
-    let mut rng = Pcg64::new(47, 1);
-    assert!(rt; different_values::<F65537>(rt.alloc(), &mut rng, 10) > 1000);
-    assert!(rt; different_values::<F65537>(rt.alloc(), &mut rng, 4) == 16);
-    assert!(rt; different_values::<F5>(rt.alloc(), &mut rng, 10) == 5);
-    Ok(())
+/// Whether a dense draw takes a word for each value, and one of ten variables has at least so many different ones.
+pub fn dense<F: Field>(alloc: Global, different: usize) -> bool {
+    let mut right = different_values::<F>(alloc, 10) >= Some(different);
+    for num_vars in 0..8 {
+        right = right && different_values::<F>(alloc, num_vars).is_some();
+    }
+    right
 }
 
-// A sparse draw of so many entries with so many tries, where the table has room for them.
-fn drawn_with<F: Field, R: Rng>(
+/// A sparse draw of so many entries with so many tries, where the table has room for them.
+pub fn drawn_with<F: Field, R: Rng>(
     alloc: Global,
     rng: &mut R,
     (num_vars, entries): (usize, usize),
@@ -47,94 +51,72 @@ fn drawn_with<F: Field, R: Rng>(
     SparseMultilinearExtension::rand_with_config(alloc, num_vars, entries, rng, tries).ok()?
 }
 
-// The least and the greatest index of an entry, and how many entries there are.
-fn range_of<F: Field>(p: &SparseMultilinearExtension<F>) -> (usize, usize, usize) {
+// Whether there is a draw, and it has at least and at most so many entries, in both halves of the table.
+fn has_entries<F: Field>(
+    p: Option<SparseMultilinearExtension<F>>,
+    num_vars: usize,
+    (at_least, at_most): (usize, usize),
+) -> bool {
+    let Some(p) = p else {
+        return false;
+    };
     let (mut least, mut greatest, mut count) = (usize::MAX, 0, 0_usize);
     for (index, _) in p.iter() {
         least = least.min(*index);
         greatest = greatest.max(*index);
         count = count.saturating_add(1);
     }
-    (least, greatest, count)
-}
-
-// Whether a draw has at most as many entries as are asked for, and at least so many, in both halves of the table.
-fn has_entries<F: Field>(
-    alloc: Global,
-    rng: &mut Pcg64,
-    (num_vars, entries): (usize, usize),
-    at_least: usize,
-) -> bool {
-    let Some(p) = drawn_with::<F, Pcg64>(alloc, rng, (num_vars, entries), TRIES) else {
-        return false;
-    };
     let half = (1_usize << num_vars.min(63)) / 2;
-    let (least, greatest, count) = range_of(&p);
-    let in_both_halves = entries < 8 || (least < half && half <= greatest);
-    p.num_vars() == num_vars && at_least <= count && count <= entries && in_both_halves
+    let in_both_halves = at_most < 8 || (least < half && half <= greatest);
+    p.num_vars() == num_vars && at_least <= count && count <= at_most && in_both_halves
 }
 
-#[test]
-fn sparse_draws_have_the_entries_asked_for(rt: HostRuntime) -> Result<(), Fail> {
+const ENTRIES: [(usize, usize); 11] = [
+    (0, 0),
+    (0, 1),
+    (1, 2),
+    (2, 4),
+    (4, 5),
+    (6, 0),
+    (6, 10),
+    (6, 64),
+    (10, 100),
+    (40, 50),
+    (63, 40),
+];
+
+// About the root of the table.
+const ROOTS: [(usize, usize); 8] = [
+    (0, 1),
+    (1, 1),
+    (2, 2),
+    (3, 2),
+    (4, 4),
+    (9, 16),
+    (16, 256),
+    (20, 1024),
+];
+
+/// Sparse draws of so many entries, and those that are left to their form. A value that is drawn as zero isn't stored:
+/// about one in five over the field of five elements, and one at most over large ones.
+pub fn sparse<F: Field>(alloc: Global) -> bool {
     let mut rng = Pcg64::new(55, 1);
-    let rows: [(usize, usize); 11] = [
-        (0, 0),
-        (0, 1),
-        (1, 2),
-        (2, 4),
-        (4, 5),
-        (6, 0),
-        (6, 10),
-        (6, 64),
-        (10, 100),
-        (40, 50),
-        (63, 40),
-    ];
-    for (num_vars, entries) in rows {
-        // Of the values that are drawn one may be zero, which isn't stored.
-        let at_least = entries.saturating_sub(1);
-        let row = (num_vars, entries);
-        assert!(rt;
-            has_entries::<F65537>(rt.alloc(), &mut rng, row, at_least),
-            "{row:?}"
-        );
-        assert!(rt;
-            has_entries::<F5>(rt.alloc(), &mut rng, row, entries / 3),
-            "{row:?}"
-        );
+    let is_small = F::from(5).is_zero();
+    let mut right = true;
+    for (num_vars, entries) in ENTRIES {
+        let p = drawn_with::<F, Pcg64>(alloc, &mut rng, (num_vars, entries), TRIES);
+        let at_least = if is_small {
+            entries / 3
+        } else {
+            entries.saturating_sub(1)
+        };
+        right = right && has_entries(p, num_vars, (at_least, entries));
     }
-    Ok(())
-}
-
-// Whether two draws differ, and each has between half and all of so many entries.
-fn draws_between<F: Field>(alloc: Global, rng: &mut Pcg64, num_vars: usize, most: usize) -> bool {
-    let (Some(p), Some(q)) = (
-        drawn::<F, SparseMultilinearExtension<F>>(alloc, rng, num_vars),
-        drawn::<F, SparseMultilinearExtension<F>>(alloc, rng, num_vars),
-    ) else {
-        return false;
-    };
-    let (_, _, count) = range_of(&p);
-    p != q && most / 2 <= count && count <= most
-}
-
-#[test]
-fn sparse_draws_store_the_root_of_the_table(rt: HostRuntime) -> Result<(), Fail> {
-    let mut rng = Pcg64::new(51, 1);
-    let rows = [
-        (0, 1),
-        (1, 1),
-        (2, 2),
-        (3, 2),
-        (4, 4),
-        (9, 16),
-        (16, 256),
-        (20, 1024),
-    ];
-    for (num_vars, most) in rows {
-        assert!(rt; draws_between::<F65537>(rt.alloc(), &mut rng, num_vars, most));
+    for (num_vars, most) in ROOTS {
+        let p = drawn::<F, SparseMultilinearExtension<F>>(alloc, &mut rng, num_vars);
+        right = right && has_entries(p, num_vars, (most / 3, most));
     }
-    Ok(())
+    right
 }
 
 // How many tries a new index takes.
@@ -155,10 +137,10 @@ fn tries_for_new(
 // tries that an index takes.
 fn words_taken<F: Field>(
     alloc: Global,
-    seed: u128,
+    seed: u64,
     (num_vars, entries): (usize, usize),
 ) -> Option<(u64, usize)> {
-    let mut rng = Counting::new(Pcg64::new(seed, 1));
+    let mut rng = Counting::new(Pcg64::new(u128::from(seed), 1));
     let mut taken = HashSet::new(alloc);
     let mut most = 0;
     for _ in 0..entries {
@@ -169,66 +151,30 @@ fn words_taken<F: Field>(
     Some((rng.draws, most))
 }
 
+// Whether with so many tries one is drawn, and how many words are taken.
+fn draws<F: Field>(alloc: Global, seed: u64, shape: (usize, usize), tries: usize) -> (bool, u64) {
+    let mut rng = Counting::new(Pcg64::new(u128::from(seed), 1));
+    let comes = drawn_with::<F, _>(alloc, &mut rng, shape, tries).is_some();
+    (comes, rng.draws)
+}
+
 // Whether just so many tries suffice for a draw that takes just so many words, and one less does not.
-fn takes_tries<F: Field>(alloc: Global, seed: u128, shape: (usize, usize)) -> bool {
+fn takes_tries<F: Field>(alloc: Global, seed: u64, shape: (usize, usize)) -> bool {
     let Some((words, tries)) = words_taken::<F>(alloc, seed, shape) else {
         return false;
     };
-    let mut rng = Counting::new(Pcg64::new(seed, 1));
-    let comes = drawn_with::<F, _>(alloc, &mut rng, shape, tries).is_some();
-    let mut other = Counting::new(Pcg64::new(seed, 1));
-    let fewer = drawn_with::<F, _>(alloc, &mut other, shape, tries.saturating_sub(1));
-    comes && rng.draws == words && fewer.is_none() && other.draws < words
+    let (comes, fewer) = draws::<F>(alloc, seed, shape, tries.saturating_sub(1));
+    draws::<F>(alloc, seed, shape, tries) == (true, words) && !comes && fewer < words
 }
 
-// Whether nothing is drawn without tries but an extension of no entries.
-fn needs_tries<F: Field>(alloc: Global) -> bool {
-    let mut rng = Counting::new(Pcg64::new(50, 1));
-    let Some(p) = drawn_with::<F, _>(alloc, &mut rng, (2, 0), 0) else {
-        return false;
-    };
-    let none = SparseMultilinearExtension::<F>::rand(alloc, 5, &mut rng, 0);
-    p.num_vars() == 2
-        && p.iter().count() == 0
-        && drawn_with::<F, _>(alloc, &mut rng, (2, 4), 0).is_none()
-        && matches!(none, Ok(None))
-        && rng.draws == 0
-}
-
-// Whether draws with this seed take their tries, for some numbers of variables and of entries.
-fn take_tries<F: Field>(alloc: Global, seed: u64) -> bool {
-    let mut right = true;
-    for shape in [(0, 1), (1, 2), (2, 4), (5, 32), (8, 20)] {
-        right = right && takes_tries::<F>(alloc, u128::from(seed), shape);
+/// Sparse draws of some shapes with some seeds. Without tries nothing is drawn but one of no entries.
+pub fn by_their_tries<F: Field>(alloc: Global) -> bool {
+    let mut right = draws::<F>(alloc, 50, (2, 0), 0) == (true, 0)
+        && draws::<F>(alloc, 50, (2, 4), 0) == (false, 0);
+    for seed in 0..20 {
+        for shape in [(0, 1), (1, 2), (2, 4), (5, 32), (8, 20)] {
+            right = right && takes_tries::<F>(alloc, seed, shape);
+        }
     }
     right
-}
-
-#[test]
-fn sparse_draws_take_their_tries(rt: HostRuntime) -> Result<(), Fail> {
-    assert!(rt; needs_tries::<F65537>(rt.alloc()));
-    for seed in 0..20 {
-        assert!(rt; take_tries::<F65537>(rt.alloc(), seed), "seed {seed}");
-    }
-    Ok(())
-}
-
-// Whether a dense draw takes a word for each value.
-fn takes_a_word_each<F: Field>(alloc: Global, num_vars: usize) -> bool {
-    if num_vars >= 64 {
-        return false;
-    }
-    let mut rng = Counting::new(Pcg64::new(48, 1));
-    match DenseMultilinearExtension::<F>::rand(alloc, num_vars, &mut rng, 0) {
-        Ok(Some(_)) => rng.draws == 1 << num_vars,
-        _ => false,
-    }
-}
-
-#[test]
-fn dense_draws_take_a_word_for_each_value(rt: HostRuntime) -> Result<(), Fail> {
-    for num_vars in 0..8 {
-        assert!(rt; takes_a_word_each::<F65537>(rt.alloc(), num_vars));
-    }
-    Ok(())
 }

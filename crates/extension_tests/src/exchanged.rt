@@ -1,10 +1,17 @@
 //! Windows of variables that are exchanged one after the other.
 
-use crate::forms::{Form, Trial, Windows, drawn, drawn_elements, holds_of_all, value};
+use crate::forms::drawn;
 use ark_base::Field;
+use ark_multi::multilinear::{
+    DenseMultilinearExtension, MultilinearExtension, SparseMultilinearExtension,
+};
+use ark_test_types::sums::value;
+use ark_test_types::trials::drawn_elements;
 use rand_pcg::Pcg64;
 use std::alloc::{AllocError, Global};
-use std::test::Fail;
+
+/// The starts of two windows of variables, and their length.
+type Windows = (usize, usize, usize);
 
 const WINDOWS: [Windows; 6] = [
     (2, 2, 1),
@@ -36,36 +43,50 @@ fn exchanged<F: Field>(alloc: Global, point: &[F], windows: Windows) -> Result<V
     Ok(exchanged)
 }
 
-/// A draw of ten variables keeps its value at a drawn point when windows are exchanged in both.
-#[derive(Clone, Copy)]
-struct KeepsValue;
-
-impl Trial for KeepsValue {
-    fn holds<F: Field, E: Form<F>>(&self, alloc: Global, rng: &mut Pcg64) -> bool {
-        let Some(mut p) = drawn::<F, E>(alloc, rng, 10) else {
-            return false;
-        };
-        let Ok(mut point) = drawn_elements(alloc, rng, 10) else {
-            return false;
-        };
-        let known = value(alloc, &p, &point);
-        let mut right = known.is_some();
-        for windows in WINDOWS {
-            let Ok(turned) = exchanged(alloc, &point, windows) else {
-                return false;
-            };
-            point = turned;
-            right = right && p.exchange(alloc, windows) && value(alloc, &p, &point) == known;
-        }
-        right
+// The extension with the windows exchanged, where they fit.
+fn relabelled<F: Field, E: MultilinearExtension<F>>(
+    alloc: Global,
+    p: &E,
+    (a, b, k): Windows,
+) -> Option<E> {
+    if !p.relabel_fits(a, b, k) {
+        return None;
     }
+    p.relabel(alloc, a, b, k).ok()
 }
 
-#[test]
-fn windows_exchanged_one_after_the_other(rt: HostRuntime) -> Result<(), Fail> {
-    let mut rng = Pcg64::new(72, 1);
-    for _ in 0..20 {
-        assert!(rt; holds_of_all(rt.alloc(), &mut rng, &KeepsValue));
+// Whether a draw of ten variables keeps its value at a drawn point when windows are exchanged in both.
+fn keeps_value<F: Field, E: MultilinearExtension<F>>(alloc: Global, rng: &mut Pcg64) -> bool {
+    let (Some(mut p), Ok(mut point)) = (
+        drawn::<F, E>(alloc, rng, 10),
+        drawn_elements(alloc, rng, 10),
+    ) else {
+        return false;
+    };
+    let known = value(alloc, &p, &point);
+    let mut right = known.is_some();
+    for windows in WINDOWS {
+        let (Some(turned), Ok(items)) = (
+            relabelled(alloc, &p, windows),
+            exchanged(alloc, &point, windows),
+        ) else {
+            return false;
+        };
+        p = turned;
+        point = items;
+        right = right && value(alloc, &p, &point) == known;
     }
-    Ok(())
+    right
+}
+
+/// Draws of both forms.
+pub fn windows<F: Field>(alloc: Global) -> bool {
+    let mut rng = Pcg64::new(72, 1);
+    let mut right = true;
+    for _ in 0..20 {
+        right = right
+            && keeps_value::<F, DenseMultilinearExtension<F>>(alloc, &mut rng)
+            && keeps_value::<F, SparseMultilinearExtension<F>>(alloc, &mut rng);
+    }
+    right
 }

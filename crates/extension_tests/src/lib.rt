@@ -13,3 +13,5 @@ mod forms;
 mod joined;
 #[cfg(test)]
 mod sums;
+#[cfg(test)]
+mod tried;
