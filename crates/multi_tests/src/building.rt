@@ -40,18 +40,6 @@ pub fn polynomial<F: Field, T: Term>(
     from_terms(alloc, num_vars, list)
 }
 
-/// The value at a point that fits.
-pub fn value<F: Field, T: Term>(
-    alloc: Global,
-    p: &SparsePolynomial<F, T>,
-    point: &Vec<F>,
-) -> Option<F> {
-    if !p.point_fits(point) {
-        return None;
-    }
-    p.evaluate(alloc, point).ok()
-}
-
 /// Whether these are the terms, in this order.
 pub fn has_terms<F: Field, T: Term>(p: &SparsePolynomial<F, T>, terms: Terms<'_>) -> bool {
     let mut same = p.terms().len() == terms.len();

@@ -1,15 +1,16 @@
 //! Drawn polynomials, of up to nineteen variables.
 
-use crate::building::{Terms, from_terms, polynomial, value};
+use crate::building::{Terms, from_terms, polynomial};
 use crate::lexicographic::LexicographicTerm;
-use ark_base::{F65537, Field, PolyError, Polynomial};
+use ark_base::{Field, PolyError, Polynomial};
 use ark_multi::DenseMVPolynomial;
 use ark_multi::multivariate::{SparsePolynomial, SparseTerm, Term};
 use ark_test_types::counting::Counting;
+use ark_test_types::sums::{add_up, is_kept_by_zero, value};
+use ark_test_types::trials::drawn_elements;
 use rand_core::Rng;
 use rand_pcg::Pcg64;
 use std::alloc::{AllocError, Global};
-use std::test::Fail;
 
 const MOST_TERMS: u64 = 60;
 
@@ -53,53 +54,6 @@ fn drawn<F: Field, T: Term>(
     from_terms(alloc, num_vars, drawn_terms(alloc, rng, num_vars)?)
 }
 
-fn drawn_point<F: Field>(alloc: Global, rng: &mut Pcg64, len: usize) -> Result<Vec<F>, AllocError> {
-    let mut point = Vec::new(alloc);
-    for _ in 0..len {
-        point.push(F::from(rng.next_u64()))?;
-    }
-    Ok(point)
-}
-
-// Whether a + b is b + a, and a - b the opposite of b - a, which with b gives a again.
-fn sums_agree<F: Field, T: Term>(
-    alloc: Global,
-    a: &SparsePolynomial<F, T>,
-    b: &SparsePolynomial<F, T>,
-) -> bool {
-    let (Ok(sum), Ok(difference), Ok(turned)) = (a.add(alloc, b), a.sub(alloc, b), b.sub(alloc, a))
-    else {
-        return false;
-    };
-    gave(b.add(alloc, a), &sum)
-        && gave(turned.neg(alloc), &difference)
-        && gave(difference.add(alloc, b), a)
-}
-
-// Whether the call gave this value.
-fn gave<P: PartialEq + Drop>(answer: Result<P, PolyError>, value: &P) -> bool {
-    match answer {
-        Ok(given) => given == *value,
-        Err(_) => false,
-    }
-}
-
-// Whether the value of the sum is the sum of the values.
-fn values_add_up<F: Field, T: Term>(
-    alloc: Global,
-    a: &SparsePolynomial<F, T>,
-    b: &SparsePolynomial<F, T>,
-    point: &Vec<F>,
-) -> bool {
-    let (Some(x), Some(y)) = (value(alloc, a, point), value(alloc, b, point)) else {
-        return false;
-    };
-    match a.add(alloc, b) {
-        Ok(sum) => value(alloc, &sum, point) == Some(x + y),
-        Err(_) => false,
-    }
-}
-
 // The sum of all terms at the point, power by power.
 fn term_by_term<F: Field, T: Term>(p: &SparsePolynomial<F, T>, point: &[F]) -> F {
     let mut sum = F::zero();
@@ -114,31 +68,31 @@ fn term_by_term<F: Field, T: Term>(p: &SparsePolynomial<F, T>, point: &[F]) -> F
     sum
 }
 
+// Whether two draws and their values add up, and the value is the sum of the terms.
 fn holds<F: Field, T: Term>(alloc: Global, rng: &mut Pcg64, left: usize, right: usize) -> bool {
-    let (Ok(a), Ok(b)) = (
+    let (Ok(a), Ok(b), Ok(point)) = (
         drawn::<F, T>(alloc, rng, left),
         drawn::<F, T>(alloc, rng, right),
+        drawn_elements(alloc, rng, left.max(right)),
     ) else {
         return false;
     };
-    let Ok(point) = drawn_point(alloc, rng, left.max(right)) else {
-        return false;
-    };
-    sums_agree(alloc, &a, &b)
-        && values_add_up(alloc, &a, &b, &point)
+    add_up(alloc, &a, &b, F::rand(rng), &point)
+        && is_kept_by_zero(alloc, &a)
         && value(alloc, &a, &point) == Some(term_by_term(&a, &point))
 }
 
-#[test]
-fn sums_and_values_of_drawn_polynomials(rt: HostRuntime) -> Result<(), Fail> {
+/// Sums and values of drawn polynomials, with terms in either order.
+pub fn sums<F: Field>(alloc: Global) -> bool {
     let mut rng = Pcg64::new(31, 1);
+    let mut holding = true;
     for left in 1..20 {
         for right in 1..20 {
-            assert!(rt; holds::<F65537, SparseTerm>(rt.alloc(), &mut rng, left, right));
+            holding = holding && holds::<F, SparseTerm>(alloc, &mut rng, left, right);
         }
-        assert!(rt; holds::<F65537, LexicographicTerm>(rt.alloc(), &mut rng, left, 20 - left));
+        holding = holding && holds::<F, LexicographicTerm>(alloc, &mut rng, left, 20 - left);
     }
-    Ok(())
+    holding
 }
 
 // The product of two terms.
@@ -163,8 +117,8 @@ fn product<F: Field, T: Term>(
     from_terms(alloc, a.num_vars(), terms)
 }
 
-#[test]
-fn product_of_all_terms(rt: HostRuntime) -> Result<(), Fail> {
+/// The product of two polynomials, by all products of two terms.
+pub fn product_of_all_terms<F: Field>(alloc: Global) -> Result<bool, PolyError> {
     let left: Terms<'_> = &[
         (2, &[]),
         (4, &[(0, 1), (1, 2)]),
@@ -183,14 +137,13 @@ fn product_of_all_terms(rt: HostRuntime) -> Result<(), Fail> {
         (16, &[(0, 2), (2, 1)]),
         (8, &[(0, 2), (3, 1)]),
     ];
-    let a: SparsePolynomial<F65537, SparseTerm> = polynomial(rt.alloc(), 4, left)?;
-    let b = polynomial(rt.alloc(), 4, right)?;
-    assert!(rt; product(rt.alloc(), &a, &b)? == polynomial(rt.alloc(), 4, answer)?);
-    Ok(())
+    let a: SparsePolynomial<F, SparseTerm> = polynomial(alloc, 4, left)?;
+    let b = polynomial(alloc, 4, right)?;
+    Ok(product(alloc, &a, &b)? == polynomial(alloc, 4, answer)?)
 }
 
-// Whether a draw has a constant and the first d powers of each variable alone, and takes a word for each coefficient.
-// None of these is zero over the large field with this seed.
+// Whether a draw has a constant and the first d powers of each variable alone, takes a word for each coefficient, and is
+// not the next one. None of the coefficients is zero over the large field with this seed.
 fn has_shape<F: Field, T: Term>(alloc: Global, d: usize, num_vars: usize) -> bool {
     let mut rng = Counting::new(Pcg64::new(32, 1));
     let Ok(p) = SparsePolynomial::<F, T>::rand(alloc, d, num_vars, &mut rng) else {
@@ -204,29 +157,17 @@ fn has_shape<F: Field, T: Term>(alloc: Global, d: usize, num_vars: usize) -> boo
     for (_, term) in p.terms() {
         right = right && term.pairs().len() <= 1;
     }
-    right
-}
-
-// Whether two draws differ.
-fn draws_differ<F: Field, T: Term>(alloc: Global, d: usize, num_vars: usize) -> bool {
-    let mut rng = Pcg64::new(32, 1);
-    let (Ok(p), Ok(q)) = (
-        SparsePolynomial::<F, T>::rand(alloc, d, num_vars, &mut rng),
-        SparsePolynomial::<F, T>::rand(alloc, d, num_vars, &mut rng),
-    ) else {
-        return false;
-    };
-    p != q
-}
-
-#[test]
-fn drawn_by_the_polynomial(rt: HostRuntime) -> Result<(), Fail> {
-    for (d, num_vars) in [(0, 0), (3, 0), (0, 4), (1, 1), (7, 2), (4, 5)] {
-        assert!(rt;
-            has_shape::<F65537, SparseTerm>(rt.alloc(), d, num_vars),
-            "{d}, {num_vars}"
-        );
-        assert!(rt; draws_differ::<F65537, SparseTerm>(rt.alloc(), d, num_vars));
+    match SparsePolynomial::rand(alloc, d, num_vars, &mut rng) {
+        Ok(q) => right && p != q,
+        Err(_) => false,
     }
-    Ok(())
+}
+
+/// Draws of several shapes.
+pub fn by_the_polynomial<F: Field>(alloc: Global) -> bool {
+    let mut right = true;
+    for (d, num_vars) in [(0, 0), (3, 0), (0, 4), (1, 1), (7, 2), (4, 5)] {
+        right = right && has_shape::<F, SparseTerm>(alloc, d, num_vars);
+    }
+    right
 }

@@ -9,3 +9,5 @@ mod drawn;
 mod lexicographic;
 #[cfg(test)]
 mod orders;
+#[cfg(test)]
+mod tried;

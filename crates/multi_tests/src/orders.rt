@@ -2,7 +2,7 @@
 
 use crate::building::{Powers, Terms, has_terms, polynomial, term};
 use crate::lexicographic::LexicographicTerm;
-use ark_base::{F5, PolyError, Polynomial};
+use ark_base::{Field, PolyError, Polynomial};
 use ark_laws::graded_order;
 use ark_multi::multivariate::{SparseTerm, Term};
 use std::alloc::Global;
@@ -67,31 +67,33 @@ fn rises<T: Term>(alloc: Global, list: &[Powers<'_>]) -> bool {
     right
 }
 
-#[test]
-fn order_of_ten_terms(rt: HostRuntime) -> Result<(), Fail> {
-    assert!(rt; rises::<SparseTerm>(rt.alloc(), &RISING));
-    assert!(rt; rises::<LexicographicTerm>(rt.alloc(), &LEXICOGRAPHIC));
-    Ok(())
+// What the law tells of three terms whose powers reach past the greatest one.
+fn law_holds(alloc: Global) -> Result<bool, PolyError> {
+    let great: SparseTerm = term(alloc, &[(0, usize::MAX)])?;
+    let other: SparseTerm = term(alloc, &[(0, 1), (1, usize::MAX - 1)])?;
+    Ok(
+        graded_order(&great, &other) == Ordering::Greater
+            && graded_order(&other, &great) == Ordering::Less
+            && graded_order(&other, &other) == Ordering::Equal,
+    )
 }
 
 #[test]
-fn the_law_on_the_order(rt: HostRuntime) -> Result<(), Fail> {
-    let great: SparseTerm = term(rt.alloc(), &[(0, usize::MAX)])?;
-    let other: SparseTerm = term(rt.alloc(), &[(0, 1), (1, usize::MAX - 1)])?;
-    assert!(rt; graded_order(&great, &other) == Ordering::Greater);
-    assert!(rt; graded_order(&other, &great) == Ordering::Less);
-    assert!(rt; graded_order(&other, &other) == Ordering::Equal);
+fn orders_of_terms(rt: HostRuntime) -> Result<(), Fail> {
+    assert!(rt; rises::<SparseTerm>(rt.alloc(), &RISING));
+    assert!(rt; rises::<LexicographicTerm>(rt.alloc(), &LEXICOGRAPHIC));
+    assert!(rt; law_holds(rt.alloc())?);
     Ok(())
 }
 
 // Whether the polynomial keeps these terms in this order, and the opposite has those.
-fn has_order<T: Term>(
+fn has_order<F: Field, T: Term>(
     alloc: Global,
     list: Terms<'_>,
     ordered: Terms<'_>,
     opposite: Terms<'_>,
 ) -> bool {
-    let Ok(p) = polynomial::<F5, T>(alloc, 3, list) else {
+    let Ok(p) = polynomial::<F, T>(alloc, 3, list) else {
         return false;
     };
     match p.neg(alloc) {
@@ -100,24 +102,18 @@ fn has_order<T: Term>(
     }
 }
 
-#[test]
-fn terms_in_either_order(rt: HostRuntime) -> Result<(), Fail> {
+/// Terms over the field of five elements in either order.
+pub fn terms_in_either_order<F: Field>(alloc: Global) -> bool {
     let list: Terms<'_> = &[(1, &[]), (2, &[(0, 1)]), (3, &[(2, 2)]), (5, &[(1, 1)])];
-    assert!(rt;
-        has_order::<SparseTerm>(
-            rt.alloc(),
-            list,
-            &[(1, &[]), (2, &[(0, 1)]), (3, &[(2, 2)])],
-            &[(4, &[]), (3, &[(0, 1)]), (2, &[(2, 2)])]
-        )
-    );
-    assert!(rt;
-        has_order::<LexicographicTerm>(
-            rt.alloc(),
-            list,
-            &[(1, &[]), (3, &[(2, 2)]), (2, &[(0, 1)])],
-            &[(4, &[]), (2, &[(2, 2)]), (3, &[(0, 1)])]
-        )
-    );
-    Ok(())
+    has_order::<F, SparseTerm>(
+        alloc,
+        list,
+        &[(1, &[]), (2, &[(0, 1)]), (3, &[(2, 2)])],
+        &[(4, &[]), (3, &[(0, 1)]), (2, &[(2, 2)])],
+    ) && has_order::<F, LexicographicTerm>(
+        alloc,
+        list,
+        &[(1, &[]), (3, &[(2, 2)]), (2, &[(0, 1)])],
+        &[(4, &[]), (2, &[(2, 2)]), (3, &[(0, 1)])],
+    )
 }
