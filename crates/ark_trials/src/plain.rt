@@ -2,10 +2,10 @@
 
 use ark_base::{FftField, Field, PolyError, Work};
 use ark_fft::domain::radix2::plain::fft_plain;
+use ark_test_types::trials::drawn_elements;
 use ark_univariate::EvaluationDomain;
-use rand_core::Rng;
 use rand_pcg::Pcg64;
-use std::alloc::{AllocError, Global};
+use std::alloc::Global;
 
 /// Whether the transform of the list is that by plain sums.
 pub fn has_plain_sums<F: FftField, D: EvaluationDomain<F>>(
@@ -20,52 +20,26 @@ pub fn has_plain_sums<F: FftField, D: EvaluationDomain<F>>(
     Ok(values == sums)
 }
 
-/// Whether the inverse of the list's transform is the list, cut or filled with zeros.
-pub fn comes_back<F: FftField, D: EvaluationDomain<F>>(
-    alloc: Global,
-    domain: &D,
-    coeffs: &[F],
-) -> Result<bool, PolyError> {
-    let mut back = domain.fft(alloc, coeffs)?;
-    domain.ifft_in_place(alloc, &mut back)?;
-    let mut fitted = Vec::with_capacity(alloc, coeffs.len())?;
-    fitted.extend_from_slice(coeffs)?;
-    fitted.resize(domain.size(), F::zero())?;
-    Ok(back == fitted)
-}
-
-/// Whether both hold of drawn lists of several lengths.
+/// Whether that is so of drawn lists of several lengths.
 pub fn agrees<F: FftField, D: EvaluationDomain<F>>(
     alloc: Global,
     rng: &mut Pcg64,
     domain: &D,
 ) -> Result<bool, PolyError> {
     let size = domain.size();
-    let quarter = size / 4;
     let mut right = true;
     for len in [
         0,
         1,
-        quarter,
-        quarter.saturating_add(1),
+        size / 4,
+        (size / 4).saturating_add(1),
         size,
         size.saturating_add(3),
     ] {
-        let coeffs = drawn::<F>(alloc, rng, len)?;
-        right = right
-            && has_plain_sums(alloc, domain, &coeffs)?
-            && comes_back(alloc, domain, &coeffs)?;
+        let coeffs = drawn_elements::<F, Pcg64>(alloc, rng, len)?;
+        right = right && has_plain_sums(alloc, domain, &coeffs)?;
     }
     Ok(right)
-}
-
-/// So many elements of a generator.
-pub fn drawn<F: Field>(alloc: Global, rng: &mut Pcg64, len: usize) -> Result<Vec<F>, AllocError> {
-    let mut list = Vec::with_capacity(alloc, len)?;
-    for _ in 0..len {
-        list.push(F::from(rng.next_u64()))?;
-    }
-    Ok(list)
 }
 
 /// The transform of as many items as the domain has elements, by passes in place.

@@ -1,11 +1,11 @@
-use ark_base::{FftField, PolyError};
+//! Samples outside a domain, and how much is drawn for them.
+
+use ark_base::FftField;
 use ark_test_types::counting::Counting;
 use ark_trials::calls::coset;
-use ark_trials::trials::{Kind, Prime, Trial, over};
 use ark_univariate::EvaluationDomain;
 use rand_pcg::Pcg64;
 use std::alloc::Global;
-use std::test::Fail;
 
 fn generator(seed: u32) -> Counting<Pcg64> {
     Counting::new(Pcg64::new(u128::from(seed), 5))
@@ -28,44 +28,31 @@ fn gives<F: FftField, D: EvaluationDomain<F>>(
     domain: &D,
     seed: u32,
     tries: usize,
-    sample: Option<F>,
-    draws: usize,
+    (sample, draws): (Option<F>, usize),
 ) -> bool {
     let mut rng = generator(seed);
     domain.sample_element_outside_domain(&mut rng, tries) == sample && rng.draws == draws as u64
 }
 
-/// Samples outside the subgroup of this size, with several seeds: the first draw that is outside comes, at the last try
+/// Whether, outside the subgroup of this size and with several seeds, the first draw that is outside comes, at the last try
 /// too, no draw is taken after it, and one try too few gives none.
-#[derive(Clone, Copy)]
-struct Samples(usize);
-
-impl Trial for Samples {
-    fn holds<F: FftField, D: EvaluationDomain<F>>(&self, _: Global) -> Result<bool, PolyError> {
-        let domain: D = coset(self.0, 1)?;
-        let mut right = true;
-        for seed in 0..64 {
-            let (sample, before) = foretold(&domain, seed).ok_or(PolyError::NoDomain)?;
-            let count = before.saturating_add(1);
-            right = right
-                && gives(&domain, seed, 0, None, 0)
-                && gives(&domain, seed, before, None, before)
-                && gives(&domain, seed, count, Some(sample), count)
-                && gives(&domain, seed, 1000, Some(sample), count);
+pub fn samples<F: FftField, D: EvaluationDomain<F>>(size: usize) -> bool {
+    let Ok(domain) = coset::<F, D>(size, 1) else {
+        return false;
+    };
+    let mut right = true;
+    for seed in 0..64 {
+        match foretold(&domain, seed) {
+            Some((sample, before)) => {
+                let count = before.saturating_add(1);
+                right = right
+                    && gives(&domain, seed, 0, (None, 0))
+                    && gives(&domain, seed, before, (None, before))
+                    && gives(&domain, seed, count, (Some(sample), count))
+                    && gives(&domain, seed, 1000, (Some(sample), count));
+            }
+            None => right = false,
         }
-        Ok(right)
     }
-}
-
-// Four of the five elements are in the domain, so many first draws are.
-#[test]
-fn samples_after_draws_inside(rt: HostRuntime) -> Result<(), Fail> {
-    assert!(rt; over(rt.alloc(), Prime::P5, Kind::Radix2, &Samples(4))?);
-    Ok(())
-}
-
-#[test]
-fn samples_of_a_large_field(rt: HostRuntime) -> Result<(), Fail> {
-    assert!(rt; over(rt.alloc(), Prime::P65537, Kind::General, &Samples(32768))?);
-    Ok(())
+    right
 }

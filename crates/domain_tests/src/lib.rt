@@ -5,8 +5,8 @@
 #[cfg(test)]
 mod draws;
 #[cfg(test)]
-mod kinds;
-#[cfg(test)]
 mod traces;
 #[cfg(test)]
 mod transforms;
+#[cfg(test)]
+mod tried;

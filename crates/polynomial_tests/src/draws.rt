@@ -1,12 +1,11 @@
 //! How much is drawn for a polynomial.
 
-use ark_base::{F5, F65537, Field};
+use ark_base::Field;
 use ark_test_types::counting::Counting;
 use ark_univariate::univariate::DensePolynomial;
 use ark_univariate::{DenseUVPolynomial, Polynomial};
 use rand_pcg::Pcg64;
 use std::alloc::Global;
-use std::test::Fail;
 
 // How many tries the leading coefficient takes after so many others, up to 100.
 fn tries_taken<F: Field>(seed: u64, degree: usize) -> u64 {
@@ -42,39 +41,13 @@ fn takes_its_tries<F: Field>(alloc: Global, seed: u64, degree: usize) -> bool {
         && draws::<F>(alloc, seed, degree, 100) == (true, words)
 }
 
-#[test]
-fn draws_take_their_tries(rt: HostRuntime) -> Result<(), Fail> {
+/// Draws of all degrees up to 30, with some seeds.
+pub fn by_their_tries<F: Field>(alloc: Global) -> bool {
+    let mut right = true;
     for seed in 0..50 {
         for degree in 0..31 {
-            assert!(rt;
-                takes_its_tries::<F5>(rt.alloc(), seed, degree),
-                "{seed}, {degree}"
-            );
-            assert!(rt;
-                takes_its_tries::<F65537>(rt.alloc(), seed, degree),
-                "{seed}, {degree}"
-            );
+            right = right && takes_its_tries::<F>(alloc, seed, degree);
         }
     }
-    Ok(())
-}
-
-// Whether two draws of this degree differ.
-fn differ<F: Field>(alloc: Global, degree: usize) -> bool {
-    let mut rng = Pcg64::new(5, 3);
-    let (Ok(Some(p)), Ok(Some(q))) = (
-        DensePolynomial::<F>::rand(alloc, degree, &mut rng, 100),
-        DensePolynomial::<F>::rand(alloc, degree, &mut rng, 100),
-    ) else {
-        return false;
-    };
-    p != q
-}
-
-#[test]
-fn draws_differ(rt: HostRuntime) -> Result<(), Fail> {
-    for degree in [3, 40] {
-        assert!(rt; differ::<F65537>(rt.alloc(), degree));
-    }
-    Ok(())
+    right
 }

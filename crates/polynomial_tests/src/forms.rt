@@ -1,6 +1,7 @@
 //! Both forms of polynomials behind one trait, drawn by their degree, and what calls answer.
 
-use ark_base::{Field, PolyError};
+use ark_base::Field;
+use ark_test_types::trials::drawn_elements;
 use ark_univariate::univariate::{DensePolynomial, SparsePolynomial};
 use ark_univariate::{DenseUVPolynomial, Polynomial};
 use rand_core::Rng;
@@ -15,9 +16,6 @@ pub trait Form<F: Field>: Polynomial<F, Point = F> {
     /// One of this degree.
     fn drawn(alloc: Global, rng: &mut Pcg64, degree: usize) -> Option<Self>;
 
-    /// The multiple by the factor.
-    fn multiple(&self, alloc: Global, factor: F) -> Result<Self, PolyError>;
-
     /// The sum of its terms at the point, power by power.
     fn term_by_term(&self, point: F) -> F;
 }
@@ -25,10 +23,6 @@ pub trait Form<F: Field>: Polynomial<F, Point = F> {
 impl<F: Field> Form<F> for DensePolynomial<F> {
     fn drawn(alloc: Global, rng: &mut Pcg64, degree: usize) -> Option<Self> {
         DensePolynomial::rand(alloc, degree, rng, TRIES).ok()?
-    }
-
-    fn multiple(&self, alloc: Global, factor: F) -> Result<Self, PolyError> {
-        self.mul_scalar(alloc, factor)
     }
 
     fn term_by_term(&self, point: F) -> F {
@@ -45,10 +39,6 @@ impl<F: Field> Form<F> for SparsePolynomial<F> {
     fn drawn(alloc: Global, rng: &mut Pcg64, degree: usize) -> Option<Self> {
         let terms = drawn_terms(alloc, rng, degree).ok()?;
         SparsePolynomial::from_coefficients_vec(alloc, terms).ok()
-    }
-
-    fn multiple(&self, alloc: Global, factor: F) -> Result<Self, PolyError> {
-        self.mul_scalar(alloc, factor)
     }
 
     fn term_by_term(&self, point: F) -> F {
@@ -86,21 +76,7 @@ pub fn gave<T: PartialEq + Drop, E: Drop>(answer: Result<T, E>, value: &T) -> bo
 }
 
 /// A dense polynomial with at most so many coefficients.
-pub fn some<F: Field>(
-    alloc: Global,
-    rng: &mut Pcg64,
-    len: usize,
-) -> Result<DensePolynomial<F>, PolyError> {
-    let mut coeffs = Vec::with_capacity(alloc, len)?;
-    for _ in 0..len {
-        coeffs.push(F::rand(rng))?;
-    }
-    Ok(DensePolynomial::from_coefficients_vec(coeffs))
-}
-
-/// The polynomial of degree 0 with this coefficient, or zero.
-pub fn constant<F: Field>(alloc: Global, value: F) -> Result<DensePolynomial<F>, PolyError> {
-    let mut coeffs = Vec::new(alloc);
-    coeffs.push(value)?;
-    Ok(DensePolynomial::from_coefficients_vec(coeffs))
+pub fn some<F: Field>(alloc: Global, rng: &mut Pcg64, len: usize) -> Option<DensePolynomial<F>> {
+    let coeffs = drawn_elements(alloc, rng, len).ok()?;
+    Some(DensePolynomial::from_coefficients_vec(coeffs))
 }

@@ -17,4 +17,6 @@ mod products;
 #[cfg(test)]
 mod sums;
 #[cfg(test)]
+mod tried;
+#[cfg(test)]
 mod values;

@@ -1,32 +1,40 @@
 //! Sums of dense with sparse polynomials, and sparse ones against their dense forms.
 
 use crate::forms::{Form, gave};
-use ark_base::{F5, F65537, Field, PolyError};
+use ark_base::Field;
 use ark_laws::{dense_and_back, sparse_and_back, values_of_both_forms};
+use ark_test_types::sums::{Way, combined, same};
 use ark_univariate::Polynomial;
 use ark_univariate::univariate::{DensePolynomial, SparsePolynomial};
 use rand_pcg::Pcg64;
 use std::alloc::Global;
-use std::test::Fail;
 
-fn added<F: Field>(
+// The dense polynomial put together with terms.
+fn with_terms<F: Field>(
     alloc: Global,
     p: &DensePolynomial<F>,
+    way: Way,
     q: &SparsePolynomial<F>,
-) -> Result<DensePolynomial<F>, PolyError> {
-    let mut sum = p.clone()?;
-    sum.add_assign_sparse(alloc, q)?;
-    Ok(sum)
+) -> Option<DensePolynomial<F>> {
+    match way {
+        Way::Add => p.add_sparse(alloc, q).ok(),
+        Way::Sub => p.sub_sparse(alloc, q).ok(),
+        _ => in_place(alloc, p, way, q),
+    }
 }
 
-fn subtracted<F: Field>(
+fn in_place<F: Field>(
     alloc: Global,
     p: &DensePolynomial<F>,
+    way: Way,
     q: &SparsePolynomial<F>,
-) -> Result<DensePolynomial<F>, PolyError> {
-    let mut difference = p.clone()?;
-    difference.sub_assign_sparse(alloc, q)?;
-    Ok(difference)
+) -> Option<DensePolynomial<F>> {
+    let mut changed = p.clone().ok()?;
+    let done = match way {
+        Way::SubInPlace => changed.sub_assign_sparse(alloc, q),
+        _ => changed.add_assign_sparse(alloc, q),
+    };
+    if done.is_ok() { Some(changed) } else { None }
 }
 
 // Whether sum and difference with terms, new and in place, are those with the dense form.
@@ -36,13 +44,11 @@ fn are_like_dense<F: Field>(
     q: &SparsePolynomial<F>,
     dense: &DensePolynomial<F>,
 ) -> bool {
-    let (Ok(sum), Ok(difference)) = (p.add(alloc, dense), p.sub(alloc, dense)) else {
-        return false;
-    };
-    gave(p.add_sparse(alloc, q), &sum)
-        && gave(p.sub_sparse(alloc, q), &difference)
-        && gave(added(alloc, p, q), &sum)
-        && gave(subtracted(alloc, p, q), &difference)
+    let mut right = true;
+    for way in [Way::Add, Way::Sub, Way::AddInPlace, Way::SubInPlace] {
+        right = right && same(with_terms(alloc, p, way, q), combined(alloc, p, way, dense));
+    }
+    right
 }
 
 // Whether both forms have one value, and come back from the other one.
@@ -50,13 +56,11 @@ fn are_one<F: Field>(alloc: Global, q: &SparsePolynomial<F>, point: F) -> bool {
     let Ok(dense) = DensePolynomial::from_sparse(alloc, q) else {
         return false;
     };
-    let Ok((value, other)) = values_of_both_forms(alloc, &dense, q, point) else {
-        return false;
-    };
     let known = q.term_by_term(point);
-    value == known
-        && other == known
-        && gave(sparse_and_back(alloc, &dense), &dense)
+    gave(
+        values_of_both_forms(alloc, &dense, q, point),
+        &(known, known),
+    ) && gave(sparse_and_back(alloc, &dense), &dense)
         && gave(dense_and_back(alloc, q), q)
 }
 
@@ -67,19 +71,16 @@ fn has_dense_sum<F: Field>(
     other: &SparsePolynomial<F>,
     dense: &DensePolynomial<F>,
 ) -> bool {
-    let (Ok(sum), Ok(other)) = (
-        q.add(alloc, other),
+    let (Some(sum), Ok(other)) = (
+        combined(alloc, q, Way::Add, other),
         DensePolynomial::from_sparse(alloc, other),
     ) else {
         return false;
     };
-    match dense.add(alloc, &other) {
-        Ok(known) => {
-            sum.degree() == known.degree()
-                && gave(DensePolynomial::from_sparse(alloc, &sum), &known)
-        }
-        Err(_) => false,
-    }
+    same(
+        DensePolynomial::from_sparse(alloc, &sum).ok(),
+        combined(alloc, dense, Way::Add, &other),
+    )
 }
 
 // Whether all this holds of terms of this degree and dense ones of all degrees up to 70.
@@ -105,18 +106,12 @@ fn holds_with_all<F: Field>(alloc: Global, rng: &mut Pcg64, degree: usize) -> bo
     right
 }
 
-#[test]
-fn drawn_polynomials_of_both_forms(rt: HostRuntime) -> Result<(), Fail> {
+/// Draws of all degrees up to 70 in both forms.
+pub fn draws<F: Field>(alloc: Global) -> bool {
     let mut rng = Pcg64::new(17, 2);
+    let mut right = true;
     for degree in 0..70 {
-        assert!(rt;
-            holds_with_all::<F65537>(rt.alloc(), &mut rng, degree),
-            "degree {degree}"
-        );
-        assert!(rt;
-            holds_with_all::<F5>(rt.alloc(), &mut rng, degree),
-            "degree {degree}"
-        );
+        right = right && holds_with_all::<F>(alloc, &mut rng, degree);
     }
-    Ok(())
+    right
 }

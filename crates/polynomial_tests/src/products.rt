@@ -1,13 +1,12 @@
 //! Products of drawn polynomials: through domains and by all pairs of coefficients, and of terms.
 
-use crate::forms::{Form, constant, gave, some};
-use ark_base::{F433, F65537, FftField, Field, PolyError};
+use crate::forms::{Form, gave, some};
+use ark_base::{FftField, Field};
 use ark_laws::{both_products, degree_of_product};
 use ark_univariate::univariate::{DensePolynomial, SparsePolynomial};
 use ark_univariate::{DenseUVPolynomial, Polynomial};
 use rand_pcg::Pcg64;
 use std::alloc::Global;
-use std::test::Fail;
 
 // Whether both products are the same, and have this degree where neither factor is zero.
 fn is_naive<F: FftField>(alloc: Global, p: &DensePolynomial<F>, q: &DensePolynomial<F>) -> bool {
@@ -20,46 +19,31 @@ fn is_naive<F: FftField>(alloc: Global, p: &DensePolynomial<F>, q: &DensePolynom
     }
 }
 
-// Whether the law on degrees gives the sum of the degrees.
-fn adds_degrees<F: FftField>(alloc: Global, p: &DensePolynomial<F>) -> bool {
-    p.is_zero()
-        || gave(
-            degree_of_product(alloc, p, p),
-            &p.degree().saturating_mul(2),
-        )
-}
-
-// Whether that is so of drawn ones of at most so many coefficients each.
+// Whether that is so of a drawn one of at most so many coefficients and others up to 70, and the law on degrees gives the
+// sum of the degrees.
 fn are_naive<F: FftField>(alloc: Global, rng: &mut Pcg64, len: usize) -> bool {
-    let Ok(p) = some::<F>(alloc, rng, len) else {
+    let Some(p) = some::<F>(alloc, rng, len) else {
         return false;
     };
-    let mut right = adds_degrees(alloc, &p);
+    let double = p.degree().saturating_mul(2);
+    let mut right = p.is_zero() || gave(degree_of_product(alloc, &p, &p), &double);
     for other in 0..70 {
-        let Ok(q) = some(alloc, rng, other) else {
-            return false;
-        };
-        right = right && is_naive(alloc, &p, &q);
+        match some(alloc, rng, other) {
+            Some(q) => right = right && is_naive(alloc, &p, &q),
+            None => right = false,
+        }
     }
     right
 }
 
-#[test]
-fn products_of_drawn_polynomials(rt: HostRuntime) -> Result<(), Fail> {
+/// Products of at most so many coefficients.
+pub fn draws<F: FftField>(alloc: Global, most: usize) -> bool {
     let mut rng = Pcg64::new(7, 11);
-    for len in 0..70 {
-        assert!(rt;
-            are_naive::<F65537>(rt.alloc(), &mut rng, len),
-            "length {len}"
-        );
+    let mut right = true;
+    for len in 0..most {
+        right = right && are_naive::<F>(alloc, &mut rng, len);
     }
-    for len in [0, 1, 9, 38] {
-        assert!(rt;
-            are_naive::<F433>(rt.alloc(), &mut rng, len),
-            "length {len}"
-        );
-    }
-    Ok(())
+    right
 }
 
 // Whether the product of terms is that of the dense forms.
@@ -68,73 +52,54 @@ fn is_dense_product<F: Field>(
     p: &SparsePolynomial<F>,
     q: &SparsePolynomial<F>,
 ) -> bool {
-    let (Ok(left), Ok(right)) = (
+    let (Ok(left), Ok(right), Ok(product)) = (
         DensePolynomial::from_sparse(alloc, p),
         DensePolynomial::from_sparse(alloc, q),
+        p.mul(alloc, q),
     ) else {
         return false;
     };
-    let (Ok(product), Ok(known)) = (p.mul(alloc, q), left.naive_mul(alloc, &right)) else {
-        return false;
-    };
-    product.degree() == known.degree()
-        && gave(SparsePolynomial::from_dense(alloc, &known), &product)
-}
-
-// Whether the multiple is the product with the constant.
-fn is_product_with_constant<F: Field>(alloc: Global, p: &DensePolynomial<F>, factor: F) -> bool {
-    let (Ok(known), Ok(multiple)) = (constant(alloc, factor), p.mul_scalar(alloc, factor)) else {
-        return false;
-    };
-    gave(p.naive_mul(alloc, &known), &multiple)
-}
-
-fn is_sparse_product_with_constant<F: Field>(
-    alloc: Global,
-    p: &SparsePolynomial<F>,
-    factor: F,
-) -> bool {
-    let (Ok(dense), Ok(multiple)) = (constant(alloc, factor), p.mul_scalar(alloc, factor)) else {
-        return false;
-    };
-    match SparsePolynomial::from_dense(alloc, &dense) {
-        Ok(known) => gave(p.mul(alloc, &known), &multiple),
+    match left.naive_mul(alloc, &right) {
+        Ok(known) => gave(DensePolynomial::from_sparse(alloc, &product), &known),
         Err(_) => false,
     }
 }
 
-// Whether this holds of drawn terms of this degree, and of products with those of degrees up to 20.
-fn are_dense_products<F: Field>(alloc: Global, rng: &mut Pcg64, degree: usize) -> bool {
-    let Some(p) = SparsePolynomial::<F>::drawn(alloc, rng, degree) else {
+// Whether the multiple, in both forms, is the product with the constant.
+fn has_multiples<F: Field>(alloc: Global, p: &SparsePolynomial<F>, factor: F) -> bool {
+    let (Ok(dense), Ok(constant)) = (
+        DensePolynomial::from_sparse(alloc, p),
+        DensePolynomial::from_coefficients_slice(alloc, &[factor]),
+    ) else {
         return false;
     };
-    let mut right = is_sparse_product_with_constant(alloc, &p, F::rand(rng));
-    for other in 0..20 {
-        let Some(q) = SparsePolynomial::drawn(alloc, rng, other) else {
+    let (Ok(known), Ok(multiple)) = (
+        dense.naive_mul(alloc, &constant),
+        p.mul_scalar(alloc, factor),
+    ) else {
+        return false;
+    };
+    gave(dense.mul_scalar(alloc, factor), &known)
+        && gave(DensePolynomial::from_sparse(alloc, &multiple), &known)
+}
+
+/// Products of terms of degrees up to 20, and multiples of those of degrees up to 70.
+pub fn of_terms<F: Field>(alloc: Global) -> bool {
+    let mut rng = Pcg64::new(5, 3);
+    let mut right = true;
+    for degree in 0..70 {
+        let Some(p) = SparsePolynomial::<F>::drawn(alloc, &mut rng, degree) else {
             return false;
         };
-        right = right && is_dense_product(alloc, &p, &q);
+        right = right && has_multiples(alloc, &p, F::rand(&mut rng));
+        for other in 0..20 {
+            match SparsePolynomial::drawn(alloc, &mut rng, other) {
+                Some(q) => right = right && is_dense_product(alloc, &p, &q),
+                None => right = false,
+            }
+        }
     }
     right
-}
-
-fn has_multiple<F: Field>(alloc: Global, rng: &mut Pcg64, degree: usize) -> bool {
-    match DensePolynomial::<F>::drawn(alloc, rng, degree) {
-        Some(p) => is_product_with_constant(alloc, &p, F::rand(rng)),
-        None => false,
-    }
-}
-
-#[test]
-fn products_of_terms_and_with_constants(rt: HostRuntime) -> Result<(), Fail> {
-    let mut rng = Pcg64::new(5, 3);
-    for degree in 0..20 {
-        assert!(rt; are_dense_products::<F65537>(rt.alloc(), &mut rng, degree));
-    }
-    for degree in 0..70 {
-        assert!(rt; has_multiple::<F65537>(rt.alloc(), &mut rng, degree));
-    }
-    Ok(())
 }
 
 // The polynomial with another coefficient in place of the last one.
@@ -142,43 +107,28 @@ fn with_last<F: Field>(
     alloc: Global,
     p: &DensePolynomial<F>,
     last: F,
-) -> Result<DensePolynomial<F>, PolyError> {
-    let mut coeffs = Vec::from_slice(alloc, p.coeffs())?;
+) -> Option<DensePolynomial<F>> {
+    let mut coeffs = Vec::from_slice(alloc, p.coeffs()).ok()?;
     coeffs.pop();
-    coeffs.push(last)?;
-    Ok(DensePolynomial::from_coefficients_vec(coeffs))
+    coeffs.push(last).ok()?;
+    Some(DensePolynomial::from_coefficients_vec(coeffs))
 }
 
-// Whether the call gave one of this degree, whose last coefficient isn't zero.
-fn has_degree<F: Field>(answer: Result<DensePolynomial<F>, PolyError>, degree: usize) -> bool {
-    match answer {
-        Ok(p) => p.degree() == degree && p.coeffs().last().is_some_and(|last| !last.is_zero()),
-        Err(_) => false,
-    }
-}
-
-// Whether the last coefficient is dropped from the sum with one that has its opposite there, and is none from the
-// product with one that has its inverse there.
-fn last_ones_meet<F: FftField>(alloc: Global, rng: &mut Pcg64) -> bool {
-    let Some(p) = DensePolynomial::<F>::drawn(alloc, rng, 10) else {
+/// Whether the last coefficient is dropped from the sum with one that has its opposite there, and is none from the
+/// product with one that has its inverse there.
+pub fn last_coefficients<F: FftField>(alloc: Global) -> bool {
+    let Some(p) = DensePolynomial::<F>::drawn(alloc, &mut Pcg64::new(63, 1), 10) else {
         return false;
     };
     let last = p.coeffs().last().copied().unwrap_or(F::zero());
-    let Some(inverse) = last.inverse() else {
-        return false;
-    };
-    let (Ok(opposite), Ok(inverse)) = (
-        with_last(alloc, &p, F::zero() - last),
-        with_last(alloc, &p, inverse),
+    let (Some(opposite), Some(inverse)) = (
+        with_last(alloc, &p, -last),
+        with_last(alloc, &p, last.inverse().unwrap_or(F::zero())),
     ) else {
         return false;
     };
-    has_degree(p.add(alloc, &opposite), 9) && has_degree(p.mul(alloc, &inverse), 20)
-}
-
-#[test]
-fn last_coefficients(rt: HostRuntime) -> Result<(), Fail> {
-    let mut rng = Pcg64::new(63, 1);
-    assert!(rt; last_ones_meet::<F65537>(rt.alloc(), &mut rng));
-    Ok(())
+    match (p.add(alloc, &opposite), p.mul(alloc, &inverse)) {
+        (Ok(sum), Ok(product)) => sum.degree() == 9 && product.degree() == 20,
+        _ => false,
+    }
 }
