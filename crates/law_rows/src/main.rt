@@ -1,0 +1,41 @@
+//! Answers rows of laws, by what calls together give.
+//!
+//! The first word is a field's order, the second says what the law is about, and an operation and its arguments follow.
+#![tactic(auto)]
+
+mod extensions;
+mod univariate;
+
+use ark_base::FftField;
+use ark_test_types::numbered::Numbered;
+use row_words::rows::{Answer, FieldRows, Rows, over_field, write_answers};
+use row_words::words::no_row;
+use std::alloc::Global;
+use std::io;
+
+struct LawRows;
+
+impl Rows for LawRows {
+    fn answer(alloc: Global, words: &[String]) -> Answer {
+        over_field::<LawRows>(alloc, words)
+    }
+}
+
+impl FieldRows for LawRows {
+    fn answer_over<F: FftField + Numbered>(alloc: Global, words: &[String]) -> Answer {
+        let [subject, words @ ..] = words else {
+            return no_row(alloc);
+        };
+        match subject.as_str() {
+            "dense" => univariate::answer_of_dense::<F>(alloc, words),
+            "values" => univariate::answer_of_values::<F>(alloc, words),
+            "dense_extension" => extensions::answer_by_values::<F>(alloc, words),
+            "sparse_extension" => extensions::answer_by_entries::<F>(alloc, words),
+            _ => no_row(alloc),
+        }
+    }
+}
+
+fn main(rt: HostRuntime) -> io::Result<()> {
+    write_answers::<LawRows, HostRuntime>(&rt)
+}

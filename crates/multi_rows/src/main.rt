@@ -1,0 +1,43 @@
+//! Answers rows of terms, of polynomials in several variables, and of multilinear extensions.
+//!
+//! The first word is a field's order, the second says which module reads the words from there on.
+#![tactic(auto)]
+
+mod extensions;
+mod polynomials;
+mod tables;
+mod terms;
+
+use ark_base::FftField;
+use ark_test_types::numbered::Numbered;
+use row_words::rows::{Answer, FieldRows, Rows, over_field, write_answers};
+use row_words::words::no_row;
+use std::alloc::Global;
+use std::io;
+
+struct MultiRows;
+
+impl Rows for MultiRows {
+    fn answer(alloc: Global, words: &[String]) -> Answer {
+        over_field::<MultiRows>(alloc, words)
+    }
+}
+
+impl FieldRows for MultiRows {
+    fn answer_over<F: FftField + Numbered>(alloc: Global, words: &[String]) -> Answer {
+        let [subject, words @ ..] = words else {
+            return no_row(alloc);
+        };
+        match subject.as_str() {
+            "term" => terms::answer::<F>(alloc, words),
+            "multivariate" => polynomials::answer::<F>(alloc, words),
+            "dense_extension" => extensions::answer_by_values::<F>(alloc, words),
+            "sparse_extension" => extensions::answer_by_entries::<F>(alloc, words),
+            _ => no_row(alloc),
+        }
+    }
+}
+
+fn main(rt: HostRuntime) -> io::Result<()> {
+    write_answers::<MultiRows, HostRuntime>(&rt)
+}
