@@ -1,5 +1,5 @@
 //! Tests of draws, errors, sinks and the program's failures, what transforms cost as numbers, and callers proved from
-//! public contracts alone. Rows with answers from outside stand in `row_tests`.
+//! public contracts alone. Rows with answers from outside stand in `command_rows`.
 #![tactic(auto)]
 
 #[cfg(test)]

@@ -1,5 +1,5 @@
 //! Tests of domains and their transforms that no clause replaces: sweeps over every size, old bodies against new, the
-//! products behind values, and draws. Rows with answers from outside stand in `row_tests`.
+//! products behind values, and draws. Rows with answers from outside stand in `univariate_rows`.
 #![tactic(auto)]
 
 #[cfg(test)]

@@ -1,4 +1,4 @@
-//! Tests of multilinear extensions. What they give for listed tables stands in the rows of `row_tests`.
+//! Tests of multilinear extensions. What they give for listed tables stands in the rows of `multi_rows` and `law_rows`.
 #![tactic(auto)]
 
 #[cfg(test)]

@@ -1,4 +1,4 @@
-//! Tests of terms and of polynomials in several variables. What listed ones give stands in the rows of `row_tests`.
+//! Tests of terms and of polynomials in several variables. What listed ones give stands in the rows of `multi_rows`.
 #![tactic(auto)]
 
 #[cfg(test)]

@@ -1,5 +1,5 @@
 //! Tests of polynomials, of their values over a domain, and of what domains give at points. What listed polynomials give
-//! stands in the rows of `row_tests`.
+//! stands in the rows of `univariate_rows` and `law_rows`.
 #![tactic(auto)]
 
 #[cfg(test)]
