@@ -21,14 +21,12 @@ use batches::{Number, report};
 use draws::Draws;
 use large_field::F2013265921;
 use points::{BoundTable, VARIABLES, ValueAtPoint, polynomial_of_terms};
-use polynomials::{
-    Division, Interpolation, LongDivision, Product, Quotients, SparseProduct, Value, Way, Weights,
-};
+use polynomials::{Interpolation, LongDivision, OfTwo, Quotients, SparseProduct, Value, Way};
 use std::alloc::{AllocGlobal, Global};
 use std::env;
 use std::io::Print;
 use std::time::Clock;
-use transforms::{InPlace, OfShortList};
+use transforms::{Call, OverDomain};
 
 fn main(rt: HostRuntime) -> anyhow::Result<()> {
     let timed = match env::args(&rt)?.nth(1) {
@@ -99,18 +97,30 @@ fn report_both_ways<F: FftField + Number, D: EvaluationDomain<F>>(
     names: [&'static str; 2],
     domain: D,
 ) -> anyhow::Result<()> {
-    let mut inverse = false;
-    for name in names {
-        let items = draws.list(alloc, domain.size())?;
-        let mut transforms = InPlace {
-            domain,
-            inverse,
-            items,
-        };
-        report(rt, alloc, timed, name, domain.size(), &mut transforms)?;
-        inverse = true;
+    let [forward, inverse] = names;
+    for (name, call) in [(forward, Call::Forward), (inverse, Call::Inverse)] {
+        report_in_place(rt, alloc, timed, draws, name, domain, call)?;
     }
     Ok(())
+}
+
+fn report_in_place<F: FftField + Number, D: EvaluationDomain<F>>(
+    rt: &(impl Print + Clock),
+    alloc: Global,
+    timed: bool,
+    draws: &mut Draws,
+    name: &'static str,
+    domain: D,
+    call: Call,
+) -> anyhow::Result<()> {
+    let mut transforms = OverDomain {
+        domain,
+        call,
+        point: F::zero(),
+        items: Vec::new(alloc),
+        values: draws.list(alloc, domain.size())?,
+    };
+    report(rt, alloc, timed, name, domain.size(), &mut transforms)
 }
 
 fn report_polynomials<F: FftField + Number>(
@@ -141,59 +151,48 @@ fn report_over_domain<F: FftField + Number, D: EvaluationDomain<F>>(
     domain: D,
 ) -> anyhow::Result<()> {
     if let Some(coset) = domain.get_coset(F::GENERATOR) {
-        let mut forward = InPlace {
-            domain: coset,
-            inverse: false,
-            items: draws.list(alloc, domain.size())?,
-        };
-        report(
-            rt,
-            alloc,
-            timed,
-            "coset_fft_in_place",
-            domain.size(),
-            &mut forward,
-        )?;
+        let name = "coset_fft_in_place";
+        report_in_place(rt, alloc, timed, draws, name, coset, Call::Forward)?;
     }
-    let mut short = OfShortList {
-        domain,
-        items: draws.list(alloc, 1 << 10)?,
-        values: Vec::new(alloc),
-    };
-    report(
-        rt,
-        alloc,
-        timed,
-        "degree_aware_fft_1024_over",
-        domain.size(),
-        &mut short,
-    )?;
-    report_weights(rt, alloc, timed, "lagrange_all", domain, F::from(0))?;
     let last = domain.element((1 << 16) - 1);
-    report_weights(
-        rt,
-        alloc,
-        timed,
-        "lagrange_all_at_last_element",
-        domain,
-        last,
-    )
+    for (name, call, point) in [
+        ("degree_aware_fft_1024_over", Call::Short, F::zero()),
+        ("lagrange_all", Call::Weights, F::zero()),
+        ("lagrange_all_at_last_element", Call::Weights, last),
+    ] {
+        let len = if matches!(call, Call::Short) {
+            1 << 10
+        } else {
+            0
+        };
+        let mut calls = OverDomain {
+            domain,
+            call,
+            point,
+            items: draws.list(alloc, len)?,
+            values: Vec::new(alloc),
+        };
+        report(rt, alloc, timed, name, domain.size(), &mut calls)?;
+    }
+    Ok(())
 }
 
-fn report_weights<F: FftField + Number, D: EvaluationDomain<F>>(
+// What is made of two dense polynomials of these lengths.
+fn report_of_two<F: FftField + Number>(
     rt: &(impl Print + Clock),
     alloc: Global,
     timed: bool,
-    name: &str,
-    domain: D,
-    point: F,
+    draws: &mut Draws,
+    (way, name): (Way, &'static str),
+    (left, right): (usize, usize),
 ) -> anyhow::Result<()> {
-    let mut weights = Weights {
-        domain,
-        point,
-        weights: Vec::new(alloc),
+    let mut of_two = OfTwo::<F> {
+        way,
+        left: draws.dense(alloc, left)?,
+        right: draws.dense(alloc, right)?,
+        answer: DensePolynomial::zero(alloc)?,
     };
-    report(rt, alloc, timed, name, domain.size(), &mut weights)
+    report(rt, alloc, timed, name, left, &mut of_two)
 }
 
 fn report_dense<F: FftField + Number>(
@@ -207,13 +206,7 @@ fn report_dense<F: FftField + Number>(
         (Way::Transforms, "dense_mul", 1 << 13),
         (Way::Transforms, "dense_mul", (1 << 15) - 1),
     ] {
-        let mut product = Product::<F> {
-            way,
-            left: draws.dense(alloc, len)?,
-            right: draws.dense(alloc, len)?,
-            product: DensePolynomial::zero(alloc)?,
-        };
-        report(rt, alloc, timed, name, len, &mut product)?;
+        report_of_two::<F>(rt, alloc, timed, draws, (way, name), (len, len))?;
     }
     let mut value = Value::<F> {
         polynomial: draws.dense(alloc, 1 << 16)?,
@@ -278,19 +271,8 @@ fn report_division<F: FftField + Number>(
     timed: bool,
     draws: &mut Draws,
 ) -> anyhow::Result<()> {
-    let mut division = Division::<F> {
-        dividend: draws.dense(alloc, 1 << 12)?,
-        divisor: draws.dense(alloc, 1 << 11)?,
-        remainder: DensePolynomial::zero(alloc)?,
-    };
-    report(
-        rt,
-        alloc,
-        timed,
-        "divide_by_transforms",
-        1 << 12,
-        &mut division,
-    )
+    let name = (Way::Remainder, "divide_by_transforms");
+    report_of_two::<F>(rt, alloc, timed, draws, name, (1 << 12, 1 << 11))
 }
 
 // Such a division without transforms.

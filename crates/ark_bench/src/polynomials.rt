@@ -1,4 +1,4 @@
-//! Dense and sparse polynomials, and the weights of their values.
+//! Dense and sparse polynomials, and values over a domain.
 
 use crate::batches::{Benchmark, Number, mixed};
 use ark_base::{FftField, Field, PolyError};
@@ -24,35 +24,42 @@ impl<F: FftField + Number> Benchmark for Value<F> {
     }
 }
 
-/// How polynomials are multiplied.
+/// What is made of two polynomials.
 #[derive(Clone, Copy)]
 pub enum Way {
-    /// By all products of two coefficients.
+    /// The product, by all products of two coefficients.
     Naive,
-    /// Through a domain.
+    /// The product, through a domain.
     Transforms,
+    /// The remainder, through transforms.
+    Remainder,
 }
 
-/// The product of two polynomials of one length.
+/// What is made of two dense polynomials.
 #[derive(Drop)]
-pub struct Product<F: FftField> {
+pub struct OfTwo<F: FftField> {
     pub way: Way,
     pub left: DensePolynomial<F>,
     pub right: DensePolynomial<F>,
-    pub product: DensePolynomial<F>,
+    pub answer: DensePolynomial<F>,
 }
 
-impl<F: FftField + Number> Benchmark for Product<F> {
+impl<F: FftField + Number> Benchmark for OfTwo<F> {
     fn call(&mut self, alloc: Global) -> Result<(), PolyError> {
-        self.product = match self.way {
-            Way::Naive => self.left.naive_mul(alloc, &self.right)?,
-            Way::Transforms => self.left.mul(alloc, &self.right)?,
-        };
+        match self.way {
+            Way::Naive => self.answer = self.left.naive_mul(alloc, &self.right)?,
+            Way::Transforms => self.answer = self.left.mul(alloc, &self.right)?,
+            Way::Remainder => {
+                if let Some((_, remainder)) = self.left.divide_by_transforms(alloc, &self.right)? {
+                    self.answer = remainder;
+                }
+            }
+        }
         Ok(())
     }
 
     fn checksum(&self) -> u64 {
-        mixed(self.product.coeffs())
+        mixed(self.answer.coeffs())
     }
 }
 
@@ -77,27 +84,6 @@ impl<F: Field + Number> Benchmark for SparseProduct<F> {
             sum = sum.wrapping_mul(31).wrapping_add(coefficient.number());
         }
         sum
-    }
-}
-
-/// Quotient and remainder through transforms.
-#[derive(Drop)]
-pub struct Division<F: FftField> {
-    pub dividend: DensePolynomial<F>,
-    pub divisor: DensePolynomial<F>,
-    pub remainder: DensePolynomial<F>,
-}
-
-impl<F: FftField + Number> Benchmark for Division<F> {
-    fn call(&mut self, alloc: Global) -> Result<(), PolyError> {
-        if let Some((_, remainder)) = self.dividend.divide_by_transforms(alloc, &self.divisor)? {
-            self.remainder = remainder;
-        }
-        Ok(())
-    }
-
-    fn checksum(&self) -> u64 {
-        mixed(self.remainder.coeffs())
     }
 }
 
@@ -159,26 +145,5 @@ impl<F: FftField + Number, D: EvaluationDomain<F>> Benchmark for Quotients<F, D>
 
     fn checksum(&self) -> u64 {
         mixed(self.quotients.evals())
-    }
-}
-
-/// The weights of the values at a domain's elements.
-#[derive(Drop)]
-pub struct Weights<F: FftField, D: EvaluationDomain<F>> {
-    pub domain: D,
-    pub point: F,
-    pub weights: Vec<F>,
-}
-
-impl<F: FftField + Number, D: EvaluationDomain<F>> Benchmark for Weights<F, D> {
-    fn call(&mut self, alloc: Global) -> Result<(), PolyError> {
-        self.weights = self
-            .domain
-            .evaluate_all_lagrange_coefficients(alloc, self.point)?;
-        Ok(())
-    }
-
-    fn checksum(&self) -> u64 {
-        mixed(self.weights.as_slice())
     }
 }

@@ -1,45 +1,52 @@
-//! Transforms.
+//! Calls of domains.
 
 use crate::batches::{Benchmark, Number, mixed};
 use ark_base::{FftField, PolyError};
 use ark_poly::EvaluationDomain;
 use std::alloc::Global;
 
-/// In place, over and over on one list.
-#[derive(Drop)]
-pub struct InPlace<F: FftField, D: EvaluationDomain<F>> {
-    pub domain: D,
-    pub inverse: bool,
-    pub items: Vec<F>,
+/// What is called.
+#[derive(Clone, Copy)]
+pub enum Call {
+    /// A transform in place, over and over on one list.
+    Forward,
+    /// An inverse one.
+    Inverse,
+    /// The transform of a list much shorter than the domain, whose first item the last call's values give.
+    Short,
+    /// The weights of the values at the domain's elements.
+    Weights,
 }
 
-impl<F: FftField + Number, D: EvaluationDomain<F>> Benchmark for InPlace<F, D> {
-    fn call(&mut self, alloc: Global) -> Result<(), PolyError> {
-        if self.inverse {
-            self.domain.ifft_in_place(alloc, &mut self.items)
-        } else {
-            self.domain.fft_in_place(alloc, &mut self.items)
-        }
-    }
-
-    fn checksum(&self) -> u64 {
-        mixed(self.items.as_slice())
-    }
-}
-
-/// Of a list much shorter than the domain, whose first item the last call's values give.
+/// A call over a domain.
 #[derive(Drop)]
-pub struct OfShortList<F: FftField, D: EvaluationDomain<F>> {
+pub struct OverDomain<F: FftField, D: EvaluationDomain<F>> {
     pub domain: D,
+    pub call: Call,
+    /// Where the weights are taken.
+    pub point: F,
+    /// The short list.
     pub items: Vec<F>,
+    /// What is transformed in place, or the answers.
     pub values: Vec<F>,
 }
 
-impl<F: FftField + Number, D: EvaluationDomain<F>> Benchmark for OfShortList<F, D> {
+impl<F: FftField + Number, D: EvaluationDomain<F>> Benchmark for OverDomain<F, D> {
     fn call(&mut self, alloc: Global) -> Result<(), PolyError> {
-        self.values = self.domain.fft(alloc, &self.items)?;
-        if let (Some(first), Some(value)) = (self.items.first_mut(), self.values.last()) {
-            *first = *value;
+        match self.call {
+            Call::Forward => self.domain.fft_in_place(alloc, &mut self.values)?,
+            Call::Inverse => self.domain.ifft_in_place(alloc, &mut self.values)?,
+            Call::Short => {
+                self.values = self.domain.fft(alloc, &self.items)?;
+                if let (Some(first), Some(value)) = (self.items.first_mut(), self.values.last()) {
+                    *first = *value;
+                }
+            }
+            Call::Weights => {
+                self.values = self
+                    .domain
+                    .evaluate_all_lagrange_coefficients(alloc, self.point)?;
+            }
         }
         Ok(())
     }
