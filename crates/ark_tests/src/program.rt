@@ -1,8 +1,7 @@
+use crate::sinks::Measured;
 use ark_base::IoSink;
 use polyrun_lib::run;
 use std::alloc::Global;
-use std::io;
-use std::io::Write;
 use std::string::String;
 use std::test::Fail;
 
@@ -15,31 +14,13 @@ fn owned(alloc: Global, words: &[&str]) -> Result<Vec<String>, Fail> {
     Ok(owned)
 }
 
-// Takes so many bytes, and then fails.
-#[derive(Drop)]
-struct Filled {
-    room: usize,
-    taken: Vec<u8>,
-}
-
-impl Write for Filled {
-    fn write(&mut self, buf: &[u8]) -> io::Result<usize> {
-        let count = buf.len().min(self.room);
-        self.taken.extend_from_slice(&buf[..count])?;
-        self.room -= count;
-        Ok(count)
-    }
-
-    fn flush(&mut self) -> io::Result<()> {
-        Ok(())
-    }
-}
-
 #[test]
 fn lines_before_a_failure_stand(rt: HostRuntime) -> Result<(), Fail> {
     let words = owned(rt.alloc(), &["5", "vectors"])?;
-    let mut out = IoSink::new(Filled {
+    let mut out = IoSink::new(Measured {
+        at_a_time: usize::MAX,
         room: 12,
+        calls: 0,
         taken: Vec::new(rt.alloc()),
     });
     let status = run(rt.alloc(), &words, &mut out);

@@ -106,11 +106,11 @@ fn fails_where_a_write_fails_or_takes_nothing(rt: HostRuntime) -> Result<(), Fai
 
 // Takes so many bytes at each `write`, up to `room` bytes in all, and counts the calls.
 #[derive(Drop)]
-struct Measured {
-    at_a_time: usize,
-    room: usize,
-    calls: usize,
-    taken: Vec<u8>,
+pub struct Measured {
+    pub at_a_time: usize,
+    pub room: usize,
+    pub calls: usize,
+    pub taken: Vec<u8>,
 }
 
 impl Write for Measured {
