@@ -155,20 +155,15 @@ fn report_over_domain<F: FftField + Number, D: EvaluationDomain<F>>(
         report_in_place(rt, alloc, timed, draws, name, coset, Call::Forward)?;
     }
     let last = domain.element((1 << 16) - 1);
-    for (name, call, point) in [
-        ("degree_aware_fft_1024_over", Call::Short, F::zero()),
-        ("lagrange_all", Call::Weights, F::zero()),
-        ("lagrange_all_at_last_element", Call::Weights, last),
+    for (name, call, len, at_last) in [
+        ("degree_aware_fft_1024_over", Call::Short, 1 << 10, false),
+        ("lagrange_all", Call::Weights, 0, false),
+        ("lagrange_all_at_last_element", Call::Weights, 0, true),
     ] {
-        let len = if matches!(call, Call::Short) {
-            1 << 10
-        } else {
-            0
-        };
         let mut calls = OverDomain {
             domain,
             call,
-            point,
+            point: if at_last { last } else { F::zero() },
             items: draws.list(alloc, len)?,
             values: Vec::new(alloc),
         };

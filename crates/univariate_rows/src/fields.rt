@@ -79,7 +79,8 @@ fn text<F: FftField>(alloc: Global, x: F, y: F) -> Answer {
 /// Zero, the default and one; then the generator, the exponent of two and the root for it; and then the odd base, its
 /// exponent and the root for both, where there is one.
 fn constants<F: FftField + Numbered>(alloc: Global) -> Answer {
-    let units = text_of(alloc, &[F::zero(), F::default(), F::one()]);
+    let units = [F::zero().number(), F::default().number(), F::one().number()];
+    let units = text_of_numbers(alloc, &units);
     let even = even_constants::<F>(alloc);
     let both = joined(alloc, units, " ", even);
     match (
@@ -116,9 +117,18 @@ fn operators<F: FftField + Numbered>(alloc: Global, x: F, y: F) -> Answer {
     product *= y;
     let mut square = x;
     square.square_in_place();
-    text_of(
+    text_of_numbers(
         alloc,
-        &[x + y, sum, x - y, difference, x * y, product, square, -x],
+        &[
+            (x + y).number(),
+            sum.number(),
+            (x - y).number(),
+            difference.number(),
+            (x * y).number(),
+            product.number(),
+            square.number(),
+            (-x).number(),
+        ],
     )
 }
 
