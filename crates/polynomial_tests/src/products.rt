@@ -69,10 +69,11 @@ fn is_dense_product<F: Field>(
 fn has_multiples<F: Field>(alloc: Global, p: &SparsePolynomial<F>, factor: F) -> bool {
     let (Ok(dense), Ok(constant)) = (
         DensePolynomial::from_sparse(alloc, p),
-        DensePolynomial::from_coefficients_slice(alloc, &[factor]),
+        vec![in alloc; factor; 1],
     ) else {
         return false;
     };
+    let constant = DensePolynomial::from_coefficients_vec(constant);
     let (Ok(known), Ok(multiple)) = (
         dense.naive_mul(alloc, &constant),
         p.mul_scalar(alloc, factor),
