@@ -7,7 +7,7 @@ use ark_laws::{
 use ark_multi::{MultilinearExtension, SparseMultilinearExtension};
 use ark_test_types::numbered::Numbered;
 use row_words::rows::Answer;
-use row_words::words::{elements, no_fit, no_row, one, size, table_of, text_of};
+use row_words::words::{elements, no_fit, no_row, one, size, table_of, text_of_numbers};
 use std::alloc::Global;
 
 /// The answer on a table by all its values.
@@ -98,7 +98,7 @@ fn bound<F: Field + Numbered, E: MultilinearExtension<F>>(
         return no_fit(alloc);
     }
     let (at_once, bound) = values_with_bound_variables(alloc, p, &first, &others)?;
-    text_of(alloc, &[at_once, bound])
+    text_of_numbers(alloc, &[at_once.number(), bound.number()])
 }
 
 /// The value at the exchanged point, and that of the exchanged table.
@@ -113,5 +113,5 @@ fn exchanged<F: Field + Numbered, E: MultilinearExtension<F>>(
         return no_fit(alloc);
     }
     let (by_items, by_variables) = values_with_exchanged_variables(alloc, p, a, b, k, &point)?;
-    text_of(alloc, &[by_items, by_variables])
+    text_of_numbers(alloc, &[by_items.number(), by_variables.number()])
 }
