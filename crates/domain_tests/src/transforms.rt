@@ -103,10 +103,12 @@ fn both_come_back<F: FftField, D: EvaluationDomain<F>>(
     size: usize,
     offset: F,
 ) -> bool {
-    let (Some(domain), Ok(elements), Ok(lanes)) = (
-        D::new_coset(size, offset),
-        drawn_elements::<F, Pcg64>(alloc, rng, size),
-        drawn_lanes::<F>(alloc, rng, size),
+    let Some(domain) = D::new_coset(size, offset) else {
+        return false;
+    };
+    let (Ok(elements), Ok(lanes)) = (
+        drawn_elements::<F, Pcg64>(alloc, rng, domain.size()),
+        drawn_lanes::<F>(alloc, rng, domain.size()),
     ) else {
         return false;
     };
