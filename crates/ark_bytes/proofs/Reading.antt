@@ -2,7 +2,7 @@
 use Rattle.std.proofs.Common.{◌≡◌, ℕ, ◌^◌, ◌<◌, List, [], ◌∷◌, ◌++◌, length, Err, inl, inr, refl, sym, ap, ◌∙◌, append_assoc, append-nil, arith, subst}
 use Rattle.std.specs.Io.KnownBytes.{Consumes}
 use Rattle.std.proofs.KnownBytes.{Consumes-nil, Consumes-trans}
-use Rattle.ark_math.specs.Format.{Format, IsFormat, ◌⊗◌, number, little_endian, word, items, HaveSpellings, list, lawful, either}
+use Rattle.ark_math.specs.Format.{Format, IsFormat, IsOneToOne, ◌⊗◌, number, little_endian, word, items, HaveSpellings, list, lawful, either}
 use Rattle.ark_bytes.proofs.Writing.{HaveSpellings-push, items-push}
 use Rattle.ark_math.proofs.Formats.Ends.{spelled}
 use Rattle.ark_math.proofs.Formats.Unfinished.{unfinished_fields, unfinished_number, unfinished_length, unfinished_item, unfinished_first, unfinished_second, unfinished_tag, unfinished_left, unfinished_right}
@@ -159,6 +159,12 @@ module _ {X Y : Type 0} (layout : Format X) (fields : Y → X) (IsLawful : Y →
     takes = t.takes;
     fault = inr (record { whole = spelled layout x t.has; none = none });
   }
+
+-- a value that is none of the lawful ones, where a spelling tells its value
+pub unlawful_value : {X : Type 0} (layout : Format X) (IsLawful : X → Type 0) → IsOneToOne layout → (a b : SourceState) (x : X) → (IsLawful x → ⊥) → TakesSpelling layout a b x
+    → TakesFault (lawful layout (λ (y : X). y) IsLawful) a b
+unlawful_value {X = X} layout IsLawful one a b x none t =
+    unlawful layout (λ (y : X). y) IsLawful a b x (λ y has is same. none (subst IsLawful (sym (one x y t.has has same)) is)) t
 
 -- ---- one of two
 

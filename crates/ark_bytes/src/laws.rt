@@ -1,6 +1,7 @@
 //! What writing and reading give together.
 
 ghost use Rattle.std.specs.Prelude.{◌≡◌, ◌≢◌, IfOk, IfErr};
+ghost use Rattle.ark_math.specs.Format.{AreSpelledAlike};
 
 use crate::compress::Compress;
 use crate::error::SerializationError;
@@ -9,13 +10,14 @@ use crate::source::IoSource;
 use crate::traits::{CanonicalDeserialize, CanonicalSerialize};
 use std::alloc::Global;
 
-/// A value that is written, and read back from just these bytes, is the same one, as far as its type's spellings tell, and
-/// no fault is found in them.
+/// A value that is written, and read back from just these bytes, has the same spelling, and so is the same one, as far as
+/// its type's spellings tell; and no fault is found in them.
 pub fn written_then_read<T: CanonicalSerialize + CanonicalDeserialize>(
     alloc: Global,
     value: &T,
     mode: Compress,
 ) -> Result<T, SerializationError>
+    ensures alike { IfOk result (λ read. AreSpelledAlike (T.format mode) read value.now) }
     ensures same { IfOk result (λ read. T.shown read ≡ T.shown value.now) }
     ensures faultless { IfErr result (λ e. e ≢ SerializationError.InvalidData) }
 {

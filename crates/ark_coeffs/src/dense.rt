@@ -1,7 +1,7 @@
 //! Coefficients by their exponents: item i of a list is the coefficient at i.
 
 ghost use Rattle.std.specs.Prelude.{◌≡◌, ◌≢◌, ◌↔◌, ℕ, ◌+◌, ◌-◌, ◌<◌, ◌≤◌, length, IfOk, OnOk, OnErr};
-ghost use Rattle.std.specs.Prelude.{IsOkUnless, List, replicate, take, drop};
+ghost use Rattle.std.specs.Prelude.{IsOkUnless, IsTrue, List, replicate, take, drop};
 ghost use Rattle.ark_math.specs.Outcome.{IsOkUnlessEither};
 ghost use Rattle.ark_math.specs.Module.{itself, sum_below};
 ghost use Rattle.ark_math.specs.Points.{IsPlaceQuotient};
@@ -23,6 +23,16 @@ pub fn trimmed_len<F: Field>(coeffs: &[F]) -> usize
         }
     }
     0
+}
+
+/// Whether the last coefficient isn't zero, where there is one.
+pub fn is_trimmed<F: Field>(coeffs: &[F]) -> bool
+    ensures { IsTrue result ↔ IsTrimmed F.field coeffs.now }
+{
+    match coeffs.last() {
+        Some(last) => !last.is_zero(),
+        None => true,
+    }
 }
 
 /// Adds to each coefficient the one of the same exponent.

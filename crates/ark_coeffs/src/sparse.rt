@@ -1,8 +1,8 @@
 //! Coefficients by terms: pairs of exponent and coefficient.
 
 ghost use Rattle.std.specs.Prelude.{◌≡◌, ◌⊎◌, ℕ, ◌<◌, ◌≤◌, [], length};
-ghost use Rattle.std.specs.Prelude.{OnOk, IfOk, IfSome, IsNone, IsOkUnless};
-ghost use Rattle.std.specs.List.{All};
+ghost use Rattle.std.specs.Prelude.{◌↔◌, IsTrue, OnOk, IfOk, IfSome, IsNone, IsOkUnless};
+ghost use Rattle.std.specs.List.{All, AllPairs};
 ghost use Rattle.std.specs.List.Sorted.{IsNonDecreasingBy};
 ghost use Rattle.ark_math.specs.Univariate.{IsSparse, IsValue, of_pairs, added, monomial, opposite, scaled};
 
@@ -172,4 +172,18 @@ pub fn gathered_terms<F: Field>(
     let mut terms = terms;
     terms.sort_unstable_by_key(|term| term.0);
     merged_terms(alloc, &terms)
+}
+
+/// Whether the numbers before the items strictly rise.
+pub fn is_rising<T>(items: &[(usize, T)]) -> bool
+    ensures { IsTrue result ↔ AllPairs (λ item next. item.0 < next.0) items.now }
+{
+    items.is_sorted_by(|item, next| item.0 < next.0)
+}
+
+/// Whether terms are those that a polynomial keeps: by rising degrees, and none of them zero.
+pub fn is_sparse<F: Field>(terms: &[(usize, F)]) -> bool
+    ensures { IsTrue result ↔ IsSparse F.field terms.now }
+{
+    is_rising(terms) && terms.iter().all(|term| !term.1.is_zero())
 }

@@ -1,5 +1,6 @@
--- The words of the kernels' contracts: the domain that a coset is, the order that halving leaves, tables of roots, parts joined, the elements that are left, growths of counts.
+-- The words of the kernels' contracts: the domain that a coset is, and its bytes, the order that halving leaves, tables of roots, parts joined, the elements that are left, growths of counts.
 pub mod Coset
+pub mod CosetBytes
 pub mod Elements
 pub mod Halves
 pub mod Mixed

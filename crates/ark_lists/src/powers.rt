@@ -9,6 +9,7 @@ ghost use Rattle.ark_math.specs.Field.{power as raised};
 ghost use Rattle.ark_math.specs.Term.{IsTerm, IsWithin, power_of, term_value, total_degree};
 ghost use Rattle.ark_lists.specs.Graded.{graded_cmp, pair_cmp};
 
+use ark_coeffs::sparse::is_rising;
 use ark_traits::{Field, PolyError};
 use std::alloc::Global;
 use std::cmp::Ordering;
@@ -37,6 +38,20 @@ fn total_fits(pairs: &[(usize, usize)]) -> bool
         total = sum;
     }
     true
+}
+
+/// Whether no power is 0.
+fn has_no_zero(pairs: &[(usize, usize)]) -> bool
+    ensures { IsTrue result ↔ All (λ p. 0 < p.1) pairs.now }
+{
+    pairs.iter().all(|pair| pair.1 > 0)
+}
+
+/// Whether these are the pairs of a term: variables strictly rising, no power 0, and a sum that a word can tell.
+pub fn is_term(pairs: &[(usize, usize)]) -> bool
+    ensures { IsTrue result ↔ IsTerm pairs.now }
+{
+    is_rising(pairs) && has_no_zero(pairs) && total_fits(pairs)
 }
 
 /// Adds the power of a variable above the others, unless it's 0.

@@ -3,6 +3,7 @@ pub mod Contained
 pub mod Costs
 pub mod Domains
 pub mod Elements
+pub mod Exponents
 pub mod GeneralSizes
 pub mod LawfulDomains
 pub mod MixedSizes

@@ -37,6 +37,12 @@ Tells {X = X} view format =
 abbrev pub IsOneToOne : {X : Type 0} → Format X → Type 0
 IsOneToOne format = Tells (λ x. x) format
 
+-- two values of one spelling
+pub record AreSpelledAlike {X : Type 0} (format : Format X) (x y : X) : Type 0 where
+  pub has : format.HasSpelling x
+  pub other : format.HasSpelling y
+  pub same : format.spelling x ≡ format.spelling y
+
 -- ---- numbers
 
 -- n in so many bytes, the low one first
@@ -118,7 +124,7 @@ lawful layout fields IsLawful = record {
   IsFault = λ bytes. layout.IsFault bytes ⊎ IsUnlawful layout fields IsLawful bytes;
 }
 
--- the same for a type of lawful values alone
+-- a value is spelled as its fields, for a type of lawful values alone
 abbrev pub stored : {X Y : Type 0} → Format X → (Y → X) → Format Y
 stored {Y = Y} layout fields = lawful layout fields (λ (y : Y). Unit {0})
 

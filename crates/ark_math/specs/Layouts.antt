@@ -1,8 +1,10 @@
 -- The layout of each type, over the format e of its field's elements. Where a type has lawful values alone, its `fields`
--- are all that is said. The modes differ for domains only: long is all fields, and short is size and offset.
+-- are all that is said. The modes differ for domains, and so for
+-- evaluations: long is all fields, and short is size and offset.
 use Rattle.std.specs.Prelude.{◌≡◌, ◌⊎◌, ◌↔◌, ℕ, ◌^◌, ◌<◌, List, length, nat_lt, if◌then◌else◌}
 use Rattle.ark_math.specs.Field.{FieldOn}
 use Rattle.ark_math.specs.Univariate.{IsTrimmed, IsSparse}
+use Rattle.ark_math.specs.Term.{IsTerm}
 use Rattle.ark_math.specs.Format.{Format, word, number, ◌⊗◌, list, lawful, stored, either, IsOneToOne}
 
 -- ---- elements of a field
@@ -14,7 +16,7 @@ pub record AreElements {F : Type 0} (e : Format F) (size : ℕ) : Type 0 where
   pub lengths : (x : F) → length (e.spelling x) ≡ size
   pub one_to_one : IsOneToOne e
 
--- two formats of one field that are the same, as those of its modes are
+-- two formats of one type that are the same, as those of a field's modes, or of a term's, are
 pub record AreAlike {F : Type 0} (e other : Format F) : Type 0 where
   pub spellings : (x : F) → e.spelling x ≡ other.spelling x
   pub have : (x : F) → e.HasSpelling x ↔ other.HasSpelling x
@@ -38,9 +40,9 @@ dense K e = lawful (list e) (λ cs. cs) (IsTrimmed K)
 abbrev pub sparse : {F : Type 0} → FieldOn F → Format F → Format (List (ℕ × F))
 sparse K e = lawful (list (word ⊗ e)) (λ ps. ps) (IsSparse K)
 
--- pairs (variable, power)
-abbrev pub term : {T : Type 0} → (T → List (ℕ × ℕ)) → Format T
-term pairs = stored (list (word ⊗ word)) pairs
+-- the one list of pairs (variable, power) of a term
+abbrev pub term : Format (List (ℕ × ℕ))
+term = lawful (list (word ⊗ word)) (λ ps. ps) IsTerm
 
 -- a number of variables, and pairs (coefficient, term). An unlawful term is a fault as soon as it is read
 abbrev pub multivariate : {F T P : Type 0} → Format F → Format T → (P → ℕ × List (F × T)) → Format P
@@ -58,13 +60,13 @@ sparse_extension e fields = stored (list (word ⊗ e) ⊗ (word ⊗ e)) fields
 
 -- ---- domains
 
--- size, its exponent of two, and seven elements: the size, its inverse, the root, its inverse, the offset, its inverse, and
--- its power to the size
+-- size and its exponent of two; the size as an element and its inverse, the root and its inverse; the offset, its inverse,
+-- and its power to the size
 abbrev pub DomainFields : Type 0 → Type 0
-DomainFields F = ℕ × (ℕ × (F × (F × (F × (F × (F × (F × F)))))))
+DomainFields F = (ℕ × ℕ) × (((F × F) × (F × F)) × ((F × F) × F))
 
 abbrev pub long_domain : {F D : Type 0} → Format F → (D → DomainFields F) → Format D
-long_domain e fields = stored (word ⊗ (number 4 ⊗ (e ⊗ (e ⊗ (e ⊗ (e ⊗ (e ⊗ (e ⊗ e)))))))) fields
+long_domain e fields = stored ((word ⊗ number 4) ⊗ (((e ⊗ e) ⊗ (e ⊗ e)) ⊗ ((e ⊗ e) ⊗ e))) fields
 
 -- size and offset
 abbrev pub short_domain : {F D : Type 0} → Format F → (D → ℕ × F) → Format D

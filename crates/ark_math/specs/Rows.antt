@@ -162,7 +162,7 @@ sparse_bytes : (sparse (modulo 5) (number 1)).spelling ((2, 4) ∷ []) ≡ byte_
 sparse_bytes = refl
 
 -- 3x1 of two variables
-multivariate_bytes : (multivariate (number 1) (term (λ ps. ps)) (λ p. p)).spelling (2, (3, (1, 1) ∷ []) ∷ [])
+multivariate_bytes : (multivariate (number 1) term (λ p. p)).spelling (2, (3, (1, 1) ∷ []) ∷ [])
     ≡ byte_word 2 ++ byte_word 1 ++ 3 ∷ [] ++ byte_word 1 ++ byte_word 1 ++ byte_word 1
 multivariate_bytes = refl
 
@@ -178,17 +178,17 @@ sparse_extension_bytes = refl
 abbrev long_two : List ℕ
 long_two = byte_word 2 ++ 1 ∷ 0 ∷ 0 ∷ 0 ∷ [] ++ 2 ∷ 3 ∷ 4 ∷ 4 ∷ 2 ∷ 3 ∷ 4 ∷ []
 
-long_two_bytes : (long_domain (number 1) (λ d. d)).spelling (2, (1, (2, (3, (4, (4, (2, (3, 4)))))))) ≡ long_two
+long_two_bytes : (long_domain (number 1) (λ d. d)).spelling ((2, 1), (((2, 3), (4, 4)), ((2, 3), 4))) ≡ long_two
 long_two_bytes = refl
 
-long_four_bytes : (long_domain (number 1) (λ d. d)).spelling (4, (2, (4, (4, (2, (3, (1, (1, 1)))))))) ≡ byte_word 4 ++ 2 ∷ 0 ∷ 0 ∷ 0 ∷ [] ++ 4 ∷ 4 ∷ 2 ∷ 3 ∷ 1 ∷ 1 ∷ 1 ∷ []
+long_four_bytes : (long_domain (number 1) (λ d. d)).spelling ((4, 2), (((4, 4), (2, 3)), ((1, 1), 1))) ≡ byte_word 4 ++ 2 ∷ 0 ∷ 0 ∷ 0 ∷ [] ++ 4 ∷ 4 ∷ 2 ∷ 3 ∷ 1 ∷ 1 ∷ 1 ∷ []
 long_four_bytes = refl
 
-long_mixed_bytes : (long_domain (number 2) (λ d. d)).spelling (6, (1, (6, (361, (199, (235, (1, (1, 1))))))))
+long_mixed_bytes : (long_domain (number 2) (λ d. d)).spelling ((6, 1), (((6, 361), (199, 235)), ((1, 1), 1)))
     ≡ byte_word 6 ++ 1 ∷ 0 ∷ 0 ∷ 0 ∷ [] ++ 6 ∷ 0 ∷ 105 ∷ 1 ∷ 199 ∷ 0 ∷ 235 ∷ 0 ∷ 1 ∷ 0 ∷ 1 ∷ 0 ∷ 1 ∷ 0 ∷ []
 long_mixed_bytes = refl
 
-long_general_bytes : (general_domain (long_domain (number 1) (λ d. d)) (long_domain (number 1) (λ d. d)) (λ d. d)).spelling (inl (2, (1, (2, (3, (4, (4, (2, (3, 4)))))))))
+long_general_bytes : (general_domain (long_domain (number 1) (λ d. d)) (long_domain (number 1) (λ d. d)) (λ d. d)).spelling (inl ((2, 1), (((2, 3), (4, 4)), ((2, 3), 4))))
     ≡ 0 ∷ [] ++ long_two
 long_general_bytes = refl
 

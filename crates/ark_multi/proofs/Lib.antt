@@ -1,2 +1,3 @@
 -- What the proofs of the crate's functions share.
 pub mod SortedTerms
+pub mod Bytes

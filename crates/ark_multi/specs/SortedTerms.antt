@@ -6,11 +6,17 @@ use Rattle.std.specs.declared.cmp.Ordering.TheVariants.{Less}
 use Rattle.ark_math.specs.Field.{FieldOn}
 use Rattle.ark_math.specs.Univariate.{added, scaled}
 use Rattle.ark_math.specs.Multivariate.{single, of_listed}
+use Rattle.ark_math.specs.Term.{IsWithin}
 
 -- strictly rising terms with coefficients that aren't zero
 pub record AreRising {F T : Type 0} (K : FieldOn F) (cmp : T → T → Ordering) (cs : List (F × T)) : Type 0 where
   pub rising : AllPairs (λ c d. cmp c.1 d.1 ≡ Less) cs
   pub not_zero : All (λ c. c.0 ≢ K.zero) cs
+
+-- a number of variables and terms as a polynomial has them
+pub record AreTerms {F T : Type 0} (K : FieldOn F) (cmp : T → T → Ordering) (listed : T → List (ℕ × ℕ)) (p : ℕ × List (F × T)) : Type 0 where
+  pub ordered : AreRising K cmp p.1
+  pub within : All (λ c. IsWithin p.0 (listed c.1)) p.1
 
 -- of the sum of p and s times q, c is the coefficient of the least term t, and the rest is that of u and s times v
 pub record IsLeastTerm {F T : Type 0} (K : FieldOn F) (cmp : T → T → Ordering) (listed : T → List (ℕ × ℕ)) (p : List (F × T)) (s : F) (q : List (F × T)) (c : F) (t : T) (u v : List (F × T)) : Type 0 where

@@ -6,6 +6,7 @@ ghost use Rattle.ark_math.specs.Module.{ModuleOn};
 
 use crate::error::PolyError;
 use crate::field::Field;
+use ark_bytes::{CanonicalDeserialize, CanonicalSerialize};
 use std::alloc::Global;
 use std::fmt::Debug;
 use std::hash::Hash;
@@ -15,7 +16,13 @@ use std::hash::Hash;
 ///
 /// A form may keep a number of variables that is no part of the polynomial; then a point fits by this number alone, and
 /// a sum keeps the greater one. Two polynomials can be added where their forms have a sum of the same kind.
-pub trait Polynomial<F: Field>: Clone + Debug + Hash + Eq + Drop {
+pub trait Polynomial<F: Field>: Clone
+    + Debug
+    + Hash
+    + Eq
+    + Drop
+    + CanonicalSerialize
+    + CanonicalDeserialize {
     /// The points at which it is evaluated.
     type Point: Clone + Ord + Debug + Hash;
 

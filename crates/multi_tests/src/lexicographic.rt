@@ -8,7 +8,10 @@ ghost use Rattle.ark_lists.specs.Graded.{pair_cmp};
 ghost use Rattle.ark_lists.proofs.GradedOrder.{pairs_ties, pairs_total, same_term_Decides};
 ghost use Rattle.std.proofs.Common.{refl};
 
-use ark_base::{Field, PolyError};
+use ark_base::{
+    CanonicalDeserialize, CanonicalSerialize, Compress, Field, PolyError, SerializationError, Sink,
+    Source, Spelled, Valid,
+};
 use ark_lists::powers::compared_pairs;
 use ark_multi::multivariate::{SparseTerm, Term};
 use std::alloc::{AllocError, Global};
@@ -53,7 +56,65 @@ impl Ord for LexicographicTerm {
     }
 }
 
+impl Spelled for LexicographicTerm {
+    ghost use Rattle.std.specs.Prelude.{ℕ, List};
+    ghost use Rattle.ark_math.specs.Format.{stored};
+    ghost use Rattle.ark_math.specs.Layouts.{term};
+    ghost use Rattle.ark_math.proofs.Formats.Ends.{lawful_is_format};
+    ghost use Rattle.ark_math.proofs.Formats.OneToOne.{lawful_shows};
+    ghost use Rattle.ark_math.proofs.Formats.SeveralVariables.{term_is_format, term_tells};
+
+    ghost format = { λ _. stored term (λ t. t.term) };
+
+    ghost format_law = { λ _. lawful_is_format term (λ t. t.term) (λ _. Unit {0}) term_is_format };
+
+    ghost Shown = { List (ℕ × ℕ) };
+
+    ghost shown = { λ t. t.term };
+
+    ghost tells = { λ _. lawful_shows term (λ t. t.term) (λ _. Unit {0}) (λ ps. ps) (λ t. t.term)
+        term_tells (λ s t e. e) };
+}
+
+impl CanonicalSerialize for LexicographicTerm {
+    fn serialize_with_mode<W: Sink>(
+        &self,
+        writer: &mut W,
+        mode: Compress,
+    ) -> Result<(), SerializationError> {
+        self.term.serialize_with_mode(writer, mode)
+    }
+
+    fn serialized_size(&self, mode: Compress) -> Option<usize> {
+        self.term.serialized_size(mode)
+    }
+}
+
+impl Valid for LexicographicTerm {
+    fn check(&self) -> Result<(), SerializationError> {
+        Ok(())
+    }
+}
+
+impl CanonicalDeserialize for LexicographicTerm {
+    fn deserialize_with_mode<R: Source>(
+        alloc: Global,
+        reader: &mut R,
+        mode: Compress,
+    ) -> Result<Self, SerializationError> {
+        Ok(LexicographicTerm {
+            term: SparseTerm::deserialize_with_mode(alloc, reader, mode)?,
+        })
+    }
+}
+
 impl Term for LexicographicTerm {
+    ghost use Rattle.ark_math.specs.Format.{stored};
+    ghost use Rattle.ark_math.specs.Layouts.{term};
+    ghost use Rattle.ark_math.proofs.Formats.Modes.{one_format};
+    ghost use Rattle.ark_math.proofs.Formats.OneToOne.{lawful_shows};
+    ghost use Rattle.ark_math.proofs.Formats.SeveralVariables.{term_tells};
+
     ghost listed = { λ t. t.term };
 
     fn new(alloc: Global, powers: Vec<(usize, usize)>) -> Result<Self, PolyError> {
@@ -89,4 +150,9 @@ impl Term for LexicographicTerm {
     ghost equality_law = { λ s t. same_term_Decides s.term t.term };
 
     ghost clone_law = { λ s t e. e };
+
+    ghost pairs_law = { λ _. lawful_shows term (λ t. t.term) (λ _. Unit {0}) (λ ps. ps) (λ t. t.term)
+        term_tells (λ s t e. e) };
+
+    ghost modes_law = { λ _ _. one_format (stored term (λ t. t.term)) };
 }

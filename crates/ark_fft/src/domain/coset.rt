@@ -1,12 +1,15 @@
 //! What all kinds of domains keep: a supported size, its root of unity, an offset, and their inverses.
 
-ghost use Rattle.std.specs.Prelude.{◌≡◌, ◌↔◌, ℕ, true, false, IsNone, IfSome};
+ghost use Rattle.std.specs.Prelude.{◌≡◌, ◌↔◌, ◌⊎◌, ℕ, true, false, IsNone, IfSome};
 ghost use Rattle.ark_math.specs.Field.{power, natural};
 ghost use Rattle.std.proofs.Props.{props};
-ghost use Rattle.ark_math.specs.Root.{Splits};
+ghost use Rattle.ark_math.specs.Root.{Splits, IsSupported};
 ghost use Rattle.ark_math.specs.Domain.{IsExponentOfTwo};
 
-use ark_traits::FftField;
+mod bytes;
+
+use crate::domain::mixed_radix::odd_base;
+use ark_traits::{FftField, k_adicity};
 use std::alloc::AllocError;
 
 /// The elements `offset * group_gen^i` of a supported size. All else follows from the size and the offset.
@@ -52,6 +55,18 @@ impl<F: FftField> Clone for Coset<F> {
     }
 }
 
+/// The exponents of two and of the field's odd base in a supported size.
+fn exponents<F: FftField>(size: u64) -> (u32, u32)
+    requires { IsSupported F.adicity size }
+    ensures { Splits F.adicity size result.0 result.1 }
+{
+    let twos = k_adicity(2, size);
+    match odd_base::<F>() {
+        Some((base, _)) => (twos, k_adicity(base as u64, size >> twos)),
+        None => (twos, 0),
+    }
+}
+
 impl<F: FftField> Coset<F> {
     /// The subgroup of this size.
     pub fn subgroup(size: u64, log_size_of_group: u32, odd_exponent: u32) -> Coset<F>
@@ -61,8 +76,20 @@ impl<F: FftField> Coset<F> {
         ensures odds { result.odd_exponent ≡ odd_exponent }
         ensures offset { result.offset ≡ F.field.one }
     {
-        let size_as_field_element = F::from(size);
         let group_gen = F::get_root_of_unity(size).unwrap();
+        Coset::of_root(size, log_size_of_group, odd_exponent, group_gen)
+    }
+
+    /// The subgroup of this size, with its root.
+    fn of_root(size: u64, log_size_of_group: u32, odd_exponent: u32, group_gen: F) -> Coset<F>
+        requires splits { Splits F.adicity size log_size_of_group odd_exponent }
+        requires root { group_gen ≡ F.root size }
+        ensures size { result.size ≡ size }
+        ensures twos { result.log_size_of_group ≡ log_size_of_group }
+        ensures odds { result.odd_exponent ≡ odd_exponent }
+        ensures offset { result.offset ≡ F.field.one }
+    {
+        let size_as_field_element = F::from(size);
         Coset {
             size,
             log_size_of_group,
@@ -75,6 +102,18 @@ impl<F: FftField> Coset<F> {
             offset_inv: F::one(),
             offset_pow_size: F::one(),
         }
+    }
+
+    /// The elements of this size with this offset, and `None` exactly where the size isn't supported or the offset is
+    /// zero. It takes one root of unity and three inverses.
+    pub fn of_size(size: u64, offset: F) -> Option<Coset<F>>
+        ensures size { IfSome result (λ c. c.size ≡ size) }
+        ensures offset { IfSome result (λ c. c.offset ≡ offset) }
+        ensures none { IsNone result ↔ (¬ IsSupported F.adicity size) ⊎ (offset ≡ F.field.zero) }
+    {
+        let group_gen = F::get_root_of_unity(size)?;
+        let (twos, odds) = exponents::<F>(size);
+        Coset::of_root(size, twos, odds, group_gen).with_offset(offset)
     }
 
     /// The elements of the same size with this offset, and `None` exactly for zero.

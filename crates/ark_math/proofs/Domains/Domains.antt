@@ -25,6 +25,12 @@ same_domain kind root {eq = eq} {m = m} {n = n} {v = v} {w = w} {o = o} {p = p} 
       and_from (m == n) (eq o p) (eq-eqb m n (ap (λ x. x.size) h)) ((decides o p).1 (ap (λ x. x.offset) h)),
 )
 
+-- size and offset tell a domain of a kind, whose root is that of the size
+pub one_domain : {F : Type 0} (kind : Kind) (root : ℕ → F) {eq : F → F → Bool} {m n : ℕ} {v w o p : F} → ((x y : F) → Decides (eq x y) (x ≡ y)) → eq v (root m) ≡ true → eq w (root n) ≡ true → ◌≡◌ {A = ℕ × F} (m, o) (n, p) →
+    domain_of kind m v o ≡ domain_of kind n w p
+one_domain kind root {eq = eq} {m = m} {n = n} {v = v} {w = w} {o = o} {p = p} decides e f same =
+    (same_domain kind root decides e f).0 (and_from (m == n) (eq o p) (eq-eqb m n (ap (λ x. x.0) same)) ((decides o p).1 (ap (λ x. x.1) same)))
+
 -- of two kinds they differ
 pub radix2_is_not_mixed : radix2 ≡ mixed_radix → ⊥
 radix2_is_not_mixed e = cc

@@ -1,7 +1,7 @@
 -- A spelling tells its value, or what a view shows of it, and where it ends.
 use Rattle.std.proofs.Common.{◌≡◌, ℕ, List, [], ◌∷◌, ◌++◌, length, map, map-id, inl, inr, refl, sym, ap, ◌∙◌, arith}
 use Rattle.std.proofs.lemmas.List.{append_cancel_left}
-use Rattle.ark_math.specs.Format.{Format, IsFormat, Tells, IsOneToOne, number, word, ◌⊗◌, items, HaveSpellings, list, lawful, either, shown_either}
+use Rattle.ark_math.specs.Format.{Format, IsFormat, Tells, IsOneToOne, AreSpelledAlike, number, word, ◌⊗◌, items, HaveSpellings, list, lawful, either, shown_either}
 use Rattle.ark_math.proofs.Formats.Ends.{one_number, spelled, number_is_format}
 
 pub number_tells : (width : ℕ) → IsOneToOne (number width)
@@ -70,3 +70,7 @@ shown_front format view I one x y a b p q e =
 pub no_front : {X : Type 0} (format : Format X) → IsFormat format → IsOneToOne format → (x y : X) (a b : List ℕ) → format.HasSpelling x → format.HasSpelling y
     → format.spelling x ++ a ≡ format.spelling y ++ b → (x ≡ y) × (a ≡ b)
 no_front format I one = shown_front format (λ x. x) I one
+
+-- what a spelling tells is one of values that are spelled alike
+pub alike_tells : {X V : Type 0} (format : Format X) (view : X → V) → Tells view format → (x y : X) → AreSpelledAlike format x y → view x ≡ view y
+alike_tells format view tells x y a = tells x y a.has a.other a.same

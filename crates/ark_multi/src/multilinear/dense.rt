@@ -9,6 +9,8 @@ ghost use Rattle.ark_math.specs.Multilinear.{AreAddable, AreWindows, IsConcat, e
 ghost use Rattle.ark_math.specs.Multilinear.{table_operations, table_sum, table_scaled, zero_table};
 ghost use Rattle.ark_math.specs.Univariate.{of_list};
 
+mod bytes;
+
 use crate::multilinear::MultilinearExtension;
 use ark_coeffs::dense::{add_each, add_scaled, scale_each, subtract_each};
 use ark_coeffs::draws::push_drawn;

@@ -8,6 +8,8 @@ ghost use Rattle.ark_math.specs.Multilinear.{AreAddable, extension, written};
 ghost use Rattle.ark_math.specs.Multilinear.{table_operations, table_sum, table_scaled};
 ghost use Rattle.ark_math.specs.Univariate.{HasAtMost, IsSparse, of_list, of_pairs};
 
+mod bytes;
+
 use crate::multilinear::{DenseMultilinearExtension, MultilinearExtension};
 use ark_coeffs::sparse::sum_of_terms;
 use ark_lists::draws::drawn_entries;

@@ -2,13 +2,15 @@
 
 ghost use Rattle.std.specs.Prelude.{◌≡◌, ◌↔◌, ◌⊎◌, ◌≤◌, ◌^◌, ℕ, List, [], length, map};
 ghost use Rattle.std.specs.Prelude.{Decides, IfOk, IfErr, IsOkUnless, IsTrue};
+ghost use Rattle.ark_math.specs.Format.{Tells};
+ghost use Rattle.ark_math.specs.Layouts.{AreAlike};
 ghost use Rattle.ark_math.specs.Term.{IsTerm, IsWithin, power_of, term_value, total_degree};
 
 mod merging;
 mod sparse;
 mod sparse_term;
 
-use ark_traits::{Field, PolyError};
+use ark_traits::{CanonicalDeserialize, CanonicalSerialize, Field, PolyError};
 pub use sparse::SparsePolynomial;
 pub use sparse_term::SparseTerm;
 use std::alloc::Global;
@@ -16,8 +18,11 @@ use std::fmt::Debug;
 use std::hash::Hash;
 
 /// A term: a product of powers of variables, which are told by their numbers. Its order is total, and two terms are
-/// equal, and hash equally, exactly where their pairs are the same.
-pub trait Term: Clone + Ord + Hash + Debug + Drop {
+/// equal, and hash equally, exactly where their pairs are the same. In bytes a spelling tells the pairs, and both modes
+/// are the same.
+pub trait Term: Clone + Ord + Hash + Debug + Drop + CanonicalSerialize + CanonicalDeserialize {
+    ghost use Rattle.ark_bytes.specs.declared.compress.Compress.{Compress};
+
     // What `pairs()` shows.
     ghost listed: { Self → List (ℕ × ℕ) };
 
@@ -68,4 +73,8 @@ pub trait Term: Clone + Ord + Hash + Debug + Drop {
     ghost equality_law: { (s t : Self) → Decides (Self.eq s t) (listed s ≡ listed t) };
 
     ghost clone_law: { (s t : Self) → Self.is_clone s t → listed t ≡ listed s };
+
+    ghost pairs_law: { (mode : Compress) → Tells listed (Self.format mode) };
+
+    ghost modes_law: { (mode other : Compress) → AreAlike (Self.format mode) (Self.format other) };
 }

@@ -7,6 +7,8 @@ ghost use Rattle.ark_math.specs.Term.{IsOnePower, IsWithin};
 ghost use Rattle.ark_math.specs.Multivariate.{each_listed, of_listed, of_terms, IsValueAt, IsTotalDegree};
 ghost use Rattle.ark_math.specs.Univariate.{added, coefficient_operations, scaled as multiple};
 
+mod bytes;
+
 use crate::multivariate::Term;
 use crate::multivariate::merging::{degree_of_terms, gathered_terms, sum_of_terms, value_of_terms};
 use crate::polynomial::DenseMVPolynomial;

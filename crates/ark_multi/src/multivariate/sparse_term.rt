@@ -11,6 +11,8 @@ ghost use Rattle.ark_math.specs.Multivariate.{same_term};
 ghost use Rattle.ark_lists.specs.Graded.{graded_cmp};
 ghost use Rattle.ark_lists.proofs.GradedOrder.{graded_partial, graded_ties, graded_total, same_term_Decides};
 
+mod bytes;
+
 use crate::multivariate::Term;
 use ark_lists::powers::{collected_powers, compared_powers, total_power, value_of_powers};
 use ark_traits::{Field, PolyError};
@@ -113,6 +115,10 @@ impl Debug for SparseTerm {
 }
 
 impl Term for SparseTerm {
+    ghost use Rattle.ark_math.specs.Layouts.{term};
+    ghost use Rattle.ark_math.proofs.Formats.Modes.{one_format};
+    ghost use Rattle.ark_math.proofs.Formats.SeveralVariables.{term_tells};
+
     ghost listed = { λ t. t };
 
     fn new(alloc: Global, powers: Vec<(usize, usize)>) -> Result<Self, PolyError> {
@@ -148,4 +154,8 @@ impl Term for SparseTerm {
     ghost equality_law = { same_term_Decides };
 
     ghost clone_law = { λ s t e. e };
+
+    ghost pairs_law = { λ _. term_tells };
+
+    ghost modes_law = { λ _ _. one_format term };
 }

@@ -5,6 +5,8 @@ ghost use Rattle.ark_math.specs.Domain.{radix2, mixed_radix, IsGeneral};
 ghost use Rattle.ark_univariate.specs.declared.domain.general.GeneralEvaluationDomain.TheVariants.{Radix2};
 ghost use Rattle.ark_univariate.specs.declared.domain.general.GeneralEvaluationDomain.TheVariants.{MixedRadix};
 
+mod bytes;
+
 pub use crate::domain::utils::Elements;
 use crate::domain::{EvaluationDomain, MixedRadixEvaluationDomain, Radix2EvaluationDomain};
 use ark_fft::domain::Coset;
@@ -42,11 +44,15 @@ macro_rules! over_both {
 }
 
 impl<F: FftField> EvaluationDomain<F> for GeneralEvaluationDomain<F> {
-    ghost use Rattle.ark_math.proofs.Domains.Domains.{same_domain, other_kind, radix2_is_not_mixed};
+    ghost use Rattle.ark_math.proofs.Domains.Domains.{same_domain, one_domain, other_kind, radix2_is_not_mixed};
     ghost use Rattle.ark_math.proofs.Domains.Domains.{radix2_is_domain, mixed_radix_is_domain};
     ghost use Rattle.ark_univariate.specs.Domains.{general_domain};
     ghost use Rattle.ark_math.proofs.Domains.GeneralSizes.{general_sizes, one_general_size};
-    ghost use Rattle.std.proofs.Common.{sym};
+    ghost use Rattle.std.proofs.Common.{refl, sym};
+    ghost use Rattle.ark_fft.specs.CosetBytes.{all_fields};
+    ghost use Rattle.ark_univariate.specs.Domains.{radix2_domain, mixed_radix_domain};
+    ghost use Rattle.ark_univariate.specs.DomainBytes.{radix2_coset, mixed_radix_coset, either_of};
+    ghost use Rattle.ark_univariate.specs.DomainBytes.{coset_format, coset_told, either_told};
 
     type Elements = GeneralElements<F>;
 
@@ -127,6 +133,17 @@ impl<F: FftField> EvaluationDomain<F> for GeneralEvaluationDomain<F> {
     ghost clone_law = { λ a b e. e };
 
     ghost clones_law = { λ a. tt };
+
+    ghost told = { λ mode. either_told either_of
+        (coset_format all_fields radix2_coset (F.format mode) mode)
+        (coset_format all_fields mixed_radix_coset (F.format mode) mode) general_domain radix2_domain
+        mixed_radix_domain (elim [ Radix2 d ↦ refl | MixedRadix d ↦ refl ])
+        (coset_told all_fields radix2_coset (F.format mode) (F.format_law mode) radix2_domain
+        (F.elements_law mode).one_to_one (λ x y. one_domain radix2 F.root F.equality_law x.coset.root_is
+        y.coset.root_is) mode)
+        (coset_told all_fields mixed_radix_coset (F.format mode) (F.format_law mode) mixed_radix_domain
+        (F.elements_law mode).one_to_one (λ x y. one_domain mixed_radix F.root F.equality_law
+        x.coset.root_is y.coset.root_is) mode) };
 
     ghost sizes = { general_sizes F.adicity };
 

@@ -12,6 +12,7 @@ ghost use Rattle.ark_math.specs.Transform.{transform, IsInverse, IsOnlyInverse};
 ghost use Rattle.ark_math.specs.Univariate.{IsDegree, IsValue, of_list, of_pairs};
 ghost use Rattle.ark_math.specs.Points.{vanishing, AreWeights, IsElement, IsContained, IsFilter, reindexed};
 ghost use Rattle.ark_math.specs.Cost.{forward, inverse};
+ghost use Rattle.ark_math.specs.Format.{Tells};
 ghost use Rattle.ark_traits.specs.Cost.{GrowsByCost};
 
 pub mod general;
@@ -21,6 +22,7 @@ mod utils;
 
 use crate::polynomial::DenseUVPolynomial;
 use crate::polynomial::univariate::{DensePolynomial, SparsePolynomial};
+use ark_bytes::{CanonicalDeserialize, CanonicalSerialize};
 use ark_coeffs::dense::multiply_each;
 pub use ark_fft::domain::Coset;
 use ark_fft::domain::first_items;
@@ -37,8 +39,16 @@ use std::hash::Hash;
 
 /// A subgroup of roots of unity or a coset of one, and the transforms over it.
 ///
-/// A domain has a size `n`, a root of unity of order `n`, and an offset; its element `i` is `offset * root^i`.
-pub trait EvaluationDomain<F: FftField>: Copy + Eq + Hash + Debug {
+/// A domain has a size `n`, a root of unity of order `n`, and an offset; its element `i` is `offset * root^i`. In bytes the
+/// mode `No` has what the getters answer, and the mode `Yes` the size and the offset alone.
+pub trait EvaluationDomain<F: FftField>: Copy
+    + Eq
+    + Hash
+    + Debug
+    + CanonicalSerialize
+    + CanonicalDeserialize {
+    ghost use Rattle.ark_bytes.specs.declared.compress.Compress.{Compress};
+
     /// The iterator over the elements.
     type Elements: Iterator<Item = F>;
 
@@ -487,6 +497,9 @@ pub trait EvaluationDomain<F: FftField>: Copy + Eq + Hash + Debug {
     ghost clone_law: { (a b : Self) → Self.is_clone a b → b ≡ a };
 
     ghost clones_law: { (a : Self) → Self.is_infallible a };
+
+    // In each mode a spelling tells the domain.
+    ghost told: { (mode : Compress) → Tells domain (Self.format mode) };
 
     // A chosen size is one of the kind's, and the only one.
     ghost sizes: { (k : ℕ) (kind : Kind) (n : ℕ) → chooses k kind n → IsSize F.adicity kind n × (k ≤ n) };

@@ -3,4 +3,4 @@
 pub mod kernel;
 mod size;
 
-pub use size::least_size;
+pub use size::{least_size, odd_base};

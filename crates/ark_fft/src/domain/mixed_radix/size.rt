@@ -7,7 +7,7 @@ ghost use Rattle.ark_math.specs.Root.{Splits, odd_base, odd_most};
 use ark_traits::FftField;
 
 /// The field's odd base and its greatest exponent.
-pub(crate) fn odd_base<F: FftField>() -> Option<(u32, u32)>
+pub fn odd_base<F: FftField>() -> Option<(u32, u32)>
     ensures { result ≡ F.adicity.odd }
 {
     Some((F::SMALL_SUBGROUP_BASE?, F::SMALL_SUBGROUP_BASE_ADICITY?))

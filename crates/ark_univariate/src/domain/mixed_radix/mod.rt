@@ -3,6 +3,8 @@
 ghost use Rattle.std.specs.Prelude.{◌≡◌, IsSome};
 ghost use Rattle.ark_math.specs.Domain.{mixed_radix as mixed_radix_kind, IsMixedRadix};
 
+mod bytes;
+
 use crate::domain::EvaluationDomain;
 pub use crate::domain::utils::Elements;
 use ark_fft::domain::{Coset, mixed_radix};
@@ -36,9 +38,11 @@ impl<F: FftField> Debug for MixedRadixEvaluationDomain<F> {
 }
 
 impl<F: FftField> EvaluationDomain<F> for MixedRadixEvaluationDomain<F> {
-    ghost use Rattle.ark_math.proofs.Domains.Domains.{same_domain, mixed_radix_is_domain};
+    ghost use Rattle.ark_math.proofs.Domains.Domains.{same_domain, one_domain, mixed_radix_is_domain};
     ghost use Rattle.ark_univariate.specs.Domains.{mixed_radix_domain};
     ghost use Rattle.ark_math.proofs.Domains.MixedSizes.{mixed_sizes, one_mixed_size};
+    ghost use Rattle.ark_fft.specs.CosetBytes.{all_fields};
+    ghost use Rattle.ark_univariate.specs.DomainBytes.{mixed_radix_coset, coset_told};
 
     type Elements = Elements<F>;
 
@@ -99,6 +103,10 @@ impl<F: FftField> EvaluationDomain<F> for MixedRadixEvaluationDomain<F> {
     ghost clone_law = { λ a b e. e };
 
     ghost clones_law = { λ a. tt };
+
+    ghost told = { λ mode. coset_told all_fields mixed_radix_coset (F.format mode) (F.format_law mode) mixed_radix_domain
+        (F.elements_law mode).one_to_one (λ x y. one_domain mixed_radix_kind F.root F.equality_law x.coset.root_is
+        y.coset.root_is) mode };
 
     ghost sizes = { mixed_sizes F.adicity };
 

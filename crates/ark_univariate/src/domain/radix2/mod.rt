@@ -3,6 +3,8 @@
 ghost use Rattle.std.specs.Prelude.{◌≡◌};
 ghost use Rattle.ark_math.specs.Domain.{radix2 as radix2_kind, IsRadix2};
 
+mod bytes;
+
 use crate::domain::EvaluationDomain;
 pub use crate::domain::utils::Elements;
 use ark_fft::domain::{Coset, radix2};
@@ -36,9 +38,11 @@ impl<F: FftField> Debug for Radix2EvaluationDomain<F> {
 }
 
 impl<F: FftField> EvaluationDomain<F> for Radix2EvaluationDomain<F> {
-    ghost use Rattle.ark_math.proofs.Domains.Domains.{same_domain, radix2_is_domain};
+    ghost use Rattle.ark_math.proofs.Domains.Domains.{same_domain, one_domain, radix2_is_domain};
     ghost use Rattle.ark_univariate.specs.Domains.{radix2_domain};
     ghost use Rattle.ark_math.proofs.Domains.Sizes.{radix2_sizes, one_radix2_size};
+    ghost use Rattle.ark_fft.specs.CosetBytes.{all_fields};
+    ghost use Rattle.ark_univariate.specs.DomainBytes.{radix2_coset, coset_told};
 
     type Elements = Elements<F>;
 
@@ -98,6 +102,10 @@ impl<F: FftField> EvaluationDomain<F> for Radix2EvaluationDomain<F> {
     ghost clone_law = { λ a b e. e };
 
     ghost clones_law = { λ a. tt };
+
+    ghost told = { λ mode. coset_told all_fields radix2_coset (F.format mode) (F.format_law mode) radix2_domain
+        (F.elements_law mode).one_to_one (λ x y. one_domain radix2_kind F.root F.equality_law x.coset.root_is
+        y.coset.root_is) mode };
 
     ghost sizes = { radix2_sizes F.adicity };
 

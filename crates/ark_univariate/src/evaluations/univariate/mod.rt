@@ -10,6 +10,8 @@ ghost use Rattle.std.specs.Cmp.Lexicographic.{pointwise, lists_equiv, lists_per}
 ghost use Rattle.std.specs.Hash as fed;
 ghost use Rattle.std.specs.Hash.{and-Alike, items_Alike, on_Alike};
 
+mod bytes;
+
 use crate::domain::EvaluationDomain;
 use crate::polynomial::DenseUVPolynomial;
 use crate::polynomial::univariate::DensePolynomial;

@@ -15,6 +15,8 @@ ghost use Rattle.ark_math.specs.Univariate.{IsTrimmed, IsDegree, IsValue, of_lis
 ghost use Rattle.ark_math.specs.Univariate.{IsBelow, IsDivision, IsQuotient, product, scaled as multiple};
 ghost use Rattle.ark_math.specs.Univariate.{difference, of_pairs};
 
+mod bytes;
+
 use crate::domain::{EvaluationDomain, GeneralEvaluationDomain};
 use crate::evaluations::univariate::Evaluations;
 use crate::polynomial::univariate::{SparsePolynomial, write_term};

@@ -13,6 +13,8 @@ ghost use Rattle.ark_math.specs.Points.{AreValues};
 ghost use Rattle.ark_math.specs.Univariate.{IsSparse, IsDegree, IsValue, of_list, of_pairs};
 ghost use Rattle.ark_math.specs.Univariate.{coefficient_operations, product, scaled as multiple};
 
+mod bytes;
+
 use crate::domain::EvaluationDomain;
 use crate::evaluations::univariate::Evaluations;
 use crate::polynomial::univariate::{DensePolynomial, write_term};

@@ -1,0 +1,89 @@
+//! Multilinear extensions in bytes, by their entries: these, the number of variables, and an element zero.
+
+ghost use Rattle.std.specs.Prelude.{◌≡◌, ◌↔◌, ◌<◌, All, IsTrue};
+ghost use Rattle.ark_multi.specs.Extensions.{AreEntries};
+
+use crate::multilinear::SparseMultilinearExtension;
+use ark_coeffs::sparse::is_sparse;
+use ark_traits::{
+    CanonicalDeserialize, CanonicalSerialize, Compress, Field, SerializationError, Sink, Source,
+    Spelled, Valid, list_size, read_list, write_list,
+};
+use std::alloc::Global;
+
+impl<F: Field> Spelled for SparseMultilinearExtension<F> {
+    ghost use Rattle.std.specs.Prelude.{ℕ, List, map};
+    ghost use Rattle.ark_math.specs.Layouts.{sparse_extension};
+    ghost use Rattle.ark_math.proofs.Formats.SeveralVariables.{sparse_extension_is_format};
+    ghost use Rattle.ark_math.proofs.Formats.SeveralVariables.{sparse_extension_shows};
+
+    ghost format = { λ mode. sparse_extension (F.format mode)
+        (λ p. (p.evaluations.items, (p.num_vars, p.zero))) };
+
+    ghost format_law = { λ mode. sparse_extension_is_format (F.format mode) (F.format_law mode)
+        (λ p. (p.evaluations.items, (p.num_vars, p.zero))) };
+
+    ghost Shown = { List (ℕ × F.Shown) × (ℕ × F.Shown) };
+
+    ghost shown = { λ p. (map (λ e. (e.0, F.shown e.1)) p.evaluations.items, (p.num_vars, F.shown p.zero)) };
+
+    ghost tells = { λ mode. sparse_extension_shows (F.format mode) (F.format_law mode) F.shown (F.tells mode)
+        (λ p. (p.evaluations.items, (p.num_vars, p.zero))) };
+}
+
+impl<F: Field> CanonicalSerialize for SparseMultilinearExtension<F> {
+    fn serialize_with_mode<W: Sink>(
+        &self,
+        writer: &mut W,
+        mode: Compress,
+    ) -> Result<(), SerializationError> {
+        write_list(&self.evaluations, writer, mode)?;
+        (self.num_vars, self.zero).serialize_with_mode(writer, mode)
+    }
+
+    fn serialized_size(&self, mode: Compress) -> Option<usize> {
+        let entries = list_size(&self.evaluations, mode)?;
+        let rest = (self.num_vars, self.zero).serialized_size(mode)?;
+        entries.checked_add(rest)
+    }
+}
+
+impl<F: Field> Valid for SparseMultilinearExtension<F> {
+    fn check(&self) -> Result<(), SerializationError> {
+        Ok(())
+    }
+}
+
+impl<F: Field> CanonicalDeserialize for SparseMultilinearExtension<F> {
+    fn deserialize_with_mode<R: Source>(
+        alloc: Global,
+        reader: &mut R,
+        mode: Compress,
+    ) -> Result<Self, SerializationError> {
+        let evaluations = read_list::<(usize, F), R>(alloc, reader, mode)?;
+        let (num_vars, zero) = <(usize, F)>::deserialize_with_mode(alloc, reader, mode)?;
+        if are_entries(&evaluations, num_vars, zero) {
+            Ok(SparseMultilinearExtension {
+                evaluations,
+                num_vars,
+                zero,
+            })
+        } else {
+            Err(SerializationError::InvalidData)
+        }
+    }
+}
+
+/// Whether all indices are below the length of a table.
+fn are_below<F>(entries: &[(usize, F)], len: usize) -> bool
+    ensures { IsTrue result ↔ All (λ e. e.0 < len) entries.now }
+{
+    entries.iter().all(|entry| entry.0 < len)
+}
+
+/// Whether these are an extension's entries, number of variables and zero.
+fn are_entries<F: Field>(entries: &[(usize, F)], num_vars: usize, zero: F) -> bool
+    ensures { IsTrue result ↔ AreEntries F.field (entries.now, (num_vars, zero)) }
+{
+    num_vars < 64 && zero.is_zero() && is_sparse(entries) && are_below(entries, 1 << num_vars)
+}

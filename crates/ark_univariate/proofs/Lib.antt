@@ -1,0 +1,2 @@
+-- What is written and read of evaluations.
+pub mod ValuesTransfer

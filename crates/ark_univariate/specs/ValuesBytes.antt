@@ -1,0 +1,17 @@
+-- Evaluations in bytes: their layout is a format, and tells what the spellings of elements and domains do.
+use Rattle.std.specs.Prelude.{List, map}
+use Rattle.ark_math.specs.Format.{Format, IsFormat, Tells, ◌⊗◌, list}
+use Rattle.ark_math.specs.Layouts.{evaluations}
+use Rattle.ark_math.proofs.Formats.Ends.{pair_is_format, list_is_format, lawful_is_format}
+use Rattle.ark_math.proofs.Formats.OneToOne.{pair_shows, list_shows, lawful_shows}
+use Rattle.ark_univariate.specs.Values.{Values, list_and_domain}
+
+module _ {F D : Type 0} (e : Format F) (d : Format D) (IsLawful : Values F D → Type 0) (E : IsFormat e) (L : IsFormat d) where
+  pub values_is_format : IsFormat (evaluations e d list_and_domain IsLawful)
+  values_is_format = lawful_is_format (list e ⊗ d) list_and_domain IsLawful (pair_is_format (list e) d (list_is_format e E) L)
+
+  pub values_tell : {V W : Type 0} (view : F → V) (shown : D → W) → Tells view e → Tells shown d
+      → Tells {V = List V × W} (λ v. (map view v.evals, shown v.domain)) (evaluations e d list_and_domain IsLawful)
+  values_tell view shown one two =
+      lawful_shows (list e ⊗ d) list_and_domain IsLawful (λ p. (map view p.0, shown p.1)) (λ v. (map view v.evals, shown v.domain))
+      (pair_shows (list e) d (list_is_format e E) (map view) shown (list_shows e E view one) two) (λ x y same. same)

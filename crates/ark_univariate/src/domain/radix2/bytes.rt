@@ -1,0 +1,64 @@
+//! Radix 2 domains in bytes: as their cosets.
+
+use crate::domain::radix2::Radix2EvaluationDomain;
+use ark_bytes::{
+    CanonicalDeserialize, CanonicalSerialize, Compress, SerializationError, Sink, Source, Spelled,
+    Valid,
+};
+use ark_fft::domain::Coset;
+use ark_traits::FftField;
+use std::alloc::Global;
+
+impl<F: FftField> Spelled for Radix2EvaluationDomain<F> {
+    ghost use Rattle.std.specs.Prelude.{ℕ};
+    ghost use Rattle.ark_fft.specs.CosetBytes.{all_fields, domain_shown};
+    ghost use Rattle.ark_univariate.specs.DomainBytes.{radix2_coset, coset_format, coset_is_format};
+    ghost use Rattle.ark_univariate.specs.DomainBytes.{coset_tells};
+
+    ghost format = { λ mode. coset_format all_fields radix2_coset (F.format mode) mode };
+
+    ghost format_law = { λ mode. coset_is_format all_fields radix2_coset (F.format mode) (F.format_law mode)
+        mode };
+
+    ghost Shown = { ℕ × F.Shown };
+
+    ghost shown = { λ d. domain_shown F.shown all_fields (radix2_coset d) };
+
+    ghost tells = { λ mode. coset_tells all_fields radix2_coset (F.format mode) (F.format_law mode) F.shown
+        (F.tells mode) mode };
+}
+
+impl<F: FftField> CanonicalSerialize for Radix2EvaluationDomain<F> {
+    fn serialize_with_mode<W: Sink>(
+        &self,
+        writer: &mut W,
+        mode: Compress,
+    ) -> Result<(), SerializationError> {
+        self.coset.serialize_with_mode(writer, mode)
+    }
+
+    fn serialized_size(&self, mode: Compress) -> Option<usize> {
+        self.coset.serialized_size(mode)
+    }
+}
+
+impl<F: FftField> Valid for Radix2EvaluationDomain<F> {
+    fn check(&self) -> Result<(), SerializationError> {
+        Ok(())
+    }
+}
+
+impl<F: FftField> CanonicalDeserialize for Radix2EvaluationDomain<F> {
+    fn deserialize_with_mode<R: Source>(
+        alloc: Global,
+        reader: &mut R,
+        mode: Compress,
+    ) -> Result<Self, SerializationError> {
+        let coset: Coset<F> = Coset::deserialize_with_mode(alloc, reader, mode)?;
+        if coset.odd_exponent == 0 {
+            Ok(Radix2EvaluationDomain { coset })
+        } else {
+            Err(SerializationError::InvalidData)
+        }
+    }
+}
