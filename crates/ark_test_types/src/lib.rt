@@ -1,5 +1,5 @@
-//! Fields and modules with laws that only the tests use, a generator that counts what is drawn from it, what is tried
-//! over several fields, and what sums of polynomials of any form are compared with.
+//! Fields and modules with laws that only the tests use, a generator that counts what is drawn from it, a source
+//! that gives one byte a call, what is tried over several fields, and what sums of polynomials of any form are compared with.
 #![tactic(auto)]
 
 pub mod counting;
@@ -7,6 +7,7 @@ pub mod four;
 mod four_bytes;
 pub mod nothing;
 pub mod numbered;
+pub mod single_bytes;
 pub mod sums;
 pub mod traced;
 pub mod trials;

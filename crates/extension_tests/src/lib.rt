@@ -15,3 +15,5 @@ mod joined;
 mod sums;
 #[cfg(test)]
 mod tried;
+#[cfg(test)]
+mod written;

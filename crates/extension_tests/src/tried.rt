@@ -1,6 +1,6 @@
 //! What is tried, and over which fields.
 
-use crate::{bound, drawn, exchanged, joined, sums};
+use crate::{bound, drawn, exchanged, joined, sums, written};
 use ark_base::{FftField, PolyError};
 use ark_test_types::numbered::Numbered;
 use ark_test_types::trials::{FieldTrial, Prime, over_field};
@@ -20,6 +20,7 @@ enum Tried {
     JoinedDraws,
     SumsOfDraws,
     MultiplesOfDraws,
+    DrawsWritten,
 }
 
 impl FieldTrial for Tried {
@@ -34,11 +35,12 @@ impl FieldTrial for Tried {
             Tried::JoinedDraws => joined::draws::<F>(alloc),
             Tried::SumsOfDraws => sums::draws::<F>(alloc),
             Tried::MultiplesOfDraws => sums::multiples::<F>(alloc),
+            Tried::DrawsWritten => written::draws::<F>(alloc),
         })
     }
 }
 
-const TRIED: [(Prime, Tried); 15] = [
+const TRIED: [(Prime, Tried); 17] = [
     (Prime::P5, Tried::BoundAtOnceAndOneAtATime),
     (Prime::P65537, Tried::BoundAtOnceAndOneAtATime),
     (Prime::P65537, Tried::BothFormsOfDraws),
@@ -54,6 +56,8 @@ const TRIED: [(Prime, Tried); 15] = [
     (Prime::P5, Tried::SumsOfDraws),
     (Prime::P65537, Tried::SumsOfDraws),
     (Prime::P65537, Tried::MultiplesOfDraws),
+    (Prime::P5, Tried::DrawsWritten),
+    (Prime::P65537, Tried::DrawsWritten),
 ];
 
 #[test]

@@ -1,0 +1,76 @@
+//! Answers rows of bytes: what reading says of them, and what writing gives back.
+//!
+//! The words are a field's order, a type, modes, and bytes in hex. After one mode the answer has the spellings of the value
+//! that was read, the full one and the short one; after two modes with `>` between them it has what `recompress` writes. Or
+//! it has the refusal. How many bytes are left stands at the end.
+#![tactic(auto)]
+
+mod hex;
+mod reading;
+
+use crate::hex::bytes_of;
+use crate::reading::answer_of;
+use ark_base::FftField;
+use ark_multi::multivariate::{self, SparseTerm};
+use ark_multi::{DenseMultilinearExtension, SparseMultilinearExtension};
+use ark_test_types::numbered::Numbered;
+use ark_univariate::univariate::{DensePolynomial, SparsePolynomial};
+use ark_univariate::{
+    Evaluations, GeneralEvaluationDomain, MixedRadixEvaluationDomain, Radix2EvaluationDomain,
+};
+use row_words::rows::{Answer, FieldRows, Rows, over_field, write_answers};
+use row_words::words::no_row;
+use std::alloc::Global;
+use std::io;
+
+struct ByteRows;
+
+impl Rows for ByteRows {
+    fn answer(alloc: Global, words: &[String]) -> Answer {
+        over_field::<ByteRows>(alloc, words)
+    }
+}
+
+impl FieldRows for ByteRows {
+    fn answer_over<F: FftField + Numbered>(alloc: Global, words: &[String]) -> Answer {
+        let [kind, modes, word] = words else {
+            return no_row(alloc);
+        };
+        let bytes = bytes_of(alloc, word.as_str())?;
+        of_polynomials::<F>(alloc, kind.as_str(), modes.as_str(), &bytes)
+    }
+}
+
+fn of_polynomials<F: FftField>(alloc: Global, kind: &str, modes: &str, bytes: &[u8]) -> Answer {
+    match kind {
+        "element" => answer_of::<F>(alloc, bytes, modes),
+        "dense" => answer_of::<DensePolynomial<F>>(alloc, bytes, modes),
+        "sparse" => answer_of::<SparsePolynomial<F>>(alloc, bytes, modes),
+        "term" => answer_of::<SparseTerm>(alloc, bytes, modes),
+        "multivariate" => {
+            answer_of::<multivariate::SparsePolynomial<F, SparseTerm>>(alloc, bytes, modes)
+        }
+        "dense_extension" => answer_of::<DenseMultilinearExtension<F>>(alloc, bytes, modes),
+        "sparse_extension" => answer_of::<SparseMultilinearExtension<F>>(alloc, bytes, modes),
+        _ => of_domains::<F>(alloc, kind, modes, bytes),
+    }
+}
+
+fn of_domains<F: FftField>(alloc: Global, kind: &str, modes: &str, bytes: &[u8]) -> Answer {
+    match kind {
+        "radix2" => answer_of::<Radix2EvaluationDomain<F>>(alloc, bytes, modes),
+        "mixed" => answer_of::<MixedRadixEvaluationDomain<F>>(alloc, bytes, modes),
+        "general" => answer_of::<GeneralEvaluationDomain<F>>(alloc, bytes, modes),
+        "evaluations" => {
+            answer_of::<Evaluations<F, Radix2EvaluationDomain<F>>>(alloc, bytes, modes)
+        }
+        "general_evaluations" => {
+            answer_of::<Evaluations<F, GeneralEvaluationDomain<F>>>(alloc, bytes, modes)
+        }
+        _ => no_row(alloc),
+    }
+}
+
+fn main(rt: HostRuntime) -> io::Result<()> {
+    write_answers::<ByteRows, HostRuntime>(&rt)
+}

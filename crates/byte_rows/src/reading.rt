@@ -1,0 +1,109 @@
+//! A row of any type.
+
+use crate::hex::text_of;
+use ark_base::{
+    CanonicalDeserialize, CanonicalSerialize, Compress, IoSink, IoSource, SerializationError,
+    Source, recompress,
+};
+use ark_test_types::single_bytes::SingleBytes;
+use row_words::rows::Answer;
+use row_words::words::told;
+use std::alloc::Global;
+
+/// What reading the bytes says and writing gives back, and how many bytes are left. Byte by byte the same comes, and each
+/// beginning of the bytes that were taken is refused with `IoError`; else the answer says so.
+pub fn answer_of<T: CanonicalSerialize + CanonicalDeserialize>(
+    alloc: Global,
+    bytes: &[u8],
+    modes: &str,
+) -> Answer {
+    let mut source = IoSource::new(bytes);
+    let given = outcome::<T, _>(alloc, &mut source, modes)?;
+    let left = source.into_inner().len();
+    let mut single = SingleBytes {
+        source: IoSource::new(bytes),
+    };
+    let by_one = outcome::<T, _>(alloc, &mut single, modes)?;
+    if by_one != given || single.source.into_inner().len() != left {
+        return told(alloc, "another answer byte by byte");
+    }
+    for taken in 0..bytes.len() - left.min(bytes.len()) {
+        if !is_unfinished::<T>(alloc, &bytes[..taken], modes) {
+            return told(alloc, "a beginning is taken");
+        }
+    }
+    Ok(format!(in alloc; "{given}|{left}")?)
+}
+
+/// The answer to one mode, or to two.
+fn outcome<T: CanonicalSerialize + CanonicalDeserialize, S: Source>(
+    alloc: Global,
+    source: &mut S,
+    modes: &str,
+) -> Answer {
+    match modes.split_once('>') {
+        Some((from, to)) => recompressed::<T, S>(alloc, source, mode_of(from), mode_of(to)),
+        None => read_and_written::<T, S>(alloc, source, mode_of(modes)),
+    }
+}
+
+/// The mode that the word names.
+fn mode_of(word: &str) -> Compress {
+    if word == "yes" {
+        Compress::Yes
+    } else {
+        Compress::No
+    }
+}
+
+/// What `recompress` writes, and its refusal after that.
+fn recompressed<T: CanonicalSerialize + CanonicalDeserialize, S: Source>(
+    alloc: Global,
+    source: &mut S,
+    from: Compress,
+    to: Compress,
+) -> Answer {
+    let mut sink = IoSink::new(Vec::new(alloc));
+    let result = recompress::<T, S, _>(alloc, source, from, &mut sink, to);
+    let written = text_of(alloc, &sink.into_inner())?;
+    match result {
+        Ok(()) => Ok(written),
+        Err(error) => Ok(format!(in alloc; "{written}{error}")?),
+    }
+}
+
+/// The spellings of what is read, full and short, or the refusal.
+fn read_and_written<T: CanonicalSerialize + CanonicalDeserialize, S: Source>(
+    alloc: Global,
+    source: &mut S,
+    mode: Compress,
+) -> Answer {
+    match T::deserialize_with_mode(alloc, source, mode) {
+        Ok(value) => {
+            let full = spelling_of(alloc, &value, Compress::No)?;
+            let short = spelling_of(alloc, &value, Compress::Yes)?;
+            Ok(format!(in alloc; "{full}|{short}")?)
+        }
+        Err(error) => Ok(format!(in alloc; "{error}")?),
+    }
+}
+
+/// Whether the bytes are refused with `IoError`, in the mode that is read.
+fn is_unfinished<T: CanonicalDeserialize>(alloc: Global, bytes: &[u8], modes: &str) -> bool {
+    let from = modes.split_once('>').map_or(modes, |pair| pair.0);
+    match T::deserialize_with_mode(alloc, &mut IoSource::new(bytes), mode_of(from)) {
+        Err(error) => error == SerializationError::IoError,
+        Ok(_) => false,
+    }
+}
+
+/// The bytes that writing gives, as text.
+fn spelling_of<T: CanonicalSerialize>(alloc: Global, value: &T, mode: Compress) -> Answer {
+    let mut sink = IoSink::new(Vec::new(alloc));
+    let written = value.serialize_with_mode(&mut sink, mode);
+    let bytes = sink.into_inner();
+    if written.is_err() || value.serialized_size(mode) != Some(bytes.len()) {
+        return told(alloc, "another size");
+    }
+    text_of(alloc, &bytes)
+}
