@@ -1,6 +1,7 @@
 //! Small callers, as a user of the crates writes them: a transform and back, values on a coset, an interpolation, the
 //! convolution of two lists, a combination of two polynomials, an opening, exact costs, the first round of a sum-check,
-//! what chooses a value of a table, fields and a module of one's own. The program prints what each gives.
+//! what chooses a value of a table, a polynomial in a file, fields and a module of one's own. The program prints what each
+//! gives.
 #![tactic(auto)]
 
 mod combination;
@@ -12,6 +13,7 @@ mod interpolation;
 mod large_field;
 mod module;
 mod opening;
+mod saving;
 mod selector;
 mod sum_check;
 mod there_and_back;
@@ -31,9 +33,11 @@ use interpolation::interpolated_value;
 use large_field::size_for_a_hundred_million;
 use module::{Point, points_of_curve};
 use opening::opening;
+use saving::{load, save, saved_and_loaded};
 use selector::selector;
 use std::alloc::Global;
-use std::io::Print;
+use std::fs::{self, File, Files};
+use std::io::{Print, Write};
 use sum_check::{first_round, last_value, next_claim};
 use there_and_back::there_and_back;
 
@@ -72,6 +76,7 @@ fn main(rt: HostRuntime) -> anyhow::Result<()> {
         "what each of four values counts at (2, 3)",
         &counts,
     )?;
+    print_saved(&rt, alloc)?;
     print_fields(&rt)?;
     let coeffs = [(1, 2), (3, 4), (5, 6)].map(|(x, y)| Point {
         x: F433::from(x),
@@ -185,6 +190,25 @@ fn print_polynomials(rt: &impl Print, alloc: Global) -> anyhow::Result<()> {
         "the value at 2, and the quotient by x - 2",
         &opened,
     )
+}
+
+/// The polynomial that is loaded from a file in which this one was saved.
+fn through_file<F: Field>(
+    rt: &impl Files,
+    alloc: Global,
+    polynomial: &DensePolynomial<F>,
+) -> anyhow::Result<DensePolynomial<F>> {
+    let name = "saved_polynomial";
+    save(polynomial, File::create(rt, name)?)?.flush()?;
+    let loaded = load(alloc, File::open(rt, name)?)?;
+    fs::remove_file(rt, name)?;
+    Ok(loaded)
+}
+
+fn print_saved(rt: &(impl Print + Files), alloc: Global) -> anyhow::Result<()> {
+    let polynomial = DensePolynomial::from_coefficients_slice(alloc, &[1, 2, 3].map(F65537::from))?;
+    let loaded = through_file(rt, alloc, &saved_and_loaded(alloc, &polynomial)?)?;
+    print_list(rt, alloc, "saved and loaded", loaded.coeffs())
 }
 
 fn print_fields(rt: &impl Print) -> anyhow::Result<()> {

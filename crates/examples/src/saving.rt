@@ -1,0 +1,46 @@
+//! Saving and loading: a polynomial in a file, and the same one that is read from it.
+
+ghost use Rattle.std.specs.Prelude.{◌≡◌, ◌≢◌, IfOk, IfErr};
+ghost use Rattle.std.specs.Io.KnownBytes.{Appends};
+ghost use Rattle.ark_math.specs.Layouts.{dense};
+
+use ark_base::{
+    CanonicalDeserialize, CanonicalSerialize, Compress, Field, IoSink, IoSource,
+    SerializationError, written_then_read,
+};
+use ark_poly::univariate::DensePolynomial;
+use std::alloc::Global;
+use std::io::{Read, Write};
+
+/// The polynomial that is read from the bytes of this one: it is the same.
+pub fn saved_and_loaded<F: Field>(
+    alloc: Global,
+    polynomial: &DensePolynomial<F>,
+) -> Result<DensePolynomial<F>, SerializationError>
+    ensures same { IfOk result (λ loaded. loaded ≡ polynomial.now) }
+    ensures faultless { IfErr result (λ e. e ≢ SerializationError.InvalidData) }
+{
+    written_then_read(alloc, polynomial, Compress::Yes)
+}
+
+/// Writes the polynomial to a file, or whatever takes bytes, and gives that back, to be flushed: of what is known to be
+/// in it, just the spelling is new.
+pub fn save<F: Field, W: Write + Drop>(
+    polynomial: &DensePolynomial<F>,
+    file: W,
+) -> Result<W, SerializationError>
+    ensures saved { IfOk result (λ written. Appends (W.contents file) (W.contents written)
+        ((dense F.field (F.format Compress.Yes)).spelling polynomial.now)) }
+{
+    let mut sink = IoSink::new(file);
+    polynomial.serialize_compressed(&mut sink)?;
+    Ok(sink.into_inner())
+}
+
+/// Reads a polynomial from a file, or whatever gives bytes.
+pub fn load<F: Field, R: Read + Drop>(
+    alloc: Global,
+    file: R,
+) -> Result<DensePolynomial<F>, SerializationError> {
+    DensePolynomial::deserialize_compressed(alloc, &mut IoSource::new(file))
+}
