@@ -14,7 +14,7 @@ pub trait Benchmark {
     fn checksum(&self) -> u64;
 }
 
-/// An element that counts in checksums, as this number.
+/// An element or a byte that counts in checksums, as this number.
 pub trait Number {
     fn number(&self) -> u64;
 }
@@ -22,6 +22,12 @@ pub trait Number {
 impl<M: PrimeModulus> Number for PrimeField<M> {
     fn number(&self) -> u64 {
         self.value()
+    }
+}
+
+impl Number for u8 {
+    fn number(&self) -> u64 {
+        u64::from(*self)
     }
 }
 

@@ -5,19 +5,21 @@
 #![tactic(auto)]
 
 mod batches;
+mod bytes;
 mod draws;
 mod large_field;
 mod points;
 mod polynomials;
 mod transforms;
 
-use ark_base::{F433, F65537, FftField, Field, Polynomial};
+use ark_base::{CanonicalSerialize, Compress, F433, F65537, FftField, Field, Polynomial};
 use ark_poly::univariate::{DensePolynomial, SparsePolynomial};
 use ark_poly::{
     DenseMultilinearExtension, DenseUVPolynomial, EvaluationDomain, MixedRadixEvaluationDomain,
     MultilinearExtension, Radix2EvaluationDomain, SparseMultilinearExtension,
 };
 use batches::{Number, report};
+use bytes::{ReadBack, Written};
 use draws::Draws;
 use large_field::F2013265921;
 use points::{BoundTable, VARIABLES, ValueAtPoint, polynomial_of_terms};
@@ -140,7 +142,8 @@ fn report_polynomials<F: FftField + Number>(
     report_division::<F>(rt, alloc, timed, draws)?;
     report_by_passes::<F>(rt, alloc, timed, draws)?;
     report_by_terms::<F>(rt, alloc, timed, draws)?;
-    report_several_variables::<F>(rt, alloc, timed, draws)
+    report_several_variables::<F>(rt, alloc, timed, draws)?;
+    report_bytes::<F>(rt, alloc, timed)
 }
 
 fn report_over_domain<F: FftField + Number, D: EvaluationDomain<F>>(
@@ -360,4 +363,24 @@ fn report_bound_table<F: Field + Number>(
         20,
         &mut bound,
     )
+}
+
+// A dense polynomial written, and the bytes read back. Its coefficients are the first draws, whatever was drawn before.
+fn report_bytes<F: Field + Number>(
+    rt: &(impl Print + Clock),
+    alloc: Global,
+    timed: bool,
+) -> anyhow::Result<()> {
+    let polynomial = Draws::new().dense::<F>(alloc, 1 << 16)?;
+    let room = polynomial.serialized_size(Compress::Yes).unwrap_or(0);
+    let mut written = Written {
+        polynomial,
+        bytes: Vec::with_capacity(alloc, room)?,
+    };
+    report(rt, alloc, timed, "dense_write", 1 << 16, &mut written)?;
+    let mut read = ReadBack::<F> {
+        bytes: written.bytes,
+        polynomial: DensePolynomial::zero(alloc)?,
+    };
+    report(rt, alloc, timed, "dense_read", 1 << 16, &mut read)
 }
