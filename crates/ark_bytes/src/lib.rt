@@ -21,5 +21,5 @@ pub use lists::{list_size, read_list, write_list};
 pub use numbers::{read_number, write_number};
 pub use one_of_two::Either;
 pub use sink::{IoSink, Sink};
-pub use source::{IoSource, Source, fill};
+pub use source::{IoSource, Source};
 pub use traits::{CanonicalDeserialize, CanonicalSerialize, Spelled, Valid};

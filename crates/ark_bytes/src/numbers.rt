@@ -8,7 +8,7 @@ ghost use Rattle.ark_bytes.specs.Writing.{sink_state, Writes};
 use crate::compress::Compress;
 use crate::error::SerializationError;
 use crate::sink::Sink;
-use crate::source::{Source, fill};
+use crate::source::Source;
 use crate::traits::{CanonicalDeserialize, CanonicalSerialize, Spelled, Valid};
 use std::alloc::Global;
 
@@ -34,7 +34,7 @@ pub fn read_number<R: Source>(reader: &mut R, width: usize) -> Result<u64, Seria
         (source_state R.remaining R.failures reader.new) result }
 {
     let mut buffer = [0u8; 8];
-    fill(reader, &mut buffer[..width])?;
+    reader.take_all(&mut buffer[..width])?;
     Ok(number_of(&buffer[..width]))
 }
 

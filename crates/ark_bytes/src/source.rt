@@ -23,6 +23,49 @@ pub trait Source {
         ensures bound { IfOk result (λ n. n ≤ length buffer.new) }
         ensures bytes { ReadConsumes (remaining self.old) (remaining self.new) result buffer.new }
         ensures counted { CountsFailure result (failures self.old) (failures self.new) };
+
+    /// Fills the whole buffer. `IoError` comes where the source ends or fails before, and is the only error.
+    fn take_all(&mut self, buffer: &mut [u8]) -> Result<(), SerializationError>
+        ensures { Fills buffer.new (source_state remaining failures self.old)
+            (source_state remaining failures self.new) result }
+    {
+        let mut filled = 0;
+        while filled < buffer.len() {
+            match self.take(&mut buffer[filled..]) {
+                Ok(count) if 0 < count => filled += count,
+                _ => return Err(SerializationError::IoError),
+            }
+        }
+        Ok(())
+    }
+}
+
+/// The bytes that are left of a slice. No call fails, and a buffer of known length is filled by one copy.
+impl Source for &[u8] {
+    ghost use Rattle.std.specs.Prelude.{Some};
+
+    ghost remaining = { λ bytes. Some bytes.now };
+
+    ghost failures = { λ _. 0 };
+
+    fn take(&mut self, buffer: &mut [u8]) -> Result<usize, Failed> {
+        let all = *self;
+        let count = buffer.len().min(all.len());
+        buffer[..count].copy_from_slice(&all[..count]);
+        *self = &all[count..];
+        Ok(count)
+    }
+
+    fn take_all(&mut self, buffer: &mut [u8]) -> Result<(), SerializationError> {
+        let all = *self;
+        if all.len() < buffer.len() {
+            *self = &all[all.len()..];
+            return Err(SerializationError::IoError);
+        }
+        buffer.copy_from_slice(&all[..buffer.len()]);
+        *self = &all[buffer.len()..];
+        Ok(())
+    }
 }
 
 /// A `Source` over any `Read`.
@@ -72,19 +115,4 @@ impl<R: Read> Source for IoSource<R> {
             }
         }
     }
-}
-
-/// Fills the whole buffer. `IoError` comes where the source ends or fails before.
-pub fn fill<R: Source>(source: &mut R, buffer: &mut [u8]) -> Result<(), SerializationError>
-    ensures { Fills buffer.new (source_state R.remaining R.failures source.old)
-        (source_state R.remaining R.failures source.new) result }
-{
-    let mut filled = 0;
-    while filled < buffer.len() {
-        match source.take(&mut buffer[filled..]) {
-            Ok(count) if 0 < count => filled += count,
-            _ => return Err(SerializationError::IoError),
-        }
-    }
-    Ok(())
 }

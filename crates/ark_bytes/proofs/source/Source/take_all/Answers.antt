@@ -5,7 +5,7 @@ use Rattle.std.specs.Io.KnownBytes.{Consumes, Keeps, IsAtEnd}
 use Rattle.std.proofs.KnownBytes.{Consumes-trans, Consumes-kept}
 use borrow.Rule.Slice.PartMut.{put_mid, post_of}
 use Rattle.ark_bytes.specs.Reading.{SourceState, Takes, TakesFewer}
-use Rattle.ark_bytes.proofs.source.fill.Goals as goal
+use Rattle.ark_bytes.proofs.source.Source.take_all.Goals as goal
 
 taken_more : (i n : ℕ) (xs ys : List ℕ) → i ≤ length xs → n ≤ length ys → take (i + n) (put_mid i (length xs - i) xs ys) ≡ take i xs ++ take n ys
 taken_more i n xs ys wi wn =
