@@ -12,7 +12,7 @@ mod work;
 
 pub use ark_bytes::{
     CanonicalDeserialize, CanonicalSerialize, Compress, Either, Failed, IoSink, IoSource,
-    SerializationError, Sink, Source, Spelled, Valid, fill, list_size, read_list, read_number,
+    SerializationError, Sink, Source, Spelled, Valid, list_size, read_list, read_number,
     recompress, write_list, write_number, written_then_read,
 };
 pub use error::PolyError;

@@ -23,6 +23,9 @@ pub trait Polynomial<F: Field>: Clone
     + Drop
     + CanonicalSerialize
     + CanonicalDeserialize {
+    ghost use Rattle.ark_math.specs.Format.{Tells};
+    ghost use Rattle.ark_bytes.specs.declared.compress.Compress.{Compress};
+
     /// The points at which it is evaluated.
     type Point: Clone + Ord + Debug + Hash;
 
@@ -141,4 +144,9 @@ pub trait Polynomial<F: Field>: Clone
     ghost fits_max: { (m n : ℕ) (x : Self.Point) → fits m x → fits n x → fits (max m n) x };
 
     ghost polynomial_laws: { IsPolynomials F.field operations addable has_degree has_value };
+
+    // In each mode a spelling tells the polynomial, and the number of variables that its form keeps.
+    ghost told: { (mode : Compress) → Tells meaning (Self.format mode) };
+
+    ghost variables_told: { (mode : Compress) → Tells variables (Self.format mode) };
 }

@@ -60,6 +60,7 @@ impl<F: Field> Polynomial<F> for DenseMultilinearExtension<F> {
     ghost use Rattle.ark_multi.specs.Extensions.{dense_table};
     ghost use Rattle.ark_math.specs.Multilinear.{Table};
     ghost use Rattle.ark_math.proofs.Polynomials.Tables.{multilinear_polynomials};
+    ghost use Rattle.ark_math.proofs.Formats.SeveralVariables.{values_tell};
     ghost use Rattle.ark_lists.proofs.DenseTables.{equal_tables, listed, same_length};
     ghost use Rattle.std.proofs.Common.{ap};
 
@@ -170,6 +171,14 @@ impl<F: Field> Polynomial<F> for DenseMultilinearExtension<F> {
     ghost fits_max = { λ m n x left right. same_length m n x.items left right };
 
     ghost polynomial_laws = { multilinear_polynomials F.field F.field_laws (λ x. x.items) };
+
+    ghost told = { λ mode p q has other same. ap (λ v. record { variables = v.1; value = of_list F.field v.0 })
+        (values_tell (F.format mode) (F.format_law mode) (F.elements_law mode).one_to_one
+        (p.evaluations.items, p.num_vars) (q.evaluations.items, q.num_vars) has.0 other.0 same) };
+
+    ghost variables_told = { λ mode p q has other same. ap (λ v. v.1)
+        (values_tell (F.format mode) (F.format_law mode) (F.elements_law mode).one_to_one
+        (p.evaluations.items, p.num_vars) (q.evaluations.items, q.num_vars) has.0 other.0 same) };
 }
 
 impl<F: Field> MultilinearExtension<F> for DenseMultilinearExtension<F> {

@@ -70,6 +70,7 @@ impl<F: Field> Polynomial<F> for SparseMultilinearExtension<F> {
     ghost use Rattle.ark_multi.specs.Extensions.{sparse_table};
     ghost use Rattle.ark_math.specs.Multilinear.{Table};
     ghost use Rattle.ark_math.proofs.Polynomials.Tables.{multilinear_polynomials};
+    ghost use Rattle.ark_math.proofs.Formats.SeveralVariables.{entries_tell};
     ghost use Rattle.ark_lists.proofs.DenseTables.{same_length};
     ghost use Rattle.ark_lists.proofs.SparseTables.{equal_entries};
     ghost use Rattle.std.proofs.Common.{ap};
@@ -169,6 +170,14 @@ impl<F: Field> Polynomial<F> for SparseMultilinearExtension<F> {
     ghost fits_max = { λ m n x left right. same_length m n x.items left right };
 
     ghost polynomial_laws = { multilinear_polynomials F.field F.field_laws (λ x. x.items) };
+
+    ghost told = { λ mode p q has other same. ap (λ v. record { variables = v.1.0; value = of_pairs F.field v.0 })
+        (entries_tell (F.format mode) (F.format_law mode) (F.elements_law mode).one_to_one
+        (p.evaluations.items, (p.num_vars, p.zero)) (q.evaluations.items, (q.num_vars, q.zero)) has.0 other.0 same) };
+
+    ghost variables_told = { λ mode p q has other same. ap (λ v. v.1.0)
+        (entries_tell (F.format mode) (F.format_law mode) (F.elements_law mode).one_to_one
+        (p.evaluations.items, (p.num_vars, p.zero)) (q.evaluations.items, (q.num_vars, q.zero)) has.0 other.0 same) };
 }
 
 impl<F: Field> MultilinearExtension<F> for SparseMultilinearExtension<F> {

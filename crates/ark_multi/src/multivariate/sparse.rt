@@ -59,6 +59,7 @@ impl<F: Field, T: Term> Debug for SparsePolynomial<F, T> {
 
 impl<F: Field, T: Term> Polynomial<F> for SparsePolynomial<F, T> {
     ghost use Rattle.ark_math.proofs.Polynomials.Multivariate.{multivariate_polynomials};
+    ghost use Rattle.ark_math.proofs.Formats.SeveralVariables.{terms_show};
     ghost use Rattle.ark_math.proofs.Polynomials.TermLists.{strict_order, sorted_Decides};
     ghost use Rattle.std.proofs.Common.{ap};
     ghost use Rattle.std.proofs.Math.Nat.{max-le};
@@ -159,6 +160,16 @@ impl<F: Field, T: Term> Polynomial<F> for SparsePolynomial<F, T> {
     ghost fits_max = { λ m n x left right. max-le left right };
 
     ghost polynomial_laws = { multivariate_polynomials F.field F.field_laws (λ x. x.items) };
+
+    ghost told = { λ mode p q has other same. ap (λ v. of_terms F.field v.1)
+        (terms_show (F.format mode) (T.format mode) (F.format_law mode) (T.format_law mode) (λ x. x) T.listed
+        (F.elements_law mode).one_to_one (T.pairs_law mode)
+        (p.num_vars, p.terms.items) (q.num_vars, q.terms.items) has.0 other.0 same) };
+
+    ghost variables_told = { λ mode p q has other same. ap (λ v. v.0)
+        (terms_show (F.format mode) (T.format mode) (F.format_law mode) (T.format_law mode) (λ x. x) T.listed
+        (F.elements_law mode).one_to_one (T.pairs_law mode)
+        (p.num_vars, p.terms.items) (q.num_vars, q.terms.items) has.0 other.0 same) };
 }
 
 impl<F: Field, T: Term> SparsePolynomial<F, T> {

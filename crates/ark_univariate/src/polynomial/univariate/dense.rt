@@ -109,6 +109,7 @@ impl<F: Field> Polynomial<F> for DensePolynomial<F> {
     ghost use Rattle.std.proofs.Common.{ap, refl};
     ghost use Rattle.ark_math.proofs.Polynomials.Trimmed.{trim_equality};
     ghost use Rattle.ark_math.proofs.Polynomials.UnivariateValues.{univariate_polynomials};
+    ghost use Rattle.ark_math.proofs.Formats.Polynomials.{dense_tells};
 
     type Point = F;
 
@@ -213,6 +214,11 @@ impl<F: Field> Polynomial<F> for DensePolynomial<F> {
     ghost fits_max = { λ m n x left right. tt };
 
     ghost polynomial_laws = { univariate_polynomials F.field F.field_laws };
+
+    ghost told = { λ mode p q has other same. ap (of_list F.field) (dense_tells F.field (F.format mode)
+        (F.format_law mode) (F.elements_law mode).one_to_one p q has other same) };
+
+    ghost variables_told = { λ mode p q has other same. refl };
 }
 
 impl<F: Field> DenseUVPolynomial<F> for DensePolynomial<F> {

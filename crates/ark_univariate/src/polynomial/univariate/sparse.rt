@@ -108,6 +108,7 @@ impl<F: Field> Polynomial<F> for SparsePolynomial<F> {
     ghost use Rattle.std.proofs.Common.{ap, refl};
     ghost use Rattle.ark_math.proofs.Polynomials.Gathered.{gather_equality};
     ghost use Rattle.ark_math.proofs.Polynomials.UnivariateValues.{univariate_polynomials};
+    ghost use Rattle.ark_math.proofs.Formats.Polynomials.{sparse_tells};
 
     type Point = F;
 
@@ -207,6 +208,11 @@ impl<F: Field> Polynomial<F> for SparsePolynomial<F> {
     ghost fits_max = { λ m n x left right. tt };
 
     ghost polynomial_laws = { univariate_polynomials F.field F.field_laws };
+
+    ghost told = { λ mode p q has other same. ap (of_pairs F.field) (sparse_tells F.field (F.format mode)
+        (F.format_law mode) (F.elements_law mode).one_to_one p q has other same) };
+
+    ghost variables_told = { λ mode p q has other same. refl };
 }
 
 impl<F: Field> SparsePolynomial<F> {
