@@ -2,6 +2,7 @@
 pub mod Element
 pub mod ElementLaws
 pub mod ElementBytes
+pub use Rattle.ark_bytes.specs.Either
 pub use Rattle.ark_bytes.specs.IoSink
 pub use Rattle.ark_bytes.specs.IoSource
 pub use Rattle.ark_bytes.specs.Reading

@@ -6,7 +6,6 @@ ghost use Rattle.ark_math.specs.Format.{AreSpelledAlike};
 use crate::compress::Compress;
 use crate::error::SerializationError;
 use crate::sink::IoSink;
-use crate::source::IoSource;
 use crate::traits::{CanonicalDeserialize, CanonicalSerialize};
 use std::alloc::Global;
 
@@ -21,9 +20,11 @@ pub fn written_then_read<T: CanonicalSerialize + CanonicalDeserialize>(
     ensures same { IfOk result (λ read. T.shown read ≡ T.shown value.now) }
     ensures faultless { IfErr result (λ e. e ≢ SerializationError.InvalidData) }
 {
-    let mut sink = IoSink::new(Vec::new(alloc));
+    // All room is taken at first: a sink could answer no more than that it failed.
+    let size = value.serialized_size(mode).unwrap_or(usize::MAX);
+    let mut sink = IoSink::new(Vec::with_capacity(alloc, size)?);
     value.serialize_with_mode(&mut sink, mode)?;
     let bytes = sink.into_inner();
-    let mut source = IoSource::new(bytes.as_slice());
+    let mut source = bytes.as_slice();
     T::deserialize_with_mode(alloc, &mut source, mode)
 }

@@ -1,8 +1,106 @@
--- Modes that are alike.
-use Rattle.std.proofs.Common.{refl}
-use Rattle.ark_math.specs.Format.{Format}
-use Rattle.ark_math.specs.Layouts.{AreAlike}
+-- Modes that are alike: what is made of alike formats is.
+use Rattle.std.proofs.Common.{◌≡◌, ℕ, List, [], ◌∷◌, ◌++◌, length, inl, inr, refl, sym, ap, ◌∙◌}
+use Rattle.ark_math.specs.Field.{FieldOn}
+use Rattle.ark_math.specs.Univariate.{IsTrimmed, IsSparse}
+use Rattle.ark_math.specs.Format.{Format, IsSpelled, IsLaterFault, IsItemFault, HaveSpellings, items, word, ◌⊗◌, list, lawful}
+use Rattle.ark_math.specs.Layouts.{AreAlike, dense, sparse, multivariate, dense_extension, sparse_extension}
 
 -- where both modes have one format
 pub one_format : {F : Type 0} (e : Format F) → AreAlike e e
 one_format e = record { spellings = λ x. refl; have = λ x. ((λ h. h), (λ h. h)); faults = λ bytes. ((λ h. h), (λ h. h)) }
+
+pub alike_sym : {F : Type 0} (e other : Format F) → AreAlike e other → AreAlike other e
+alike_sym e other A = record { spellings = λ x. sym (A.spellings x); have = λ x. ((A.have x).1, (A.have x).0); faults = λ bytes. ((A.faults bytes).1, (A.faults bytes).0) }
+
+module _ {X Y : Type 0} where
+  later_fault : (a c : Format X) (b d : Format Y) → AreAlike a c → AreAlike b d → (bytes : List ℕ) → IsLaterFault a b bytes → IsLaterFault c d bytes
+  later_fault a c b d A B bytes f = record {
+    value = f.value;
+    has = (A.have f.value).0 f.has;
+    fault = f.fault;
+    faulty = (B.faults f.fault).0 f.faulty;
+    is = f.is ∙ ap (λ s. s ++ f.fault) (A.spellings f.value);
+  }
+
+  pair_fault : (a c : Format X) (b d : Format Y) → AreAlike a c → AreAlike b d → (bytes : List ℕ) → (a ⊗ b).IsFault bytes → (c ⊗ d).IsFault bytes
+  pair_fault a c b d A B bytes (inl f) = inl ((A.faults bytes).0 f)
+  pair_fault a c b d A B bytes (inr f) = inr (later_fault a c b d A B bytes f)
+
+  pub pair_alike : (a c : Format X) (b d : Format Y) → AreAlike a c → AreAlike b d → AreAlike (a ⊗ b) (c ⊗ d)
+  pair_alike a c b d A B = record {
+    spellings = λ p. ap (λ s. s ++ b.spelling p.1) (A.spellings p.0) ∙ ap (λ s. c.spelling p.0 ++ s) (B.spellings p.1);
+    have = λ p. ((λ h. ((A.have p.0).0 h.0, (B.have p.1).0 h.1)), (λ h. ((A.have p.0).1 h.0, (B.have p.1).1 h.1)));
+    faults = λ bytes. (pair_fault a c b d A B bytes, pair_fault c a d b (alike_sym a c A) (alike_sym b d B) bytes);
+  }
+
+module _ {X : Type 0} where
+  items_alike : (e other : Format X) → AreAlike e other → (xs : List X) → items e xs ≡ items other xs
+  items_alike e other A [] = refl
+  items_alike e other A (x ∷ xs) = ap (λ s. s ++ items e xs) (A.spellings x) ∙ ap (λ s. other.spelling x ++ s) (items_alike e other A xs)
+
+  have_alike : (e other : Format X) → AreAlike e other → (xs : List X) → HaveSpellings e xs → HaveSpellings other xs
+  have_alike e other A [] h = tt
+  have_alike e other A (x ∷ xs) h = ((A.have x).0 h.0, have_alike e other A xs h.1)
+
+  item_fault : (e other : Format X) → AreAlike e other → (bytes : List ℕ) → IsItemFault e bytes → IsItemFault other bytes
+  item_fault e other A bytes f = record {
+    count = f.count;
+    counts = f.counts;
+    front = f.front;
+    have = have_alike e other A f.front f.have;
+    fewer = f.fewer;
+    fault = f.fault;
+    faulty = (A.faults f.fault).0 f.faulty;
+    is = f.is ∙ ap (λ s. word.spelling f.count ++ (s ++ f.fault)) (items_alike e other A f.front);
+  }
+
+  pub list_alike : (e other : Format X) → AreAlike e other → AreAlike (list e) (list other)
+  list_alike e other A = record {
+    spellings = λ xs. ap (λ s. word.spelling (length xs) ++ s) (items_alike e other A xs);
+    have = λ xs. ((λ h. (h.0, have_alike e other A xs h.1)), (λ h. (h.0, have_alike other e (alike_sym e other A) xs h.1)));
+    faults = λ bytes. (item_fault e other A bytes, item_fault other e (alike_sym e other A) bytes);
+  }
+
+module _ {X Y : Type 0} (fields : Y → X) (IsLawful : Y → Type 0) where
+  spelled_alike : (e other : Format X) → AreAlike e other → (bytes : List ℕ) → IsSpelled e bytes → IsSpelled other bytes
+  spelled_alike e other A bytes s = record { value = s.value; has = (A.have s.value).0 s.has; is = s.is ∙ A.spellings s.value }
+
+  unlawful_alike : (e other : Format X) → AreAlike e other → (bytes : List ℕ) → (lawful e fields IsLawful).IsFault bytes → (lawful other fields IsLawful).IsFault bytes
+  unlawful_alike e other A bytes (inl f) = inl ((A.faults bytes).0 f)
+  unlawful_alike e other A bytes (inr f) = inr (record {
+    whole = spelled_alike e other A bytes f.whole;
+    none = λ y has good same. f.none y ((A.have (fields y)).1 has) good (same ∙ sym (A.spellings (fields y)));
+  })
+
+  pub lawful_alike : (e other : Format X) → AreAlike e other → AreAlike (lawful e fields IsLawful) (lawful other fields IsLawful)
+  lawful_alike e other A = record {
+    spellings = λ y. A.spellings (fields y);
+    have = λ y. ((λ h. ((A.have (fields y)).0 h.0, h.1)), (λ h. ((A.have (fields y)).1 h.0, h.1)));
+    faults = λ bytes. (unlawful_alike e other A bytes, unlawful_alike other e (alike_sym e other A) bytes);
+  }
+
+-- ---- the layouts: every type's but a domain's has one spelling in both modes, as its field has
+
+module _ {F : Type 0} (e other : Format F) (A : AreAlike e other) where
+  pub dense_alike : (K : FieldOn F) → AreAlike (dense K e) (dense K other)
+  dense_alike K = lawful_alike (λ cs. cs) (IsTrimmed K) (list e) (list other) (list_alike e other A)
+
+  pairs_alike : AreAlike (list (word ⊗ e)) (list (word ⊗ other))
+  pairs_alike = list_alike (word ⊗ e) (word ⊗ other) (pair_alike word word e other (one_format word) A)
+
+  pub sparse_alike : (K : FieldOn F) → AreAlike (sparse K e) (sparse K other)
+  sparse_alike K = lawful_alike (λ ps. ps) (IsSparse K) (list (word ⊗ e)) (list (word ⊗ other)) pairs_alike
+
+  pub dense_extension_alike : {E : Type 0} (fields : E → List F × ℕ) → AreAlike (dense_extension e fields) (dense_extension other fields)
+  dense_extension_alike fields =
+      lawful_alike fields (λ _. Unit {0}) (list e ⊗ word) (list other ⊗ word) (pair_alike (list e) (list other) word word (list_alike e other A) (one_format word))
+
+  pub sparse_extension_alike : {E : Type 0} (fields : E → List (ℕ × F) × (ℕ × F)) → AreAlike (sparse_extension e fields) (sparse_extension other fields)
+  sparse_extension_alike fields =
+      lawful_alike fields (λ _. Unit {0}) (list (word ⊗ e) ⊗ (word ⊗ e)) (list (word ⊗ other) ⊗ (word ⊗ other))
+      (pair_alike (list (word ⊗ e)) (list (word ⊗ other)) (word ⊗ e) (word ⊗ other) pairs_alike (pair_alike word word e other (one_format word) A))
+
+  pub multivariate_alike : {T P : Type 0} (t also : Format T) → AreAlike t also → (fields : P → ℕ × List (F × T)) → AreAlike (multivariate e t fields) (multivariate other also fields)
+  multivariate_alike t also B fields =
+      lawful_alike fields (λ _. Unit {0}) (word ⊗ list (e ⊗ t)) (word ⊗ list (other ⊗ also))
+      (pair_alike word word (list (e ⊗ t)) (list (other ⊗ also)) (one_format word) (list_alike (e ⊗ t) (other ⊗ also) (pair_alike e other t also A B)))

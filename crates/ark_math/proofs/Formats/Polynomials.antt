@@ -1,5 +1,5 @@
 -- The layouts of polynomials in one variable: where reading stops, and what a spelling tells.
-use Rattle.std.proofs.Common.{◌≡◌, ℕ, List, map}
+use Rattle.std.proofs.Common.{ℕ, List, map}
 use Rattle.ark_math.specs.Field.{FieldOn}
 use Rattle.ark_math.specs.Univariate.{IsTrimmed, IsSparse}
 use Rattle.ark_math.specs.Format.{Format, IsFormat, Tells, IsOneToOne, word, ◌⊗◌, list}

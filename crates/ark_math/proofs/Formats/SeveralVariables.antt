@@ -1,7 +1,7 @@
 -- Terms, polynomials in several variables and multilinear extensions in bytes: reading stops at one place alone, and a
 -- spelling tells its value, or what views of its parts show.
-use Rattle.std.proofs.Common.{◌≡◌, ℕ, List, map}
-use Rattle.ark_math.specs.Format.{Format, IsFormat, Tells, IsOneToOne, word, ◌⊗◌, list, lawful}
+use Rattle.std.proofs.Common.{ℕ, List, map}
+use Rattle.ark_math.specs.Format.{Format, IsFormat, Tells, IsOneToOne, word, ◌⊗◌, list}
 use Rattle.ark_math.specs.Term.{IsTerm}
 use Rattle.ark_math.specs.Layouts.{term, multivariate, dense_extension, sparse_extension}
 use Rattle.ark_math.proofs.Formats.Ends.{number_is_format, pair_is_format, list_is_format, lawful_is_format}

@@ -1,5 +1,5 @@
 -- What the sink holds is the spelling, and the source has just that left.
-use Rattle.std.proofs.Common.{◌++◌, Some, ap, ◌∙◌}
+use Rattle.std.proofs.Common.{◌++◌, ap, ◌∙◌, refl}
 use Rattle.ark_bytes.proofs.ReadBack.{reads_back, reads_no_fault, shows_back}
 use Rattle.ark_bytes.proofs.laws.written_then_read.Goals as goal
 
@@ -7,10 +7,10 @@ pub returns-clause-alike : goal.returns-clause-alike
 returns-clause-alike g c =
     let format = g.T.Spelled.format c.args.mode in
     let put = c.in_ok-serialize_with_mode.ensures in
-    let empty = ap (λ v. v.items) c.new-sink.ensures.inner ∙ c.new.ensures.items in
+    let empty = ap (λ v. v.items) c.new-sink.ensures.inner ∙ c.in_ok-with_capacity.ensures.items in
     let held = ap (λ v. v.items) c.into_inner-bytes.ensures ∙ put.puts.appends ∙ ap (λ l. l ++ format.spelling c.args.value.now) empty in
-    reads_back format (g.T.Spelled.format_law c.args.mode) c.as_slice.result.now _ _ c.args.value.now _ put.has
-    (c.as_slice.ensures.value ∙ held) (ap (λ s. Some s.now) c.new-source.ensures.inner) c.deserialize_with_mode.ensures
+    reads_back format (g.T.Spelled.format_law c.args.mode) c.as_slice-source.result.now _ _ c.args.value.now _ put.has
+    (c.as_slice-source.ensures.value ∙ held) refl c.deserialize_with_mode.ensures
 
 pub returns-clause-same : goal.returns-clause-same
 returns-clause-same g c =
@@ -20,7 +20,7 @@ pub returns-clause-faultless : goal.returns-clause-faultless
 returns-clause-faultless g c =
     let format = g.T.Spelled.format c.args.mode in
     let put = c.in_ok-serialize_with_mode.ensures in
-    let empty = ap (λ v. v.items) c.new-sink.ensures.inner ∙ c.new.ensures.items in
+    let empty = ap (λ v. v.items) c.new-sink.ensures.inner ∙ c.in_ok-with_capacity.ensures.items in
     let held = ap (λ v. v.items) c.into_inner-bytes.ensures ∙ put.puts.appends ∙ ap (λ l. l ++ format.spelling c.args.value.now) empty in
-    reads_no_fault format (g.T.Spelled.format_law c.args.mode) c.as_slice.result.now _ _ c.args.value.now _ put.has
-    (c.as_slice.ensures.value ∙ held) (ap (λ s. Some s.now) c.new-source.ensures.inner) c.deserialize_with_mode.ensures
+    reads_no_fault format (g.T.Spelled.format_law c.args.mode) c.as_slice-source.result.now _ _ c.args.value.now _ put.has
+    (c.as_slice-source.ensures.value ∙ held) refl c.deserialize_with_mode.ensures
