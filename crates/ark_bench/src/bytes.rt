@@ -1,7 +1,7 @@
 //! A dense polynomial in bytes, in memory.
 
 use crate::batches::{Benchmark, Number, mixed};
-use ark_base::{CanonicalDeserialize, CanonicalSerialize, Field, IoSink, IoSource, PolyError};
+use ark_base::{CanonicalDeserialize, CanonicalSerialize, Field, IoSink, PolyError};
 use ark_poly::DenseUVPolynomial;
 use ark_poly::univariate::DensePolynomial;
 use std::alloc::Global;
@@ -39,7 +39,7 @@ pub struct ReadBack<F: Field> {
 
 impl<F: Field + Number> Benchmark for ReadBack<F> {
     fn call(&mut self, alloc: Global) -> Result<(), PolyError> {
-        let mut source = IoSource::new(self.bytes.as_slice());
+        let mut source = self.bytes.as_slice();
         // What was written is read for as long as there is memory.
         self.polynomial = DensePolynomial::deserialize_compressed(alloc, &mut source).map_err(
             |_| PolyError::Memory,

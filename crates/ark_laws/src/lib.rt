@@ -2,9 +2,11 @@
 //! a body need not make the calls that the law is about. All are proved from what the crates below promise to any caller.
 #![tactic(auto)]
 
+mod bytes;
 mod multivariate;
 mod univariate;
 
+pub use bytes::{domain_read_back, polynomial_read_back, values_read_back};
 pub use multivariate::{
     graded_order, only_multilinear, value_at_corner, values_with_bound_variables,
     values_with_exchanged_variables,

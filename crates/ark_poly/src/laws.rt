@@ -3,7 +3,7 @@
 
 pub use ark_laws::{
     both_products, degree_of_product, dense_and_back, division_at_point, divisions_of_all_forms,
-    graded_order, only_multilinear, sparse_and_back, value_at_corner, values_of_all_forms,
-    values_of_both_forms, values_with_bound_variables, values_with_exchanged_variables,
-    weighted_sum, without_root,
+    domain_read_back, graded_order, only_multilinear, polynomial_read_back, sparse_and_back,
+    value_at_corner, values_of_all_forms, values_of_both_forms, values_read_back,
+    values_with_bound_variables, values_with_exchanged_variables, weighted_sum, without_root,
 };

@@ -200,7 +200,7 @@ fn through_file<F: Field>(
 ) -> anyhow::Result<DensePolynomial<F>> {
     let name = "saved_polynomial";
     save(polynomial, File::create(rt, name)?)?.flush()?;
-    let loaded = load(alloc, File::open(rt, name)?)?;
+    let (loaded, _file) = load(alloc, File::open(rt, name)?)?;
     fs::remove_file(rt, name)?;
     Ok(loaded)
 }

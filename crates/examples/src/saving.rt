@@ -1,7 +1,7 @@
 //! Saving and loading: a polynomial in a file, and the same one that is read from it.
 
 ghost use Rattle.std.specs.Prelude.{◌≡◌, ◌≢◌, IfOk, IfErr};
-ghost use Rattle.std.specs.Io.KnownBytes.{Appends};
+ghost use Rattle.std.specs.Io.KnownBytes.{Appends, Consumes};
 ghost use Rattle.ark_math.specs.Layouts.{dense};
 
 use ark_base::{
@@ -37,10 +37,16 @@ pub fn save<F: Field, W: Write + Drop>(
     Ok(sink.into_inner())
 }
 
-/// Reads a polynomial from a file, or whatever gives bytes.
+/// Reads a polynomial from a file, or whatever gives bytes, and gives that back, to be read on: of what is known to be
+/// left in it, just the spelling was taken.
 pub fn load<F: Field, R: Read + Drop>(
     alloc: Global,
     file: R,
-) -> Result<DensePolynomial<F>, SerializationError> {
-    DensePolynomial::deserialize_compressed(alloc, &mut IoSource::new(file))
+) -> Result<(DensePolynomial<F>, R), SerializationError>
+    ensures loaded { IfOk result (λ read. Consumes (R.remaining file) (R.remaining read.1)
+        ((dense F.field (F.format Compress.Yes)).spelling read.0)) }
+{
+    let mut source = IoSource::new(file);
+    let polynomial = DensePolynomial::deserialize_compressed(alloc, &mut source)?;
+    Ok((polynomial, source.into_inner()))
 }
