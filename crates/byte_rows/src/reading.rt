@@ -10,8 +10,8 @@ use row_words::rows::Answer;
 use row_words::words::told;
 use std::alloc::Global;
 
-/// What reading the bytes says and writing gives back, and how many bytes are left. Byte by byte the same comes, and each
-/// beginning of the bytes that were taken is refused with `IoError`; else the answer says so.
+/// What reading the bytes says and writing gives back, and how many bytes are left. From the slice itself and byte by byte
+/// the same comes, and each beginning of the bytes that were taken is refused with `IoError`; else the answer says so.
 pub fn answer_of<T: CanonicalSerialize + CanonicalDeserialize>(
     alloc: Global,
     bytes: &[u8],
@@ -20,6 +20,11 @@ pub fn answer_of<T: CanonicalSerialize + CanonicalDeserialize>(
     let mut source = IoSource::new(bytes);
     let given = outcome::<T, _>(alloc, &mut source, modes)?;
     let left = source.into_inner().len();
+    let mut rest = bytes;
+    let by_slice = outcome::<T, _>(alloc, &mut rest, modes)?;
+    if by_slice != given || rest.len() != left {
+        return told(alloc, "another answer of the slice itself");
+    }
     let mut single = SingleBytes {
         source: IoSource::new(bytes),
     };
@@ -91,7 +96,8 @@ fn read_and_written<T: CanonicalSerialize + CanonicalDeserialize, S: Source>(
 /// Whether the bytes are refused with `IoError`, in the mode that is read.
 fn is_unfinished<T: CanonicalDeserialize>(alloc: Global, bytes: &[u8], modes: &str) -> bool {
     let from = modes.split_once('>').map_or(modes, |pair| pair.0);
-    match T::deserialize_with_mode(alloc, &mut IoSource::new(bytes), mode_of(from)) {
+    let mut rest = bytes;
+    match T::deserialize_with_mode(alloc, &mut rest, mode_of(from)) {
         Err(error) => error == SerializationError::IoError,
         Ok(_) => false,
     }
