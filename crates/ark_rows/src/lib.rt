@@ -1,0 +1,6 @@
+//! Elements side by side, as many as a type says.
+#![tactic(auto)]
+
+mod row;
+
+pub use row::Row;
