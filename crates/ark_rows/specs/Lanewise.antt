@@ -1,5 +1,5 @@
 -- A module's values side by side.
-use Rattle.std.specs.Prelude.{ℕ}
+use Rattle.std.specs.Prelude.{ℕ, List, map}
 use Rattle.ark_math.specs.Module.{ModuleOn}
 
 -- a module's values, one for each lane
@@ -10,3 +10,7 @@ lanewise V = record {
   negated = λ x i. V.negated (x i);
   scale = λ a x i. V.scale a (x i);
 }
+
+-- what stands in lane i of each
+abbrev pub lane : {M : Type 0} → ℕ → List (ℕ → M) → List M
+lane i c = map (λ r. r i) c

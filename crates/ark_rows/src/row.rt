@@ -1,13 +1,14 @@
 //! Elements side by side.
 
-ghost use Rattle.std.specs.Prelude.{◌≡◌, ℕ, ◌<◌, length, get_or};
+ghost use Rattle.std.specs.Prelude.{◌≡◌, ℕ, ◌<◌, length, get_or, slice_set};
 
 use ark_traits::{DomainCoeff, Field, Zero};
 use std::alloc::AllocError;
 use std::ops::{Add, AddAssign, MulAssign, Sub, SubAssign};
 
-/// `N` elements of a field, which operations take lane by lane: a module over the field. A transform of rows transforms
-/// `N` lists at once.
+/// `N` elements of a field, which operations take lane by lane: a module over the field, whose values are functions from
+/// lanes to elements. The loops over lanes are of a length known when the program is compiled, so two elements or more are
+/// taken at once; eight or sixteen lanes are the quickest.
 #[derive_where(Copy, Debug, PartialEq, Eq, Hash; F)]
 pub struct Row<F, const N: usize> {
     items: [F; N],
@@ -25,18 +26,37 @@ impl<F: Copy, const N: usize> Clone for Row<F, N> {
 }
 
 impl<F: Field, const N: usize> Row<F, N> {
-    ghost use Rattle.ark_rows.specs.Row.{elements};
+    ghost use Rattle.ark_rows.specs.Row.{row_elements};
 
-    /// The elements.
+    /// The elements, that of lane 0 first.
     pub fn new(items: [F; N]) -> Self
-        ensures { elements result ≡ items }
+        ensures { row_elements result ≡ items }
     {
         Row { items }
     }
 
+    /// The elements of a slice of `N`.
+    pub fn from_slice(items: &[F]) -> Self
+        requires { length items.now ≡ N }
+        ensures { row_elements result ≡ items.now }
+    {
+        let mut row = Row::zero();
+        for i in 0..N {
+            row.set(i, items[i]);
+        }
+        row
+    }
+
+    /// All elements.
+    pub fn as_slice(&self) -> &[F]
+        ensures { result.now ≡ row_elements self.now }
+    {
+        self.items.as_slice()
+    }
+
     /// All elements.
     pub fn to_array(self) -> [F; N]
-        ensures { result ≡ elements self }
+        ensures { result ≡ row_elements self }
     {
         self.items
     }
@@ -44,16 +64,24 @@ impl<F: Field, const N: usize> Row<F, N> {
     /// The element of a lane.
     pub fn get(&self, i: usize) -> F
         requires { i < N }
-        ensures { (d : F) → result ≡ get_or (elements self.now) i d }
+        ensures { (d : F) → result ≡ get_or (row_elements self.now) i d }
     {
         self.items[i]
+    }
+
+    /// Puts an element into a lane.
+    pub fn set(&mut self, i: usize, item: F)
+        requires { i < N }
+        ensures { row_elements self.new ≡ slice_set (row_elements self.old) i item }
+    {
+        self.items[i] = item;
     }
 }
 
 impl<F: Field, const N: usize> Zero for Row<F, N> {
-    ghost use Rattle.ark_rows.specs.Row.{constant};
+    ghost use Rattle.ark_rows.specs.Row.{zero_row};
 
-    ghost zero = { constant F.field.zero };
+    ghost zero = { zero_row F.field };
 
     fn zero() -> Self {
         Row {
@@ -131,7 +159,7 @@ impl<F: Field, const N: usize> MulAssign<F> for Row<F, N> {
 }
 
 impl<F: Field, const N: usize> DomainCoeff<F> for Row<F, N> {
-    ghost use Rattle.ark_rows.specs.Row.{lane};
+    ghost use Rattle.ark_rows.specs.Row.{lanes};
     ghost use Rattle.ark_rows.specs.Lanewise.{lanewise};
     ghost use Rattle.ark_rows.specs.RowLaws.{lanewise_is_module, lanes_Decides, cloned, of_zeros, of_sum};
     ghost use Rattle.ark_rows.specs.RowLaws.{of_difference, of_multiple};
@@ -140,7 +168,7 @@ impl<F: Field, const N: usize> DomainCoeff<F> for Row<F, N> {
 
     ghost Meaning = { ℕ → F };
 
-    ghost meaning = { lane F.field };
+    ghost meaning = { lanes F.field };
 
     ghost group = { lanewise (itself F.field) };
 
