@@ -1,6 +1,7 @@
 //! Calls in batches of some 20 milliseconds, of which the least counts.
 
-use ark_base::{PolyError, PrimeField, PrimeModulus};
+use ark_base::{Field, Lanes, PolyError, PrimeField, PrimeModulus};
+use ark_rows::Row;
 use std::alloc::Global;
 use std::io::Print;
 use std::time::{Clock, Instant};
@@ -22,6 +23,19 @@ pub trait Number {
 impl<M: PrimeModulus> Number for PrimeField<M> {
     fn number(&self) -> u64 {
         self.value()
+    }
+}
+
+impl<F: Field + Number> Number for Lanes<F> {
+    fn number(&self) -> u64 {
+        let first = self.get(0).number().wrapping_mul(31);
+        first.wrapping_add(self.get(1).number())
+    }
+}
+
+impl<F: Field + Number, const N: usize> Number for Row<F, N> {
+    fn number(&self) -> u64 {
+        mixed(self.as_slice())
     }
 }
 

@@ -2,7 +2,7 @@
 
 ghost use Rattle.std.specs.Prelude.{◌<◌};
 
-use ark_base::{Field, PolyError};
+use ark_base::{Field, Lanes, PolyError};
 use ark_poly::univariate::DensePolynomial;
 use ark_poly::{DenseUVPolynomial, MultilinearExtension};
 use rand_core::Rng;
@@ -31,6 +31,18 @@ impl Draws {
             list.push(self.element())?;
         }
         Ok(list)
+    }
+
+    pub fn pairs<F: Field>(
+        &mut self,
+        alloc: Global,
+        len: usize,
+    ) -> Result<Vec<Lanes<F>>, AllocError> {
+        let mut pairs = Vec::with_capacity(alloc, len)?;
+        for _ in 0..len {
+            pairs.push(Lanes::new(self.element(), self.element()))?;
+        }
+        Ok(pairs)
     }
 
     /// A polynomial with so many coefficients, or fewer where the last ones are drawn as zero.

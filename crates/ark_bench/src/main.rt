@@ -6,6 +6,7 @@
 
 mod batches;
 mod bytes;
+mod codes;
 mod draws;
 mod large_field;
 mod points;
@@ -20,6 +21,7 @@ use ark_poly::{
 };
 use batches::{Number, report};
 use bytes::{ReadBack, Written};
+use codes::report_codes;
 use draws::Draws;
 use large_field::F2013265921;
 use points::{BoundTable, VARIABLES, ValueAtPoint, polynomial_of_terms};
@@ -39,6 +41,7 @@ fn main(rt: HostRuntime) -> anyhow::Result<()> {
     report_radix2::<F65537>(&rt, rt.alloc(), timed, &mut draws)?;
     report_mixed_radix::<F433>(&rt, rt.alloc(), timed, &mut draws)?;
     report_polynomials::<F65537>(&rt, rt.alloc(), timed, &mut draws)?;
+    report_codes::<F65537>(&rt, rt.alloc(), timed)?;
     if timed {
         report_growth::<F2013265921>(&rt, rt.alloc(), &mut draws)?;
     }

@@ -1,0 +1,171 @@
+//! Calls of erasure codes, and transforms of rows.
+
+use crate::batches::{Benchmark, Number, mixed, report};
+use crate::draws::Draws;
+use ark_base::{DomainCoeff, FftField, PolyError, Zero};
+use ark_poly::{EvaluationDomain, Radix2EvaluationDomain};
+use ark_rows::Row;
+use rs_code::Code;
+use std::alloc::Global;
+use std::io::Print;
+use std::time::Clock;
+
+/// The codeword of a message whose first item the last codeword gives.
+#[derive(Drop)]
+pub struct Encoding<F: FftField, T: DomainCoeff<F>> {
+    pub code: Code<F>,
+    pub message: Vec<T>,
+    pub codeword: Vec<T>,
+}
+
+impl<F: FftField, T: DomainCoeff<F> + Number> Benchmark for Encoding<F, T> {
+    fn call(&mut self, alloc: Global) -> Result<(), PolyError> {
+        // The message is as long as the code's.
+        self.codeword = self
+            .code
+            .encode(alloc, &self.message)
+            .map_err(|_| PolyError::Memory)?;
+        if let (Some(first), Some(value)) = (self.message.first_mut(), self.codeword.last()) {
+            *first = *value;
+        }
+        Ok(())
+    }
+
+    fn checksum(&self) -> u64 {
+        mixed(self.codeword.as_slice())
+    }
+}
+
+/// The codeword of which some places are erased.
+#[derive(Drop)]
+pub struct Restoring<F: FftField, T: DomainCoeff<F>> {
+    pub code: Code<F>,
+    pub word: Vec<Option<T>>,
+    pub codeword: Vec<T>,
+}
+
+impl<F: FftField, T: DomainCoeff<F> + Number> Benchmark for Restoring<F, T> {
+    fn call(&mut self, alloc: Global) -> Result<(), PolyError> {
+        // No more places are erased than the code restores.
+        self.codeword = self
+            .code
+            .restore(alloc, &self.word)
+            .map_err(|_| PolyError::Memory)?;
+        Ok(())
+    }
+
+    fn checksum(&self) -> u64 {
+        mixed(self.codeword.as_slice())
+    }
+}
+
+/// A transform of rows in place, over and over.
+#[derive(Drop)]
+pub struct RowsInPlace<F: FftField, D: EvaluationDomain<F>, const N: usize> {
+    pub domain: D,
+    pub rows: Vec<Row<F, N>>,
+}
+
+impl<F: FftField + Number, D: EvaluationDomain<F>, const N: usize> Benchmark
+    for RowsInPlace<F, D, N> {
+    fn call(&mut self, alloc: Global) -> Result<(), PolyError> {
+        self.domain.fft_in_place(alloc, &mut self.rows)
+    }
+
+    fn checksum(&self) -> u64 {
+        mixed(self.rows.as_slice())
+    }
+}
+
+/// Codes of half as many items as places, over elements and over pairs of them; and transforms of rows of eight.
+pub fn report_codes<F: FftField + Number>(
+    rt: &(impl Print + Clock),
+    alloc: Global,
+    timed: bool,
+) -> anyhow::Result<()> {
+    let mut draws = Draws::new();
+    for n in [1 << 12, 1 << 16] {
+        let message = draws.list::<F>(alloc, n / 2)?;
+        report_code(rt, alloc, timed, "", n, message)?;
+        let pairs = draws.pairs::<F>(alloc, n / 2)?;
+        report_code(rt, alloc, timed, "_of_pairs", n, pairs)?;
+    }
+    report_rows::<F>(rt, alloc, timed, &mut draws)
+}
+
+// A message's codeword, and the codeword with a quarter and with half of its places erased.
+fn report_code<F: FftField + Number, T: DomainCoeff<F> + Number>(
+    rt: &(impl Print + Clock),
+    alloc: Global,
+    timed: bool,
+    of: &str,
+    n: usize,
+    message: Vec<T>,
+) -> anyhow::Result<()> {
+    let Some(code) = Code::<F>::new(n / 2, n) else {
+        return Ok(());
+    };
+    let codeword = code.encode(alloc, &message)?;
+    for (part, every) in [("quarter", 4), ("half", 2)] {
+        let name = format!(in alloc; "code_restore_{part}{of}")?;
+        report_restoring(rt, alloc, timed, &name, n, every, &codeword)?;
+    }
+    let name = format!(in alloc; "code_encode{of}")?;
+    let mut encoding = Encoding {
+        code,
+        message,
+        codeword,
+    };
+    report(rt, alloc, timed, &name, n, &mut encoding)
+}
+
+// One place of so many is erased.
+fn report_restoring<F: FftField + Number, T: DomainCoeff<F> + Number>(
+    rt: &(impl Print + Clock),
+    alloc: Global,
+    timed: bool,
+    name: &str,
+    n: usize,
+    every: usize,
+    codeword: &[T],
+) -> anyhow::Result<()> {
+    let Some(code) = Code::<F>::new(n / 2, n) else {
+        return Ok(());
+    };
+    let mut word = Vec::with_capacity(alloc, codeword.len())?;
+    for (i, value) in codeword.iter().enumerate() {
+        word.push(if i % every.max(1) == 0 {
+            None
+        } else {
+            Some(*value)
+        })?;
+    }
+    let mut restoring = Restoring {
+        code,
+        word,
+        codeword: Vec::new(alloc),
+    };
+    report(rt, alloc, timed, name, n, &mut restoring)
+}
+
+fn report_rows<F: FftField + Number>(
+    rt: &(impl Print + Clock),
+    alloc: Global,
+    timed: bool,
+    draws: &mut Draws,
+) -> anyhow::Result<()> {
+    let Some(domain) = Radix2EvaluationDomain::<F>::new(1 << 12) else {
+        return Ok(());
+    };
+    let mut rows = Vec::with_capacity(alloc, domain.size())?;
+    for _ in 0..domain.size() {
+        let mut row = Row::<F, 8>::zero();
+        for lane in 0..8 {
+            row.set(lane, draws.element());
+        }
+        rows.push(row)?;
+    }
+    let mut transforms = RowsInPlace { domain, rows };
+    let name = "rows_of_8_fft_in_place";
+    report(rt, alloc, timed, name, 1 << 12, &mut transforms)
+}
