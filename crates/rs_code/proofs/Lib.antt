@@ -1,0 +1,10 @@
+-- Lemmas of this crate: the mathematics of restoration, and what the steps of its functions need.
+pub mod ChosenFactors
+pub mod Factors
+pub mod Locators
+pub mod Lost
+pub mod Monic
+pub mod Places
+pub mod Restored
+pub mod Sizes
+pub mod Spent

@@ -1,0 +1,68 @@
+-- Words of the private steps: the polynomial that is zero at the erased places, and its derivative.
+use Rattle.std.specs.Prelude.{◌≡◌, ℕ, suc, ◌≤◌, ◌<◌, Bool, true, false, List, [], ◌∷◌, length, get_or}
+use Rattle.ark_math.specs.Field.{FieldOn, natural, minus}
+use Rattle.ark_math.specs.Module.{ModuleOn}
+use Rattle.ark_math.specs.Root.{Adicity}
+use Rattle.ark_math.specs.Domain.{Kind, Domain, IsSize, element}
+use Rattle.ark_math.specs.Univariate.{difference, monomial, product, of_list}
+
+-- the elements at the marked places, of which the first one is place i
+abbrev pub lost_from : {F : Type 0} → FieldOn F → Domain F → ℕ → List Bool → List F
+lost_from K d i [] = []
+lost_from K d i (true ∷ marks) = element K d i ∷ lost_from K d (suc i) marks
+lost_from K d i (false ∷ marks) = lost_from K d (suc i) marks
+
+abbrev pub lost : {F : Type 0} → FieldOn F → Domain F → List Bool → List F
+lost K d marks = lost_from K d 0 marks
+
+-- the product of x - r for each r of a list
+abbrev pub located : {F : Type 0} → FieldOn F → List F → F → F
+located K [] x = K.one
+located K (r ∷ rs) x = K.times (minus K x r) (located K rs x)
+
+-- the value of its derivative
+abbrev pub slope : {F : Type 0} → FieldOn F → List F → F → F
+slope K [] x = K.zero
+slope K (r ∷ rs) x = K.plus (located K rs x) (K.times (minus K x r) (slope K rs x))
+
+-- the formal derivative of a polynomial by its coefficients
+abbrev pub derived : {F M : Type 0} → FieldOn F → ModuleOn F M → (ℕ → M) → ℕ → M
+derived K V a i = V.scale (natural K (suc i)) (a (suc i))
+
+-- a factor for a place: the polynomial's value, or at a marked one the inverse of its derivative's
+abbrev pub IsFactor : {F : Type 0} → FieldOn F → List F → F → Bool → F → Type 0
+IsFactor K rs x true f = K.times f (slope K rs x) ≡ K.one
+IsFactor K rs x false f = f ≡ located K rs x
+
+-- one for each place
+pub record AreFactors {F : Type 0} (K : FieldOn F) (d : Domain F) (marks : List Bool) (factors : List F) : Type 0 where
+  pub len : length factors ≡ d.size
+  pub each : (i : ℕ) → i < d.size → IsFactor K (lost K d marks) (element K d i) (get_or marks i true) (of_list K factors i)
+
+-- what is interpolated: a value times its factor, and zero at a marked place
+abbrev pub weighed : {F M : Type 0} → ModuleOn F M → Bool → F → M → M
+weighed V true f y = V.zero
+weighed V false f y = V.scale f y
+
+-- the word's value as it is, and at a marked place z times the factor
+abbrev pub filled : {F M : Type 0} → ModuleOn F M → Bool → F → M → M → M
+filled V true f y z = V.scale f z
+filled V false f y z = y
+
+-- x - r
+abbrev pub linear : {F : Type 0} → FieldOn F → F → ℕ → F
+linear K r = difference K (monomial K 1 K.one) (monomial K 0 r)
+
+-- the product of x - r for each r of a list, as a polynomial
+abbrev pub locator : {F : Type 0} → FieldOn F → List F → ℕ → F
+locator K [] = monomial K 0 K.one
+locator K (r ∷ rs) = product K (linear K r) (locator K rs)
+
+-- of degree n, with one as the leading coefficient
+pub record IsMonic {F : Type 0} (K : FieldOn F) (n : ℕ) (a : ℕ → F) : Type 0 where
+  pub leading : a n ≡ K.one
+  pub rest : (i : ℕ) → n < i → a i ≡ K.zero
+
+-- domains have a size at or above k
+abbrev pub HasSizeFor : Adicity → ℕ → Type 0
+HasSizeFor s k = (kind : Kind) × (n : ℕ) × IsSize s kind n × (k ≤ n)

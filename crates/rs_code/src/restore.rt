@@ -1,0 +1,238 @@
+//! Words with places erased, restored by three transforms. `Work` is told of every product of a module's value by an
+//! element of the field, and `Work::scale` alone makes one.
+
+ghost use Rattle.std.specs.Prelude.{◌≡◌, ◌≢◌, ◌↔◌, ℕ, ◌+◌, ◌-◌, ◌*◌, ◌<◌, ◌≤◌, true, List, get_or};
+ghost use Rattle.std.specs.Prelude.{length, map, is_none, unwrap_or, IsTrue, IfOk, Err, IsOkUnless};
+ghost use Rattle.ark_math.specs.Module.{item};
+ghost use Rattle.ark_math.specs.Univariate.{of_list};
+ghost use Rattle.rs_code.specs.Codeword.{AgreesElsewhere, AgreesWith, IsCodeword, erasure_count, mark_count};
+ghost use Rattle.rs_code.specs.Cost.{GrowsWithin};
+ghost use Rattle.rs_code.specs.Locator.{derived, filled, weighed};
+
+use crate::code::DomainCode;
+use crate::decoder::DomainDecoder;
+use crate::error::RsError;
+use ark_base::{DomainCoeff, FftField, Field, PolyError, Work};
+use ark_poly::EvaluationDomain;
+use std::alloc::{AllocError, Global};
+
+impl<F: FftField, D: EvaluationDomain<F>> DomainCode<F, D> {
+    /// `restore` with its cost told, whatever it answers: at most three times the butterflies and the steps of one
+    /// inverse transform, and at most five products for each place beside theirs.
+    pub fn restore_counted<T: DomainCoeff<F>>(
+        &self,
+        alloc: Global,
+        word: &[Option<T>],
+        work: &mut Work,
+    ) -> Result<Vec<T>, RsError>
+        ensures codeword { IfOk result (λ c. IsCodeword F.field T.group self.now.domain self.now.k
+            (map T.meaning c.items)) }
+        ensures agrees { IfOk result (λ c. AgreesWith T.group T.meaning word.now (map T.meaning c.items)) }
+        ensures only { IfOk result (λ c. (other : List T.Meaning)
+            → IsCodeword F.field T.group self.now.domain self.now.k other
+            → AgreesWith T.group T.meaning word.now other → other ≡ map T.meaning c.items) }
+        ensures len { IfOk result (λ c. length word.now ≡ self.now.domain.size) }
+        ensures few { IfOk result (λ c. erasure_count word.now ≤ self.now.domain.size - self.now.k) }
+        ensures wrong_length { (result ≡ Err RsError.WrongLength) ↔ (length word.now ≢ self.now.domain.size) }
+        ensures too_many_erased { (result ≡ Err RsError.TooManyErased)
+            ↔ (length word.now ≡ self.now.domain.size)
+            × (self.now.domain.size - self.now.k < erasure_count word.now) }
+        ensures no_codeword { (result ≡ Err RsError.NoCodeword) → (other : List T.Meaning)
+            → IsCodeword F.field T.group self.now.domain self.now.k other
+            → AgreesWith T.group T.meaning word.now other → ⊥ }
+        ensures cost { GrowsWithin F.adicity self.now.domain 3 (5 * self.now.domain.size) work.old work.new }
+    {
+        if word.len() != self.domain.size() {
+            return Err(RsError::WrongLength);
+        }
+        if count_erased(word) > self.domain.size() - self.k {
+            return Err(RsError::TooManyErased);
+        }
+        let decoder = self.decoder(alloc, &erased_places(alloc, word)?)?;
+        let values = kept_values(alloc, word, T::zero())?;
+        decoder.restore_counted(alloc, &values, work)
+    }
+}
+
+impl<F: FftField, D: EvaluationDomain<F>> DomainDecoder<F, D> {
+    /// `restore` with its cost told, whatever it answers: at most three times the butterflies and the steps of one
+    /// inverse transform, and at most five products for each place beside theirs.
+    pub fn restore_counted<T: DomainCoeff<F>>(
+        &self,
+        alloc: Global,
+        word: &[T],
+        work: &mut Work,
+    ) -> Result<Vec<T>, RsError>
+        ensures codeword { IfOk result (λ c. IsCodeword F.field T.group self.now.code.domain self.now.code.k
+            (map T.meaning c.items)) }
+        ensures agrees { IfOk result (λ c. AgreesElsewhere T.group self.now.erased (map T.meaning word.now)
+            (map T.meaning c.items)) }
+        ensures only { IfOk result (λ c. (other : List T.Meaning)
+            → IsCodeword F.field T.group self.now.code.domain self.now.code.k other
+            → AgreesElsewhere T.group self.now.erased (map T.meaning word.now) other
+            → other ≡ map T.meaning c.items) }
+        ensures wrong_length { (result ≡ Err RsError.WrongLength)
+            ↔ (length word.now ≢ self.now.code.domain.size) }
+        ensures too_many_erased { result ≢ Err RsError.TooManyErased }
+        ensures no_codeword { (result ≡ Err RsError.NoCodeword) → (other : List T.Meaning)
+            → IsCodeword F.field T.group self.now.code.domain self.now.code.k other
+            → AgreesElsewhere T.group self.now.erased (map T.meaning word.now) other → ⊥ }
+        ensures cost { GrowsWithin F.adicity self.now.code.domain 3 (5 * self.now.code.domain.size)
+            work.old work.new }
+    {
+        if word.len() != self.domain.size() {
+            return Err(RsError::WrongLength);
+        }
+        let values = self.candidate(alloc, word, work)?;
+        let mut message = Vec::from_slice(alloc, &values)?;
+        self.domain.ifft_counted(alloc, &mut message, work)?;
+        if !are_zeros(&message[self.k..]) {
+            return Err(RsError::NoCodeword);
+        }
+        Ok(values)
+    }
+
+    // The only list that can be a codeword with the word's values at the places that aren't erased.
+    fn candidate<T: DomainCoeff<F>>(
+        &self,
+        alloc: Global,
+        word: &[T],
+        work: &mut Work,
+    ) -> Result<Vec<T>, PolyError>
+        requires { length word.now ≡ self.now.code.domain.size }
+        ensures len { IfOk result (λ c. length c.items ≡ self.now.code.domain.size) }
+        ensures agrees { IfOk result (λ c. AgreesElsewhere T.group self.now.erased (map T.meaning word.now)
+            (map T.meaning c.items)) }
+        ensures only { IfOk result (λ c. (other : List T.Meaning)
+            → IsCodeword F.field T.group self.now.code.domain self.now.code.k other
+            → AgreesElsewhere T.group self.now.erased (map T.meaning word.now) other
+            → other ≡ map T.meaning c.items) }
+        ensures cost { GrowsWithin F.adicity self.now.code.domain 2 (4 * self.now.code.domain.size)
+            work.old work.new }
+        ensures memory { IsOkUnless result PolyError.Memory }
+    {
+        let domain = self.domain;
+        let mut values = Vec::from_slice(alloc, word)?;
+        weigh(values.as_mut_slice(), &self.erased, &self.factors, work);
+        domain.ifft_counted(alloc, &mut values, work)?;
+        derive(values.as_mut_slice(), work);
+        domain.fft_counted(alloc, &mut values, work)?;
+        fill(
+            values.as_mut_slice(),
+            word,
+            &self.erased,
+            &self.factors,
+            work,
+        );
+        Ok(values)
+    }
+}
+
+// How many places are erased.
+fn count_erased<T: Copy>(word: &[Option<T>]) -> usize
+    ensures { result ≡ erasure_count word.now }
+{
+    word.iter().filter(|place| place.is_none()).count()
+}
+
+// Which places are erased.
+fn erased_places<T: Copy>(alloc: Global, word: &[Option<T>]) -> Result<Vec<bool>, AllocError>
+    ensures { IfOk result (λ v. v.items ≡ map is_none word.now) }
+{
+    word.iter().map(|place| place.is_none()).collect(alloc)
+}
+
+// The values at the other places, and another value at the erased ones.
+fn kept_values<T: Copy>(alloc: Global, word: &[Option<T>], other: T) -> Result<Vec<T>, AllocError>
+    ensures { IfOk result (λ v. v.items ≡ map (λ place. unwrap_or place other) word.now) }
+{
+    word.iter()
+        .map(|place| place.unwrap_or(other))
+        .collect(alloc)
+}
+
+// At a kept place the value times its factor, and zero at an erased one. A product for each kept place.
+fn weigh<F: Field, T: DomainCoeff<F>>(
+    values: &mut [T],
+    marks: &[bool],
+    factors: &[F],
+    work: &mut Work,
+)
+    requires len { length values.old ≡ length marks.now }
+    requires factors { length factors.now ≡ length marks.now }
+    ensures values { (i : ℕ) → i < length marks.now → item T.group (map T.meaning values.new) i
+        ≡ weighed T.group (get_or marks.now i true) (of_list F.field factors.now i)
+        (item T.group (map T.meaning values.old) i) }
+    ensures products { work.new.products + mark_count marks.now ≡ work.old.products + length marks.now }
+    ensures butterflies { work.new.butterflies ≡ work.old.butterflies }
+    ensures steps { work.new.steps ≡ work.old.steps }
+{
+    for i in 0..marks.len() {
+        let mut value = T::zero();
+        if !marks[i] {
+            value = values[i];
+            work.scale(&mut value, factors[i]);
+        }
+        values[i] = value;
+    }
+}
+
+// The coefficients of the formal derivative. At most a product for each.
+fn derive<F: Field, T: DomainCoeff<F>>(coeffs: &mut [T], work: &mut Work)
+    ensures derivative { (i : ℕ) → i < length coeffs.old → item T.group (map T.meaning coeffs.new) i
+        ≡ derived F.field T.group (item T.group (map T.meaning coeffs.old)) i }
+    ensures products { work.new.products ≤ work.old.products + length coeffs.old }
+    ensures butterflies { work.new.butterflies ≡ work.old.butterflies }
+    ensures steps { work.new.steps ≡ work.old.steps }
+{
+    let mut exponent = F::zero();
+    for i in 0..coeffs.len() {
+        exponent = exponent + F::one();
+        let mut above = T::zero();
+        if i + 1 < coeffs.len() {
+            above = coeffs[i + 1];
+            work.scale(&mut above, exponent);
+        }
+        coeffs[i] = above;
+    }
+}
+
+// The kept values, and at an erased place the value that is there times its factor. A product for each erased place.
+fn fill<F: Field, T: DomainCoeff<F>>(
+    values: &mut [T],
+    word: &[T],
+    marks: &[bool],
+    factors: &[F],
+    work: &mut Work,
+)
+    requires len { length values.old ≡ length marks.now }
+    requires word { length word.now ≡ length marks.now }
+    requires factors { length factors.now ≡ length marks.now }
+    ensures values { (i : ℕ) → i < length marks.now → item T.group (map T.meaning values.new) i
+        ≡ filled T.group (get_or marks.now i true) (of_list F.field factors.now i)
+        (item T.group (map T.meaning word.now) i) (item T.group (map T.meaning values.old) i) }
+    ensures products { work.new.products ≡ work.old.products + mark_count marks.now }
+    ensures butterflies { work.new.butterflies ≡ work.old.butterflies }
+    ensures steps { work.new.steps ≡ work.old.steps }
+{
+    for i in 0..marks.len() {
+        let mut value = word[i];
+        if marks[i] {
+            value = values[i];
+            work.scale(&mut value, factors[i]);
+        }
+        values[i] = value;
+    }
+}
+
+// Whether all items are zero.
+fn are_zeros<F: Field, T: DomainCoeff<F>>(items: &[T]) -> bool
+    ensures { IsTrue result ↔ ((i : ℕ) → item T.group (map T.meaning items.now) i ≡ T.group.zero) }
+{
+    for item in items {
+        if !item.is_zero() {
+            return false;
+        }
+    }
+    true
+}
