@@ -85,8 +85,8 @@ pub fn by_decoder<F: FftField, T: DomainCoeff<F>>(
 }
 
 /// The values, or the refusal.
-fn text_of_result<F: Numbered>(alloc: Global, result: Result<Vec<F>, RsError>) -> Answer {
-    match result {
+fn text_of_result<F: Numbered>(alloc: Global, outcome: Result<Vec<F>, RsError>) -> Answer {
+    match outcome {
         Ok(values) => text_of(alloc, &values),
         Err(error) => text_of_refusal(alloc, error),
     }

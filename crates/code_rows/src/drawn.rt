@@ -8,6 +8,7 @@ use rs_code::{Code, RsError};
 use std::alloc::{AllocError, Global};
 
 /// Numbers by a linear congruence.
+#[derive(Drop)]
 struct Draws {
     state: u64,
 }

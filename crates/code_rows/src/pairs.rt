@@ -63,9 +63,9 @@ fn places_of<F: FftField + Numbered>(
 /// The pairs, or the refusal.
 fn text_of_result<F: FftField + Numbered>(
     alloc: Global,
-    result: Result<Vec<Lanes<F>>, RsError>,
+    outcome: Result<Vec<Lanes<F>>, RsError>,
 ) -> Answer {
-    match result {
+    match outcome {
         Ok(pairs) => text_of_pairs(alloc, &pairs),
         Err(error) => text_of_refusal(alloc, error),
     }
