@@ -87,20 +87,22 @@ fn whole<F: FftField>(alloc: Global, codeword: &[F]) -> Result<Vec<Option<F>>, A
 /// Erases a drawn place that isn't erased, or the next such one, if any.
 fn erase_one<F: FftField>(word: &mut [Option<F>], draws: &mut Draws) {
     let from = draws.below(word.len());
-    let len = word.len();
-    for step in 0..len {
-        let place = if step < len - from {
-            from + step
-        } else {
-            step - (len - from)
-        };
+    if !erase_from(word, from) {
+        erase_from(word, 0);
+    }
+}
+
+/// Erases the first place from there on that isn't erased, and tells whether there was one.
+fn erase_from<F: FftField>(word: &mut [Option<F>], from: usize) -> bool {
+    for place in 0..word.len() {
         if let Some(value) = word.get_mut(place) {
-            if value.is_some() {
+            if from <= place && value.is_some() {
                 *value = None;
-                return;
+                return true;
             }
         }
     }
+    false
 }
 
 fn comes_back<F: FftField>(

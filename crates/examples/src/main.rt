@@ -1,7 +1,7 @@
 //! Small callers, as a user of the crates writes them: a transform and back, values on a coset, an interpolation, the
 //! convolution of two lists, a combination of two polynomials, an opening, exact costs, the first round of a sum-check,
-//! what chooses a value of a table, a polynomial in a file, fields and a module of one's own. The program prints what each
-//! gives.
+//! what chooses a value of a table, values that are lost and restored, a polynomial in a file, fields and a module of one's
+//! own. The program prints what each gives.
 #![tactic(auto)]
 
 mod combination;
@@ -9,6 +9,7 @@ mod convolution;
 mod coset;
 mod cost;
 mod field;
+mod holders;
 mod interpolation;
 mod large_field;
 mod module;
@@ -29,10 +30,12 @@ use convolution::convolution;
 use coset::values_on_coset;
 use cost::over_sixteen_and_back;
 use field::{F97, quotient};
+use holders::lost_and_restored;
 use interpolation::interpolated_value;
 use large_field::size_for_a_hundred_million;
 use module::{Point, points_of_curve};
 use opening::opening;
+use rs_code::Code;
 use saving::{load, save, saved_and_loaded};
 use selector::selector;
 use std::alloc::Global;
@@ -76,6 +79,8 @@ fn main(rt: HostRuntime) -> anyhow::Result<()> {
         "what each of four values counts at (2, 3)",
         &counts,
     )?;
+    let values = held(alloc, &[1, 2, 3].map(F65537::from))?;
+    print_list(&rt, alloc, "of eight values, five of them lost", &values)?;
     print_saved(&rt, alloc)?;
     print_fields(&rt)?;
     let coeffs = [(1, 2), (3, 4), (5, 6)].map(|(x, y)| Point {
@@ -190,6 +195,13 @@ fn print_polynomials(rt: &impl Print, alloc: Global) -> anyhow::Result<()> {
         "the value at 2, and the quotient by x - 2",
         &opened,
     )
+}
+
+/// The message's eight values, of which three are left.
+fn held<F: FftField>(alloc: Global, message: &[F]) -> anyhow::Result<Vec<F>> {
+    let code = Code::new(message.len(), 8).ok_or(PolyError::NoDomain)?;
+    let lost = [true, false, true, true, false, false, true, true];
+    Ok(lost_and_restored(alloc, &code, message, &lost)?)
 }
 
 /// The polynomial that is loaded from a file in which this one was saved.
