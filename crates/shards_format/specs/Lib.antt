@@ -1,0 +1,7 @@
+-- Files in pieces.
+pub mod Stripes
+pub mod Parts
+pub mod Headers
+pub mod Pieces
+pub mod Files
+pub mod Given

@@ -1,0 +1,71 @@
+//! What splitting and joining ask of a code.
+
+ghost use Rattle.std.specs.Prelude.{◌≡◌, ◌≢◌, ℕ, ◌+◌, ◌*◌, ◌<◌, ◌≤◌, ◌^◌, length, get_or, IfSome, OnOk};
+
+use std::alloc::{AllocError, Global};
+
+/// A code for stripes. A stripe is `k` items below 2^16; it has a number of at most 2^16 at each of `n` places, and the
+/// numbers at any `k` places tell the stripe.
+pub trait StripeCode: Drop + Sized {
+    // The number of a stripe's items at a place: `number k n items place`.
+    ghost number: { ℕ → ℕ → (ℕ → ℕ) → ℕ → ℕ };
+
+    ghost k_of: { Self → ℕ };
+
+    ghost n_of: { Self → ℕ };
+
+    /// The code for `k` items and `n` places, where there is one.
+    fn new(k: usize, n: usize) -> Option<Self>
+        ensures k { IfSome result (λ c. Self.k_of c ≡ k) }
+        ensures n { IfSome result (λ c. Self.n_of c ≡ n) };
+
+    /// The number of a stripe's items.
+    fn k(&self) -> usize
+        ensures k { result ≡ Self.k_of self.now }
+        ensures some { 0 < result }
+        ensures few { result ≤ 65536 }
+        ensures fits { result ≤ Self.n_of self.now };
+
+    /// The number of places.
+    fn n(&self) -> usize
+        ensures n { result ≡ Self.n_of self.now }
+        ensures few { result ≤ 65536 };
+
+    /// The numbers of so many stripes, those at the first place first.
+    fn encode(
+        &self,
+        alloc: Global,
+        items: &[u16],
+        stripes: usize,
+        numbers: &mut [u32],
+    ) -> Result<(), AllocError>
+        requires items { length items.now ≡ stripes * Self.k_of self.now }
+        requires numbers { length numbers.old ≡ Self.n_of self.now * stripes }
+        ensures { OnOk result ((i s : ℕ) → i < Self.n_of self.now → s < stripes → get_or numbers.new (i * stripes + s) 0
+            ≡ number (Self.k_of self.now) (Self.n_of self.now) (λ j. get_or items.now (s * Self.k_of self.now + j) 0) i) };
+
+    /// The items of so many stripes from their numbers at `k` places, those at the first of these first.
+    fn restore(
+        &self,
+        alloc: Global,
+        places: &[usize],
+        numbers: &[u32],
+        stripes: usize,
+        items: &mut [u16],
+    ) -> Result<(), AllocError>
+        requires places { length places.now ≡ Self.k_of self.now }
+        requires below { (a : ℕ) → a < length places.now → get_or places.now a 0 < Self.n_of self.now }
+        requires apart { (a b : ℕ) → a < b → b < length places.now → get_or places.now a 0 ≢ get_or places.now b 0 }
+        requires numbers { length numbers.now ≡ Self.k_of self.now * stripes }
+        requires items { length items.old ≡ stripes * Self.k_of self.now }
+        ensures { OnOk result ((s : ℕ) (stripe : ℕ → ℕ) → s < stripes
+            → ((j : ℕ) → j < Self.k_of self.now → stripe j < 2 ^ 16)
+            → ((a : ℕ) → a < Self.k_of self.now → get_or numbers.now (a * stripes + s) 0
+            ≡ number (Self.k_of self.now) (Self.n_of self.now) stripe (get_or places.now a 0))
+            → (j : ℕ) → j < Self.k_of self.now → get_or items.new (s * Self.k_of self.now + j) 0 ≡ stripe j) };
+
+    // A number depends on the stripe's items alone, and is at most 2^16.
+    ghost number_below: { (k n : ℕ) (a b : ℕ → ℕ) (i : ℕ) → ((j : ℕ) → j < k → a j ≡ b j) → number k n a i ≡ number k n b i };
+
+    ghost number_fits: { (k n : ℕ) (a : ℕ → ℕ) (i : ℕ) → number k n a i ≤ 65536 };
+}
