@@ -2,7 +2,7 @@
 
 use crate::batches::{Benchmark, Number, mixed, report};
 use crate::draws::Draws;
-use ark_base::{DomainCoeff, FftField, PolyError, Zero};
+use ark_base::{DomainCoeff, F65537, FftField, PolyError, Zero};
 use ark_poly::{EvaluationDomain, Radix2EvaluationDomain};
 use ark_rows::Row;
 use rs_code::Code;
@@ -59,15 +59,14 @@ impl<F: FftField, T: DomainCoeff<F> + Number> Benchmark for Restoring<F, T> {
     }
 }
 
-/// A transform of rows in place, over and over.
+/// A transform of rows in place, over and over. Of a row over any field it is not known that it fits into memory.
 #[derive(Drop)]
-pub struct RowsInPlace<F: FftField, D: EvaluationDomain<F>, const N: usize> {
-    pub domain: D,
-    pub rows: Vec<Row<F, N>>,
+pub struct RowsInPlace {
+    pub domain: Radix2EvaluationDomain<F65537>,
+    pub rows: Vec<Row<F65537, 8>>,
 }
 
-impl<F: FftField + Number, D: EvaluationDomain<F>, const N: usize> Benchmark
-    for RowsInPlace<F, D, N> {
+impl Benchmark for RowsInPlace {
     fn call(&mut self, alloc: Global) -> Result<(), PolyError> {
         self.domain.fft_in_place(alloc, &mut self.rows)
     }
@@ -90,7 +89,7 @@ pub fn report_codes<F: FftField + Number>(
         let pairs = draws.pairs::<F>(alloc, n / 2)?;
         report_code(rt, alloc, timed, "_of_pairs", n, pairs)?;
     }
-    report_rows::<F>(rt, alloc, timed, &mut draws)
+    report_rows(rt, alloc, timed, &mut draws)
 }
 
 // A message's codeword, and the codeword with a quarter and with half of its places erased.
@@ -148,18 +147,18 @@ fn report_restoring<F: FftField + Number, T: DomainCoeff<F> + Number>(
     report(rt, alloc, timed, name, n, &mut restoring)
 }
 
-fn report_rows<F: FftField + Number>(
+fn report_rows(
     rt: &(impl Print + Clock),
     alloc: Global,
     timed: bool,
     draws: &mut Draws,
 ) -> anyhow::Result<()> {
-    let Some(domain) = Radix2EvaluationDomain::<F>::new(1 << 12) else {
+    let Some(domain) = Radix2EvaluationDomain::<F65537>::new(1 << 12) else {
         return Ok(());
     };
     let mut rows = Vec::with_capacity(alloc, domain.size())?;
     for _ in 0..domain.size() {
-        let mut row = Row::<F, 8>::zero();
+        let mut row = Row::<F65537, 8>::zero();
         for lane in 0..8 {
             row.set(lane, draws.element());
         }

@@ -11,7 +11,6 @@ mod laws;
 mod parts;
 mod piece;
 mod splitting;
-mod streams;
 
 pub use block_parts::{block_of, parts_of_block, stripes};
 pub use code::StripeCode;
@@ -22,4 +21,3 @@ pub use laws::split_then_join;
 pub use parts::{PART, part_of, read_part};
 pub use piece::{DIGEST, Damage, Piece, blocks, body_size};
 pub use splitting::{append, chunk, split};
-pub use streams::{PieceWriter, StreamError, check_source, digest_of, join_into, split_into};

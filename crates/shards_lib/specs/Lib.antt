@@ -1,3 +1,0 @@
--- The numbers of stripes.
-pub mod Numbers
-pub mod NumberLaws
