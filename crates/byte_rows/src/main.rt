@@ -5,10 +5,8 @@
 //! it has the refusal. How many bytes are left stands at the end.
 #![tactic(auto)]
 
-mod hex;
 mod reading;
 
-use crate::hex::bytes_of;
 use crate::reading::answer_of;
 use ark_base::FftField;
 use ark_multi::multivariate::{self, SparseTerm};
@@ -18,6 +16,7 @@ use ark_univariate::univariate::{DensePolynomial, SparsePolynomial};
 use ark_univariate::{
     Evaluations, GeneralEvaluationDomain, MixedRadixEvaluationDomain, Radix2EvaluationDomain,
 };
+use row_words::hex::bytes_of;
 use row_words::rows::{Answer, FieldRows, Rows, over_field, write_answers};
 use row_words::words::no_row;
 use std::alloc::Global;

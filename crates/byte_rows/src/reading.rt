@@ -1,11 +1,11 @@
 //! A row of any type.
 
-use crate::hex::text_of;
 use ark_base::{
     CanonicalDeserialize, CanonicalSerialize, Compress, IoSink, IoSource, SerializationError,
     Source, recompress,
 };
 use ark_test_types::single_bytes::SingleBytes;
+use row_words::hex::text_of;
 use row_words::rows::Answer;
 use row_words::words::told;
 use std::alloc::Global;

@@ -6,5 +6,6 @@
 #![tactic(auto)]
 
 pub mod forms;
+pub mod hex;
 pub mod rows;
 pub mod words;
