@@ -8,4 +8,5 @@
 pub mod forms;
 pub mod hex;
 pub mod rows;
+pub mod stopping;
 pub mod words;
