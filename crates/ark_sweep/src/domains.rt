@@ -5,6 +5,7 @@ use crate::swept::Call;
 use ark_base::{FftField, Lanes, PolyError, Work};
 use ark_poly::univariate::{DensePolynomial, SparsePolynomial};
 use ark_poly::{DenseUVPolynomial, EvaluationDomain};
+use ark_test_types::nothing::Nothing;
 use ark_test_types::numbered::Numbered;
 use rand_pcg::Pcg64;
 use row_words::rows::Answer;
@@ -12,6 +13,9 @@ use row_words::words::{
     elements, no_fit, no_row, text_of, text_of_flags, text_of_numbers, text_of_terms, told,
 };
 use std::alloc::{AllocError, Global};
+
+/// As many items as a list can have.
+const MOST: usize = usize::MAX;
 
 /// A domain, another one, two lists, one of pairs, an element and an index.
 #[derive(Drop)]
@@ -76,6 +80,7 @@ impl<F: FftField + Numbered, D: EvaluationDomain<F>> Call for OverDomain<F, D> {
                 Ok(Answered::Dense(self.domain.filter_polynomial(alloc, &self.part)?))
             }
             "mul_polynomials_in_evaluation_domain" => self.products(alloc),
+            "fft_of_nothings" => self.of_nothings(alloc),
             _ => self.transform(alloc, name),
         }
     }
@@ -116,6 +121,12 @@ impl<F: FftField + Numbered, D: EvaluationDomain<F>> OverDomain<F, D> {
             .domain
             .mul_polynomials_in_evaluation_domain(alloc, &self.list, &self.other)?;
         Ok(Answered::Elements(products))
+    }
+
+    /// How many values as many items as there can be have, which take no room.
+    fn of_nothings(&self, alloc: Global) -> Result<Answered<F, D>, PolyError> {
+        let items = [Nothing; MOST];
+        Ok(Answered::Number(self.domain.fft(alloc, &items)?.len()))
     }
 
     /// Makes a call that changes a list.

@@ -168,15 +168,9 @@ impl<F: FftField + Numbered> OfSeveral<F> {
                 Ok(Answered::DenseInPlace)
             }
             "from_evaluations_slice" => self.from_values(alloc),
-            "relabel" => Ok(relabelled(alloc, &self.dense, self.windows)?.map_or(
-                Answered::NoFit,
-                Answered::Dense,
-            )),
+            "relabel" => Ok(dense_or_no_fit(relabelled(alloc, &self.dense, self.windows)?)),
             "relabel_in_place" => Ok(self.relabelled_in_place()),
-            "fix_variables" => Ok(fixed(alloc, &self.dense, &self.point)?.map_or(
-                Answered::NoFit,
-                Answered::Dense,
-            )),
+            "fix_variables" => Ok(dense_or_no_fit(fixed(alloc, &self.dense, &self.point)?)),
             "to_evaluations" => Ok(Answered::Elements(self.dense.to_evaluations(alloc)?)),
             _ => Ok(Answered::Flag(is_drawn::<F, DenseMultilinearExtension<F>>(
                 alloc,
@@ -209,14 +203,8 @@ impl<F: FftField + Numbered> OfSeveral<F> {
             "to_dense_multilinear_extension" => {
                 Ok(Answered::Dense(self.sparse.to_dense_multilinear_extension(alloc)?))
             }
-            "relabel" => Ok(relabelled(alloc, &self.sparse, self.windows)?.map_or(
-                Answered::NoFit,
-                Answered::Sparse,
-            )),
-            "fix_variables" => Ok(fixed(alloc, &self.sparse, &self.point)?.map_or(
-                Answered::NoFit,
-                Answered::Sparse,
-            )),
+            "relabel" => Ok(sparse_or_no_fit(relabelled(alloc, &self.sparse, self.windows)?)),
+            "fix_variables" => Ok(sparse_or_no_fit(fixed(alloc, &self.sparse, &self.point)?)),
             "to_evaluations" => Ok(Answered::Elements(self.sparse.to_evaluations(alloc)?)),
             "rand" => Ok(Answered::Flag(is_drawn::<F, SparseMultilinearExtension<F>>(
                 alloc,
@@ -248,6 +236,20 @@ impl<F: FftField + Numbered> OfSeveral<F> {
         }
         let p = SparseMultilinearExtension::from_evaluations(alloc, num_vars, &self.entries)?;
         Ok(Answered::Sparse(p))
+    }
+}
+
+fn dense_or_no_fit<F: Field>(p: Option<DenseMultilinearExtension<F>>) -> Answered<F> {
+    match p {
+        Some(p) => Answered::Dense(p),
+        None => Answered::NoFit,
+    }
+}
+
+fn sparse_or_no_fit<F: Field>(p: Option<SparseMultilinearExtension<F>>) -> Answered<F> {
+    match p {
+        Some(p) => Answered::Sparse(p),
+        None => Answered::NoFit,
     }
 }
 
