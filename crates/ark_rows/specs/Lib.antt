@@ -1,0 +1,4 @@
+-- Elements side by side.
+pub mod Lanewise
+pub mod Row
+pub mod RowLaws
