@@ -125,8 +125,7 @@ impl<F: FftField + Numbered, D: EvaluationDomain<F>> OverDomain<F, D> {
 
     /// How many values as many items as there can be have, which take no room.
     fn of_nothings(&self, alloc: Global) -> Result<Answered<F, D>, PolyError> {
-        let items = [Nothing; MOST];
-        Ok(Answered::Number(self.domain.fft(alloc, &items)?.len()))
+        Ok(Answered::Number(of_items::<F, D, MOST>(alloc, &self.domain)?))
     }
 
     /// Makes a call that changes a list.
@@ -156,7 +155,7 @@ impl<F: FftField + Numbered, D: EvaluationDomain<F>> OverDomain<F, D> {
             "new_coset" => Answered::Domain(D::new_coset(self.index, self.point)),
             "get_coset" => Answered::Domain(self.domain.get_coset(self.point)),
             "element" => Answered::Element(Some(self.domain.element(self.index))),
-            "elements" => Answered::Number(self.domain.elements().count()),
+            "elements" => Answered::Number(self.number_of_elements()),
             "contains_subdomain" => Answered::Flag(self.domain.contains_subdomain(&self.part)),
             "evaluate_vanishing_polynomial" => {
                 Answered::Element(Some(self.domain.evaluate_vanishing_polynomial(self.point)))
@@ -191,6 +190,14 @@ impl<F: FftField + Numbered, D: EvaluationDomain<F>> OverDomain<F, D> {
         }
     }
 
+    fn number_of_elements(&self) -> usize {
+        let mut number = 0_usize;
+        for _ in self.domain.elements() {
+            number = number.saturating_add(1);
+        }
+        number
+    }
+
     fn reindexed(&self) -> Answered<F, D> {
         if self.part.size() == 0
             || self.domain.size() % self.part.size() != 0
@@ -210,6 +217,15 @@ impl<F: FftField + Numbered, D: EvaluationDomain<F>> OverDomain<F, D> {
             .evaluate_vanishing_polynomial(x)
             .is_zero()))
     }
+}
+
+/// How many values so many items without size have.
+fn of_items<F: FftField, D: EvaluationDomain<F>, const N: usize>(
+    alloc: Global,
+    domain: &D,
+) -> Result<usize, PolyError> {
+    let items = [Nothing; N];
+    Ok(domain.fft(alloc, &items)?.len())
 }
 
 /// The items of both lists side by side.

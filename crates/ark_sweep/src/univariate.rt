@@ -259,27 +259,59 @@ impl<F: FftField + Numbered> OfOne<F> {
             "interpolate" => Ok(Answered::Dense(p.clone()?.interpolate(alloc)?)),
             "interpolate_by_ref" => Ok(Answered::Dense(p.interpolate_by_ref(alloc)?)),
             "mul_scalar" => Ok(Answered::Values(p.mul_scalar(alloc, self.factor)?)),
-            _ if p.domain() != q.domain() => Ok(Answered::NoFit),
-            "add" => Ok(Answered::Values(p.add(alloc, q)?)),
-            "sub" => Ok(Answered::Values(p.sub(alloc, q)?)),
-            "mul" => Ok(Answered::Values(p.mul(alloc, q)?)),
-            "div" => Ok(Answered::Values(p.div(alloc, q)?)),
-            _ => self.values_in_place(alloc, name),
+            _ => match combined(alloc, name, p, q)? {
+                Some(values) => Ok(Answered::Values(values)),
+                None => self.values_in_place(alloc, name),
+            },
         }
     }
 
     /// Makes a call that changes values over a domain.
     fn values_in_place(&mut self, alloc: Global, name: &str) -> Result<Answered<F>, PolyError> {
-        if self.values.domain() != self.divisors.domain() {
-            return Ok(Answered::NoFit);
+        if is_changed(alloc, name, &mut self.values, &self.divisors)? {
+            Ok(Answered::ValuesInPlace)
+        } else {
+            Ok(Answered::NoCall)
         }
-        match name {
-            "add_assign" => self.values.add_assign(&self.divisors),
-            "sub_assign" => self.values.sub_assign(&self.divisors),
-            "mul_assign" => self.values.mul_assign(&self.divisors),
-            "div_assign" => self.values.div_assign(alloc, &self.divisors)?,
-            _ => return Ok(Answered::NoCall),
-        }
-        Ok(Answered::ValuesInPlace)
     }
+}
+
+/// The values that a call of two lists of them answers, where they are over one domain.
+fn combined<F: FftField, D: EvaluationDomain<F>>(
+    alloc: Global,
+    name: &str,
+    p: &Evaluations<F, D>,
+    q: &Evaluations<F, D>,
+) -> Result<Option<Evaluations<F, D>>, PolyError> {
+    if p.domain() != q.domain() {
+        return Ok(None);
+    }
+    let values = match name {
+        "add" => p.add(alloc, q)?,
+        "sub" => p.sub(alloc, q)?,
+        "mul" => p.mul(alloc, q)?,
+        "div" => p.div(alloc, q)?,
+        _ => return Ok(None),
+    };
+    Ok(Some(values))
+}
+
+/// Makes a call that changes the first values, where they are over one domain, and tells whether there is one of this name.
+fn is_changed<F: FftField, D: EvaluationDomain<F>>(
+    alloc: Global,
+    name: &str,
+    p: &mut Evaluations<F, D>,
+    q: &Evaluations<F, D>,
+) -> Result<bool, PolyError> {
+    if p.domain() != q.domain() {
+        return Ok(false);
+    }
+    match name {
+        "add_assign" => p.add_assign(q),
+        "sub_assign" => p.sub_assign(q),
+        "mul_assign" => p.mul_assign(q),
+        "div_assign" => p.div_assign(alloc, q)?,
+        _ => return Ok(false),
+    }
+    Ok(true)
 }
