@@ -14,13 +14,13 @@ use row_words::rows::Answer;
 use row_words::words::{
     elements, no_fit, no_row, one, table_of, text_of, text_of_flags, text_of_numbers, told,
 };
-use std::alloc::Global;
+use std::alloc::{AllocError, Global};
 
-/// Powers and the term that they make, terms with coefficients, a table in both forms, tables that may be joined, values,
-/// entries, a point, a factor, a number of variables, and the windows of variables.
+/// Powers, once for each time that they are passed by value, a term, terms with coefficients, a table in both forms, tables
+/// that may be joined, values, entries, a point, a factor, a number of variables, and the windows of variables.
 #[derive(Drop)]
 pub struct OfSeveral<F: Field> {
-    powers: Vec<(usize, usize)>,
+    powers: Vec<Vec<(usize, usize)>>,
     term: SparseTerm,
     terms: Vec<(F, SparseTerm)>,
     dense: DenseMultilinearExtension<F>,
@@ -55,7 +55,7 @@ impl<F: FftField + Numbered> Call for OfSeveral<F> {
 
     fn given(alloc: Global, words: &[String]) -> Result<Self, PolyError> {
         Ok(OfSeveral {
-            powers: pairs_of(alloc, named(words, "powers"))?,
+            powers: twice(alloc, named(words, "powers"))?,
             term: SparseTerm::new(alloc, pairs_of(alloc, named(words, "term"))?)?,
             terms: coefficients_of(alloc, named(words, "terms"))?,
             dense: Kind::of(alloc, named(words, "table"))?,
@@ -85,8 +85,7 @@ impl<F: FftField + Numbered> Call for OfSeveral<F> {
     }
 
     fn is_same(&self, other: &Self) -> bool {
-        self.powers == other.powers
-            && self.term == other.term
+        self.term == other.term
             && self.terms == other.terms
             && self.dense == other.dense
             && self.parts == other.parts
@@ -115,9 +114,12 @@ impl<F: FftField + Numbered> Call for OfSeveral<F> {
 
 impl<F: FftField + Numbered> OfSeveral<F> {
     /// Makes a call of terms.
-    fn of_terms(&self, alloc: Global, name: &str) -> Result<Answered<F>, PolyError> {
+    fn of_terms(&mut self, alloc: Global, name: &str) -> Result<Answered<F>, PolyError> {
         match name {
-            "new" => Ok(Answered::Term(SparseTerm::new(alloc, self.powers.clone()?)?)),
+            "new" => match self.powers.pop() {
+                Some(powers) => Ok(Answered::Term(SparseTerm::new(alloc, powers)?)),
+                None => Ok(Answered::NoCall),
+            },
             "clone" => Ok(Answered::Term(self.term.clone()?)),
             "vars" => Ok(Answered::Numbers(self.term.vars(alloc)?)),
             "powers" => Ok(Answered::Numbers(self.term.powers(alloc)?)),
@@ -237,6 +239,15 @@ impl<F: FftField + Numbered> OfSeveral<F> {
         let p = SparseMultilinearExtension::from_evaluations(alloc, num_vars, &self.entries)?;
         Ok(Answered::Sparse(p))
     }
+}
+
+/// The powers that the word spells, two times.
+fn twice(alloc: Global, word: &str) -> Result<Vec<Vec<(usize, usize)>>, AllocError> {
+    let mut both = Vec::new(alloc);
+    for _ in 0..2 {
+        both.push(pairs_of(alloc, word)?)?;
+    }
+    Ok(both)
 }
 
 fn dense_or_no_fit<F: Field>(p: Option<DenseMultilinearExtension<F>>) -> Answered<F> {

@@ -30,15 +30,16 @@ impl Tally {
     }
 
     fn count(&mut self, end: End) {
-        let (counter, number) = match end {
-            End::Read => (&mut self.read, 1),
-            End::Invalid => (&mut self.invalid, 2),
-            End::Unfinished => (&mut self.unfinished, 3),
-            End::Wrong => (&mut self.wrong, 4),
-        };
-        *counter = counter.wrapping_add(1);
+        match end {
+            End::Read => self.read = self.read.wrapping_add(1),
+            End::Invalid => self.invalid = self.invalid.wrapping_add(1),
+            End::Unfinished => self.unfinished = self.unfinished.wrapping_add(1),
+            End::Wrong => self.wrong = self.wrong.wrapping_add(1),
+        }
         self.readings = self.readings.wrapping_add(1);
-        self.sum = self.sum.wrapping_add(self.readings.wrapping_mul(number));
+        self.sum = self
+            .sum
+            .wrapping_add(self.readings.wrapping_mul(end.number()));
     }
 
     fn text(&self, alloc: Global) -> Answer {
@@ -57,6 +58,17 @@ enum End {
     Invalid,
     Unfinished,
     Wrong,
+}
+
+impl End {
+    fn number(self) -> u64 {
+        match self {
+            End::Read => 1,
+            End::Invalid => 2,
+            End::Unfinished => 3,
+            End::Wrong => 4,
+        }
+    }
 }
 
 /// How reading the bytes ends.
