@@ -2,13 +2,13 @@
 //!
 //! The words are a field's order, a type, modes, and bytes in hex. After one mode the answer has the spellings of the value
 //! that was read, the full one and the short one; after two modes with `>` between them it has what `recompress` writes. Or
-//! it has the refusal. How many bytes are left stands at the end.
+//! it has the refusal. How many bytes are left stands at the end. In place of modes `changed` and `drawn` count how readings
+//! end where the bytes are changed and cut, and of drawn bytes.
 #![tactic(auto)]
 
-mod hex;
+mod hostile;
 mod reading;
 
-use crate::hex::bytes_of;
 use crate::reading::answer_of;
 use ark_base::FftField;
 use ark_multi::multivariate::{self, SparseTerm};
@@ -18,6 +18,7 @@ use ark_univariate::univariate::{DensePolynomial, SparsePolynomial};
 use ark_univariate::{
     Evaluations, GeneralEvaluationDomain, MixedRadixEvaluationDomain, Radix2EvaluationDomain,
 };
+use row_words::hex::bytes_of;
 use row_words::rows::{Answer, FieldRows, Rows, over_field, write_answers};
 use row_words::words::no_row;
 use std::alloc::Global;

@@ -1,18 +1,34 @@
 //! A row of any type.
 
-use crate::hex::text_of;
+use crate::hostile::{changed, drawn};
 use ark_base::{
     CanonicalDeserialize, CanonicalSerialize, Compress, IoSink, IoSource, SerializationError,
     Source, recompress,
 };
 use ark_test_types::single_bytes::SingleBytes;
+use row_words::hex::text_of;
 use row_words::rows::Answer;
+use row_words::stopping::{StopReader, StopWriter};
 use row_words::words::told;
-use std::alloc::Global;
+use std::alloc::{AllocError, Global};
+
+/// The answer to a row.
+pub fn answer_of<T: CanonicalSerialize + CanonicalDeserialize>(
+    alloc: Global,
+    bytes: &[u8],
+    modes: &str,
+) -> Answer {
+    match modes {
+        "changed" => changed::<T>(alloc, bytes),
+        "drawn" => drawn::<T>(alloc, bytes),
+        _ => answer_in_modes::<T>(alloc, bytes, modes),
+    }
+}
 
 /// What reading the bytes says and writing gives back, and how many bytes are left. From the slice itself and byte by byte
-/// the same comes, and each beginning of the bytes that were taken is refused with `IoError`; else the answer says so.
-pub fn answer_of<T: CanonicalSerialize + CanonicalDeserialize>(
+/// the same comes, and each beginning of the bytes that were taken is refused with `IoError`, whether the source ends or fails
+/// there; else the answer says so.
+fn answer_in_modes<T: CanonicalSerialize + CanonicalDeserialize>(
     alloc: Global,
     bytes: &[u8],
     modes: &str,
@@ -93,17 +109,25 @@ fn read_and_written<T: CanonicalSerialize + CanonicalDeserialize, S: Source>(
     }
 }
 
-/// Whether the bytes are refused with `IoError`, in the mode that is read.
+/// Whether the bytes are refused with `IoError`, in the mode that is read, where they end and where reading fails after
+/// them.
 fn is_unfinished<T: CanonicalDeserialize>(alloc: Global, bytes: &[u8], modes: &str) -> bool {
     let from = modes.split_once('>').map_or(modes, |pair| pair.0);
     let mut rest = bytes;
-    match T::deserialize_with_mode(alloc, &mut rest, mode_of(from)) {
+    let mut failing = IoSource::new(StopReader { bytes });
+    is_io_error(T::deserialize_with_mode(alloc, &mut rest, mode_of(from)))
+        && is_io_error(T::deserialize_with_mode(alloc, &mut failing, mode_of(from)))
+}
+
+fn is_io_error<T: Drop>(read: Result<T, SerializationError>) -> bool {
+    match read {
         Err(error) => error == SerializationError::IoError,
         Ok(_) => false,
     }
 }
 
-/// The bytes that writing gives, as text.
+/// The bytes that writing gives, as text. A writer that fails after some of them holds just these, and the answer is
+/// `IoError`; else the answer says so.
 fn spelling_of<T: CanonicalSerialize>(alloc: Global, value: &T, mode: Compress) -> Answer {
     let mut sink = IoSink::new(Vec::new(alloc));
     let written = value.serialize_with_mode(&mut sink, mode);
@@ -111,5 +135,24 @@ fn spelling_of<T: CanonicalSerialize>(alloc: Global, value: &T, mode: Compress) 
     if written.is_err() || value.serialized_size(mode) != Some(bytes.len()) {
         return told(alloc, "another size");
     }
+    for room in 0..bytes.len() {
+        if !stops_at(alloc, value, mode, &bytes[..room])? {
+            return told(alloc, "another beginning is written");
+        }
+    }
     text_of(alloc, &bytes)
+}
+
+/// Whether just these bytes are written where the writer fails after them, and the answer is `IoError`.
+fn stops_at<T: CanonicalSerialize>(
+    alloc: Global,
+    value: &T,
+    mode: Compress,
+    beginning: &[u8],
+) -> Result<bool, AllocError> {
+    let room = beginning.len();
+    let taken = Vec::with_capacity(alloc, room)?;
+    let mut sink = IoSink::new(StopWriter { room, taken });
+    let is_told = is_io_error(value.serialize_with_mode(&mut sink, mode));
+    Ok(is_told && sink.into_inner().taken.as_slice() == beginning)
 }

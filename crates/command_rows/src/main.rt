@@ -1,12 +1,16 @@
-//! Answers rows of the program's commands, by what `run` and `check` write for the words.
+//! Answers rows of the program's commands, by what `run` and `check` write for the words, also where the writer fails.
 #![tactic(auto)]
 
 use ark_base::IoSink;
 use polyrun_lib::{check, run};
 use row_words::rows::{Answer, Rows, write_answers};
-use row_words::words::{number, words_of};
+use row_words::stopping::StopWriter;
+use row_words::words::{number, told, words_of};
 use std::alloc::{AllocError, Global};
 use std::io;
+
+/// After how many bytes at most a writer fails.
+const MOST: usize = 200;
 
 struct CommandRows;
 
@@ -19,7 +23,14 @@ impl Rows for CommandRows {
         }
         let mut out = IoSink::new(Vec::new(alloc));
         let status = run(alloc, words, &mut out);
-        written(alloc, &out.into_inner(), status)
+        let text = out.into_inner();
+        for room in 0..text.len().min(MOST) {
+            let mut out = stopping(alloc, room)?;
+            if run(alloc, words, &mut out) != 3 || !holds(out, &text[..room]) {
+                return told(alloc, "another beginning is written");
+            }
+        }
+        written(alloc, &text, status)
     }
 }
 
@@ -33,7 +44,25 @@ fn checked(alloc: Global, field: u64, rows: &str) -> Answer {
     }
     let mut out = IoSink::new(Vec::new(alloc));
     let status = check(alloc, field, &all, &mut out);
-    written(alloc, &out.into_inner(), status)
+    let text = out.into_inner();
+    for room in 0..text.len().min(MOST) {
+        let mut out = stopping(alloc, room)?;
+        if check(alloc, field, &all, &mut out) != 3 || !holds(out, &text[..room]) {
+            return told(alloc, "another beginning is written");
+        }
+    }
+    written(alloc, &text, status)
+}
+
+/// A writer that fails after so many bytes.
+fn stopping(alloc: Global, room: usize) -> Result<IoSink<StopWriter>, AllocError> {
+    let taken = Vec::with_capacity(alloc, room)?;
+    Ok(IoSink::new(StopWriter { room, taken }))
+}
+
+/// Whether it holds just these bytes.
+fn holds(out: IoSink<StopWriter>, bytes: &[u8]) -> bool {
+    out.into_inner().taken.as_slice() == bytes
 }
 
 /// A row for `check`: words between spaces, an equals sign and a text.

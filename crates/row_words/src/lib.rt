@@ -6,5 +6,7 @@
 #![tactic(auto)]
 
 pub mod forms;
+pub mod hex;
 pub mod rows;
+pub mod stopping;
 pub mod words;

@@ -1,6 +1,6 @@
 //! Bytes as two hex digits each.
 
-use row_words::rows::Answer;
+use crate::rows::Answer;
 use std::alloc::{AllocError, Global};
 
 /// The bytes that the word spells; what is no digit counts as zero. A byte and a star and a number stand for so many of it.
