@@ -49,10 +49,10 @@ impl<F: FftField + Numbered> Call for OfCode<F> {
 
     fn call(&mut self, alloc: Global, name: &str) -> Result<Answered<F>, PolyError> {
         match name {
-            "encode" => answered(self.code.encode(alloc, &self.message)),
-            "restore" => answered(self.code.restore(alloc, &self.word)),
+            "encode" => outcome_of(self.code.encode(alloc, &self.message)),
+            "restore" => outcome_of(self.code.restore(alloc, &self.word)),
             "restore_counted" => {
-                answered(
+                outcome_of(
                     self.code
                         .restore_counted(alloc, &self.word, &mut Work::new()),
                 )
@@ -96,9 +96,9 @@ impl<F: FftField + Numbered> Call for OfDecoder<F> {
 
     fn call(&mut self, alloc: Global, name: &str) -> Result<Answered<F>, PolyError> {
         match name {
-            "restore" => answered(self.decoder.restore(alloc, &self.values)),
+            "restore" => outcome_of(self.decoder.restore(alloc, &self.values)),
             "restore_counted" => {
-                answered(
+                outcome_of(
                     self.decoder
                         .restore_counted(alloc, &self.values, &mut Work::new()),
                 )
@@ -146,7 +146,7 @@ fn erased_places<F: FftField>(alloc: Global, word: &[Option<F>]) -> Result<Vec<b
 }
 
 /// The values, or the refusal; that of memory as every other call's.
-fn answered<F: FftField>(outcome: Result<Vec<F>, RsError>) -> Result<Answered<F>, PolyError> {
+fn outcome_of<F: FftField>(outcome: Result<Vec<F>, RsError>) -> Result<Answered<F>, PolyError> {
     match outcome {
         Ok(values) => Ok(Answered::Values(values)),
         Err(error) => refused(error),
