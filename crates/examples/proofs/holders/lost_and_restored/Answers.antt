@@ -17,5 +17,7 @@ returns g c =
     let not_more : ¬ (c.args.code.now.k < length c.args.message.now) = λ more. cc (c.in_ok-values.ensures.wrong_length.1 more) in
     let fits : length message ≤ c.args.code.now.k = omega (arith, length-map c.args.message.now g.T.DomainCoeff.meaning, not_more) in
     let is = subst (λ r. IsCodeword K V r.domain r.k codeword) (sym c.in_ok-decoder.ensures.code) (message, fits, refl) in
-    record { restored = IfOk_more c.restore-2.result (λ restored only. sym (only codeword is (λ i kept. ap (λ l. item V l i) (sym (ap (map g.T.DomainCoeff.meaning) c.deref.ensures.value ∙ values)))))
-    c.restore-2.ensures.only }
+    record {
+      restored = IfOk_more c.restore-2.result (λ restored only. sym (only codeword is (λ i kept. ap (λ l. item V l i) (sym (ap (map g.T.DomainCoeff.meaning) c.deref.ensures.value ∙ values)))))
+          c.restore-2.ensures.only;
+    }
