@@ -13,9 +13,12 @@ use row_words::words::{
     elements, no_fit, no_row, text_of, text_of_flags, text_of_numbers, text_of_terms, told,
 };
 use std::alloc::{AllocError, Global};
+use std::mem::ManuallyDrop;
 
-/// As many items as a list can have.
+/// As many items as an array can have, and a list.
 const MOST: usize = usize::MAX;
+
+const MOST_LISTED: usize = usize::MAX / 2;
 
 /// A domain, another one, two lists, one of pairs, an element and an index.
 #[derive(Drop)]
@@ -81,6 +84,7 @@ impl<F: FftField + Numbered, D: EvaluationDomain<F>> Call for OverDomain<F, D> {
             }
             "mul_polynomials_in_evaluation_domain" => self.products(alloc),
             "fft_of_nothings" => self.of_nothings(alloc),
+            "fft_of_listed_nothings" => self.of_listed_nothings(alloc),
             _ => self.transform(alloc, name),
         }
     }
@@ -126,6 +130,12 @@ impl<F: FftField + Numbered, D: EvaluationDomain<F>> OverDomain<F, D> {
     /// How many values as many items as there can be have, which take no room.
     fn of_nothings(&self, alloc: Global) -> Result<Answered<F, D>, PolyError> {
         Ok(Answered::Number(of_items::<F, D, MOST>(alloc, &self.domain)?))
+    }
+
+    /// How many values a list of as many has.
+    fn of_listed_nothings(&self, alloc: Global) -> Result<Answered<F, D>, PolyError> {
+        let count = of_listed_items::<F, D, MOST_LISTED>(alloc, &self.domain)?;
+        Ok(Answered::Number(count))
     }
 
     /// Makes a call that changes a list.
@@ -225,6 +235,16 @@ fn of_items<F: FftField, D: EvaluationDomain<F>, const N: usize>(
     domain: &D,
 ) -> Result<usize, PolyError> {
     let items = [Nothing; N];
+    Ok(domain.fft(alloc, &items)?.len())
+}
+
+/// How many values a list of so many items without size has. It is not dropped, which takes a step an item.
+fn of_listed_items<F: FftField, D: EvaluationDomain<F>, const N: usize>(
+    alloc: Global,
+    domain: &D,
+) -> Result<usize, PolyError> {
+    let items = Vec::from_array(alloc, [Nothing; N]).map_err(|_| PolyError::Memory)?;
+    let items = ManuallyDrop::new(items);
     Ok(domain.fft(alloc, &items)?.len())
 }
 
