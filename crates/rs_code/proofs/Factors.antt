@@ -1,5 +1,5 @@
 -- The polynomial with known roots: its coefficients, its values and those of its derivative.
-use Rattle.std.proofs.Common.{◌≡◌, ◌≢◌, ℕ, zero, suc, ◌+◌, ◌-◌, ◌<◌, ◌≤◌, List, [], ◌∷◌, ◌++◌, length, sym, ◌∙◌, ap, ap₂, refl, subst, arith, ⊎_elim}
+use Rattle.std.proofs.Common.{◌≡◌, ◌≢◌, ℕ, zero, suc, ◌+◌, ◌-◌, ◌/◌, ◌<◌, ◌≤◌, List, [], ◌∷◌, ◌++◌, length, take, drop, sym, ◌∙◌, ap, ap₂, refl, subst, arith, ⊎_elim}
 use mathlib.Core.Path.{fun_ext}
 use Rattle.std.proofs.lemmas.Bool.{cases_eq, cases_lt}
 use Rattle.std.proofs.lemmas.List.{get_or_push, get_or_append_left, get_or_past, length-append}
@@ -13,6 +13,7 @@ use Rattle.ark_math.proofs.Polynomials.Univariate.{monomial-below, IsBelow-more}
 use Rattle.ark_math.proofs.Polynomials.UnivariateProducts.{product_comm, product_assoc, difference-product, monomial-product_past, monomial-product_before, one-product}
 use Rattle.ark_math.proofs.Polynomials.UnivariateValues.{value_below-monomial, value_below-past}
 use Rattle.rs_code.specs.Locator.{linear, locator, located, slope, derived}
+use Rattle.rs_code.proofs.Places.{halves}
 use Rattle.rs_code.proofs.Locators.{value, IsShort, by_factor, by_factors, by_factors-short, by_factors-value, derived-value, derived-short}
 
 -- the coefficient before
@@ -49,6 +50,19 @@ module _ {F : Type 0} (K : FieldOn F) (N : IsField K) where
   pub locator-append : (rs ss : List F) → product K (locator K rs) (locator K ss) ≡ locator K (rs ++ ss)
   locator-append [] ss = one-product K N (locator K ss)
   locator-append (r ∷ rs) ss = product_assoc K N (linear K r) (locator K rs) (locator K ss) ∙ ap (product K (linear K r)) (locator-append rs ss)
+
+  -- by halves, and by halves of these
+  abbrev pub half : List F → List F
+  half rs = take (length rs / 2) rs
+
+  abbrev pub other_half : List F → List F
+  other_half rs = take (length rs - length rs / 2) (drop (length rs / 2) rs)
+
+  locator_halves : (rs : List F) → product K (locator K (half rs)) (locator K (other_half rs)) ≡ locator K rs
+  locator_halves rs = locator-append (half rs) (other_half rs) ∙ ap (locator K) (halves rs (length rs / 2))
+
+  pub locator-quarters : (rs : List F) → product K (product K (locator K (half (half rs))) (locator K (other_half (half rs)))) (product K (locator K (half (other_half rs))) (locator K (other_half (other_half rs)))) ≡ locator K rs
+  locator-quarters rs = ap₂ (product K) (locator_halves (half rs)) (locator_halves (other_half rs)) ∙ locator_halves rs
 
   pub locator-push : (rs : List F) (r : F) → product K (linear K r) (locator K rs) ≡ locator K (rs ++ r ∷ [])
   locator-push rs r =

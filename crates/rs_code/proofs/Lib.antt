@@ -1,9 +1,12 @@
 -- Lemmas of this crate: the mathematics of restoration, and what the steps of its functions need.
 pub mod ChosenFactors
+pub mod Divided
 pub mod Factors
 pub mod Locators
 pub mod Lost
+pub mod Messages
 pub mod Monic
+pub mod PairedValues
 pub mod Places
 pub mod Restored
 pub mod Sizes

@@ -31,6 +31,16 @@ module _ {F : Type 0} (K : FieldOn F) (N : IsField K) (d : Domain F) (o : HasOrd
       ap (K.times (minus K (element K d k) (element K d i))) (located_lost (suc i) j k marks (omega arith) e (omega arith)) ∙ times_zero K N _
   located_lost i (suc j) k (false ∷ marks) l e s = located_lost (suc i) j k marks (omega arith) e (omega arith)
 
+  located_kept : (i j k : ℕ) (marks : List Bool) → j < length marks → i + length marks ≤ d.size → get_or marks j true ≡ false → k ≡ i + j → located K (lost_from K d i marks) (element K d k) ≢ K.zero
+  located_kept i j k [] l b e s = absurd (omega arith)
+  located_kept i zero k (true ∷ marks) l b e s = absurd (true≢false e)
+  located_kept i zero k (false ∷ marks) l b e s = located_before (suc i) k marks (omega arith) (omega arith)
+  located_kept i (suc j) k (true ∷ marks) l b e s =
+      times_not_zero K N (minus K (element K d k) (element K d i)) (located K (lost_from K d (suc i) marks) (element K d k))
+      (minus_not_zero K N _ _ (λ same. elements_differ K N d o off i k (omega arith) (omega arith) (sym same)))
+      (located_kept (suc i) j k marks (omega arith) (omega arith) e (omega arith))
+  located_kept i (suc j) k (false ∷ marks) l b e s = located_kept (suc i) j k marks (omega arith) (omega arith) e (omega arith)
+
   slope_lost : (i j k : ℕ) (marks : List Bool) → j < length marks → i + length marks ≤ d.size → get_or marks j true ≡ true → k ≡ i + j → slope K (lost_from K d i marks) (element K d k) ≢ K.zero
   slope_lost i j k [] l b e s z = absurd (omega arith)
   slope_lost i zero k (true ∷ marks) l b e s z =
@@ -51,6 +61,9 @@ module _ {F : Type 0} (K : FieldOn F) (N : IsField K) (d : Domain F) (o : HasOrd
 
   pub located-lost : (marks : List Bool) (j : ℕ) → j < length marks → get_or marks j true ≡ true → located K (lost K d marks) (element K d j) ≡ K.zero
   located-lost marks j l e = located_lost 0 j j marks l e (omega arith)
+
+  pub located-kept : (marks : List Bool) (j : ℕ) → length marks ≤ d.size → j < length marks → get_or marks j true ≡ false → located K (lost K d marks) (element K d j) ≢ K.zero
+  located-kept marks j b l e = located_kept 0 j j marks l (omega arith) e (omega arith)
 
   pub slope-lost : (marks : List Bool) (j : ℕ) → length marks ≤ d.size → j < length marks → get_or marks j true ≡ true → slope K (lost K d marks) (element K d j) ≢ K.zero
   slope-lost marks j b l e = slope_lost 0 j j marks l (omega arith) e (omega arith)

@@ -1,7 +1,7 @@
 -- What the steps of a restoration give.
-use Rattle.std.proofs.Common.{◌≡◌, ◌≢◌, ℕ, suc, ◌+◌, ◌<◌, ◌≤◌, Bool, true, false, List, length, get_or, take, sym, ◌∙◌, ap, ap₂, refl, arith, ⊎_elim, subst}
+use Rattle.std.proofs.Common.{◌≡◌, ◌≢◌, ℕ, suc, ◌+◌, ◌<◌, ◌≤◌, Bool, true, false, List, length, get_or, sym, ◌∙◌, ap, ap₂, refl, arith, ⊎_elim, subst}
 use Rattle.std.proofs.lemmas.Bool.{cases_lt}
-use Rattle.std.proofs.lemmas.List.{ext_get_or, get_or_past, get_or-take, length-take}
+use Rattle.std.proofs.lemmas.List.{ext_get_or, get_or_past}
 use Rattle.ark_math.specs.Field.{FieldOn, IsField, power, natural}
 use Rattle.ark_math.specs.Module.{ModuleOn, IsModule, item, sum_below, tabulate}
 use Rattle.ark_math.specs.Root.{HasOrder}
@@ -11,11 +11,13 @@ use Rattle.ark_math.specs.Univariate.{of_list}
 use Rattle.ark_math.proofs.Algebra.Groups.{zero_scale}
 use Rattle.ark_math.proofs.Algebra.Sums.{sum_below-same}
 use Rattle.ark_math.proofs.Lists.Tabulated.{length-tabulate, item-tabulate, is_tabulated}
-use Rattle.ark_math.proofs.Callers.Transforms.{fit-same, transform-length, inverse_of_transform}
+use Rattle.ark_math.proofs.Callers.Transforms.{fit-same, transform-length}
 use Rattle.rs_code.specs.Codeword.{IsCodeword, AgreesElsewhere, mark_count}
 use Rattle.rs_code.specs.Locator.{lost, located, slope, derived, IsFactor, AreFactors, weighed, filled}
 use Rattle.rs_code.proofs.Locators.{value, value-same, IsShort, by_factors, by_factors-short, by_factors-value, derived-value}
-use Rattle.rs_code.proofs.Lost.{located-lost, lost-length}
+use Rattle.rs_code.proofs.Lost.{located-lost, located-kept, lost-length}
+use Rattle.rs_code.proofs.Divided.{divided, scale_cancel}
+use Rattle.rs_code.proofs.Places.{unmarked_within}
 
 module _ {F M : Type 0} {K : FieldOn F} {V : ModuleOn F M} (N : IsField K) (L : IsModule K V) (d : Domain F) where
   -- ---- transforms as values
@@ -32,7 +34,7 @@ module _ {F M : Type 0} {K : FieldOn F} {V : ModuleOn F M} (N : IsField K) (L : 
   pub transform-from : (c r : List M) → length r ≡ d.size → ((i : ℕ) → i < d.size → item V r i ≡ value K V d.size (item V c) (element K d i)) → r ≡ transform K V d c
   transform-from c r e h = is_tabulated V.zero r d.size (λ i. value_at K V (fit V c d.size) (element K d i)) e (λ i l. h i l ∙ sym (value_at-fit c d.size (element K d i)))
 
-  list-short : (c : List M) (n : ℕ) → length c ≤ n → IsShort V n (item V c)
+  pub list-short : (c : List M) (n : ℕ) → length c ≤ n → IsShort V n (item V c)
   list-short c n l i b = get_or_past c i V.zero (omega arith)
 
   tabulate-item : (n : ℕ) (a : ℕ → M) → IsShort V n a → (i : ℕ) → item V (tabulate n a) i ≡ a i
@@ -42,38 +44,98 @@ module _ {F M : Type 0} {K : FieldOn F} {V : ModuleOn F M} (N : IsField K) (L : 
       (λ (b : n ≤ i). get_or_past (tabulate n a) i V.zero (omega (arith, length-tabulate n a)) ∙ sym (short i b))
       (cases_lt i n)
 
-  -- ---- the last test
-
-  -- a codeword's inverse has zeros from k on
-  pub codeword-rest : (k : ℕ) (c m : List M) → IsOnlyInverse K V d c m → IsCodeword K V d k c → (i : ℕ) → k ≤ i → item V m i ≡ V.zero
-  codeword-rest k c m only h i l =
-      let same : fit V h.0 d.size ≡ m =
-      only (fit V h.0 d.size) (subst (λ t. IsInverse K V d t (fit V h.0 d.size)) (sym h.2) (inverse_of_transform K V d h.0)) in
-      ap (λ t. item V t i) (sym same)
-      ∙ ⊎_elim
-      (λ (b : i < d.size). item-tabulate V d.size (item V h.0) i b ∙ list-short h.0 k h.1 i l)
-      (λ (b : d.size ≤ i). get_or_past (fit V h.0 d.size) i V.zero (omega (arith, length-tabulate d.size (item V h.0))))
-      (cases_lt i d.size)
-
-  -- and zeros from k on make a codeword
-  pub codeword-from_rest : (k : ℕ) (c m : List M) → length c ≡ d.size → IsInverse K V d c m → ((i : ℕ) → k ≤ i → item V m i ≡ V.zero) → IsCodeword K V d k c
-  codeword-from_rest k c m e h rest = (
-    take k m,
-    omega (arith, length-take k m),
-    transform-from (take k m) c e
-        (λ i l.
-        ap (λ t. item V t i) (sym (h.values ∙ fit-same V c d.size e))
-        ∙ transform-item m i l
-        ∙ value-same N L d.size (item V m) (item V (take k m)) (element K d i)
-        (λ j _. ⊎_elim
-        (λ (b : j < k). sym (get_or-take k m j V.zero b))
-        (λ (b : k ≤ j). rest j b ∙ sym (get_or_past (take k m) j V.zero (omega (arith, length-take k m))))
-        (cases_lt j k))),
-  )
-
   -- ---- the restored places
 
   module _ (o : HasOrder K d.root d.size) (off : d.offset ≢ K.zero) (marks : List Bool) (k : ℕ) (size : length marks ≡ d.size) (few : k + mark_count marks ≤ d.size) where
+    -- what is interpolated for a codeword that the word agrees with: its polynomial times the product of x - r
+    interpolated : (w : List F) (y v u : List M) → AreFactors K d marks w →
+        length v ≡ d.size → ((i : ℕ) → i < d.size → item V v i ≡ weighed V (get_or marks i true) (of_list K w i) (item V y i)) → IsOnlyInverse K V d v u →
+        (m : List M) → length m ≤ k → AgreesElsewhere V marks y (transform K V d m) → tabulate d.size (by_factors K V (lost K d marks) (item V m)) ≡ u
+    interpolated w y v u factors v_size v_is only m short agrees =
+        let n = d.size in
+        let rs = lost K d marks in
+        let a = item V m in
+        let b = by_factors K V rs a in
+        let t = tabulate n b in
+        let other = transform K V d m in
+        let below : IsShort V k a = list-short m k short in
+        let room : k + length rs ≤ n = omega (arith, lost-length K d marks) in
+        let b_short : IsShort V n b = by_factors-short N L k n rs a below room in
+        let products : (i : ℕ) → i < n → item V v i ≡ V.scale (located K rs (element K d i)) (item V other i) = λ i l.
+        elim (get_or marks i true) as (λ p. get_or marks i true ≡ p → item V v i ≡ V.scale (located K rs (element K d i)) (item V other i)) [
+          | true ↦ λ e.
+              v_is i l
+              ∙ ap (λ x. weighed V x (of_list K w i) (item V y i)) e
+              ∙ sym (ap (λ x. V.scale x (item V other i)) (located-lost K N d o off marks i (omega arith) e) ∙ zero_scale N L (item V other i))
+          | false ↦ λ e.
+              v_is i l
+              ∙ ap (λ x. weighed V x (of_list K w i) (item V y i)) e
+              ∙ ap₂ V.scale (subst (λ x. IsFactor K rs (element K d i) x (of_list K w i)) e (factors.each i l)) (sym (agrees i e))
+        ] refl in
+        only t (record {
+          size = length-tabulate n b;
+          values =
+              sym (transform-from t v v_size
+              (λ i l.
+              products i l
+              ∙ ap (V.scale (located K rs (element K d i))) (transform-item m i l)
+              ∙ sym (value-same N L n (item V t) b (element K d i) (λ j _. tabulate-item n b b_short j) ∙ by_factors-value N L k n rs (element K d i) a below room)))
+              ∙ sym (fit-same V v n v_size);
+        })
+
+    -- and it has no items from k and the number of marked places on
+    pub interpolated-rest : (w : List F) (y v u : List M) → AreFactors K d marks w →
+        length v ≡ d.size → ((i : ℕ) → i < d.size → item V v i ≡ weighed V (get_or marks i true) (of_list K w i) (item V y i)) → IsOnlyInverse K V d v u →
+        (other : List M) → IsCodeword K V d k other → AgreesElsewhere V marks y other → (i : ℕ) → k + mark_count marks ≤ i → item V u i ≡ V.zero
+    interpolated-rest w y v u factors v_size v_is only other (m, short, is) agrees i l =
+        let rs = lost K d marks in
+        let a = item V m in
+        let b = by_factors K V rs a in
+        let below : IsShort V k a = list-short m k short in
+        let same = interpolated w y v u factors v_size v_is only m short (subst (AgreesElsewhere V marks y) is agrees) in
+        ap (λ x. item V x i) (sym same)
+        ∙ tabulate-item d.size b (by_factors-short N L k d.size rs a below (omega (arith, lost-length K d marks))) i
+        ∙ by_factors-short N L k (k + length rs) rs a below (omega arith) i (omega (arith, lost-length K d marks))
+
+    -- without such items there is a codeword that the word agrees with
+    pub codeword-from_rest : (w : List F) (y v u : List M) → AreFactors K d marks w →
+        length v ≡ d.size → ((i : ℕ) → i < d.size → item V v i ≡ weighed V (get_or marks i true) (of_list K w i) (item V y i)) → IsInverse K V d v u →
+        ((i : ℕ) → k + mark_count marks ≤ i → item V u i ≡ V.zero) →
+        (other : List M) × IsCodeword K V d k other × AgreesElsewhere V marks y other
+    codeword-from_rest w y v u factors v_size v_is inverse rest =
+        let n = d.size in
+        let rs = lost K d marks in
+        let a = item V u in
+        let count = lost-length K d marks in
+        let room : k + length rs ≤ n = omega (arith, count) in
+        let there : (i : ℕ) → i < n → item V v i ≡ value K V n a (element K d i) = λ i l.
+        ap (λ x. item V x i) (sym (inverse.values ∙ fit-same V v n v_size)) ∙ transform-item u i l in
+        let roots : (j : ℕ) → j < length marks → get_or marks j true ≡ true → value K V n a (element K d (0 + j)) ≡ V.zero = λ j l e.
+        (let same : 0 + j ≡ j = omega arith in ap (λ x. value K V n a (element K d x)) same)
+        ∙ sym (there j (omega arith))
+        ∙ v_is j (omega arith)
+        ∙ ap (λ x. weighed V x (of_list K w j) (item V y j)) e in
+        let found = divided N L d o off n k 0 marks a (λ j l. rest j (omega (arith, count))) room (omega arith) roots in
+        let q = found.0 in
+        let q_short : IsShort V k q = found.1 in
+        let is : a ≡ by_factors K V rs q = found.2 in
+        let m = tabulate k q in (
+          transform K V d m,
+          (m, omega (arith, length-tabulate k q), refl),
+          λ i e.
+              let l : i < n = omega (arith, unmarked_within marks i e) in
+              let x = element K d i in
+              transform-item m i l
+              ∙ value-same N L n (item V m) q x (λ j _. tabulate-item k q q_short j)
+              ∙ scale_cancel N L (located K rs x) (value K V n q x) (item V y i) (located-kept K N d o off marks i (omega arith) (omega arith) e)
+              (sym (by_factors-value N L k n rs x q q_short room)
+              ∙ ap (λ t. value K V n t x) (sym is)
+              ∙ sym (there i l)
+              ∙ v_is i l
+              ∙ ap (λ p. weighed V p (of_list K w i) (item V y i)) e
+              ∙ ap (λ f. V.scale f (item V y i)) (subst (λ p. IsFactor K rs x p (of_list K w i)) e (factors.each i l))),
+        )
+
     -- what the steps make of a word is each codeword that the word agrees with
     pub restored : (w : List F) (y v u s c : List M) → AreFactors K d marks w →
         length v ≡ d.size → ((i : ℕ) → i < d.size → item V v i ≡ weighed V (get_or marks i true) (of_list K w i) (item V y i)) →
@@ -91,27 +153,7 @@ module _ {F M : Type 0} {K : FieldOn F} {V : ModuleOn F M} (N : IsField K) (L : 
         let b_short : IsShort V n b = by_factors-short N L k n rs a below room in
         let there : (i : ℕ) → i < n → item V other i ≡ value K V n a (element K d i) = λ i l.
         ap (λ x. item V x i) is ∙ transform-item m i l in
-        let products : (i : ℕ) → i < n → item V v i ≡ V.scale (located K rs (element K d i)) (item V other i) = λ i l.
-        elim (get_or marks i true) as (λ p. get_or marks i true ≡ p → item V v i ≡ V.scale (located K rs (element K d i)) (item V other i)) [
-          | true ↦ λ e.
-              v_is i l
-              ∙ ap (λ x. weighed V x (of_list K w i) (item V y i)) e
-              ∙ sym (ap (λ x. V.scale x (item V other i)) (located-lost K N d o off marks i (omega arith) e) ∙ zero_scale N L (item V other i))
-          | false ↦ λ e.
-              v_is i l
-              ∙ ap (λ x. weighed V x (of_list K w i) (item V y i)) e
-              ∙ ap₂ V.scale (subst (λ x. IsFactor K rs (element K d i) x (of_list K w i)) e (factors.each i l)) (sym (agrees i e))
-        ] refl in
-        let same : t ≡ u = only t (record {
-          size = length-tabulate n b;
-          values =
-              sym (transform-from t v v_size
-              (λ i l.
-              products i l
-              ∙ ap (V.scale (located K rs (element K d i))) (there i l)
-              ∙ sym (value-same N L n (item V t) b (element K d i) (λ j _. tabulate-item n b b_short j) ∙ by_factors-value N L k n rs (element K d i) a below room)))
-              ∙ sym (fit-same V v n v_size);
-        }) in
+        let same : t ≡ u = interpolated w y v u factors v_size v_is only m short (subst (AgreesElsewhere V marks y) is agrees) in
         let slopes : (i : ℕ) → i < n → get_or marks i true ≡ true → item V (transform K V d s) i ≡ V.scale (slope K rs (element K d i)) (item V other i) = λ i l e.
         transform-item s i l
         ∙ value-same N L n (item V s) (derived K V b) (element K d i)

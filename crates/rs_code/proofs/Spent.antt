@@ -100,3 +100,7 @@ module _ {F : Type 0} (s : Adicity) (base : IsAdicity s) (d : Domain F) where
     few_steps = le_trans g.few_steps (mul-le-mul_right g.one_steps few);
     few_products = let h = g.few_products in omega arith;
   }
+
+  -- nothing is within anything
+  pub nothing_within : IsSize s d.kind d.size → (m c : ℕ) (w : Counts) → GrowsWithin s d m c w w
+  nothing_within size m c w = within_more 0 m 0 c w w (none_within size w) (omega arith) (omega arith)

@@ -1,6 +1,6 @@
 //! Codes, and the codewords of messages.
 
-ghost use Rattle.std.specs.Prelude.{◌≡◌, ◌≢◌, ◌↔◌, ◌⊎◌, ℕ, ◌-◌, ◌<◌, ◌≤◌, List, length, map};
+ghost use Rattle.std.specs.Prelude.{◌≡◌, ◌≢◌, ◌↔◌, ◌⊎◌, ℕ, ◌+◌, ◌-◌, ◌<◌, ◌≤◌, List, length, map};
 ghost use Rattle.std.specs.Prelude.{IfSome, IsNone, IfOk, IfErr, Err};
 ghost use Rattle.ark_math.specs.Domain.{Kind, HasNoSize};
 ghost use Rattle.ark_math.specs.Transform.{transform};
@@ -131,14 +131,15 @@ impl<F: FftField, D: EvaluationDomain<F>> DomainCode<F, D> {
 
     /// The codeword that has the word's values at the places that aren't erased: `None` is an erased one. There is at most
     /// one such codeword. `WrongLength` exactly for another number of places than `n`, and `TooManyErased` exactly for more
-    /// than `n - k` erased ones, both judged before memory is asked for; `NoCodeword` where no codeword has these values.
+    /// than `n - k` erased ones, both judged before memory is asked for; `NoCodeword` where no codeword has these values,
+    /// which can't be where exactly `n - k` places are erased.
     ///
     /// ```
     /// let codeword = code.restore(alloc, &word)?; // word[i] is None where place i is erased
     /// ```
     ///
     /// Values that are wrong are not corrected. One decoder, made by `decoder`, serves any number of words that are erased
-    /// at the same places. It takes three transforms of the word beside the decoder's.
+    /// at the same places. It takes two transforms of the word beside the decoder's.
     pub fn restore<T: DomainCoeff<F>>(
         &self,
         alloc: Global,
@@ -159,6 +160,8 @@ impl<F: FftField, D: EvaluationDomain<F>> DomainCode<F, D> {
         ensures no_codeword { (result ≡ Err RsError.NoCodeword) → (other : List T.Meaning)
             → IsCodeword F.field T.group self.now.domain self.now.k other
             → AgreesWith T.group T.meaning word.now other → ⊥ }
+        ensures always { self.now.k + erasure_count word.now ≡ self.now.domain.size
+            → result ≢ Err RsError.NoCodeword }
     {
         self.restore_counted(alloc, word, &mut Work::new())
     }

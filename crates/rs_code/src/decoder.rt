@@ -1,7 +1,8 @@
 //! Decoders: what the restoration of words that are erased at the same places has in common.
 
-ghost use Rattle.std.specs.Prelude.{◌≡◌, ◌≢◌, ◌↔◌, List, length, map, IfOk, Err};
-ghost use Rattle.rs_code.specs.Codeword.{AgreesElsewhere, IsCodeword};
+ghost use Rattle.std.specs.Prelude.{◌≡◌, ◌≢◌, ◌↔◌, ◌+◌, ◌≤◌, List, length, map, IfOk, Err};
+ghost use Rattle.ark_math.specs.Transform.{fit, transform};
+ghost use Rattle.rs_code.specs.Codeword.{AgreesElsewhere, IsCodeword, mark_count};
 
 use crate::error::RsError;
 use ark_base::{DomainCoeff, FftField, Work};
@@ -42,7 +43,8 @@ impl<F: FftField, D: EvaluationDomain<F>> Model for DomainDecoder<F, D> {
 impl<F: FftField, D: EvaluationDomain<F>> DomainDecoder<F, D> {
     /// The codeword that has the word's values at the places that aren't erased; what the word has at the others isn't
     /// looked at. There is at most one such codeword. `WrongLength` exactly for another number of places than the code's,
-    /// judged before memory is asked for; `NoCodeword` where no codeword has these values.
+    /// judged before memory is asked for; `NoCodeword` where no codeword has these values, which can't be where exactly
+    /// `n - k` places are erased.
     pub fn restore<T: DomainCoeff<F>>(&self, alloc: Global, word: &[T]) -> Result<Vec<T>, RsError>
         ensures codeword { IfOk result (λ c. IsCodeword F.field T.group self.now.code.domain self.now.code.k
             (map T.meaning c.items)) }
@@ -58,7 +60,38 @@ impl<F: FftField, D: EvaluationDomain<F>> DomainDecoder<F, D> {
         ensures no_codeword { (result ≡ Err RsError.NoCodeword) → (other : List T.Meaning)
             → IsCodeword F.field T.group self.now.code.domain self.now.code.k other
             → AgreesElsewhere T.group self.now.erased (map T.meaning word.now) other → ⊥ }
+        ensures always { self.now.code.k + mark_count self.now.erased ≡ self.now.code.domain.size
+            → result ≢ Err RsError.NoCodeword }
     {
         self.restore_counted(alloc, word, &mut Work::new())
+    }
+
+    /// The `k` items of the message whose codeword `restore` gives, of a shorter message with zeros behind it. There is
+    /// at most one such message. It refuses as `restore` does, and takes one transform more.
+    ///
+    /// ```
+    /// let message = decoder.message(alloc, &word)?; // code.encode(alloc, &message)? agrees with the word
+    /// ```
+    pub fn message<T: DomainCoeff<F>>(&self, alloc: Global, word: &[T]) -> Result<Vec<T>, RsError>
+        ensures len { IfOk result (λ m. length m.items ≡ self.now.code.k) }
+        ensures agrees { IfOk result (λ m. AgreesElsewhere T.group self.now.erased (map T.meaning word.now)
+            (transform F.field T.group self.now.code.domain (map T.meaning m.items))) }
+        ensures only { IfOk result (λ m. (other : List T.Meaning) → length other ≤ self.now.code.k
+            → AgreesElsewhere T.group self.now.erased (map T.meaning word.now)
+            (transform F.field T.group self.now.code.domain other)
+            → fit T.group other self.now.code.k ≡ map T.meaning m.items) }
+        ensures wrong_length { (result ≡ Err RsError.WrongLength)
+            ↔ (length word.now ≢ self.now.code.domain.size) }
+        ensures too_many_erased { result ≢ Err RsError.TooManyErased }
+        ensures no_codeword { (result ≡ Err RsError.NoCodeword) → (other : List T.Meaning)
+            → IsCodeword F.field T.group self.now.code.domain self.now.code.k other
+            → AgreesElsewhere T.group self.now.erased (map T.meaning word.now) other → ⊥ }
+        ensures always { self.now.code.k + mark_count self.now.erased ≡ self.now.code.domain.size
+            → result ≢ Err RsError.NoCodeword }
+    {
+        let mut message = self.restore(alloc, word)?;
+        self.domain.ifft_in_place(alloc, &mut message)?;
+        message.truncate(self.k);
+        Ok(message)
     }
 }

@@ -1,23 +1,25 @@
 //! The polynomial that is zero exactly at the erased places, and the factors that it gives to the places. All of it is
 //! arithmetic of the field's own elements.
 
-ghost use Rattle.std.specs.Prelude.{◌≡◌, ℕ, ◌+◌, ◌<◌, ◌≤◌, true, get_or, length, IfOk, OnOk, IsOkUnless};
+ghost use Rattle.std.specs.Prelude.{◌≡◌, ℕ, ◌+◌, ◌<◌, ◌≤◌, true, List, get_or, length, IfOk, OnOk, IsOkUnless};
 ghost use Rattle.std.specs.Prelude.{if◌then◌else◌};
 ghost use Rattle.ark_math.specs.Module.{itself};
+ghost use Rattle.ark_math.specs.Points.{AreValues};
 ghost use Rattle.ark_math.specs.Univariate.{of_list, product, IsTrimmed};
 ghost use Rattle.rs_code.specs.Codeword.{mark_count};
 ghost use Rattle.rs_code.specs.Locator.{AreFactors, HasSizeFor, IsMonic, derived, linear, locator, lost};
 
 use ark_base::{FftField, Field, PolyError, batch_inversion};
 use ark_poly::univariate::DensePolynomial;
-use ark_poly::{DenseUVPolynomial, EvaluationDomain, GeneralEvaluationDomain};
+use ark_poly::{DenseUVPolynomial, EvaluationDomain, Evaluations, GeneralEvaluationDomain};
 use std::alloc::{AllocError, Global};
 
 // Up to so many roots are multiplied in one by one.
 const FEW_ROOTS: usize = 64;
 
 /// The factors: at a kept place the value of the polynomial that is zero at the erased ones, and at an erased one the
-/// inverse of its derivative's. The polynomial is made by halves, each product through transforms.
+/// inverse of its derivative's. The polynomial is made by
+/// quarters, each product through transforms.
 pub fn factors<F: FftField, D: EvaluationDomain<F>>(
     alloc: Global,
     domain: D,
@@ -70,34 +72,62 @@ fn with_roots<F: FftField>(alloc: Global, roots: &[F]) -> Result<DensePolynomial
     let Some(domain) = GeneralEvaluationDomain::<F>::new(roots.len()) else {
         return Err(PolyError::NoDomain);
     };
-    let middle = roots.len() / 2;
-    let low = with_roots(alloc, &roots[..middle])?;
-    let high = with_roots(alloc, &roots[middle..])?;
-    product(alloc, &low, &high, domain, roots.len())
+    let low = &roots[..roots.len() / 2];
+    let high = &roots[roots.len() / 2..];
+    let first = with_roots(alloc, &low[..low.len() / 2])?;
+    let second = with_roots(alloc, &low[low.len() / 2..])?;
+    let third = with_roots(alloc, &high[..high.len() / 2])?;
+    let fourth = with_roots(alloc, &high[high.len() / 2..])?;
+    product(alloc, &first, &second, &third, &fourth, domain, roots.len())
 }
 
-// The product of two polynomials, of this degree and with one as its leading coefficient, over a domain with an element
-// for each coefficient below that one.
+// The product of four polynomials, of this degree and with one as its leading coefficient, over a domain with an element
+// for each coefficient below that one: one transform back for two levels of products.
 fn product<F: FftField, D: EvaluationDomain<F>>(
     alloc: Global,
-    low: &DensePolynomial<F>,
-    high: &DensePolynomial<F>,
+    first: &DensePolynomial<F>,
+    second: &DensePolynomial<F>,
+    third: &DensePolynomial<F>,
+    fourth: &DensePolynomial<F>,
     domain: D,
     degree: usize,
 ) -> Result<DensePolynomial<F>, PolyError>
-    requires monic { IsMonic F.field degree
-        (product F.field (of_list F.field low.now) (of_list F.field high.now)) }
+    requires monic { IsMonic F.field degree (product F.field
+        (product F.field (of_list F.field first.now) (of_list F.field second.now))
+        (product F.field (of_list F.field third.now) (of_list F.field fourth.now))) }
     requires room { degree ≤ (D.domain domain).size }
     requires fits { degree < usize.MAX }
-    ensures product { IfOk result (λ p. of_list F.field p
-        ≡ product F.field (of_list F.field low.now) (of_list F.field high.now)) }
+    ensures product { IfOk result (λ p. of_list F.field p ≡ product F.field
+        (product F.field (of_list F.field first.now) (of_list F.field second.now))
+        (product F.field (of_list F.field third.now) (of_list F.field fourth.now))) }
     ensures memory { IsOkUnless result PolyError.Memory }
 {
-    let mut product = low.mul_over_domain(alloc, high, domain)?;
+    let mut values = values_of_product(alloc, first, second, domain)?;
+    values.mul_assign(&values_of_product(alloc, third, fourth, domain)?);
+    let mut product = values.interpolate(alloc)?;
     if domain.size() == degree {
         product.add_assign_sparse(alloc, &domain.vanishing_polynomial(alloc)?)?;
     }
     Ok(product)
+}
+
+// The values of a product at the elements.
+fn values_of_product<F: FftField, D: EvaluationDomain<F>>(
+    alloc: Global,
+    left: &DensePolynomial<F>,
+    right: &DensePolynomial<F>,
+    domain: D,
+) -> Result<Evaluations<F, D>, PolyError>
+    ensures values { IfOk result (λ v. (values : List F)
+        × AreValues F.field (D.domain domain)
+        (product F.field (of_list F.field left.now) (of_list F.field right.now)) values
+        × ((i : ℕ) → of_list F.field v.evals i ≡ of_list F.field values i)) }
+    ensures domain { IfOk result (λ v. v.domain ≡ domain) }
+    ensures memory { IsOkUnless result PolyError.Memory }
+{
+    let mut values = left.evaluate_over_domain_by_ref(alloc, domain)?;
+    values.mul_assign(&right.evaluate_over_domain_by_ref(alloc, domain)?);
+    Ok(values)
 }
 
 // The same, one by one.

@@ -1,4 +1,4 @@
-//! Words with places erased, restored by three transforms. `Work` is told of every product of a module's value by an
+//! Words with places erased, restored by two transforms. `Work` is told of every product of a module's value by an
 //! element of the field, and `Work::scale` alone makes one.
 
 ghost use Rattle.std.specs.Prelude.{◌≡◌, ◌≢◌, ◌↔◌, ℕ, ◌+◌, ◌-◌, ◌*◌, ◌<◌, ◌≤◌, true, List, get_or};
@@ -40,6 +40,8 @@ impl<F: FftField, D: EvaluationDomain<F>> DomainCode<F, D> {
         ensures no_codeword { (result ≡ Err RsError.NoCodeword) → (other : List T.Meaning)
             → IsCodeword F.field T.group self.now.domain self.now.k other
             → AgreesWith T.group T.meaning word.now other → ⊥ }
+        ensures always { self.now.k + erasure_count word.now ≡ self.now.domain.size
+            → result ≢ Err RsError.NoCodeword }
         ensures cost { GrowsWithin F.adicity self.now.domain 3 (5 * self.now.domain.size) work.old work.new }
     {
         if word.len() != self.domain.size() {
@@ -77,44 +79,21 @@ impl<F: FftField, D: EvaluationDomain<F>> DomainDecoder<F, D> {
         ensures no_codeword { (result ≡ Err RsError.NoCodeword) → (other : List T.Meaning)
             → IsCodeword F.field T.group self.now.code.domain self.now.code.k other
             → AgreesElsewhere T.group self.now.erased (map T.meaning word.now) other → ⊥ }
+        ensures always { self.now.code.k + mark_count self.now.erased ≡ self.now.code.domain.size
+            → result ≢ Err RsError.NoCodeword }
         ensures cost { GrowsWithin F.adicity self.now.code.domain 3 (5 * self.now.code.domain.size)
             work.old work.new }
     {
         if word.len() != self.domain.size() {
             return Err(RsError::WrongLength);
         }
-        let values = self.candidate(alloc, word, work)?;
-        let mut message = Vec::from_slice(alloc, &values)?;
-        self.domain.ifft_counted(alloc, &mut message, work)?;
-        if !are_zeros(&message[self.k..]) {
-            return Err(RsError::NoCodeword);
-        }
-        Ok(values)
-    }
-
-    // The only list that can be a codeword with the word's values at the places that aren't erased.
-    fn candidate<T: DomainCoeff<F>>(
-        &self,
-        alloc: Global,
-        word: &[T],
-        work: &mut Work,
-    ) -> Result<Vec<T>, PolyError>
-        requires { length word.now ≡ self.now.code.domain.size }
-        ensures len { IfOk result (λ c. length c.items ≡ self.now.code.domain.size) }
-        ensures agrees { IfOk result (λ c. AgreesElsewhere T.group self.now.erased (map T.meaning word.now)
-            (map T.meaning c.items)) }
-        ensures only { IfOk result (λ c. (other : List T.Meaning)
-            → IsCodeword F.field T.group self.now.code.domain self.now.code.k other
-            → AgreesElsewhere T.group self.now.erased (map T.meaning word.now) other
-            → other ≡ map T.meaning c.items) }
-        ensures cost { GrowsWithin F.adicity self.now.code.domain 2 (4 * self.now.code.domain.size)
-            work.old work.new }
-        ensures memory { IsOkUnless result PolyError.Memory }
-    {
         let domain = self.domain;
         let mut values = Vec::from_slice(alloc, word)?;
         weigh(values.as_mut_slice(), &self.erased, &self.factors, work);
         domain.ifft_counted(alloc, &mut values, work)?;
+        if !are_zeros(&values[self.product_len()..]) {
+            return Err(RsError::NoCodeword);
+        }
         derive(values.as_mut_slice(), work);
         domain.fft_counted(alloc, &mut values, work)?;
         fill(
@@ -125,6 +104,14 @@ impl<F: FftField, D: EvaluationDomain<F>> DomainDecoder<F, D> {
             work,
         );
         Ok(values)
+    }
+
+    // The most coefficients of a message's polynomial times the one that is zero at the erased places.
+    fn product_len(&self) -> usize
+        ensures len { result ≡ self.now.code.k + mark_count self.now.erased }
+        ensures fits { result ≤ self.now.code.domain.size }
+    {
+        self.k + self.erased.iter().filter(|place| **place).count()
     }
 }
 

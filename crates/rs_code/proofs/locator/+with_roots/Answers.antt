@@ -1,11 +1,10 @@
-use Rattle.std.proofs.Common.{◌+◌, ◌/◌, length, refl, subst, ap, ap₂, sym, ◌∙◌, arith}
+use Rattle.std.proofs.Common.{◌≡◌, ◌+◌, ◌-◌, ◌/◌, length, take, drop, refl, subst, ap, ap₂, sym, ◌∙◌, arith}
 use Rattle.ark_math.specs.Univariate.{product}
 use Rattle.ark_math.proofs.Domains.GeneralSizes.{general_sizes}
 use Rattle.ark_math.proofs.Outcomes.Results.{IfOk_more}
 use Rattle.rs_code.specs.Locator.{IsMonic, locator}
-use Rattle.rs_code.proofs.Factors.{locator-append}
+use Rattle.rs_code.proofs.Factors.{locator-quarters}
 use Rattle.rs_code.proofs.Monic.{locator_monic}
-use Rattle.rs_code.proofs.Places.{halves}
 use Rattle.rs_code.proofs.Sizes.{general_size_for, size_fits, size_for_less}
 use Rattle.rs_code.proofs.locator.+with_roots.Goals as goal
 
@@ -20,7 +19,7 @@ product-requires-clause-monic g t c =
     let K = g.F.Field.field in
     let N = g.met.F.Field.field_laws in
     let rs = c.args.roots.now in
-    let whole = ap₂ (product K) c.in_ok-low.ensures.product c.in_ok-high.ensures.product ∙ locator-append K N _ _ ∙ ap (locator K) (halves rs (length rs / 2)) in
+    let whole = ap₂ (product K) (ap₂ (product K) c.in_ok-first.ensures.product c.in_ok-second.ensures.product) (ap₂ (product K) c.in_ok-third.ensures.product c.in_ok-fourth.ensures.product) ∙ locator-quarters K N rs in
     subst (IsMonic K (length rs)) (sym whole) (locator_monic K N rs)
 
 pub product-requires-clause-room : goal.product-requires-clause-room
@@ -33,5 +32,5 @@ pub returns-clause-product : goal.returns-clause-product
 returns-clause-product g t c =
     let K = g.F.Field.field in
     let rs = c.args.roots.now in
-    let whole = ap₂ (product K) c.in_ok-low.ensures.product c.in_ok-high.ensures.product ∙ locator-append K g.met.F.Field.field_laws _ _ ∙ ap (locator K) (halves rs (length rs / 2)) in
+    let whole = ap₂ (product K) (ap₂ (product K) c.in_ok-first.ensures.product c.in_ok-second.ensures.product) (ap₂ (product K) c.in_ok-third.ensures.product c.in_ok-fourth.ensures.product) ∙ locator-quarters K g.met.F.Field.field_laws rs in
     IfOk_more c.product.result (λ p h. h ∙ whole) c.product.ensures.product

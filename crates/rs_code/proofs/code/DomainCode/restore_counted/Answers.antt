@@ -1,56 +1,41 @@
-use Rattle.std.proofs.Common.{◌≡◌, ◌*◌, map, unwrap_or, subst, subst₂, sym, ◌∙◌, arith}
+use Rattle.std.proofs.Common.{◌≡◌, ◌+◌, ◌*◌, map, unwrap_or, subst, subst₂, sym, ap, ap₂, ◌∙◌, arith}
 use Rattle.std.specs.Prelude.{is_none}
 use Rattle.ark_math.proofs.Outcomes.Results.{IfOk_more}
-use Rattle.rs_code.specs.Codeword.{IsCodeword, AgreesElsewhere}
+use Rattle.rs_code.specs.Codeword.{IsCodeword, AgreesElsewhere, mark_count}
 use Rattle.rs_code.specs.Cost.{GrowsWithin}
-use Rattle.rs_code.proofs.Places.{agrees-with, agrees-elsewhere}
-use Rattle.rs_code.proofs.Spent.{none_within, within_more}
+use Rattle.rs_code.proofs.Places.{agrees-with, agrees-elsewhere, mark_count-none}
+use Rattle.rs_code.proofs.Spent.{nothing_within}
 use Rattle.rs_code.proofs.code.DomainCode.restore_counted.Goals as goal
 
 pub returns-then-word-size-clause-cost : goal.returns-then-word-size-clause-cost
 returns-then-word-size-clause-cost g c =
-    let s = g.F.FftField.adicity in
-    let base = g.met.F.FftField.roots_law.base in
     let d = g.D.EvaluationDomain.domain c.self.inside.domain in
-    let w = c.args.work.now in
-    subst (λ r. GrowsWithin s r.domain 3 (5 * r.domain.size) w w) c.self.view_is
-    (within_more s base d 0 3 0 (5 * d.size) w w (none_within s base d c.self.invariant.lawful.size_of w) (omega arith) (omega arith))
+    subst (λ r. GrowsWithin g.F.FftField.adicity r.domain 3 (5 * r.domain.size) c.args.work.now c.args.work.now) c.self.view_is
+    (nothing_within g.F.FftField.adicity g.met.F.FftField.roots_law.base d c.self.invariant.lawful.size_of 3 (5 * d.size) c.args.work.now)
 
 pub returns-then-count_erased-size-clause-cost : goal.returns-then-count_erased-size-clause-cost
 returns-then-count_erased-size-clause-cost g c =
-    let s = g.F.FftField.adicity in
-    let base = g.met.F.FftField.roots_law.base in
     let d = g.D.EvaluationDomain.domain c.self.inside.domain in
-    let w = c.args.work.now in
-    subst (λ r. GrowsWithin s r.domain 3 (5 * r.domain.size) w w) c.self.view_is
-    (within_more s base d 0 3 0 (5 * d.size) w w (none_within s base d c.self.invariant.lawful.size_of w) (omega arith) (omega arith))
+    subst (λ r. GrowsWithin g.F.FftField.adicity r.domain 3 (5 * r.domain.size) c.args.work.now c.args.work.now) c.self.view_is
+    (nothing_within g.F.FftField.adicity g.met.F.FftField.roots_law.base d c.self.invariant.lawful.size_of 3 (5 * d.size) c.args.work.now)
 
 pub returns-in_err-erased_places-clause-cost : goal.returns-in_err-erased_places-clause-cost
 returns-in_err-erased_places-clause-cost g c =
-    let s = g.F.FftField.adicity in
-    let base = g.met.F.FftField.roots_law.base in
     let d = g.D.EvaluationDomain.domain c.self.inside.domain in
-    let w = c.args.work.now in
-    subst (λ r. GrowsWithin s r.domain 3 (5 * r.domain.size) w w) c.self.view_is
-    (within_more s base d 0 3 0 (5 * d.size) w w (none_within s base d c.self.invariant.lawful.size_of w) (omega arith) (omega arith))
+    subst (λ r. GrowsWithin g.F.FftField.adicity r.domain 3 (5 * r.domain.size) c.args.work.now c.args.work.now) c.self.view_is
+    (nothing_within g.F.FftField.adicity g.met.F.FftField.roots_law.base d c.self.invariant.lawful.size_of 3 (5 * d.size) c.args.work.now)
 
 pub returns-in_err-decoder-clause-cost : goal.returns-in_err-decoder-clause-cost
 returns-in_err-decoder-clause-cost g c =
-    let s = g.F.FftField.adicity in
-    let base = g.met.F.FftField.roots_law.base in
     let d = g.D.EvaluationDomain.domain c.self.inside.domain in
-    let w = c.args.work.now in
-    subst (λ r. GrowsWithin s r.domain 3 (5 * r.domain.size) w w) c.self.view_is
-    (within_more s base d 0 3 0 (5 * d.size) w w (none_within s base d c.self.invariant.lawful.size_of w) (omega arith) (omega arith))
+    subst (λ r. GrowsWithin g.F.FftField.adicity r.domain 3 (5 * r.domain.size) c.args.work.now c.args.work.now) c.self.view_is
+    (nothing_within g.F.FftField.adicity g.met.F.FftField.roots_law.base d c.self.invariant.lawful.size_of 3 (5 * d.size) c.args.work.now)
 
 pub returns-in_err-values-clause-cost : goal.returns-in_err-values-clause-cost
 returns-in_err-values-clause-cost g c =
-    let s = g.F.FftField.adicity in
-    let base = g.met.F.FftField.roots_law.base in
     let d = g.D.EvaluationDomain.domain c.self.inside.domain in
-    let w = c.args.work.now in
-    subst (λ r. GrowsWithin s r.domain 3 (5 * r.domain.size) w w) c.self.view_is
-    (within_more s base d 0 3 0 (5 * d.size) w w (none_within s base d c.self.invariant.lawful.size_of w) (omega arith) (omega arith))
+    subst (λ r. GrowsWithin g.F.FftField.adicity r.domain 3 (5 * r.domain.size) c.args.work.now c.args.work.now) c.self.view_is
+    (nothing_within g.F.FftField.adicity g.met.F.FftField.roots_law.base d c.self.invariant.lawful.size_of 3 (5 * d.size) c.args.work.now)
 
 pub returns-clause-agrees : goal.returns-clause-agrees
 returns-clause-agrees g c =
@@ -88,3 +73,15 @@ returns-clause-no_codeword g c = λ is_none_such other is agrees.
     c.restore_counted.ensures.no_codeword is_none_such other
     (subst (λ r. IsCodeword K V r.domain r.k other) (sym c.in_ok-decoder.ensures.code) is)
     (subst₂ (λ e y. AgreesElsewhere V e (map m y) other) (sym marks) (sym values) (agrees-elsewhere V m word c.zero.result other agrees))
+
+pub returns-clause-always : goal.returns-clause-always
+returns-clause-always g c = λ full is_none_such.
+    let word = c.args.word.now in
+    let code = c.in_ok-decoder.ensures.code in
+    let marks : c.in_ok-decoder.decoder.erased ≡ map is_none word = c.in_ok-decoder.ensures.erased ∙ c.deref.ensures.value ∙ c.in_ok-erased_places.ensures in
+    c.restore_counted.ensures.always
+    (ap₂ (λ r e. r.k + mark_count e) code marks
+    ∙ ap (λ t. c.args.self.now.k + t) (mark_count-none word)
+    ∙ full
+    ∙ sym (ap (λ r. r.domain.size) code))
+    is_none_such
