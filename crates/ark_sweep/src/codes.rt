@@ -97,6 +97,7 @@ impl<F: FftField + Numbered> Call for OfDecoder<F> {
     fn call(&mut self, alloc: Global, name: &str) -> Result<Answered<F>, PolyError> {
         match name {
             "restore" => outcome_of(self.decoder.restore(alloc, &self.values)),
+            "message" => outcome_of(self.decoder.message(alloc, &self.values)),
             "restore_counted" => {
                 outcome_of(
                     self.decoder
