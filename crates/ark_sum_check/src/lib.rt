@@ -1,0 +1,14 @@
+//! The sum-check of a product of multilinear extensions: a prover that sends rounds, and a verifier that takes them.
+#![tactic(auto)]
+
+mod error;
+mod prover;
+mod round;
+mod tables;
+mod through;
+mod verifier;
+
+pub use error::SumCheckError;
+pub use prover::{Challenger, Prover, prove};
+pub use round::Round;
+pub use verifier::{Verdict, Verifier, verify};
