@@ -7,8 +7,10 @@ mod round;
 mod tables;
 mod through;
 mod verifier;
+mod whole;
 
 pub use error::SumCheckError;
-pub use prover::{Challenger, Prover, prove};
+pub use prover::Prover;
 pub use round::Round;
 pub use verifier::{Verdict, Verifier, verify};
+pub use whole::{Challenger, prove};

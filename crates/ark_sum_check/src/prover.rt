@@ -1,13 +1,8 @@
 //! The prover of a sum-check.
 
 ghost use Rattle.std.specs.Prelude.{◌≡◌, ℕ, ◌+◌, ◌-◌, ◌^◌, ◌<◌, [], All, length, IfOk, IsOkUnless};
-ghost use Rattle.ark_sum_check.specs.Cube.{bound_to, cube_sum, product_value};
-ghost use Rattle.ark_sum_check.specs.Lists.{as_tables};
-ghost use Rattle.ark_sum_check.specs.Rounds.{AreAccepted, AreTrueRounds, IsTrueRound, challenges};
-ghost use Rattle.ark_sum_check.specs.Provers.{tables_of, variables_of};
 
 use crate::error::SumCheckError;
-use crate::round::Round;
 use crate::tables::{bind_each, product_of_values, sum_of_bound, sum_of_side};
 use ark_traits::Field;
 use std::alloc::Global;
@@ -30,7 +25,10 @@ pub struct Prover<F> {
 }
 
 impl<F: Field> Prover<F> {
+    ghost use Rattle.ark_sum_check.specs.Cube.{bound_to, product_value};
+    ghost use Rattle.ark_sum_check.specs.Lists.{as_tables};
     ghost use Rattle.ark_sum_check.specs.Provers.{tables_of, variables_of};
+    ghost use Rattle.ark_sum_check.specs.Rounds.{IsTrueRound};
 
     /// The prover of the sum of the product of these factors, one at least, each of which is given by its `2^num_vars`
     /// values in the order of their indices. Takes no memory.
@@ -95,36 +93,4 @@ impl<F: Field> Prover<F> {
     {
         product_of_values(&self.tables, 0)
     }
-}
-
-/// Where challenges come from, as from a transcript or a generator. Nothing is promised of them.
-pub trait Challenger<F> {
-    /// The challenge after a round with these values.
-    fn challenge(&mut self, values: &[F]) -> F;
-}
-
-/// All rounds, with challenges as they come. Whatever these are, the rounds are true and so accepted of the sum over the
-/// cube, with the product's value at the challenges as the last claim.
-pub fn prove<F: Field, C: Challenger<F>>(
-    alloc: Global,
-    prover: Prover<F>,
-    challenger: &mut C,
-) -> Result<Vec<Round<F>>, SumCheckError>
-    ensures count { IfOk result (λ rounds. length rounds.items ≡ variables_of prover) }
-    ensures truth { IfOk result (λ rounds. AreTrueRounds F.field (length (tables_of F.field prover))
-        (tables_of F.field prover) rounds.items) }
-    ensures accepted { IfOk result (λ rounds. AreAccepted F.field (length (tables_of F.field prover))
-        (cube_sum F.field (variables_of prover) (tables_of F.field prover)) rounds.items
-        (product_value F.field (tables_of F.field prover) (challenges rounds.items))) }
-    ensures memory { IsOkUnless result SumCheckError.Memory }
-{
-    let mut left = prover;
-    let mut rounds = Vec::with_capacity(alloc, left.num_vars())?;
-    for _ in 0..left.num_vars() {
-        let values = left.round(alloc)?;
-        let challenge = challenger.challenge(&values);
-        left.bind(challenge);
-        rounds.push(Round { values, challenge })?;
-    }
-    Ok(rounds)
 }

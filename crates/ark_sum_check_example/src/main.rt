@@ -58,7 +58,10 @@ fn print_verdict<M: PrimeModulus>(
     verdict: Verdict<PrimeField<M>>,
 ) -> anyhow::Result<()> {
     match verdict {
-        Verdict::Accepted(last) => println!(rt; "sum {claim}: the product's value is {}", last.value())?,
+        Verdict::Accepted(last) => println!(rt;
+            "sum {claim}: the product's value is {}",
+            last.value()
+        )?,
         Verdict::Refused(round) => println!(rt; "sum {claim}: round {round} is refused")?,
     }
     Ok(())

@@ -29,10 +29,10 @@ loop-i-preserved g c =
     let at : c.from.result ≡ natural K i = F.from_law _ _ (omega arith) c.from.ensures in
     zipped-set K (λ _ y. y) a b i xs c.add.result inside c.loop-i.invariant
     (F.add_law _ _ _ c.add.ensures
-    ∙ ap₂ K.plus here (F.mul_law _ _ _ c.mul-2.ensures
+    ∙ ap₂ K.plus here (F.mul_law _ _ _ c.mul-in-loop-i.ensures
     ∙ ap₂ K.times
     (F.mul_law _ _ _ c.mul.ensures ∙ ap (λ s. K.times s c.args.inverse) (F.sub_law _ _ _ c.sub.ensures ∙ ap (minus K c.args.x) at))
-    (F.sub_law _ _ _ c.sub-2.ensures ∙ ap₂ (minus K) next here)))
+    (F.sub_law _ _ _ c.sub-in-loop-i.ensures ∙ ap₂ (minus K) next here)))
 
 pub returns : goal.returns
 returns g c i below =
