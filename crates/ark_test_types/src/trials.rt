@@ -3,9 +3,7 @@
 //! Only `over_field` names concrete fields, since what names one is dear to check.
 
 use crate::numbered::Numbered;
-use ark_base::{
-    BabyBear, F5, F433, F65537, FftField, Field, Goldilocks, KoalaBear, PolyError,
-};
+use ark_base::{BabyBear, F5, F433, F65537, FftField, Field, Goldilocks, KoalaBear, PolyError};
 use rand::Rng;
 use std::alloc::{AllocError, Global};
 

@@ -61,9 +61,21 @@ const SIZES: [usize; 20] = [
 
 const TRIED: [(Prime, Kind, Tried<'static>); 21] = [
     (Prime::P65537, Kind::Radix2, Tried::PlainSums(&POWERS)),
-    (Prime::BabyBear, Kind::Radix2, Tried::PlainSums(&SMALL_POWERS)),
-    (Prime::KoalaBear, Kind::Radix2, Tried::PlainSums(&SMALL_POWERS)),
-    (Prime::Goldilocks, Kind::Radix2, Tried::PlainSums(&SMALL_POWERS)),
+    (
+        Prime::BabyBear,
+        Kind::Radix2,
+        Tried::PlainSums(&SMALL_POWERS),
+    ),
+    (
+        Prime::KoalaBear,
+        Kind::Radix2,
+        Tried::PlainSums(&SMALL_POWERS),
+    ),
+    (
+        Prime::Goldilocks,
+        Kind::Radix2,
+        Tried::PlainSums(&SMALL_POWERS),
+    ),
     (Prime::P433, Kind::Mixed, Tried::PlainSums(&SIZES)),
     (Prime::P433, Kind::General, Tried::PlainSums(&SIZES)),
     (Prime::P65537, Kind::Radix2, Tried::PlainPasses(&POWERS)),
