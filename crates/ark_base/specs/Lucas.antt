@@ -1,8 +1,7 @@
 -- Lucas' test: a number is prime, and g a generator of its units, where g to the number less one leaves one, and g to
 -- each part of that by a prime does not.
-use Rattle.std.proofs.Common.{◌≡◌, ◌≢◌, ℕ, zero, suc, ◌+◌, ◌-◌, ◌*◌, ◌/◌, ◌%◌, ◌^◌, ◌<◌, ◌≤◌, Bool, true, not, ◌==◌, List, [], ◌∷◌, sym, ap, subst, ◌∙◌, inl, inr, arith, refl, mod-eq_of_lt, mod-lt, mul_assoc, mul_comm, mul_right_comm, one-mul, mul-one, zero-mul, mul-zero, lt_trans, lt_of_le_of_lt, div-le_self, if◌then◌else◌, le_of_lt}
+use Rattle.std.proofs.Common.{◌≡◌, ◌≢◌, ℕ, zero, suc, ◌+◌, ◌-◌, ◌*◌, ◌/◌, ◌%◌, ◌^◌, ◌<◌, ◌≤◌, Bool, true, not, ◌==◌, List, [], ◌∷◌, sym, ap, subst, ◌∙◌, inl, inr, arith, refl, mod-eq_of_lt, mod-lt, mul_assoc, mul_comm, mul_right_comm, one-mul, mul-one, zero-mul, mul-zero, lt_trans, lt_of_le_of_lt, div-le_self, suc-ne-zero, nat_le, if◌then◌else◌, le_of_lt}
 use Rattle.std.specs.Prelude.{◌&&◌, nat_lt}
-use Rattle.std.specs.Float.Ieee.{root_below}
 use Rattle.std.proofs.Math.Nat.{mod-add-div, mod-add-div', mul-mod_left, mul-mod_right, pow-zero, eq_of_mul-eq-mul_right, zero-mod, mod-mod_of_dvd, div-eq_of_eq-mul_left, mul-le-mul_left, mul-le-mul_right, mul-suc}
 use Rattle.std.proofs.lemmas.Nat.{pow-add, mul-mod_first}
 use Rattle.std.proofs.lemmas.Nat.Gcd.{dvd_of_mod-eq-zero}
@@ -14,6 +13,14 @@ use Rattle.ark_math.proofs.Domains.Contained.{search_below}
 use Rattle.ark_base.specs.Modulus.{IsGenerator}
 
 -- ---- the test
+
+-- the whole part of the root of an n below 4 ^ k
+abbrev pub next_root : ℕ → ℕ → ℕ
+next_root r n = if nat_le ((r + 1) * (r + 1)) n then r + 1 else r
+
+abbrev pub root_below : ℕ → ℕ → ℕ
+root_below zero n = 0
+root_below (suc k) n = next_root (2 * root_below k (n / 4)) n
 
 -- trial division up to the root
 abbrev pub is_small_prime : ℕ → Bool
@@ -223,10 +230,9 @@ module _ (n g : ℕ) (above : 1 < n) where
 
     not_zero : (k : ℕ) → k ≤ n - 1 → g ^ k % n ≢ 0
     not_zero k l z =
-        let e : 0 ≡ 1 =
-        sym (ap (λ y. y % n) (zero-mul (g ^ (n - 1 - k))) ∙ zero-mod n) ∙ ap (λ y. (y * g ^ (n - 1 - k)) % n) (sym z)
-        ∙ mul-mod_first (g ^ k) (g ^ (n - 1 - k)) n ∙ unit k l in
-        omega arith
+        let r = g ^ (n - 1 - k) in
+        suc-ne-zero 0
+        (sym (unit k l) ∙ sym (mul-mod_first (g ^ k) r n) ∙ ap (λ y. (y * r) % n) z ∙ ap (λ y. y % n) (zero-mul r) ∙ zero-mod n)
 
     -- 0, a, and then the powers
     listed : ℕ → ℕ → ℕ
