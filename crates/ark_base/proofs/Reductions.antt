@@ -1,6 +1,6 @@
 -- Why products are reduced by the prime's form: a prime of 31 bits, and 2^64 - 2^32 + 1.
 use Rattle.std.proofs.Common.{◌≡◌, ℕ, ◌+◌, ◌*◌, ◌-◌, ◌/◌, ◌%◌, ◌<◌, ◌≤◌, ◌⊎◌, inl, inr, sym, ap, ◌∙◌, arith, mod-lt, mod-eq_of_lt, add-mul, mul-add, le_of_lt, mul-le-mul}
-use Rattle.std.proofs.Math.Nat.{mod-add-div', add-mul-mod_self_left, mul-le-mul_right}
+use Rattle.std.proofs.Math.Nat.{mod-add-div', add-mul-mod_self_left, add-mul-mod_self_right, mul-le-mul_right}
 
 -- ---- a prime of 31 bits
 
@@ -18,12 +18,22 @@ quotient_near p x m h q u r s em lu eh lr eq ls lm lh =
     let d : (m + 1) * p ≡ m * p + 1 * p = add-mul m 1 p in
     (omega (arith, whole, split, scaled, parts, eh), omega (arith, whole, split, scaled, parts, eh, a, b, c, d, em, lu, lr))
 
+less_than : (x y z : ℕ) → y ≤ x → x < y + z → x - y < z
+less_than x y z h i = omega arith
+
+rest_same : (p x q : ℕ) → q * p ≤ x → (x - q * p) % p ≡ x % p
+rest_same p x q h =
+    let whole : x - q * p + q * p ≡ x = omega (arith, h) in
+    sym (add-mul-mod_self_right (x - q * p) q p) ∙ ap (λ y. y % p) whole
+
 pub record IsNear (p x : ℕ) : Type 0 where
   pub factor : 4611686018427387904 / p < 4294967296
   pub upper : x / 1073741824 < 4294967296
   pub quotient : x / 1073741824 * (4611686018427387904 / p) / 4294967296 < 4294967296
   pub below : x / 1073741824 * (4611686018427387904 / p) / 4294967296 * p ≤ x
-  pub above : x < x / 1073741824 * (4611686018427387904 / p) / 4294967296 * p + 3 * p
+  pub product : x / 1073741824 * (4611686018427387904 / p) < 18446744073709551616
+  pub thrice : x - x / 1073741824 * (4611686018427387904 / p) / 4294967296 * p < 3 * p
+  pub same : (x - x / 1073741824 * (4611686018427387904 / p) / 4294967296 * p) % p ≡ x % p
 
 pub near : (p x : ℕ) → 1073741824 < p → x < 4611686018427387904 → IsNear p x
 near p x lo hi =
@@ -41,7 +51,9 @@ near p x lo hi =
       upper = lh;
       quotient = omega (arith, fits);
       below = both.0;
-      above = both.1;
+      product = omega (arith, fits);
+      thrice = less_than x (h * m / 4294967296 * p) (3 * p) both.0 both.1;
+      same = rest_same p x (h * m / 4294967296) both.0;
     }
 
 -- ---- 2^64 - 2^32 + 1, of which 2^64 leaves 2^32 - 1, and 2^96 leaves minus one
