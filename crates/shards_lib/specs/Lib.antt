@@ -1,0 +1,3 @@
+-- The numbers of stripes.
+pub mod Numbers
+pub mod NumberLaws

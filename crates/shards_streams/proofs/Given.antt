@@ -1,0 +1,88 @@
+-- What sources gave.
+use Rattle.std.proofs.Common.{◌≡◌, ℕ, ◌+◌, ◌<◌, ◌^◌, List, [], ◌++◌, length, length-append, append-nil, append_assoc, ap₂, sym, ◌∙◌, subst, refl, arith, Result, Err, Option}
+use Rattle.std.specs.Io.KnownBytes.{Consumes, IsAtEnd}
+use Rattle.std.proofs.KnownBytes.{Consumes-nil, Consumes-trans}
+use Rattle.sha2.specs.Sha256.{sha256}
+use Rattle.sha2.specs.Hashers.{Holds256}
+use Rattle.sha2.specs.declared.Sha256.{Sha256}
+use Rattle.ark_bytes.specs.declared.error.SerializationError.{SerializationError}
+use Rattle.ark_bytes.specs.declared.error.SerializationError.TheVariants.{IoError, InvalidData, Memory}
+use Rattle.ark_bytes.specs.Reading.{SourceState, Fills}
+use Rattle.shards_format.specs.Headers.{IsHeader}
+use Rattle.shards_format.specs.Pieces.{IsLawful, IsWhole, body_size}
+use Rattle.shards_format.specs.declared.header.Header.{Header}
+use Rattle.shards_streams.specs.Streams.{GaveSome}
+use Rattle.shards_streams.specs.Checking.{GaveFile, GavePiece, GaveText}
+
+-- a buffer that was not filled
+pub some_given : (bytes : List ℕ) (s t : SourceState) (e : SerializationError) → Fills {A = Unit {0}} bytes s t (Err e) → GaveSome s.remaining t.remaining
+some_given bytes s t IoError f = record { taken = f.taken; consumes = f.consumes }
+some_given bytes s t InvalidData f = absurd f
+some_given bytes s t Memory f = absurd f
+
+pub none_given : (s : Option (List ℕ)) → GaveSome s s
+none_given s = record { taken = []; consumes = Consumes-nil s }
+
+pub no_text : (hasher : Sha256) (s : Option (List ℕ)) → GaveText 0 hasher hasher s s
+no_text hasher s = record {
+  bytes = [];
+  len_is = refl;
+  consumes = Consumes-nil s;
+  holds = λ text h. subst (Holds256 hasher) (sym (append-nil text)) h;
+}
+
+pub text_more : (m n : ℕ) (h i j : Sha256) (s t u : Option (List ℕ)) → GaveText m h i s t → GaveText n i j t u → GaveText (m + n) h j s u
+text_more m n h i j s t u p q = record {
+  bytes = p.bytes ++ q.bytes;
+  len_is = length-append p.bytes q.bytes ∙ ap₂ (λ x y. x + y) p.len_is q.len_is;
+  consumes = Consumes-trans s t u p.bytes q.bytes p.consumes q.consumes;
+  holds = λ text held. subst (Holds256 j) (append_assoc text p.bytes q.bytes) (q.holds (text ++ p.bytes) (p.holds text held));
+}
+
+-- so many bytes of a source, which a hasher holds
+pub record GaveSoFar (count : ℕ) (hasher : Sha256) (old new : Option (List ℕ)) : Type 0 where
+  pub bytes : List ℕ
+  pub len_is : length bytes ≡ count
+  pub consumes : Consumes old new bytes
+  pub held : Holds256 hasher bytes
+
+pub none_so_far : (hasher : Sha256) (s : Option (List ℕ)) → Holds256 hasher [] → GaveSoFar 0 hasher s s
+none_so_far hasher s fresh = record { bytes = []; len_is = refl; consumes = Consumes-nil s; held = fresh }
+
+pub more_so_far : (m n : ℕ) (h i : Sha256) (s t u : Option (List ℕ)) → GaveSoFar m h s t → GaveText n h i t u → GaveSoFar (m + n) i s u
+more_so_far m n h i s t u p q = record {
+  bytes = p.bytes ++ q.bytes;
+  len_is = length-append p.bytes q.bytes ∙ ap₂ (λ x y. x + y) p.len_is q.len_is;
+  consumes = Consumes-trans s t u p.bytes q.bytes p.consumes q.consumes;
+  held = q.holds p.bytes p.held;
+}
+
+pub whole_file : (len count : ℕ) (digest : List ℕ) (h i : Sha256) (s t u : Option (List ℕ)) → len < 2 ^ 62 → GaveSoFar len h s t → GaveText count h i t u → count ≡ 0 → IsAtEnd u
+    → ((text : List ℕ) → Holds256 i text → digest ≡ sha256 text) → GaveFile len digest s u
+whole_file len count digest h i s t u few p q none end finished =
+    let all = more_so_far len count h i s t u p q in
+    record {
+      bytes = all.bytes;
+      len_is = all.len_is ∙ (let e : len + count ≡ len = omega (arith, none) in e);
+      few = few;
+      digest_is = finished all.bytes all.held;
+      consumes = all.consumes;
+      end = end;
+    }
+
+-- a header, a body and the digest of both
+pub whole_piece : (header : Header) (head digest : List ℕ) (h i : Sha256) (r s t u v : Option (List ℕ)) → IsHeader head header → IsLawful header
+    → Holds256 h head → Consumes r s head → GaveText (body_size header.k header.len) h i s t → Consumes t u digest → Consumes u v [] → IsAtEnd v
+    → ((text : List ℕ) → Holds256 i text → digest ≡ sha256 text) → GavePiece header r v
+whole_piece header head digest h i r s t u v is_header lawful held first body last none end finished =
+    let text = head ++ body.bytes in
+    let is : digest ≡ sha256 text = finished text (body.holds head held) in
+    record {
+      bytes = text ++ sha256 text;
+      body = body.bytes;
+      whole = record { head = head; is_header = is_header; is = refl; lawful = lawful; size = body.len_is };
+      consumes = subst (Consumes r v) (append-nil (text ++ sha256 text))
+          (Consumes-trans r u v (text ++ sha256 text) []
+          (subst (λ xs. Consumes r u (text ++ xs)) is (Consumes-trans r t u text digest (Consumes-trans r s t head body.bytes first body.consumes) last)) none);
+      end = end;
+    }

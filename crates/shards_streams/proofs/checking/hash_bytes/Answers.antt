@@ -1,0 +1,33 @@
+use Rattle.std.proofs.Common.{◌≡◌, ℕ, ◌+◌, ◌-◌, ◌≤◌, arith, sym, subst}
+use Rattle.shards_streams.specs.Checking.{GaveText}
+use Rattle.shards_streams.proofs.Given.{no_text, text_more}
+use Rattle.shards_streams.proofs.checking.hash_bytes.Goals as goal
+
+pub loop-left-init : goal.loop-left-init
+loop-left-init g c =
+    let none : 0 ≡ c.args.size - c.args.size = omega arith in
+    record {
+      bound = omega arith;
+      gave = subst (λ m. GaveText m c.args.hasher.now c.args.hasher.now (g.R.Source.remaining c.args.source.now) (g.R.Source.remaining c.args.source.now)) none
+          (no_text c.args.hasher.now (g.R.Source.remaining c.args.source.now));
+    }
+
+pub loop-left-preserved : goal.loop-left-preserved
+loop-left-preserved g c =
+    let size = c.args.size in
+    let left = c.loop-left.left in
+    let want = c.min-want.result in
+    let bound : left ≤ size = c.loop-left.invariant.bound in
+    let few : want ≤ left = omega (arith, c.min-want.ensures) in
+    let sum : (size - left) + want ≡ size - (left - want) = omega (arith, bound, few) in
+    record {
+      bound = omega (arith, bound);
+      gave = subst (λ m. GaveText m c.args.hasher.now c.hash_chunk.new.hasher (g.R.Source.remaining c.args.source.now) (g.R.Source.remaining c.hash_chunk.new.source)) sum
+          (text_more (size - left) want c.args.hasher.now c.loop-left.hasher c.hash_chunk.new.hasher (g.R.Source.remaining c.args.source.now) (g.R.Source.remaining c.loop-left.source)
+          (g.R.Source.remaining c.hash_chunk.new.source) c.loop-left.invariant.gave c.in_ok-hash_chunk.ensures);
+    }
+
+pub returns : goal.returns
+returns g c =
+    let none : c.args.size - c.loop-left.left ≡ c.args.size = omega (arith, c.loop-left-test.false) in
+    subst (λ m. GaveText m c.args.hasher.now c.loop-left.hasher (g.R.Source.remaining c.args.source.now) (g.R.Source.remaining c.loop-left.source)) none c.loop-left.invariant.gave

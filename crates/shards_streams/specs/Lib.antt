@@ -1,0 +1,6 @@
+-- What splitting and joining over sources and sinks did to the bytes.
+pub mod Writers
+pub mod Streams
+pub mod Splitting
+pub mod Joining
+pub mod Checking

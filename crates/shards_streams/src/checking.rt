@@ -1,0 +1,147 @@
+//! What a source has: the digest of a file, and whether bytes are a whole piece.
+
+ghost use Rattle.std.specs.Prelude.{◌≡◌, ℕ, ◌+◌, ◌*◌, ◌<◌, ◌≤◌, ◌^◌, List, [], ◌++◌, length, true, IfOk, OnOk};
+ghost use Rattle.std.specs.Io.KnownBytes.{Consumes, IsAtEnd};
+ghost use Rattle.shards_streams.specs.Checking.{GaveFile, GavePiece, GaveText};
+
+use crate::error::StreamError;
+use crate::reading::take_bytes;
+use ark_bytes::Source;
+use sha2::{Digest, Sha256};
+use shards_format::{DIGEST, Damage, HEADER, Header, body_size};
+use std::alloc::Global;
+
+// How many bytes are taken at a time.
+const CHUNK: usize = 65536;
+
+/// How many bytes a source has left, and their SHA-256. `TooLong` comes at 2^62 bytes, and `Read` where the source fails.
+pub fn digest_of<R: Source>(alloc: Global, source: &mut R) -> Result<(usize, [u8; 32]), StreamError>
+    ensures { IfOk result (λ found. GaveFile found.0 found.1 (R.remaining source.old) (R.remaining source.new)) }
+{
+    let mut buffer = zeros(alloc, CHUNK)?;
+    digest_by(source, buffer.as_mut_slice())
+}
+
+// So many zeros.
+fn zeros(alloc: Global, len: usize) -> Result<Vec<u8>, StreamError>
+    ensures { IfOk result (λ zeros. length zeros.items ≡ len) }
+{
+    let zeros = vec![in alloc; 0u8; len]?;
+    Ok(zeros)
+}
+
+// How many bytes a source has left, and their SHA-256, taken through a buffer.
+fn digest_by<R: Source>(source: &mut R, buffer: &mut [u8]) -> Result<(usize, [u8; 32]), StreamError>
+    requires { 0 < length buffer.old }
+    ensures { IfOk result (λ found. GaveFile found.0 found.1 (R.remaining source.old) (R.remaining source.new)) }
+{
+    let mut hasher = Sha256::new();
+    let mut len: usize = 0;
+    while len < 1 << 62 {
+        let count = take_some(source, buffer, &mut hasher)?;
+        if count == 0 {
+            return Ok((len, hasher.finalize()));
+        }
+        len += count;
+    }
+    Err(StreamError::TooLong)
+}
+
+// Takes bytes of a source into a hasher, none only at its end, and tells how many.
+fn take_some<R: Source>(
+    source: &mut R,
+    buffer: &mut [u8],
+    hasher: &mut Sha256,
+) -> Result<usize, StreamError>
+    requires { 0 < length buffer.old }
+    ensures text { IfOk result (λ count. GaveText count hasher.old hasher.new (R.remaining source.old) (R.remaining source.new)) }
+    ensures few { IfOk result (λ count. count ≤ length buffer.old) }
+    ensures end { IfOk result (λ count. count ≡ 0 → IsAtEnd (R.remaining source.new)) }
+{
+    match source.take(buffer) {
+        Ok(count) => {
+            hasher.update(&buffer[..count]);
+            Ok(count)
+        }
+        Err(_) => Err(StreamError::Read(0)),
+    }
+}
+
+/// What piece a source has left, whose digest is its own. A source that ends or fails before the piece does has none.
+pub fn check_source<R: Source>(
+    alloc: Global,
+    source: &mut R,
+) -> Result<Result<Header, Damage>, StreamError>
+    ensures { IfOk result (λ found. IfOk found (λ header. GavePiece header (R.remaining source.old) (R.remaining source.new))) }
+{
+    let mut head = [0u8; HEADER];
+    if source.take_all(&mut head).is_err() {
+        return Ok(Err(Damage::NoPiece));
+    }
+    let Some(header) = Header::from_bytes(&head) else {
+        return Ok(Err(Damage::NoPiece));
+    };
+    if !header.is_lawful() {
+        return Ok(Err(Damage::NoPiece));
+    }
+    let mut hasher = Sha256::new();
+    hasher.update(head.as_slice());
+    let size = body_size(header.k as usize, header.len as usize);
+    match hash_bytes(alloc, source, size, &mut hasher) {
+        Ok(()) => {}
+        Err(StreamError::Read(_)) => return Ok(Err(Damage::NoPiece)),
+        Err(error) => return Err(error),
+    }
+    let mut digest = [0u8; DIGEST];
+    if source.take_all(&mut digest).is_err() || !is_at_end(source)? {
+        return Ok(Err(Damage::NoPiece));
+    }
+    if hasher.finalize() != digest {
+        return Ok(Err(Damage::Changed));
+    }
+    Ok(Ok(header))
+}
+
+// Whether a source has no bytes left.
+fn is_at_end<R: Source>(source: &mut R) -> Result<bool, StreamError>
+    ensures end { IfOk result (λ ended. ended ≡ true → IsAtEnd (R.remaining source.new)) }
+    ensures none { IfOk result (λ ended. ended ≡ true → Consumes (R.remaining source.old) (R.remaining source.new) []) }
+{
+    let mut more = [0u8; 1];
+    match source.take(&mut more) {
+        Ok(count) => Ok(count == 0),
+        Err(_) => Err(StreamError::Read(0)),
+    }
+}
+
+// Takes so many bytes of a source into a hasher.
+fn hash_bytes<R: Source>(
+    alloc: Global,
+    source: &mut R,
+    size: usize,
+    hasher: &mut Sha256,
+) -> Result<(), StreamError>
+    ensures { OnOk result (GaveText size hasher.old hasher.new (R.remaining source.old) (R.remaining source.new)) }
+{
+    let mut left = size;
+    while left != 0 {
+        let want = left.min(CHUNK);
+        hash_chunk(alloc, source, want, hasher)?;
+        left -= want;
+    }
+    Ok(())
+}
+
+// Takes so many bytes of a source at once into a hasher.
+fn hash_chunk<R: Source>(
+    alloc: Global,
+    source: &mut R,
+    size: usize,
+    hasher: &mut Sha256,
+) -> Result<(), StreamError>
+    ensures { OnOk result (GaveText size hasher.old hasher.new (R.remaining source.old) (R.remaining source.new)) }
+{
+    let chunk = take_bytes(alloc, source, 0, size)?;
+    hasher.update(chunk.as_slice());
+    Ok(())
+}

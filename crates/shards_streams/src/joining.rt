@@ -1,0 +1,121 @@
+//! Joining what sources have.
+
+ghost use Rattle.std.specs.Prelude.{◌≡◌, ◌≢◌, ℕ, ◌+◌, ◌*◌, ◌<◌, ◌≤◌, ◌^◌, List, ◌++◌, length, get_or, IfOk, OnOk, OnErr};
+ghost use Rattle.std.specs.Io.KnownBytes.{Appends};
+ghost use Rattle.sha2.specs.Hashers.{Holds256};
+ghost use Rattle.ark_bytes.specs.Transfer.{AppendsBeginning};
+ghost use Rattle.ark_bytes.specs.Reading.{source_state};
+ghost use Rattle.shards_format.specs.Files.{AreApart};
+ghost use Rattle.shards_format.specs.Parts.{number_in};
+ghost use Rattle.shards_streams.specs.Joining.{HaveBodies, TookFile, GavePart};
+
+use crate::error::StreamError;
+use crate::reading::take_bytes;
+use ark_bytes::{Sink, Source};
+use sha2::{Digest, Sha256};
+use shards_format::{PART, StripeCode, block_of, blocks, read_part, stripes};
+use std::alloc::Global;
+
+/// Joins the bodies that sources have, of the pieces at `k` places, and gives the SHA-256 of the file's bytes, which go to
+/// the sink.
+///
+/// `Read` comes with the number of the source that ended or failed, `Write` where the sink failed, and `Memory` where a
+/// growth was refused. The sink then has a beginning of the file.
+pub fn join_into<C: StripeCode, R: Source, W: Sink>(
+    alloc: Global,
+    code: &C,
+    places: &[usize],
+    len: usize,
+    sources: &mut [R],
+    sink: &mut W,
+) -> Result<[u8; 32], StreamError>
+    requires places { length places.now ≡ C.k_of code.now }
+    requires below { (a : ℕ) → a < length places.now → get_or places.now a 0 < C.n_of code.now }
+    requires apart { AreApart places.now }
+    requires sources { length sources.old ≡ C.k_of code.now }
+    requires len { len < 2 ^ 62 }
+    ensures file { IfOk result (λ digest. (bytes : List ℕ) → ((i : ℕ) → get_or bytes i 0 < 256) → length bytes ≡ len
+        → HaveBodies R.remaining C.number (C.k_of code.now) (C.n_of code.now) bytes places.now sources.old
+        → Appends (W.contents sink.old) (W.contents sink.new) bytes) }
+    ensures beginning { OnErr result ((bytes : List ℕ) → ((i : ℕ) → get_or bytes i 0 < 256) → length bytes ≡ len
+        → HaveBodies R.remaining C.number (C.k_of code.now) (C.n_of code.now) bytes places.now sources.old
+        → AppendsBeginning (W.contents sink.old) (W.contents sink.new) bytes) }
+
+    // Whatever the sources gave, the digest is that of what was written.
+    ensures digest { IfOk result (λ digest. TookFile len digest (W.contents sink.old) (W.contents sink.new)) }
+{
+    let k = code.k();
+    let size = 2 * k * PART;
+    let mut hasher = Sha256::new();
+    for b in 0..blocks(k, len) {
+        let want = size.min(len - b * size);
+        let count = stripes(k, want);
+        let numbers = take_parts(alloc, sources, count)?;
+        let block = block_of(alloc, code, places, &numbers, count)?;
+        put(sink, &mut hasher, &block[..want])?;
+    }
+    Ok(hasher.finalize())
+}
+
+// Writes and hashes bytes.
+fn put<W: Sink>(sink: &mut W, hasher: &mut Sha256, bytes: &[u8]) -> Result<(), StreamError>
+    ensures took { OnOk result (Appends (W.contents sink.old) (W.contents sink.new) bytes.now) }
+    ensures some { OnErr result (AppendsBeginning (W.contents sink.old) (W.contents sink.new) bytes.now) }
+    ensures hashed { (text : List ℕ) → Holds256 hasher.old text → Holds256 hasher.new (text ++ bytes.now) }
+{
+    hasher.update(bytes);
+    match sink.put(bytes) {
+        Ok(()) => Ok(()),
+        Err(_) => Err(StreamError::Write(0)),
+    }
+}
+
+// The numbers in the next part of each source, of which there are so many.
+fn take_parts<R: Source>(
+    alloc: Global,
+    sources: &mut [R],
+    count: usize,
+) -> Result<Vec<u32>, StreamError>
+    requires few { count ≤ PART }
+    requires sources { length sources.old ≤ 65536 }
+    ensures len { IfOk result (λ numbers. length numbers.items ≡ length sources.old * count) }
+    ensures kept { length sources.new ≡ length sources.old }
+    ensures parts { IfOk result (λ numbers. (a : ℕ) (d : R) → a < length sources.old
+        → GavePart count numbers.items a (R.remaining (get_or sources.old a d)) (R.remaining (get_or sources.new a d))) }
+{
+    let mut numbers = vec![in alloc; 0u32; sources.len() * count]?;
+    take_rows(alloc, sources, count, numbers.as_mut_slice())?;
+    Ok(numbers)
+}
+
+// Reads the next part of each source into a row of the numbers.
+fn take_rows<R: Source>(
+    alloc: Global,
+    sources: &mut [R],
+    count: usize,
+    numbers: &mut [u32],
+) -> Result<(), StreamError>
+    requires few { count ≤ PART }
+    requires sources { length sources.old ≤ 65536 }
+    requires len { length numbers.old ≡ length sources.old * count }
+    ensures kept { length sources.new ≡ length sources.old }
+    ensures parts { OnOk result ((a : ℕ) (d : R) → a < length sources.old
+        → GavePart count numbers.new a (R.remaining (get_or sources.old a d)) (R.remaining (get_or sources.new a d))) }
+{
+    for a in 0..sources.len() {
+        let part = take_bytes(alloc, &mut sources[a], a, 4 + 2 * count)?;
+        read_row(&part, a, count, numbers);
+    }
+    Ok(())
+}
+
+// Reads a part into row `a` of the numbers.
+fn read_row(part: &[u8], a: usize, count: usize, numbers: &mut [u32])
+    requires few { count ≤ PART }
+    requires row { a * count + count ≤ length numbers.old }
+    ensures before { (i : ℕ) → i < a * count → get_or numbers.new i 0 ≡ get_or numbers.old i 0 }
+    ensures row { (s : ℕ) → s < count → get_or numbers.new (a * count + s) 0 ≡ number_in part.now s }
+{
+    let start = a * count;
+    read_part(part, &mut numbers[start..start + count]);
+}

@@ -1,0 +1,38 @@
+//! Bytes of a source.
+
+ghost use Rattle.std.specs.Prelude.{◌≡◌, ℕ, List, length, IfOk, OnOk, OnErr};
+ghost use Rattle.ark_bytes.specs.Reading.{source_state, Takes};
+ghost use Rattle.shards_streams.specs.Streams.{GaveSome};
+
+use crate::error::StreamError;
+use ark_bytes::Source;
+use std::alloc::Global;
+
+/// The next so many bytes of a source; `Read` of this number where it ends or fails before.
+pub fn take_bytes<R: Source>(
+    alloc: Global,
+    source: &mut R,
+    number: usize,
+    size: usize,
+) -> Result<Vec<u8>, StreamError>
+    ensures len { IfOk result (λ bytes. length bytes.items ≡ size) }
+    ensures takes { IfOk result (λ bytes. Takes (source_state R.remaining R.failures source.old)
+        (source_state R.remaining R.failures source.new) bytes.items) }
+    ensures some { OnErr result (GaveSome (R.remaining source.old) (R.remaining source.new)) }
+{
+    let mut bytes = vec![in alloc; 0u8; size]?;
+    fill(source, number, bytes.as_mut_slice())?;
+    Ok(bytes)
+}
+
+// Fills the bytes.
+fn fill<R: Source>(source: &mut R, number: usize, bytes: &mut [u8]) -> Result<(), StreamError>
+    ensures takes { OnOk result (Takes (source_state R.remaining R.failures source.old)
+        (source_state R.remaining R.failures source.new) bytes.new) }
+    ensures some { OnErr result (GaveSome (R.remaining source.old) (R.remaining source.new)) }
+{
+    match source.take_all(bytes) {
+        Ok(()) => Ok(()),
+        Err(_) => Err(StreamError::Read(number)),
+    }
+}
