@@ -7,7 +7,7 @@ use Rattle.sha2.specs.Hashers.{Holds256}
 use Rattle.sha2.specs.declared.Sha256.{Sha256}
 use Rattle.ark_bytes.specs.declared.error.SerializationError.{SerializationError}
 use Rattle.ark_bytes.specs.declared.error.SerializationError.TheVariants.{IoError, InvalidData, Memory}
-use Rattle.ark_bytes.specs.Reading.{SourceState, Fills}
+use Rattle.ark_bytes.specs.Reading.{SourceState, Fills, Takes}
 use Rattle.shards_format.specs.Headers.{IsHeader}
 use Rattle.shards_format.specs.Pieces.{IsLawful, IsWhole, body_size}
 use Rattle.shards_format.specs.declared.header.Header.{Header}
@@ -71,18 +71,18 @@ whole_file len count digest h i s t u few p q none end finished =
     }
 
 -- a header, a body and the digest of both
-pub whole_piece : (header : Header) (head digest : List ℕ) (h i : Sha256) (r s t u v : Option (List ℕ)) → IsHeader head header → IsLawful header
-    → Holds256 h head → Consumes r s head → GaveText (body_size header.k header.len) h i s t → Consumes t u digest → Consumes u v [] → IsAtEnd v
-    → ((text : List ℕ) → Holds256 i text → digest ≡ sha256 text) → GavePiece header r v
-whole_piece header head digest h i r s t u v is_header lawful held first body last none end finished =
+pub whole_piece : (header : Header) (head digest : List ℕ) (size : ℕ) (h i : Sha256) (r s t u : SourceState) (v : Option (List ℕ)) → IsHeader head header → IsLawful header
+    → size ≡ body_size header.k header.len → Holds256 h head → Takes r s head → GaveText size h i s.remaining t.remaining → Takes t u digest → Consumes u.remaining v [] → IsAtEnd v
+    → ((text : List ℕ) → Holds256 i text → digest ≡ sha256 text) → GavePiece header r.remaining v
+whole_piece header head digest size h i r s t u v is_header lawful size_is held first body last none end finished =
     let text = head ++ body.bytes in
     let is : digest ≡ sha256 text = finished text (body.holds head held) in
+    let both : Consumes r.remaining t.remaining text = Consumes-trans r.remaining s.remaining t.remaining head body.bytes first.consumes body.consumes in
+    let all : Consumes r.remaining u.remaining (text ++ sha256 text) = subst (λ xs. Consumes r.remaining u.remaining (text ++ xs)) is (Consumes-trans r.remaining t.remaining u.remaining text digest both last.consumes) in
     record {
       bytes = text ++ sha256 text;
       body = body.bytes;
-      whole = record { head = head; is_header = is_header; is = refl; lawful = lawful; size = body.len_is };
-      consumes = subst (Consumes r v) (append-nil (text ++ sha256 text))
-          (Consumes-trans r u v (text ++ sha256 text) []
-          (subst (λ xs. Consumes r u (text ++ xs)) is (Consumes-trans r t u text digest (Consumes-trans r s t head body.bytes first body.consumes) last)) none);
+      whole = record { head = head; is_header = is_header; is = refl; lawful = lawful; size = body.len_is ∙ size_is };
+      consumes = subst (Consumes r.remaining v) (append-nil (text ++ sha256 text)) (Consumes-trans r.remaining u.remaining v (text ++ sha256 text) [] all none);
       end = end;
     }

@@ -1,7 +1,11 @@
 //! What a source has: the digest of a file, and whether bytes are a whole piece.
 
-ghost use Rattle.std.specs.Prelude.{◌≡◌, ℕ, ◌+◌, ◌*◌, ◌<◌, ◌≤◌, ◌^◌, List, [], ◌++◌, length, true, IfOk, OnOk};
+ghost use Rattle.std.specs.Prelude.{◌≡◌, ℕ, ◌+◌, ◌*◌, ◌<◌, ◌≤◌, ◌^◌, List, [], ◌++◌, length, true, IfOk, IfSome, OnOk};
 ghost use Rattle.std.specs.Io.KnownBytes.{Consumes, IsAtEnd};
+ghost use Rattle.sha2.specs.Sha256.{sha256};
+ghost use Rattle.sha2.specs.Hashers.{Holds256};
+ghost use Rattle.shards_format.specs.Headers.{IsHeader};
+ghost use Rattle.shards_format.specs.Pieces.{IsLawful};
 ghost use Rattle.shards_streams.specs.Checking.{GaveFile, GavePiece, GaveText};
 
 use crate::error::StreamError;
@@ -74,32 +78,64 @@ pub fn check_source<R: Source>(
 ) -> Result<Result<Header, Damage>, StreamError>
     ensures { IfOk result (λ found. IfOk found (λ header. GavePiece header (R.remaining source.old) (R.remaining source.new))) }
 {
-    let mut head = [0u8; HEADER];
-    if source.take_all(&mut head).is_err() {
-        return Ok(Err(Damage::NoPiece));
+    match read_piece(alloc, source) {
+        Ok(found) => Ok(found),
+        Err(StreamError::Read(_)) => Ok(Err(Damage::NoPiece)),
+        Err(error) => Err(error),
     }
-    let Some(header) = Header::from_bytes(&head) else {
+}
+
+// What piece a source has left; `Read` where it ends or fails before.
+fn read_piece<R: Source>(
+    alloc: Global,
+    source: &mut R,
+) -> Result<Result<Header, Damage>, StreamError>
+    ensures { IfOk result (λ found. IfOk found (λ header. GavePiece header (R.remaining source.old) (R.remaining source.new))) }
+{
+    let head = take_bytes(alloc, source, 0, HEADER)?;
+    let text = head.as_slice();
+    let Some(header) = lawful_header(text) else {
         return Ok(Err(Damage::NoPiece));
     };
-    if !header.is_lawful() {
-        return Ok(Err(Damage::NoPiece));
-    }
     let mut hasher = Sha256::new();
-    hasher.update(head.as_slice());
+    hasher.update(text);
     let size = body_size(header.k as usize, header.len as usize);
-    match hash_bytes(alloc, source, size, &mut hasher) {
-        Ok(()) => {}
-        Err(StreamError::Read(_)) => return Ok(Err(Damage::NoPiece)),
-        Err(error) => return Err(error),
-    }
-    let mut digest = [0u8; DIGEST];
-    if source.take_all(&mut digest).is_err() || !is_at_end(source)? {
+    hash_bytes(alloc, source, size, &mut hasher)?;
+    let digest = take_bytes(alloc, source, 0, DIGEST)?;
+    let ended = is_at_end(source)?;
+    if !ended {
         return Ok(Err(Damage::NoPiece));
     }
-    if hasher.finalize() != digest {
+    if !has_digest(hasher, &digest) {
         return Ok(Err(Damage::Changed));
     }
     Ok(Ok(header))
+}
+
+// The header that these bytes are, if a piece can have it.
+fn lawful_header(bytes: &[u8]) -> Option<Header>
+    ensures header { IfSome result (λ header. IsHeader bytes.now header) }
+    ensures lawful { IfSome result (λ header. IsLawful header) }
+{
+    match Header::from_bytes(bytes) {
+        Some(header) if header.is_lawful() => Some(header),
+        _ => None,
+    }
+}
+
+// Whether what a hasher took has this digest.
+fn has_digest(hasher: Sha256, digest: &[u8]) -> bool
+    ensures { result ≡ true → (text : List ℕ) → Holds256 hasher text → digest.now ≡ sha256 text }
+{
+    let own = hasher.finalize();
+    are_same(digest, &own)
+}
+
+// Whether the bytes are the same.
+fn are_same(bytes: &[u8], others: &[u8]) -> bool
+    ensures { result ≡ true → bytes.now ≡ others.now }
+{
+    bytes == others
 }
 
 // Whether a source has no bytes left.
