@@ -8,7 +8,7 @@ use Rattle.shards_streams.proofs.checking.read_piece.Goals as goal
 pub returns : goal.returns
 returns g c =
     let state : g.row.R.Denot → SourceState = λ r. source_state g.R.Source.remaining g.R.Source.failures r in
-    let is = c.as_slice.ensures.value in
+    let is = c.as_slice-text.ensures.value in
     whole_piece c.in-Some.header c.in_ok-head.head.items c.in_ok-digest.digest.items c.body_size-size.result c.update.new.self c.hash_bytes.new.hasher
     (state c.args.source.now) _ (state c.hash_bytes.new.source) _ (g.R.Source.remaining c.is_at_end.new.source)
     (subst (λ (xs : List ℕ). IsHeader xs c.in-Some.header) is c.in-Some.ensures.header) c.in-Some.ensures.lawful c.body_size-size.ensures
