@@ -1,0 +1,2 @@
+-- What a sharing of a secret is.
+pub mod Sharing

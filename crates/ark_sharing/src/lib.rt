@@ -1,0 +1,12 @@
+//! Secrets in n shares, any k of which give them back: Shamir's scheme, over every field with laws.
+#![tactic(auto)]
+
+mod error;
+mod laws;
+mod reconstruction;
+mod shares;
+
+pub use error::SharingError;
+pub use laws::one_sharing_for_each_secret;
+pub use reconstruction::reconstruct;
+pub use shares::share;
