@@ -1,6 +1,6 @@
 //! What a source has: the digest of a file, and whether bytes are a whole piece.
 
-ghost use Rattle.std.specs.Prelude.{◌≡◌, ℕ, ◌+◌, ◌*◌, ◌<◌, ◌≤◌, ◌^◌, List, [], ◌++◌, length, true, IfOk, IfSome, OnOk};
+ghost use Rattle.std.specs.Prelude.{◌≡◌, ◌⊎◌, ℕ, ◌+◌, ◌*◌, ◌<◌, ◌≤◌, ◌^◌, List, [], ◌++◌, length, true, IfOk, IfErr, IfSome, OnOk, IsOkUnless};
 ghost use Rattle.std.specs.Io.KnownBytes.{Consumes, IsAtEnd};
 ghost use Rattle.sha2.specs.Sha256.{sha256};
 ghost use Rattle.sha2.specs.Hashers.{Holds256};
@@ -20,7 +20,9 @@ const CHUNK: usize = 65536;
 
 /// How many bytes a source has left, and their SHA-256. `TooLong` comes at 2^62 bytes, and `Read` where the source fails.
 pub fn digest_of<R: Source>(alloc: Global, source: &mut R) -> Result<(usize, [u8; 32]), StreamError>
-    ensures { IfOk result (λ found. GaveFile found.0 found.1 (R.remaining source.old) (R.remaining source.new)) }
+    ensures file { IfOk result (λ found. GaveFile found.0 found.1 (R.remaining source.old) (R.remaining source.new)) }
+    ensures errors { IfErr result (λ e. (e ≡ StreamError.Memory)
+        ⊎ ((e ≡ StreamError.Read 0) ⊎ (e ≡ StreamError.TooLong))) }
 {
     let mut buffer = zeros(alloc, CHUNK)?;
     digest_by(source, buffer.as_mut_slice())
@@ -28,7 +30,8 @@ pub fn digest_of<R: Source>(alloc: Global, source: &mut R) -> Result<(usize, [u8
 
 // So many zeros.
 fn zeros(alloc: Global, len: usize) -> Result<Vec<u8>, StreamError>
-    ensures { IfOk result (λ zeros. length zeros.items ≡ len) }
+    ensures len { IfOk result (λ zeros. length zeros.items ≡ len) }
+    ensures memory { IsOkUnless result StreamError.Memory }
 {
     let zeros = vec![in alloc; 0u8; len]?;
     Ok(zeros)
@@ -37,7 +40,8 @@ fn zeros(alloc: Global, len: usize) -> Result<Vec<u8>, StreamError>
 // How many bytes a source has left, and their SHA-256, taken through a buffer.
 fn digest_by<R: Source>(source: &mut R, buffer: &mut [u8]) -> Result<(usize, [u8; 32]), StreamError>
     requires { 0 < length buffer.old }
-    ensures { IfOk result (λ found. GaveFile found.0 found.1 (R.remaining source.old) (R.remaining source.new)) }
+    ensures file { IfOk result (λ found. GaveFile found.0 found.1 (R.remaining source.old) (R.remaining source.new)) }
+    ensures errors { IfErr result (λ e. (e ≡ StreamError.Read 0) ⊎ (e ≡ StreamError.TooLong)) }
 {
     let mut hasher = Sha256::new();
     let mut len: usize = 0;
@@ -61,6 +65,7 @@ fn take_some<R: Source>(
     ensures text { IfOk result (λ count. GaveText count hasher.old hasher.new (R.remaining source.old) (R.remaining source.new)) }
     ensures few { IfOk result (λ count. count ≤ length buffer.old) }
     ensures end { IfOk result (λ count. count ≡ 0 → IsAtEnd (R.remaining source.new)) }
+    ensures errors { IsOkUnless result (StreamError.Read 0) }
 {
     match source.take(buffer) {
         Ok(count) => {
@@ -76,7 +81,8 @@ pub fn check_source<R: Source>(
     alloc: Global,
     source: &mut R,
 ) -> Result<Result<Header, Damage>, StreamError>
-    ensures { IfOk result (λ found. IfOk found (λ header. GavePiece header (R.remaining source.old) (R.remaining source.new))) }
+    ensures piece { IfOk result (λ found. IfOk found (λ header. GavePiece header (R.remaining source.old) (R.remaining source.new))) }
+    ensures memory { IsOkUnless result StreamError.Memory }
 {
     match read_piece(alloc, source) {
         Ok(found) => Ok(found),
@@ -90,7 +96,8 @@ fn read_piece<R: Source>(
     alloc: Global,
     source: &mut R,
 ) -> Result<Result<Header, Damage>, StreamError>
-    ensures { IfOk result (λ found. IfOk found (λ header. GavePiece header (R.remaining source.old) (R.remaining source.new))) }
+    ensures piece { IfOk result (λ found. IfOk found (λ header. GavePiece header (R.remaining source.old) (R.remaining source.new))) }
+    ensures errors { IfErr result (λ e. (e ≡ StreamError.Memory) ⊎ (e ≡ StreamError.Read 0)) }
 {
     let head = take_bytes(alloc, source, 0, HEADER)?;
     let text = head.as_slice();
@@ -142,6 +149,7 @@ fn are_same(bytes: &[u8], others: &[u8]) -> bool
 fn is_at_end<R: Source>(source: &mut R) -> Result<bool, StreamError>
     ensures end { IfOk result (λ ended. ended ≡ true → IsAtEnd (R.remaining source.new)) }
     ensures none { IfOk result (λ ended. ended ≡ true → Consumes (R.remaining source.old) (R.remaining source.new) []) }
+    ensures errors { IsOkUnless result (StreamError.Read 0) }
 {
     let mut more = [0u8; 1];
     match source.take(&mut more) {
@@ -157,7 +165,8 @@ fn hash_bytes<R: Source>(
     size: usize,
     hasher: &mut Sha256,
 ) -> Result<(), StreamError>
-    ensures { OnOk result (GaveText size hasher.old hasher.new (R.remaining source.old) (R.remaining source.new)) }
+    ensures text { OnOk result (GaveText size hasher.old hasher.new (R.remaining source.old) (R.remaining source.new)) }
+    ensures errors { IfErr result (λ e. (e ≡ StreamError.Memory) ⊎ (e ≡ StreamError.Read 0)) }
 {
     let mut left = size;
     while left != 0 {
@@ -175,7 +184,8 @@ fn hash_chunk<R: Source>(
     size: usize,
     hasher: &mut Sha256,
 ) -> Result<(), StreamError>
-    ensures { OnOk result (GaveText size hasher.old hasher.new (R.remaining source.old) (R.remaining source.new)) }
+    ensures text { OnOk result (GaveText size hasher.old hasher.new (R.remaining source.old) (R.remaining source.new)) }
+    ensures errors { IfErr result (λ e. (e ≡ StreamError.Memory) ⊎ (e ≡ StreamError.Read 0)) }
 {
     let chunk = take_bytes(alloc, source, 0, size)?;
     hasher.update(chunk.as_slice());

@@ -1,6 +1,6 @@
 //! Joining what sources have.
 
-ghost use Rattle.std.specs.Prelude.{◌≡◌, ◌≢◌, ℕ, ◌+◌, ◌*◌, ◌<◌, ◌≤◌, ◌^◌, List, ◌++◌, length, get_or, IfOk, OnOk, OnErr};
+ghost use Rattle.std.specs.Prelude.{◌≡◌, ◌≢◌, ◌⊎◌, ℕ, ◌+◌, ◌*◌, ◌<◌, ◌≤◌, ◌^◌, List, ◌++◌, length, get_or, IfOk, IfErr, OnOk, OnErr, IsOkUnless};
 ghost use Rattle.std.specs.Io.KnownBytes.{Appends};
 ghost use Rattle.sha2.specs.Hashers.{Holds256};
 ghost use Rattle.ark_bytes.specs.Transfer.{AppendsBeginning};
@@ -40,6 +40,8 @@ pub fn join_into<C: StripeCode, R: Source, W: Sink>(
     ensures beginning { OnErr result ((bytes : List ℕ) → ((i : ℕ) → get_or bytes i 0 < 256) → length bytes ≡ len
         → HaveBodies R.remaining C.number (C.k_of code.now) (C.n_of code.now) bytes places.now sources.old
         → AppendsBeginning (W.contents sink.old) (W.contents sink.new) bytes) }
+    ensures errors { IfErr result (λ e. (e ≡ StreamError.Memory) ⊎ ((e ≡ StreamError.Write 0)
+        ⊎ ((a : ℕ) × (a < length sources.old) × (e ≡ StreamError.Read a)))) }
 
     // Whatever the sources gave, the digest is that of what was written.
     ensures digest { IfOk result (λ digest. TookFile len digest (W.contents sink.old) (W.contents sink.new)) }
@@ -61,6 +63,7 @@ pub fn join_into<C: StripeCode, R: Source, W: Sink>(
 fn put<W: Sink>(sink: &mut W, hasher: &mut Sha256, bytes: &[u8]) -> Result<(), StreamError>
     ensures took { OnOk result (Appends (W.contents sink.old) (W.contents sink.new) bytes.now) }
     ensures some { OnErr result (AppendsBeginning (W.contents sink.old) (W.contents sink.new) bytes.now) }
+    ensures errors { IsOkUnless result (StreamError.Write 0) }
     ensures hashed { (text : List ℕ) → Holds256 hasher.old text → Holds256 hasher.new (text ++ bytes.now) }
 {
     hasher.update(bytes);
@@ -82,6 +85,8 @@ fn take_parts<R: Source>(
     ensures kept { length sources.new ≡ length sources.old }
     ensures parts { IfOk result (λ numbers. (a : ℕ) (d : R) → a < length sources.old
         → GavePart count numbers.items a (R.remaining (get_or sources.old a d)) (R.remaining (get_or sources.new a d))) }
+    ensures errors { IfErr result (λ e. (e ≡ StreamError.Memory)
+        ⊎ ((a : ℕ) × (a < length sources.old) × (e ≡ StreamError.Read a))) }
 {
     let mut numbers = vec![in alloc; 0u32; sources.len() * count]?;
     take_rows(alloc, sources, count, numbers.as_mut_slice())?;
@@ -101,6 +106,8 @@ fn take_rows<R: Source>(
     ensures kept { length sources.new ≡ length sources.old }
     ensures parts { OnOk result ((a : ℕ) (d : R) → a < length sources.old
         → GavePart count numbers.new a (R.remaining (get_or sources.old a d)) (R.remaining (get_or sources.new a d))) }
+    ensures errors { IfErr result (λ e. (e ≡ StreamError.Memory)
+        ⊎ ((a : ℕ) × (a < length sources.old) × (e ≡ StreamError.Read a))) }
 {
     for a in 0..sources.len() {
         let part = take_bytes(alloc, &mut sources[a], a, 4 + 2 * count)?;

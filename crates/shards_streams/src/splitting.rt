@@ -1,6 +1,6 @@
 //! Splitting the bytes of a source.
 
-ghost use Rattle.std.specs.Prelude.{◌≡◌, ℕ, ◌+◌, ◌*◌, ◌<◌, ◌≤◌, ◌^◌, ◌⊎◌, List, [], ◌++◌, get_or, length, map, IfOk, OnOk, OnErr};
+ghost use Rattle.std.specs.Prelude.{◌≡◌, ℕ, ◌+◌, ◌*◌, ◌<◌, ◌≤◌, ◌^◌, ◌⊎◌, List, [], ◌++◌, get_or, length, map, IfOk, IfErr, OnOk, OnErr};
 ghost use Rattle.std.specs.Io.KnownBytes.{Appends};
 ghost use Rattle.sha2.specs.Sha256.{sha256};
 ghost use Rattle.ark_bytes.specs.Reading.{source_state};
@@ -39,6 +39,8 @@ pub fn split_into<C: StripeCode, R: Source, W: Sink + Drop>(
         writers.old writers.new) }
     ensures beginnings { OnErr result ((writers.new ≡ writers.old) ⊎ HasBegun W.Sink C.number (C.k_of code.now)
         (C.n_of code.now) len digest.now (R.remaining source.old) (R.remaining source.new) writers.old writers.new) }
+    ensures errors { IfErr result (λ e. (e ≡ StreamError.Memory) ⊎ ((e ≡ StreamError.Read 0)
+        ⊎ ((i : ℕ) × (i < length writers.old) × (e ≡ StreamError.Write i)))) }
 {
     let k = code.k();
     let n = code.n();
@@ -87,6 +89,7 @@ fn put_each<W: Sink + Drop>(
         → Took W.Sink (get_or writers.old i d) (get_or writers.new i d) (get_or (map (λ part. part.items) parts.now) i [])) }
     ensures some { OnErr result ((i : ℕ) (d : PieceWriter W) → i < length parts.now
         → TookSome W.Sink (get_or writers.old i d) (get_or writers.new i d) (get_or (map (λ part. part.items) parts.now) i [])) }
+    ensures errors { IfErr result (λ e. (i : ℕ) × (i < length writers.old) × (e ≡ StreamError.Write i)) }
 {
     for i in 0..writers.len() {
         match writers[i].put(&parts[i]) {
@@ -106,6 +109,7 @@ fn put_digests<W: Sink + Drop>(writers: &mut [PieceWriter<W>]) -> Result<(), Str
     ensures some { OnErr result ((i : ℕ) (d : PieceWriter W) (text : List ℕ) → i < length writers.old
         → HasHashed (get_or writers.old i d) text
         → TookSome W.Sink (get_or writers.old i d) (get_or writers.new i d) (sha256 text)) }
+    ensures errors { IfErr result (λ e. (i : ℕ) × (i < length writers.old) × (e ≡ StreamError.Write i)) }
 {
     for i in 0..writers.len() {
         match writers[i].put_digest() {
@@ -129,6 +133,8 @@ fn put_block<C: StripeCode, W: Sink + Drop>(
     ensures took { OnOk result (TookParts W.Sink C.number (C.k_of code.now) (C.n_of code.now) block.now writers.old writers.new) }
     ensures some { OnErr result ((writers.new ≡ writers.old)
         ⊎ TookPartsSome W.Sink C.number (C.k_of code.now) (C.n_of code.now) block.now writers.old writers.new) }
+    ensures errors { IfErr result (λ e. (e ≡ StreamError.Memory)
+        ⊎ ((i : ℕ) × (i < length writers.old) × (e ≡ StreamError.Write i))) }
 {
     let parts = parts_of_block(alloc, code, block)?;
     put_each(writers, &parts)
@@ -150,6 +156,8 @@ fn put_bodies<C: StripeCode, R: Source, W: Sink + Drop>(
         writers.old writers.new) }
     ensures some { OnErr result (TookBodiesSome W.Sink C.number (C.k_of code.now) (C.n_of code.now)
         (R.remaining source.old) (R.remaining source.new) writers.old writers.new) }
+    ensures errors { IfErr result (λ e. (e ≡ StreamError.Memory) ⊎ ((e ≡ StreamError.Read 0)
+        ⊎ ((i : ℕ) × (i < length writers.old) × (e ≡ StreamError.Write i)))) }
 {
     let k = code.k();
     let size = 2 * k * PART;

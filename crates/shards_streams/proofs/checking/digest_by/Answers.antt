@@ -12,7 +12,7 @@ loop-len-preserved g c = record {
       (g.R.Source.remaining c.take_some.new.source) c.loop-len.invariant.gave c.in_ok-count.ensures.text;
 }
 
-pub returns-then-count-eq0 : goal.returns-then-count-eq0
-returns-then-count-eq0 g c =
+pub returns-then-count-eq0-clause-file : goal.returns-then-count-eq0-clause-file
+returns-then-count-eq0-clause-file g c =
     whole_file c.loop-len.len c.in_ok-count.count c.finalize.result c.loop-len.hasher c.take_some.new.hasher (g.R.Source.remaining c.args.source.now) (g.R.Source.remaining c.loop-len.source)
     (g.R.Source.remaining c.take_some.new.source) c.loop-len-test.true c.loop-len.invariant.gave c.in_ok-count.ensures.text c.if-count-eq0.true (c.in_ok-count.ensures.end c.if-count-eq0.true) c.finalize.ensures

@@ -24,10 +24,10 @@ loop-left-preserved g c =
       bound = omega (arith, bound);
       gave = subst (λ m. GaveText m c.args.hasher.now c.hash_chunk.new.hasher (g.R.Source.remaining c.args.source.now) (g.R.Source.remaining c.hash_chunk.new.source)) sum
           (text_more (size - left) want c.args.hasher.now c.loop-left.hasher c.hash_chunk.new.hasher (g.R.Source.remaining c.args.source.now) (g.R.Source.remaining c.loop-left.source)
-          (g.R.Source.remaining c.hash_chunk.new.source) c.loop-left.invariant.gave c.in_ok-hash_chunk.ensures);
+          (g.R.Source.remaining c.hash_chunk.new.source) c.loop-left.invariant.gave c.in_ok-hash_chunk.ensures.text);
     }
 
-pub returns : goal.returns
-returns g c =
+pub returns-clause-text : goal.returns-clause-text
+returns-clause-text g c =
     let none : c.args.size - c.loop-left.left ≡ c.args.size = omega (arith, c.loop-left-test.false) in
     subst (λ m. GaveText m c.args.hasher.now c.loop-left.hasher (g.R.Source.remaining c.args.source.now) (g.R.Source.remaining c.loop-left.source)) none c.loop-left.invariant.gave

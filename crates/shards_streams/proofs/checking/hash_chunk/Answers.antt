@@ -2,8 +2,8 @@ use Rattle.std.proofs.Common.{◌++◌, List, ℕ, ap, subst}
 use Rattle.sha2.specs.Hashers.{Holds256}
 use Rattle.shards_streams.proofs.checking.hash_chunk.Goals as goal
 
-pub returns : goal.returns
-returns g c = record {
+pub returns-clause-text : goal.returns-clause-text
+returns-clause-text g c = record {
   bytes = c.in_ok-chunk.chunk.items;
   len_is = c.in_ok-chunk.ensures.len;
   consumes = c.in_ok-chunk.ensures.takes.consumes;
