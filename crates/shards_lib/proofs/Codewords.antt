@@ -22,17 +22,17 @@ module _ {F : Type 0} (K : FieldOn F) (N : IsField K) (root : ℕ → F) (k n : 
   apart : (i j : ℕ) → i < j → j < length places → element K d (get_or places i 0) ≢ element K d (get_or places j 0)
   apart i j l h e = are.apart i j l h (differ (get_or places i 0) (get_or places j 0) (below i (omega (arith, l, h))) (below j h) e)
 
-  polynomial : (t : ℕ) → (a : ℕ → F) × IsBelow K (length places) a × ((i : ℕ) → i < length places → IsValue K a (element K d (get_or places i 0)) (get_or word (get_or places i 0) (λ j. K.zero) t))
+  pub polynomial : (t : ℕ) → (a : ℕ → F) × IsBelow K (length places) a × ((i : ℕ) → i < length places → IsValue K a (element K d (get_or places i 0)) (get_or word (get_or places i 0) (λ j. K.zero) t))
   polynomial t = has_polynomial K N (element K d) (λ i. get_or word i (λ j. K.zero) t) places apart
 
   abbrev pub message : List (ℕ → F)
   message = tabulate k (λ j t. (polynomial t).0 j)
 
   message_len : length message ≤ k
-  message_len = let e = length-tabulate k (λ j t. (polynomial t).0 j) in subst (λ x. x ≤ k) (sym e) (omega arith)
+  message_len = let e : length message ≡ k = length-tabulate k (λ j t. (polynomial t).0 j) in omega (arith, e)
 
   item_is : (t j : ℕ) → j < k → get_or message j (λ j. K.zero) t ≡ (polynomial t).0 j
-  item_is t j l = ap (λ f. f t) (get_or-tabulate k (λ j t. (polynomial t).0 j) j (λ j. K.zero) l)
+  item_is t j l = ap (λ (f : ℕ → F). f t) (get_or-tabulate k (λ j t. (polynomial t).0 j) j (λ j. K.zero) l)
 
   reached : (a t : ℕ) → a < length places → get_or (transform K (lanewise (itself K)) d message) (get_or places a 0) (λ j. K.zero) t ≡ get_or word (get_or places a 0) (λ j. K.zero) t
   reached a t l =

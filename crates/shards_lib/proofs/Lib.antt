@@ -6,3 +6,4 @@ pub mod Windows
 pub mod Marks
 pub mod Interpolation
 pub mod Codewords
+pub mod OnlyMemory

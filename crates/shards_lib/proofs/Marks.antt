@@ -8,7 +8,7 @@ use Rattle.rs_code.specs.Codeword.{mark_count}
 pub marks-less : (marks : List Bool) (i : ℕ) → i < length marks → get_or marks i true ≡ true → mark_count (set marks i false) + 1 ≡ mark_count marks
 marks-less marks i l e =
     let s = sum_by-set (λ mark. cond mark 1 0) marks i false true l in
-    let c : cond (get_or marks i true) 1 0 ≡ 1 = ap (λ b. cond b 1 0) e in
+    let c : ◌≡◌ {A = ℕ} (cond (get_or marks i true) 1 0) 1 = ap (λ (b : Bool). cond {A = ℕ} b 1 0) e in
     omega (arith, s, c)
 
 pub marks-all : (n : ℕ) → mark_count (replicate n true) ≡ n

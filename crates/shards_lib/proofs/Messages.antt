@@ -23,12 +23,12 @@ module _ {F : Type 0} (K : FieldOn F) (N : IsField K) (root : ℕ → F) (k n : 
 
   lane_here : (m : List (ℕ → F)) (t : ℕ) (a : ℕ → F) (j : ℕ) → j < k → get_or (with_lane m t a) j nothing t ≡ a j
   lane_here m t a j l =
-      ap (λ f. f t) (get_or-tabulate k (λ j u. cond (u == t) (a j) (get_or m j nothing u)) j nothing l)
+      ap (λ (f : ℕ → F). f t) (get_or-tabulate k (λ j u. cond (u == t) (a j) (get_or m j nothing u)) j nothing l)
       ∙ ap (λ b. cond b (a j) (get_or m j nothing t)) (eq-eqb t t refl)
 
   lane_there : (m : List (ℕ → F)) (t : ℕ) (a : ℕ → F) (u j : ℕ) → (u ≡ t → ⊥) → j < k → get_or (with_lane m t a) j nothing u ≡ get_or m j nothing u
   lane_there m t a u j ne l =
-      ap (λ f. f u) (get_or-tabulate k (λ j u. cond (u == t) (a j) (get_or m j nothing u)) j nothing l)
+      ap (λ (f : ℕ → F). f u) (get_or-tabulate k (λ j u. cond (u == t) (a j) (get_or m j nothing u)) j nothing l)
       ∙ ap (λ b. cond b (a j) (get_or m j nothing u)) (ne_eqb u t ne)
 
   module _ (marks : List Bool) (word c : List (ℕ → F)) (codeword : IsCodeword K (lanewise (itself K)) d k c)
@@ -43,7 +43,7 @@ module _ {F : Type 0} (K : FieldOn F) (N : IsField K) (root : ℕ → F) (k n : 
       other = transform K (lanewise (itself K)) d other_message
 
       short : length other_message ≤ k
-      short = let e = length-tabulate k (λ j u. cond (u == t) (a j) (get_or codeword.0 j nothing u)) in subst (λ x. x ≤ k) (sym e) (omega arith)
+      short = let e : length other_message ≡ k = length-tabulate k (λ j u. cond (u == t) (a j) (get_or codeword.0 j nothing u)) in omega (arith, e)
 
       agrees_at : (i : ℕ) → get_or marks i true ≡ false → (u : ℕ) → get_or other i nothing u ≡ get_or word i nothing u
       agrees_at i e u =
@@ -69,5 +69,5 @@ module _ {F : Type 0} (K : FieldOn F) (N : IsField K) (root : ℕ → F) (k n : 
       pub restored_items : (m : List (ℕ → F)) → IsOnlyInverse K (lanewise (itself K)) d c m → (j : ℕ) → j < k → get_or m j nothing t ≡ a j
       restored_items m inverse j l =
           ap (λ x. get_or x j nothing t) (ifft_of_fft K (lanewise (itself K)) d other_message c m (sym other_is) inverse)
-          ∙ ap (λ f. f t) (get_or-tabulate d.size (item (lanewise (itself K)) other_message) j nothing (omega (arith, l, fits)))
+          ∙ ap (λ (f : ℕ → F). f t) (get_or-tabulate d.size (item (lanewise (itself K)) other_message) j nothing (omega (arith, l, fits)))
           ∙ lane_here codeword.0 t a j l

@@ -30,8 +30,8 @@ lane_item z t (x ∷ xs) (suc j) = lane_item z t xs j
 
 -- the first rows have the entries of all
 pub entry-take : {F : Type 0} {N : ℕ} (K : FieldOn F) (n : ℕ) (rows : List (Row F N)) (j t : ℕ) → j < n → entry K (take n rows) j t ≡ entry K rows j t
-entry-take K n rows j t l =
-    ap (λ xs. get_or xs j (λ i. K.zero) t) (sym (take-map (lanes K) n rows)) ∙ ap (λ f. f t) (get_or-take n (map (lanes K) rows) j (λ i. K.zero) l)
+entry-take {F = F} K n rows j t l =
+    ap (λ (xs : List (ℕ → F)). get_or xs j (λ i. K.zero) t) (sym (take-map (lanes K) n rows)) ∙ ap (λ f. f t) (get_or-take n (map (lanes K) rows) j (λ i. K.zero) l)
 
 module _ {F : Type 0} {N : ℕ} (K : FieldOn F) where
   -- a loop that writes row j
@@ -80,8 +80,8 @@ module _ {F : Type 0} (K : FieldOn F) (root : ℕ → F) (k n : ℕ) where
     pub values_of_rows : (m c : List (ℕ → F)) → c ≡ transform K (lanewise (itself K)) d m → length m ≤ k → (i t : ℕ) → i < d.size
         → get_or c i (λ j. K.zero) t ≡ value_at_place K root k n (λ j. get_or m j (λ j. K.zero) t) i
     values_of_rows m c e short i t l =
-        ap (λ x. get_or x i (λ j. K.zero) t) e
+        ap (λ (x : List (ℕ → F)). get_or x i (λ j. K.zero) t) e
         ∙ sym (lane_item K.zero t (transform K (lanewise (itself K)) d m) i)
-        ∙ ap (λ x. get_or x i K.zero) (transform-lane K (itself K) t d m)
+        ∙ ap (λ (x : List F). get_or x i K.zero) (transform-lane K (itself K) t d m)
         ∙ place_value (lane t m) i (subst (λ x. x ≤ k) (sym (length-map m (λ r. r t))) short) l
         ∙ same_value _ _ i (λ j b. lane_item K.zero t m j)

@@ -134,8 +134,11 @@ module _ (f : ℕ → ℕ → ℕ) (first a count width : ℕ) (old xs ys : List
 
 -- ---- the items of so many rows from row `first` on
 
+together : (first count k : ℕ) → first * k + count * k ≡ (first + count) * k
+together first count k = grind arith
+
 pub group_end : (first count stripes k : ℕ) → first + count ≤ stripes → first * k + count * k ≤ stripes * k
-group_end first count stripes k h = grind arith
+group_end first count stripes k h = let e = together first count k in let l = below_rows (first + count) stripes k h in omega (arith, e, l)
 
 pub group_len : (first count stripes k : ℕ) (xs : List ℕ) → first + count ≤ stripes → length xs ≡ stripes * k → length (take (first * k + count * k - first * k) (drop (first * k) xs)) ≡ count * k
 group_len first count stripes k xs h len = let e = group_end first count stripes k h in simp (length-take, length-drop) (omega (arith, e, len))

@@ -1,6 +1,6 @@
 //! Rows that hold stripes. So many stripes from `first` on have a lane each: lane `t` is that of stripe `first + t`.
 
-ghost use Rattle.std.specs.Prelude.{◌≡◌, ◌≢◌, ℕ, ◌+◌, ◌*◌, ◌%◌, ◌<◌, ◌≤◌, get_or, length, IfOk};
+ghost use Rattle.std.specs.Prelude.{◌≡◌, ◌≢◌, ℕ, ◌+◌, ◌*◌, ◌%◌, ◌^◌, ◌<◌, ◌≤◌, get_or, length, IfOk};
 ghost use Rattle.ark_math.specs.Field.{natural};
 ghost use Rattle.ark_rows.specs.Row.{lanes};
 ghost use Rattle.shards_lib.specs.Rows.{entry};
@@ -170,6 +170,7 @@ pub fn put_stripes<F: NumberField, const N: usize>(
 )
     requires count { count ≤ N }
     requires rows { length rows.now ≡ k }
+    requires end { first + count < 2 ^ 64 }
     requires items { (first + count) * k ≤ length items.old }
     ensures written { (t j : ℕ) → t < count → j < k
         → get_or items.new ((first + t) * k + j) 0 ≡ F.number (entry F.field rows.now j t) % 65536 }

@@ -2,6 +2,7 @@
 //! at the first `n` elements of a domain.
 
 ghost use Rattle.std.specs.Prelude.{◌≡◌, ◌≢◌, ℕ, ◌+◌, ◌*◌, ◌^◌, ◌<◌, ◌≤◌, true, false, List, get_or, length, map, IfOk, OnOk};
+ghost use Rattle.ark_math.specs.Domain.{element};
 ghost use Rattle.ark_math.specs.Module.{itself};
 ghost use Rattle.ark_poly.specs.Domains.{radix2_domain};
 ghost use Rattle.ark_rows.specs.Lanewise.{lanewise};
@@ -33,6 +34,8 @@ pub struct RowCode<F: NumberField, const N: usize> {
     ghost fits: { code.k ≤ n },
     ghost few: { n ≤ 65536 },
     ghost room: { n ≤ code.domain.size },
+    ghost differ: { (i j : ℕ) → i < code.domain.size → j < code.domain.size
+        → element F.field code.domain i ≡ element F.field code.domain j → i ≡ j },
     ghost over: { IsNumberDomain F.field F.root n code.domain },
     ghost same: { radix2_domain domain ≡ code.domain },
     ghost wide: { 0 < N },
@@ -161,8 +164,7 @@ impl<F: NumberField, const N: usize> RowCode<F, N> {
         let erased = erased_places(alloc, self.code.n(), places)?;
         match self.code.decoder(alloc, &erased) {
             Ok(decoder) => Ok(decoder),
-            Err(RsError::Memory) => Err(AllocError),
-            Err(_) => unreachable!(),
+            Err(error) => Err(refused(error)),
         }
     }
 
@@ -250,10 +252,16 @@ impl<F: NumberField, const N: usize> RowCode<F, N> {
     {
         match decoder.restore(alloc, word) {
             Ok(codeword) => Ok(codeword),
-            Err(RsError::Memory) => Err(AllocError),
-            Err(_) => unreachable!(),
+            Err(error) => Err(refused(error)),
         }
     }
+}
+
+// What refused memory is here: no other error comes.
+fn refused(_error: RsError) -> AllocError
+    requires { _error ≡ RsError.Memory }
+{
+    AllocError
 }
 
 // How many groups so many stripes are, the last one smaller.

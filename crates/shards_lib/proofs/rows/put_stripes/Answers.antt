@@ -1,4 +1,4 @@
-use Rattle.std.proofs.Common.{◌≡◌, ℕ, ◌+◌, ◌-◌, ◌*◌, ◌<◌, ◌%◌, length, get_or, arith, sym, ◌∙◌, ap, subst}
+use Rattle.std.proofs.Common.{◌≡◌, ℕ, ◌+◌, ◌-◌, ◌*◌, ◌<◌, ◌≤◌, ◌%◌, length, get_or, arith, sym, ◌∙◌, ap, subst}
 use Rattle.shards_lib.specs.Rows.{entry}
 use Rattle.shards_lib.proofs.Windows.{whole_len, row_written, row_kept}
 use Rattle.shards_lib.proofs.rows.put_stripes.Goals as goal
@@ -15,7 +15,7 @@ loop-t-preserved g c =
     let ys = c.put_stripe.new.items in
     let less = c.loop-t-test.true in
     let f : ℕ → ℕ → ℕ = λ t j. g.F.NumberField.number (entry K rows j t) % 65536 in
-    let len = omega (arith, c.loop-t.auto.items, c.requires.items) in
+    let len : (first + count) * k ≤ length xs = omega (arith, c.loop-t.auto.items, c.requires.items) in
     let long = whole_len f first t count k c.args.items.now xs ys less len in
     let begin = (first + t) * k in
     let same : k ≡ begin + k - begin = omega arith in

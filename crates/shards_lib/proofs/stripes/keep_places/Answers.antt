@@ -2,9 +2,9 @@ use Rattle.std.proofs.Common.{◌≡◌, ℕ, ◌+◌, ◌<◌, length, get_or, 
 use Rattle.shards_lib.proofs.Marks.{marks-less, kept_more, all_marked, still_marked}
 use Rattle.shards_lib.proofs.stripes.keep_places.Goals as goal
 
-pub loop-a-begins : goal.loop-a-begins
-loop-a-begins c = record {
-  count = all_marked c.args.erased.now c.requires.marked;
+pub loop-a-init : goal.loop-a-init
+loop-a-init c = record {
+  count = let all = all_marked c.args.erased.now c.requires.marked in omega (arith, all);
   kept = λ i e. absurd (true≢false (sym (c.requires.marked i) ∙ e));
 }
 
