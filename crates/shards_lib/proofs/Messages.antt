@@ -1,5 +1,5 @@
 -- Rows that are restored hold the only message of each lane.
-use Rattle.std.proofs.Common.{◌≡◌, ℕ, ◌==◌, ◌<◌, ◌≤◌, Bool, true, false, cond, List, length, get_or, inl, inr, sym, ◌∙◌, ap, refl, subst, arith}
+use Rattle.std.proofs.Common.{◌≡◌, ℕ, ◌==◌, ◌<◌, ◌≤◌, Bool, true, false, cond, List, length, map, get_or, inl, inr, sym, ◌∙◌, ap, refl, subst, arith}
 use Rattle.std.proofs.Math.Path.{fun_ext}
 use Rattle.std.proofs.lemmas.Bool.{cases_eq, eq-eqb, ne_eqb}
 use Rattle.ark_math.specs.Field.{FieldOn, IsField}
@@ -9,9 +9,18 @@ use Rattle.ark_math.specs.Transform.{transform, fit, IsOnlyInverse}
 use Rattle.ark_math.proofs.Lists.Tabulated.{length-tabulate, get_or-tabulate}
 use Rattle.ark_math.proofs.Callers.Transforms.{ifft_of_fft}
 use Rattle.ark_rows.specs.Lanewise.{lanewise}
+use Rattle.ark_rows.specs.Row.{lanes}
+use Rattle.ark_rows.specs.declared.row.Row.{Row}
 use Rattle.rs_code.specs.Codeword.{IsCodeword, AgreesElsewhere}
 use Rattle.shards_lib.specs.Numbers.{IsNumberDomain, value_at_place}
 use Rattle.shards_lib.proofs.Values.{same_value, values_of_rows}
+
+-- what is transformed back, under another name of the domain and of the rows
+pub moved_inverse : {F : Type 0} {N : ℕ} (K : FieldOn F) {d e : Domain F} → d ≡ e → {xs ys : List (Row F N)} → xs ≡ ys → (m : List (ℕ → F))
+    → IsOnlyInverse K (lanewise (itself K)) d (map (lanes K) xs) m → IsOnlyInverse K (lanewise (itself K)) e (map (lanes K) ys) m
+moved_inverse {F = F} {N = N} K {d} {e} same {xs} {ys} is m h =
+    subst (λ (x : Domain F). IsOnlyInverse K (lanewise (itself K)) x (map (lanes K) ys) m) same
+    (subst (λ (zs : List (Row F N)). IsOnlyInverse K (lanewise (itself K)) d (map (lanes K) zs) m) is h)
 
 module _ {F : Type 0} (K : FieldOn F) (N : IsField K) (root : ℕ → F) (k n : ℕ) (d : Domain F) (over : IsNumberDomain K root n d) (fits : k ≤ d.size) where
   abbrev pub nothing : ℕ → F

@@ -1,4 +1,4 @@
-use Rattle.std.proofs.Common.{◌≡◌, ℕ, ◌+◌, ◌*◌, ◌<◌, ◌≤◌, List, length, take, get_or, arith, sym, ◌∙◌, ap, subst}
+use Rattle.std.proofs.Common.{◌≡◌, ℕ, ◌+◌, ◌*◌, ◌<◌, ◌≤◌, List, length, take, get_or, arith, rules, sym, ◌∙◌, ap, subst}
 use Rattle.std.proofs.lemmas.List.{length-take-le}
 use Rattle.ark_math.specs.Field.{natural}
 use Rattle.shards_lib.specs.Rows.{entry}
@@ -7,11 +7,24 @@ use Rattle.shards_lib.proofs.Windows.{group_len, group_read}
 use Rattle.shards_lib.proofs.stripes.RowCode.encode_group.Goals as goal
 
 pub message_rows-requires : goal.message_rows-requires
-message_rows-requires g c = record {
-  count = c.requires.count;
-  items = group_len c.args.first c.args.count c.args.stripes c.k-k.result c.args.items.now c.requires.stripes
-      (c.requires.items ∙ ap (λ m. c.args.stripes * m) (sym c.k-k.ensures));
-}
+message_rows-requires g c = (
+  search rules,
+  c.requires.count,
+  group_len c.args.first c.args.count c.args.stripes c.k-k.result c.args.items.now c.requires.stripes
+      (c.requires.items ∙ ap (λ m. c.args.stripes * m) (sym c.k-k.ensures)),
+)
+
+pub overflow_mul-start : goal.overflow_mul-start
+overflow_mul-start g c = ?
+
+pub slice_bounds-message_rows-end : goal.slice_bounds-message_rows-end
+slice_bounds-message_rows-end g c = ?
+
+pub codeword-requires : goal.codeword-requires
+codeword-requires g c = ?
+
+pub put_rows-requires : goal.put_rows-requires
+put_rows-requires g c = ?
 
 pub returns-clause-written : goal.returns-clause-written
 returns-clause-written g c = λ i t l b.

@@ -1,9 +1,48 @@
-use Rattle.std.proofs.Common.{◌≡◌, ℕ, ◌+◌, ◌*◌, ◌^◌, ◌<◌, ◌≤◌, ◌%◌, true, false, length, take, get_or, arith, sym, ◌∙◌, ap, subst, mod-eq_of_lt}
+use Rattle.std.proofs.Common.{◌≡◌, ℕ, ◌+◌, ◌*◌, ◌^◌, ◌<◌, ◌≤◌, ◌%◌, true, false, length, take, get_or, arith, rules, sym, ◌∙◌, ap, subst, mod-eq_of_lt}
 use Rattle.ark_math.specs.Field.{natural}
 use Rattle.shards_lib.specs.Numbers.{value_at_place}
 use Rattle.shards_lib.specs.Rows.{entry}
+use Rattle.std.proofs.lemmas.List.{length-take-le}
 use Rattle.shards_lib.proofs.Values.{entry-take}
+use Rattle.shards_lib.proofs.Windows.{below_rows}
 use Rattle.shards_lib.proofs.stripes.RowCode.restore_group.Goals as goal
+
+pub word_rows-requires : goal.word_rows-requires
+word_rows-requires g c = (
+  search rules,
+  c.requires.count,
+  c.requires.stripes,
+  λ a l. subst (λ m. get_or c.args.places.now a 0 < m) (sym c.n-size.ensures)
+      (let below = c.requires.below a l in let room = c.args.self.now.room in omega (arith, below, room)),
+  c.requires.kept.apart,
+  c.requires.numbers ∙ ap (λ m. m * c.args.stripes) (sym c.requires.places),
+)
+
+pub message-requires : goal.message-requires
+message-requires g c = (
+  search rules,
+  c.requires.code,
+  (c.args.places.now, c.requires.kept, c.requires.places,
+      (λ a l. let below = c.requires.below a l in let room = c.args.self.now.room in omega (arith, below, room))),
+  ap length c.deref.ensures.value ∙ c.in_ok-word.ensures.len ∙ c.n-size.ensures,
+)
+
+pub put_stripes-requires : goal.put_stripes-requires
+put_stripes-requires g c =
+    let fits = c.args.self.now.fits in
+    let room = c.args.self.now.room in
+    let e = c.k-k.ensures in
+    let len = ap length c.deref-2.ensures.value ∙ c.in_ok-message.ensures.len in
+    let below = below_rows (c.args.first + c.args.count) c.args.stripes c.k-k.result c.requires.stripes in
+    let all = c.requires.items ∙ ap (λ m. c.args.stripes * m) (sym e) in
+    let end = c.requires.stripes in
+    let whole = c.ranges.stripes.fits in (
+      search rules,
+      c.requires.count,
+      length-take-le c.k-k.result c.deref-2.result.now (omega (arith, fits, room, e, len)),
+      omega (arith, end, whole),
+      omega (arith, below, all),
+    )
 
 pub returns-clause-written : goal.returns-clause-written
 returns-clause-written g c = λ t stripe b small numbered j l.

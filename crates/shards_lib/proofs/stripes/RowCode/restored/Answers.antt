@@ -29,7 +29,7 @@ refused-requires g c =
 pub returns-in-Ok-clause-codeword : goal.returns-in-Ok-clause-codeword
 returns-in-Ok-clause-codeword g c =
     let K = g.F.Field.field in
-    subst (λ (x : CodeOver _). IsCodeword K (lanewise (itself K)) x.domain x.k _) c.requires.code c.in-Ok.ensures.codeword
+    subst (λ (x : CodeOver _). IsCodeword K (lanewise (itself K)) x.domain x.k (map (lanes K) c.in-Ok.codeword.items)) c.requires.code c.in-Ok.ensures.codeword
 
 pub returns-in-Ok-clause-only : goal.returns-in-Ok-clause-only
 returns-in-Ok-clause-only g c = λ other is agrees.

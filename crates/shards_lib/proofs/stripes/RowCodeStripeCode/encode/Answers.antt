@@ -11,7 +11,7 @@ loop-group-preserved g c = λ i s b l h.
     let stripes = c.args.stripes in
     let items = c.args.items.now in
     let number = number_at_place g.F.Field.field g.F.FftField.root g.F.NumberField.number k self.n in
-    elim (in_group group g.N s l) [
+    elim (in_group group g.row.N s l) [
       | inl before ↦ c.in_ok-encode_group.ensures.kept i s b before ∙ c.loop-group.invariant i s b before h
       | inr here ↦
           let width = c.min-count.ensures in
@@ -24,6 +24,6 @@ loop-group-preserved g c = λ i s b l h.
 
 pub returns : goal.returns
 returns g c = λ i s b h.
-    let all = c.groups.ensures.all in
-    let e = below_rows c.groups.result c.loop-group.group g.N c.loop-group-test.false in
+    let all = c.groups-group-end.ensures.all in
+    let e = below_rows c.groups-group-end.result c.loop-group.group g.row.N c.loop-group-test.false in
     c.loop-group.invariant i s b (omega (arith, all, e, h)) h

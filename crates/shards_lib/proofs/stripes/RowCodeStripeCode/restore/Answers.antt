@@ -12,9 +12,9 @@ loop-group-preserved g c = λ s stripe l h small.
     let number = number_at_place g.F.Field.field g.F.FftField.root g.F.NumberField.number k self.n stripe in
     let places = c.args.places.now in
     let numbers = c.args.numbers.now in
-    elim (in_group group g.N s l) [
+    elim (in_group group g.row.N s l) [
       | inl before ↦ λ numbered j m.
-          let p = row_place s j (group * g.N) k before m in
+          let p = row_place s j (group * g.row.N) k before m in
           c.in_ok-restore_group.ensures.kept (s * k + j) p ∙ c.loop-group.invariant s stripe before h small numbered j m
       | inr here ↦
           let width = c.min-count.ensures in
@@ -28,6 +28,6 @@ loop-group-preserved g c = λ s stripe l h small.
 
 pub returns : goal.returns
 returns g c = λ s stripe h small numbered j m.
-    let all = c.groups.ensures.all in
-    let e = below_rows c.groups.result c.loop-group.group g.N c.loop-group-test.false in
+    let all = c.groups-group-end.ensures.all in
+    let e = below_rows c.groups-group-end.result c.loop-group.group g.row.N c.loop-group-test.false in
     c.loop-group.invariant s stripe (omega (arith, all, e, h)) h small numbered j m
