@@ -7,3 +7,4 @@ pub mod Marks
 pub mod Interpolation
 pub mod Codewords
 pub mod OnlyMemory
+pub mod Room

@@ -14,7 +14,7 @@ ghost use Rattle.shards_lib.specs.Rows.{entry};
 
 use crate::field::NumberField;
 use crate::rows::{message_rows, put_rows, put_stripes, word_rows};
-use ark_base::F65537;
+use ark_base::{F65537, Zero};
 use ark_poly::{EvaluationDomain, Radix2EvaluationDomain};
 use ark_rows::Row;
 use rs_code::{DomainCode, DomainDecoder, RsError};
@@ -30,6 +30,8 @@ pub struct RowCode<F: NumberField, const N: usize> {
     code: DomainCode<F, Radix2EvaluationDomain<F>>,
     domain: Radix2EvaluationDomain<F>,
     n: usize,
+    // What rows begin as. With it a code is as large as a row, so that no row is too large for memory.
+    zero: Row<F, N>,
     ghost some: { 0 < code.k },
     ghost fits: { code.k ≤ n },
     ghost few: { n ≤ 65536 },
@@ -60,7 +62,12 @@ impl<F: NumberField, const N: usize> StripeCode for RowCode<F, N> {
         }
         let domain = Radix2EvaluationDomain::new(n)?;
         let code = DomainCode::new(k, n)?;
-        Some(RowCode { code, domain, n })
+        Some(RowCode {
+            code,
+            domain,
+            n,
+            zero: Row::zero(),
+        })
     }
 
     fn k(&self) -> usize {

@@ -3,28 +3,63 @@ use Rattle.std.proofs.lemmas.List.{length-take-le}
 use Rattle.ark_math.specs.Field.{natural}
 use Rattle.shards_lib.specs.Rows.{entry}
 use Rattle.shards_lib.proofs.Values.{same_value, entry-take}
-use Rattle.shards_lib.proofs.Windows.{group_len, group_read}
+use Rattle.shards_lib.proofs.Windows.{group_end, group_len, group_read}
+use Rattle.shards_lib.proofs.Room.{last_part}
 use Rattle.shards_lib.proofs.stripes.RowCode.encode_group.Goals as goal
 
 pub message_rows-requires : goal.message_rows-requires
 message_rows-requires g c = (
-  search rules,
-  c.requires.count,
+  search (rules, last_part),
+  (c.requires.count,
   group_len c.args.first c.args.count c.args.stripes c.k-k.result c.args.items.now c.requires.stripes
-      (c.requires.items ∙ ap (λ m. c.args.stripes * m) (sym c.k-k.ensures)),
+      (c.requires.items ∙ ap (λ m. c.args.stripes * m) (sym c.k-k.ensures))),
 )
 
 pub overflow_mul-start : goal.overflow_mul-start
-overflow_mul-start g c = ?
+overflow_mul-start g c =
+    let end = group_end c.args.first c.args.count c.args.stripes c.k-k.result c.requires.stripes in
+    let all = c.requires.items ∙ ap (λ m. c.args.stripes * m) (sym c.k-k.ensures) in
+    search (rules, end, all)
+
+pub overflow_mul-count : goal.overflow_mul-count
+overflow_mul-count g c =
+    let end = group_end c.args.first c.args.count c.args.stripes c.k-k.result c.requires.stripes in
+    let all = c.requires.items ∙ ap (λ m. c.args.stripes * m) (sym c.k-k.ensures) in
+    search (rules, end, all)
+
+pub overflow_add-start : goal.overflow_add-start
+overflow_add-start g c =
+    let end = group_end c.args.first c.args.count c.args.stripes c.k-k.result c.requires.stripes in
+    let all = c.requires.items ∙ ap (λ m. c.args.stripes * m) (sym c.k-k.ensures) in
+    search (rules, end, all)
+
+pub offset_bounds-items-start : goal.offset_bounds-items-start
+offset_bounds-items-start g c =
+    let end = group_end c.args.first c.args.count c.args.stripes c.k-k.result c.requires.stripes in
+    let all = c.requires.items ∙ ap (λ m. c.args.stripes * m) (sym c.k-k.ensures) in
+    search (rules, end, all)
 
 pub slice_bounds-message_rows-end : goal.slice_bounds-message_rows-end
-slice_bounds-message_rows-end g c = ?
+slice_bounds-message_rows-end g c =
+    let end = group_end c.args.first c.args.count c.args.stripes c.k-k.result c.requires.stripes in
+    let all = c.requires.items ∙ ap (λ m. c.args.stripes * m) (sym c.k-k.ensures) in
+    search (rules, end, all)
 
 pub codeword-requires : goal.codeword-requires
-codeword-requires g c = ?
+codeword-requires g c = (
+  search rules,
+  (search (rules, last_part),
+  ap length c.deref.ensures.value ∙ c.in_ok-message.ensures.len ∙ c.k-k.ensures),
+)
 
 pub put_rows-requires : goal.put_rows-requires
-put_rows-requires g c = ?
+put_rows-requires g c =
+    let self = c.args.self.now in
+    let rows = c.deref-2.result.now in
+    let long : self.n ≤ length rows = omega (arith, ap length c.deref-2.ensures.value, c.in_ok-codeword.ensures.len, self.room) in
+    (last_part _ _ _ _ c.requires-raw.0,
+    (c.requires.count, (c.requires.stripes,
+    c.requires.numbers ∙ ap (λ m. m * c.args.stripes) (sym (length-take-le self.n rows long)))))
 
 pub returns-clause-written : goal.returns-clause-written
 returns-clause-written g c = λ i t l b.

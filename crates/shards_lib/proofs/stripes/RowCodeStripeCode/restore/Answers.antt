@@ -31,3 +31,6 @@ returns g c = λ s stripe h small numbered j m.
     let all = c.groups-group-end.ensures.all in
     let e = below_rows c.groups-group-end.result c.loop-group.group g.row.N c.loop-group-test.false in
     c.loop-group.invariant s stripe (omega (arith, all, e, h)) h small numbered j m
+
+pub restore_group-requires-clause-items : goal.restore_group-requires-clause-items
+restore_group-requires-clause-items g c = c.loop-group.auto.items ∙ c.requires.items
