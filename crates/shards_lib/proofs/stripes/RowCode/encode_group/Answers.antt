@@ -57,7 +57,7 @@ put_rows-requires g c =
     let self = c.args.self.now in
     let rows = c.deref-2.result.now in
     let long : self.n ≤ length rows = omega (arith, ap length c.deref-2.ensures.value, c.in_ok-codeword.ensures.len, self.room) in
-    (last_part _ _ _ _ c.requires-raw.0,
+    (search (rules, last_part),
     (c.requires.count, (c.requires.stripes,
     c.requires.numbers ∙ ap (λ m. m * c.args.stripes) (sym (length-take-le self.n rows long)))))
 

@@ -38,7 +38,7 @@ put_stripes-requires g c =
     let all = c.requires.items ∙ ap (λ m. c.args.stripes * m) (sym e) in
     let end = c.requires.stripes in
     let whole = c.ranges.stripes.fits in (
-      last_part _ _ _ _ c.requires-raw.0,
+      search (rules, last_part),
       (c.requires.count,
       (length-take-le c.k-k.result c.deref-2.result.now (omega (arith, fits, room, e, len)),
       (omega (arith, end, whole),

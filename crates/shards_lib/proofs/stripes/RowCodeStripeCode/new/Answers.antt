@@ -1,7 +1,8 @@
-use Rattle.std.proofs.Common.{◌≡◌, ℕ, ◌<◌, ◌≤◌, arith, sym, ◌∙◌, ap, subst}
+use Rattle.std.proofs.Common.{◌≡◌, ℕ, ◌<◌, ◌≤◌, arith, rules, sym, ◌∙◌, ap, subst}
 use Rattle.ark_math.specs.Domain.{IsDomain}
 use Rattle.ark_math.proofs.Domains.Domains.{radix2_is_domain}
 use Rattle.ark_math.proofs.Domains.LawfulDomains.{lawful_domain, elements_differ}
+use Rattle.rs_code.specs.Code.{CodeOver, IsCode}
 use Rattle.shards_lib.proofs.DomainSizes.{same_domain, number_domain, domain_room}
 use Rattle.shards_lib.proofs.stripes.RowCodeStripeCode.new.Goals as goal
 
@@ -15,7 +16,8 @@ invariant_of-result g c =
     let domain = c.in_ok-domain.domain in
     let code = c.in_ok-code.code in
     let d = code.domain in
-    let L : IsDomain K s root d = ? in
+    let is_code : IsCode K s root code = search rules in
+    let L : IsDomain K s root d = is_code.lawful in
     let D = radix2_is_domain K s root g.met.F.Field.equality_law domain.coset.splits domain.even domain.coset.root_is domain.coset.offset_not_zero in
     let chosen = c.in_ok-code.ensures.chosen in
     let offset = c.in_ok-code.ensures.subgroup in
