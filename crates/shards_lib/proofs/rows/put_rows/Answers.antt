@@ -1,0 +1,29 @@
+use Rattle.std.proofs.Common.{◌≡◌, ℕ, ◌+◌, ◌-◌, ◌*◌, ◌<◌, length, get_or, map, arith, sym, ◌∙◌, ap, subst}
+use Rattle.ark_math.proofs.Lists.Lists.{read_as}
+use Rattle.ark_rows.specs.Row.{lanes}
+use Rattle.shards_lib.specs.Rows.{entry}
+use Rattle.shards_lib.proofs.Windows.{part_len, part_written, part_kept}
+use Rattle.shards_lib.proofs.rows.put_rows.Goals as goal
+
+pub loop-i-preserved : goal.loop-i-preserved
+loop-i-preserved g c =
+    let K = g.F.Field.field in
+    let number = g.F.NumberField.number in
+    let i = c.loop-i.i in
+    let rows = c.args.rows.now in
+    let xs = c.loop-i.numbers in
+    let ys = c.put_row.new.numbers in
+    let less = c.loop-i-test.true in
+    let fits = c.requires.stripes in
+    let f : ℕ → ℕ → ℕ = λ i t. number (entry K rows i t) in
+    let len : length xs ≡ length rows * c.args.stripes = c.loop-i.auto.numbers ∙ c.requires.numbers in
+    let long = part_len f i (length rows) c.args.stripes c.args.first c.args.count c.args.numbers.now xs ys less fits len in
+    let begin = i * c.args.stripes + c.args.first in
+    let same : c.args.count ≡ begin + c.args.count - begin = omega arith in
+    let size : length ys ≡ begin + c.args.count - begin = c.put_row.auto.numbers ∙ long ∙ same in
+    let here : lanes K c.index-rows-i.result ≡ get_or (map (lanes K) rows) i (λ j. K.zero) = read_as (lanes K) (λ j. K.zero) rows i c.index-rows-i.result less c.index-rows-i.is in
+    record {
+      written = part_written f i (length rows) c.args.stripes c.args.first c.args.count c.args.numbers.now xs ys less fits len size c.loop-i.invariant.written
+          (λ t l. c.put_row.ensures t (subst (λ m. t < m) (sym long) l) ∙ ap (λ r. number (r t)) here);
+      kept = part_kept f i (length rows) c.args.stripes c.args.first c.args.count c.args.numbers.now xs ys less fits len size c.loop-i.invariant.kept;
+    }

@@ -1,0 +1,9 @@
+use Rattle.std.proofs.Common.{◌≡◌, ℕ, ◌<◌, ◌*◌, ◌+◌, get_or, length}
+use Rattle.shards_lib.specs.Rows.{entry}
+use Rattle.shards_lib.proofs.rows.put_rows.Given as goal
+
+abbrev pub invariant-loop-i : goal.invariant-loop-i
+invariant-loop-i g l = record {
+  written : (i t : ℕ) → i < l.i → t < l.count → get_or l.numbers (i * l.stripes + (l.first + t)) 0 ≡ g.F.NumberField.number (entry g.F.Field.field l.rows i t);
+  kept : (i s : ℕ) → i < length l.rows → s < l.first → get_or l.numbers (i * l.stripes + s) 0 ≡ get_or l.initial.numbers (i * l.stripes + s) 0;
+}

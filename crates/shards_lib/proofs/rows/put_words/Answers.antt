@@ -1,0 +1,17 @@
+use Rattle.std.proofs.Common.{◌≡◌, ℕ, ◌+◌, ◌*◌, ◌<◌, length, get_or, take, drop, arith, sym, ◌∙◌, ap, subst}
+use Rattle.ark_math.specs.Field.{natural}
+use Rattle.shards_lib.proofs.Values.{places_written}
+use Rattle.shards_lib.proofs.Windows.{part_read}
+use Rattle.shards_lib.proofs.rows.put_words.Goals as goal
+
+pub loop-a-preserved : goal.loop-a-preserved
+loop-a-preserved g c =
+    let K = g.F.Field.field in
+    let a = c.loop-a.a in
+    let places = c.args.places.now in
+    let numbers = c.args.numbers.now in
+    let less = c.loop-a-test.true in
+    let read = part_read a (length places) c.args.stripes c.args.first c.args.count numbers less c.requires.stripes c.requires.numbers in
+    places_written K (λ a t. natural K (get_or numbers (a * c.args.stripes + (c.args.first + t)) 0)) places c.loop-a.rows a c.args.count c.row_of_numbers.result
+    (omega (arith, c.requires.below a less, c.loop-a.auto.rows)) (λ b l. c.requires.apart b a l less) c.loop-a.invariant
+    (λ t l. c.row_of_numbers.ensures t (subst (λ m. t < m) (sym read.0) l) ∙ ap (natural K) (read.1 t l))

@@ -1,0 +1,76 @@
+use Rattle.std.proofs.Common.{◌≡◌, ℕ, ◌+◌, ◌*◌, ◌^◌, ◌<◌, ◌≤◌, ◌%◌, true, false, length, take, get_or, arith, rules, sym, ◌∙◌, ap, subst, mod-eq_of_lt}
+use Rattle.ark_math.specs.Field.{natural}
+use Rattle.shards_lib.specs.Numbers.{value_at_place}
+use Rattle.shards_lib.specs.Rows.{entry}
+use Rattle.std.proofs.lemmas.List.{length-take-le}
+use Rattle.shards_lib.proofs.Values.{entry-take}
+use Rattle.shards_lib.proofs.Windows.{below_rows}
+use Rattle.shards_lib.proofs.Room.{last_part}
+use Rattle.shards_lib.proofs.stripes.RowCode.restore_group.Goals as goal
+
+pub word_rows-requires : goal.word_rows-requires
+word_rows-requires g c = (
+  search (rules, last_part),
+  (c.requires.count,
+  (c.requires.stripes,
+  ((λ a l. subst (λ m. get_or c.args.places.now a 0 < m) (sym c.n-size.ensures)
+      (let below = c.requires.below a l in let room = c.args.self.now.room in omega (arith, below, room))),
+  (c.requires.kept.apart,
+  c.requires.numbers ∙ ap (λ m. m * c.args.stripes) (sym c.requires.places))))),
+)
+
+pub message-requires : goal.message-requires
+message-requires g c = (
+  search rules,
+  (search (rules, last_part), (c.requires.code,
+  ((c.args.places.now, c.requires.kept, c.requires.places,
+      (λ a l. let below = c.requires.below a l in let room = c.args.self.now.room in omega (arith, below, room))),
+  ap length c.deref.ensures.value ∙ c.in_ok-word.ensures.len ∙ c.n-size.ensures))),
+)
+
+pub put_stripes-requires : goal.put_stripes-requires
+put_stripes-requires g c =
+    let fits = c.args.self.now.fits in
+    let room = c.args.self.now.room in
+    let e = c.k-k.ensures in
+    let len = ap length c.deref-2.ensures.value ∙ c.in_ok-message.ensures.len in
+    let below = below_rows (c.args.first + c.args.count) c.args.stripes c.k-k.result c.requires.stripes in
+    let all = c.requires.items ∙ ap (λ m. c.args.stripes * m) (sym e) in
+    let end = c.requires.stripes in
+    let whole = c.ranges.stripes.fits in (
+      search (rules, last_part),
+      (c.requires.count,
+      (length-take-le c.k-k.result c.deref-2.result.now (omega (arith, fits, room, e, len)),
+      (omega (arith, end, whole),
+      omega (arith, below, all)))),
+    )
+
+pub returns-clause-written : goal.returns-clause-written
+returns-clause-written g c = λ t stripe b small numbered j l.
+    let K = g.F.Field.field in
+    let number = g.F.NumberField.number in
+    let root = g.F.FftField.root in
+    let self = c.args.self.now in
+    let k = self.code.k in
+    let n = self.n in
+    let q = c.k-k.result in
+    let e : q ≡ k = c.k-k.ensures in
+    let first = c.args.first in
+    let places = c.args.places.now in
+    let inside : j < q = subst (λ x. j < x) (sym e) l in
+    let rows = c.deref-2.result.now in
+    let given : (i : ℕ) → get_or c.args.decoder.now.erased i true ≡ false → entry K c.deref.result.now i t ≡ value_at_place K root k n (λ j. natural K (stripe j)) i = λ i u.
+    let h = c.requires.kept.kept i u in
+    let less : h.0 < k = subst (λ x. h.0 < x) c.requires.places h.1 in
+    subst (λ i. entry K c.deref.result.now i t ≡ value_at_place K root k n (λ j. natural K (stripe j)) i) h.2
+    (ap (λ xs. entry K xs (get_or places h.0 0) t) c.deref.ensures.value ∙ c.in_ok-word.ensures.entries h.0 t h.1 b
+    ∙ ap (natural K) (numbered h.0 less) ∙ g.met.F.NumberField.natural_number _) in
+    let item_is : entry K (take q rows) j t ≡ natural K (stripe j) =
+    entry-take K q rows j t inside ∙ ap (λ xs. entry K xs j t) c.deref-2.ensures.value ∙ c.in_ok-message.ensures.only t (λ j. natural K (stripe j)) given j l in
+    let few = small j l in
+    subst (λ x. get_or c.put_stripes.new.items ((first + t) * x + j) 0 ≡ stripe j) e
+    (c.put_stripes.ensures.written t j b inside ∙ ap (λ x. number x % 65536) item_is
+    ∙ ap (λ x. x % 65536) (g.met.F.NumberField.number_natural (stripe j) (omega (arith, few))) ∙ mod-eq_of_lt few)
+
+pub returns-clause-kept : goal.returns-clause-kept
+returns-clause-kept g c = λ p l. c.put_stripes.ensures.kept p (subst (λ x. p < c.args.first * x) (sym c.k-k.ensures) l)

@@ -1,0 +1,21 @@
+-- The elements of the prime field of 65537 elements are the numbers up to 2^16.
+use Rattle.std.specs.Prelude.{◌≡◌, ℕ, ◌<◌, ◌≤◌}
+use Rattle.std.proofs.Common.{ap, sym, refl, ◌∙◌, arith, mod-eq_of_lt}
+use Rattle.ark_math.specs.Field.{natural}
+use Rattle.ark_math.specs.Prime.{IsPrime}
+use Rattle.ark_base.specs.Element.{number, prime_field, residue_of}
+use Rattle.ark_base.specs.ElementLaws.{natural_residue, same_from_value}
+use Rattle.ark_base.specs.declared.prime_field.PrimeField.{PrimeField}
+use Rattle.ark_base.specs.declared.prime_field.PrimeModulus.{Ghosts}
+
+module _ (M : Type 0) (g : Ghosts M) where
+  pub fits : g.MODULUS ≡ 65537 → (x : PrimeField M g) → number x ≤ 65536
+  fits e x = let below : x.value < g.MODULUS = x.reduced in omega (arith, below, e)
+
+  pub of_natural : (P : IsPrime g.MODULUS) → g.MODULUS ≡ 65537 → (n : ℕ) → n ≤ 65536 → number (natural (prime_field {M = M} {g = g} P) n) ≡ n
+  of_natural P e n h =
+      let below : n < g.MODULUS = omega (arith, h, e) in
+      ap number (sym (natural_residue P n (residue_of P n) refl)) ∙ mod-eq_of_lt below
+
+  pub to_natural : (P : IsPrime g.MODULUS) (x : PrimeField M g) → natural (prime_field {M = M} {g = g} P) (number x) ≡ x
+  to_natural P x = sym (natural_residue P x.value x (same_from_value _ _ (sym (mod-eq_of_lt x.reduced))))

@@ -1,0 +1,312 @@
+//! The code for stripes: the items of a stripe are the coefficients of a polynomial, and its numbers are the values of this
+//! at the first `n` elements of a domain.
+
+ghost use Rattle.std.specs.Prelude.{◌≡◌, ◌≢◌, ℕ, ◌+◌, ◌*◌, ◌^◌, ◌<◌, ◌≤◌, true, false, List, get_or, length, map, IfOk, OnOk};
+ghost use Rattle.ark_math.specs.Domain.{element};
+ghost use Rattle.ark_math.specs.Module.{itself};
+ghost use Rattle.ark_poly.specs.Domains.{radix2_domain};
+ghost use Rattle.ark_rows.specs.Lanewise.{lanewise};
+ghost use Rattle.ark_rows.specs.Row.{lanes};
+ghost use Rattle.rs_code.specs.Codeword.{AgreesElsewhere, IsCodeword, mark_count};
+ghost use Rattle.shards_lib.specs.Numbers.{IsNumberDomain, number_at_place, value_at_place};
+ghost use Rattle.shards_lib.specs.Places.{AreKept};
+ghost use Rattle.shards_lib.specs.Rows.{entry};
+
+use crate::field::NumberField;
+use crate::rows::{message_rows, put_rows, put_stripes, word_rows};
+use ark_base::{F65537, Zero};
+use ark_poly::{EvaluationDomain, Radix2EvaluationDomain};
+use ark_rows::Row;
+use rs_code::{DomainCode, DomainDecoder, RsError};
+use shards_format::StripeCode;
+use std::alloc::{AllocError, Global};
+
+/// The code of files: over the field of 65537 elements, sixteen stripes at once.
+pub type FileCode = RowCode<F65537, 16>;
+
+/// A code that takes `N` stripes at once.
+#[derive(Drop)]
+pub struct RowCode<F: NumberField, const N: usize> {
+    code: DomainCode<F, Radix2EvaluationDomain<F>>,
+    domain: Radix2EvaluationDomain<F>,
+    n: usize,
+    // What rows begin as. With it a code is as large as a row, so that no row is too large for memory.
+    zero: Row<F, N>,
+    ghost some: { 0 < code.k },
+    ghost fits: { code.k ≤ n },
+    ghost few: { n ≤ 65536 },
+    ghost room: { n ≤ code.domain.size },
+    ghost differ: { (i j : ℕ) → i < code.domain.size → j < code.domain.size
+        → element F.field code.domain i ≡ element F.field code.domain j → i ≡ j },
+    ghost over: { IsNumberDomain F.field F.root n code.domain },
+    ghost same: { radix2_domain domain ≡ code.domain },
+    ghost wide: { 0 < N },
+}
+
+impl<F: NumberField, const N: usize> StripeCode for RowCode<F, N> {
+    ghost use Rattle.shards_lib.specs.Numbers.{number_at_place, number_below};
+
+    ghost number = { number_at_place F.field F.root F.number };
+
+    ghost k_of = { λ c. c.code.k };
+
+    ghost n_of = { λ c. c.n };
+
+    ghost number_below = { number_below F.field F.root F.number };
+
+    ghost number_fits = { λ k n a i. F.number_fits _ };
+
+    fn new(k: usize, n: usize) -> Option<Self> {
+        if N == 0 || k == 0 || n < k || 65536 < n {
+            return None;
+        }
+        let domain = Radix2EvaluationDomain::new(n)?;
+        let code = DomainCode::new(k, n)?;
+        Some(RowCode {
+            code,
+            domain,
+            n,
+            zero: Row::zero(),
+        })
+    }
+
+    fn k(&self) -> usize {
+        self.code.k()
+    }
+
+    fn n(&self) -> usize {
+        self.n
+    }
+
+    fn encode(
+        &self,
+        alloc: Global,
+        items: &[u16],
+        stripes: usize,
+        numbers: &mut [u32],
+    ) -> Result<(), AllocError> {
+        for group in 0..groups(stripes, N) {
+            let first = group * N;
+            let count = N.min(stripes - first);
+            self.encode_group(alloc, items, stripes, first, count, numbers)?;
+        }
+        Ok(())
+    }
+
+    fn restore(
+        &self,
+        alloc: Global,
+        places: &[usize],
+        numbers: &[u32],
+        stripes: usize,
+        items: &mut [u16],
+    ) -> Result<(), AllocError> {
+        let decoder = self.decoder(alloc, places)?;
+        for group in 0..groups(stripes, N) {
+            let first = group * N;
+            let count = N.min(stripes - first);
+            self.restore_group(
+                alloc, &decoder, places, numbers, stripes, first, count, items,
+            )?;
+        }
+        Ok(())
+    }
+}
+
+impl<F: NumberField, const N: usize> RowCode<F, N> {
+    // The numbers of so many stripes from `first` on.
+    fn encode_group(
+        &self,
+        alloc: Global,
+        items: &[u16],
+        stripes: usize,
+        first: usize,
+        count: usize,
+        numbers: &mut [u32],
+    ) -> Result<(), AllocError>
+        requires count { count ≤ N }
+        requires stripes { first + count ≤ stripes }
+        requires items { length items.now ≡ stripes * self.now.code.k }
+        requires numbers { length numbers.old ≡ self.now.n * stripes }
+        ensures written { OnOk result ((i t : ℕ) → i < self.now.n → t < count
+            → get_or numbers.new (i * stripes + (first + t)) 0
+            ≡ number_at_place F.field F.root F.number self.now.code.k self.now.n
+            (λ j. get_or items.now ((first + t) * self.now.code.k + j) 0) i) }
+        ensures kept { OnOk result ((i s : ℕ) → i < self.now.n → s < first
+            → get_or numbers.new (i * stripes + s) 0 ≡ get_or numbers.old (i * stripes + s) 0) }
+    {
+        let k = self.code.k();
+        let start = first * k;
+        let message = message_rows::<F, N>(alloc, &items[start..start + count * k], k, count)?;
+        let codeword = self.codeword(alloc, &message)?;
+        put_rows(&codeword[..self.n], stripes, first, count, numbers);
+        Ok(())
+    }
+
+    // The values of messages at the elements.
+    fn codeword(&self, alloc: Global, message: &[Row<F, N>]) -> Result<Vec<Row<F, N>>, AllocError>
+        requires { length message.now ≡ self.now.code.k }
+        ensures len { IfOk result (λ c. length c.items ≡ self.now.code.domain.size) }
+        ensures values { IfOk result (λ c. (i t : ℕ) → i < self.now.n → entry F.field c.items i t
+            ≡ value_at_place F.field F.root self.now.code.k self.now.n (λ j. entry F.field message.now j t) i) }
+    {
+        match self.domain.fft(alloc, message) {
+            Ok(codeword) => Ok(codeword),
+            Err(_) => Err(AllocError),
+        }
+    }
+
+    // The decoder for words of which these places are kept.
+    fn decoder(
+        &self,
+        alloc: Global,
+        places: &[usize],
+    ) -> Result<DomainDecoder<F, Radix2EvaluationDomain<F>>, AllocError>
+        requires places { length places.now ≡ self.now.code.k }
+        requires below { (a : ℕ) → a < length places.now → get_or places.now a 0 < self.now.n }
+        requires apart { (a b : ℕ) → a < b → b < length places.now → get_or places.now a 0 ≢ get_or places.now b 0 }
+        ensures code { IfOk result (λ d. d.code ≡ self.now.code) }
+        ensures kept { IfOk result (λ d. AreKept d.erased places.now) }
+    {
+        let erased = erased_places(alloc, self.code.n(), places)?;
+        match self.code.decoder(alloc, &erased) {
+            Ok(decoder) => Ok(decoder),
+            Err(error) => Err(refused(error)),
+        }
+    }
+
+    // The items of so many stripes from `first` on.
+    fn restore_group(
+        &self,
+        alloc: Global,
+        decoder: &DomainDecoder<F, Radix2EvaluationDomain<F>>,
+        places: &[usize],
+        numbers: &[u32],
+        stripes: usize,
+        first: usize,
+        count: usize,
+        items: &mut [u16],
+    ) -> Result<(), AllocError>
+        requires code { decoder.now.code ≡ self.now.code }
+        requires kept { AreKept decoder.now.erased places.now }
+        requires places { length places.now ≡ self.now.code.k }
+        requires below { (a : ℕ) → a < length places.now → get_or places.now a 0 < self.now.n }
+        requires numbers { length numbers.now ≡ self.now.code.k * stripes }
+        requires count { count ≤ N }
+        requires stripes { first + count ≤ stripes }
+        requires items { length items.old ≡ stripes * self.now.code.k }
+        ensures written { OnOk result ((t : ℕ) (stripe : ℕ → ℕ) → t < count
+            → ((j : ℕ) → j < self.now.code.k → stripe j < 2 ^ 16)
+            → ((a : ℕ) → a < self.now.code.k → get_or numbers.now (a * stripes + (first + t)) 0
+            ≡ number_at_place F.field F.root F.number self.now.code.k self.now.n stripe (get_or places.now a 0))
+            → (j : ℕ) → j < self.now.code.k
+            → get_or items.new ((first + t) * self.now.code.k + j) 0 ≡ stripe j) }
+        ensures kept { OnOk result ((p : ℕ) → p < first * self.now.code.k
+            → get_or items.new p 0 ≡ get_or items.old p 0) }
+    {
+        let k = self.code.k();
+        let size = self.code.n();
+        let word = word_rows::<F, N>(alloc, size, places, numbers, stripes, first, count)?;
+        let message = self.message(alloc, decoder, &word)?;
+        put_stripes(&message[..k], k, first, count, items);
+        Ok(())
+    }
+
+    // The messages of which words have the values at the kept places.
+    fn message(
+        &self,
+        alloc: Global,
+        decoder: &DomainDecoder<F, Radix2EvaluationDomain<F>>,
+        word: &[Row<F, N>],
+    ) -> Result<Vec<Row<F, N>>, AllocError>
+        requires code { decoder.now.code ≡ self.now.code }
+        requires kept { (places : List ℕ) × AreKept decoder.now.erased places × (length places ≡ self.now.code.k)
+            × ((a : ℕ) → a < length places → get_or places a 0 < self.now.code.domain.size) }
+        requires len { length word.now ≡ self.now.code.domain.size }
+        ensures len { IfOk result (λ m. length m.items ≡ self.now.code.domain.size) }
+        ensures only { IfOk result (λ m. (t : ℕ) (items : ℕ → F)
+            → ((i : ℕ) → get_or decoder.now.erased i true ≡ false → entry F.field word.now i t
+            ≡ value_at_place F.field F.root self.now.code.k self.now.n items i)
+            → (j : ℕ) → j < self.now.code.k → entry F.field m.items j t ≡ items j) }
+    {
+        let codeword = self.restored(alloc, decoder, word)?;
+        match self.domain.ifft(alloc, &codeword) {
+            Ok(message) => Ok(message),
+            Err(_) => Err(AllocError),
+        }
+    }
+
+    // The only codeword with the word's values at the kept places. As many places as a message has items are kept, so
+    // there is one, and memory alone may be lacking.
+    fn restored(
+        &self,
+        alloc: Global,
+        decoder: &DomainDecoder<F, Radix2EvaluationDomain<F>>,
+        word: &[Row<F, N>],
+    ) -> Result<Vec<Row<F, N>>, AllocError>
+        requires code { decoder.now.code ≡ self.now.code }
+        requires kept { (places : List ℕ) × AreKept decoder.now.erased places × (length places ≡ self.now.code.k)
+            × ((a : ℕ) → a < length places → get_or places a 0 < self.now.code.domain.size) }
+        requires len { length word.now ≡ self.now.code.domain.size }
+        ensures codeword { IfOk result (λ c. IsCodeword F.field (lanewise (itself F.field)) self.now.code.domain
+            self.now.code.k (map (lanes F.field) c.items)) }
+        ensures agrees { IfOk result (λ c. AgreesElsewhere (lanewise (itself F.field)) decoder.now.erased
+            (map (lanes F.field) word.now) (map (lanes F.field) c.items)) }
+        ensures only { IfOk result (λ c. (other : List (ℕ → F))
+            → IsCodeword F.field (lanewise (itself F.field)) self.now.code.domain self.now.code.k other
+            → AgreesElsewhere (lanewise (itself F.field)) decoder.now.erased (map (lanes F.field) word.now) other
+            → other ≡ map (lanes F.field) c.items) }
+    {
+        match decoder.restore(alloc, word) {
+            Ok(codeword) => Ok(codeword),
+            Err(error) => Err(refused(error)),
+        }
+    }
+}
+
+// What refused memory is here: no other error comes.
+fn refused(_error: RsError) -> AllocError
+    requires { _error ≡ RsError.Memory }
+{
+    AllocError
+}
+
+// How many groups so many stripes are, the last one smaller.
+fn groups(stripes: usize, size: usize) -> usize
+    requires { 0 < size }
+    ensures all { stripes ≤ result * size }
+    ensures each { (group : ℕ) → group < result → group * size < stripes }
+{
+    if stripes == 0 {
+        return 0;
+    }
+    (stripes - 1) / size + 1
+}
+
+// Which places are erased, where these are kept.
+fn erased_places(alloc: Global, size: usize, places: &[usize]) -> Result<Vec<bool>, AllocError>
+    requires below { (a : ℕ) → a < length places.now → get_or places.now a 0 < size }
+    requires apart { (a b : ℕ) → a < b → b < length places.now → get_or places.now a 0 ≢ get_or places.now b 0 }
+    ensures len { IfOk result (λ erased. length erased.items ≡ size) }
+    ensures count { IfOk result (λ erased. mark_count erased.items + length places.now ≡ size) }
+    ensures kept { IfOk result (λ erased. (i : ℕ) → get_or erased.items i true ≡ false
+        → (a : ℕ) × (a < length places.now) × (get_or places.now a 0 ≡ i)) }
+{
+    let mut erased = vec![in alloc; true; size]?;
+    keep_places(erased.as_mut_slice(), places);
+    Ok(erased)
+}
+
+// Takes the marks off these places.
+fn keep_places(erased: &mut [bool], places: &[usize])
+    requires marked { (i : ℕ) → get_or erased.old i true ≡ true }
+    requires below { (a : ℕ) → a < length places.now → get_or places.now a 0 < length erased.old }
+    requires apart { (a b : ℕ) → a < b → b < length places.now → get_or places.now a 0 ≢ get_or places.now b 0 }
+    ensures count { mark_count erased.new + length places.now ≡ length erased.old }
+    ensures kept { (i : ℕ) → get_or erased.new i true ≡ false
+        → (a : ℕ) × (a < length places.now) × (get_or places.now a 0 ≡ i) }
+{
+    for a in 0..places.len() {
+        erased[places[a]] = false;
+    }
+}
