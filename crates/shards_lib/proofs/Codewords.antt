@@ -1,7 +1,7 @@
 -- There is a codeword with given values at as many places as a message has items.
 use Rattle.std.proofs.Common.{◌≡◌, ◌≢◌, ℕ, ◌<◌, ◌≤◌, Bool, true, false, List, length, get_or, sym, ◌∙◌, ap, refl, subst, arith}
 use Rattle.std.proofs.Math.Path.{fun_ext}
-use Rattle.ark_math.specs.Field.{FieldOn, IsField, power}
+use Rattle.ark_math.specs.Field.{FieldOn, IsField}
 use Rattle.ark_math.specs.Module.{itself, tabulate}
 use Rattle.ark_math.specs.Domain.{Domain, element}
 use Rattle.ark_math.specs.Transform.{transform}
@@ -10,7 +10,7 @@ use Rattle.ark_math.proofs.Lists.Tabulated.{length-tabulate, get_or-tabulate}
 use Rattle.ark_math.proofs.Polynomials.UnivariateValues.{value_is}
 use Rattle.ark_rows.specs.Lanewise.{lanewise}
 use Rattle.rs_code.specs.Codeword.{IsCodeword, AgreesElsewhere}
-use Rattle.shards_lib.specs.Numbers.{IsNumberDomain, domain_size, value_at_place}
+use Rattle.shards_lib.specs.Numbers.{IsNumberDomain}
 use Rattle.shards_lib.specs.Places.{AreKept}
 use Rattle.shards_lib.proofs.Values.{element_is, same_value, values_of_rows}
 use Rattle.shards_lib.proofs.Interpolation.{has_polynomial}

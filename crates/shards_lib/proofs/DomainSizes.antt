@@ -1,5 +1,5 @@
 -- The least power of two, and the domain that has this size.
-use Rattle.std.proofs.Common.{◌≡◌, ℕ, zero, suc, ◌*◌, ◌^◌, ◌<◌, ◌≤◌, Bool, true, false, if◌then◌else◌, inl, inr, sym, ◌∙◌, ap, refl, subst, arith, pow-suc}
+use Rattle.std.proofs.Common.{◌≡◌, ℕ, zero, suc, ◌*◌, ◌^◌, ◌<◌, ◌≤◌, Bool, true, false, if◌then◌else◌, inl, inr, sym, ◌∙◌, ap, refl, arith, pow-suc}
 use Rattle.std.specs.Prelude.{nat_le}
 use Rattle.std.proofs.Math.Nat.{pow-zero, one-le-pow}
 use Rattle.std.proofs.lemmas.Bool.{cases_lt, leb-true, leb-false}

@@ -1,8 +1,7 @@
 -- A polynomial with given values at different points.
-use Rattle.std.proofs.Common.{◌≡◌, ◌≢◌, ℕ, zero, suc, ◌+◌, ◌<◌, ◌≤◌, List, [], ◌∷◌, length, map, get_or, sym, ◌∙◌, ap, refl, subst, arith}
+use Rattle.std.proofs.Common.{◌≡◌, ◌≢◌, ℕ, zero, suc, ◌+◌, ◌<◌, List, [], ◌∷◌, length, map, get_or, ◌∙◌, ap, refl, subst, arith}
 use Rattle.std.proofs.lemmas.List.{length-map}
 use Rattle.ark_math.specs.Field.{FieldOn, IsField, minus}
-use Rattle.ark_math.specs.Module.{itself}
 use Rattle.ark_math.specs.Univariate.{IsBelow, IsValue, value_below, added, scaled}
 use Rattle.ark_math.proofs.Algebra.Groups.{itself_is_module, zero_scale}
 use Rattle.ark_math.proofs.Algebra.Powers.{times_zero}

@@ -5,7 +5,7 @@ use Rattle.std.proofs.lemmas.Bool.{cases_eq, eq-eqb, ne_eqb}
 use Rattle.ark_math.specs.Field.{FieldOn, IsField}
 use Rattle.ark_math.specs.Module.{itself, item, tabulate}
 use Rattle.ark_math.specs.Domain.{Domain}
-use Rattle.ark_math.specs.Transform.{transform, fit, IsOnlyInverse}
+use Rattle.ark_math.specs.Transform.{transform, IsOnlyInverse}
 use Rattle.ark_math.proofs.Lists.Tabulated.{length-tabulate, get_or-tabulate}
 use Rattle.ark_math.proofs.Callers.Transforms.{ifft_of_fft}
 use Rattle.ark_rows.specs.Lanewise.{lanewise}

@@ -1,5 +1,5 @@
 -- The numbers of a stripe: the values of the polynomial whose coefficients are its items.
-use Rattle.std.specs.Prelude.{◌≡◌, ℕ, zero, suc, ◌*◌, ◌<◌, ◌≤◌, nat_le, if◌then◌else◌}
+use Rattle.std.specs.Prelude.{◌≡◌, ℕ, zero, suc, ◌*◌, ◌<◌, nat_le, if◌then◌else◌}
 use Rattle.std.proofs.Common.{ap}
 use Rattle.ark_math.proofs.Algebra.Sums.{sum_below-same}
 use Rattle.ark_math.specs.Domain.{Domain}

@@ -1,4 +1,4 @@
-use Rattle.std.proofs.Common.{◌≡◌, ℕ, ◌+◌, ◌*◌, get_or, arith}
+use Rattle.std.proofs.Common.{◌+◌, ◌*◌, get_or, arith}
 use Rattle.ark_math.specs.Field.{natural}
 use Rattle.shards_lib.proofs.Values.{entries_written}
 use Rattle.shards_lib.proofs.rows.put_messages.Goals as goal

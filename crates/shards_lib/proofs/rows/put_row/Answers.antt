@@ -1,4 +1,4 @@
-use Rattle.std.proofs.Common.{◌≡◌, ℕ, ◌<◌, length, arith, ◌∙◌, ap}
+use Rattle.std.proofs.Common.{arith, ◌∙◌, ap}
 use Rattle.ark_rows.specs.Row.{lanes}
 use Rattle.shards_lib.proofs.Windows.{item_written}
 use Rattle.shards_lib.proofs.rows.put_row.Goals as goal

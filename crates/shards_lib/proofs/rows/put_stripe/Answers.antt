@@ -1,4 +1,4 @@
-use Rattle.std.proofs.Common.{◌≡◌, ℕ, ◌<◌, ◌%◌, length, get_or, map, arith, ◌∙◌, ap}
+use Rattle.std.proofs.Common.{◌≡◌, ◌%◌, get_or, map, arith, ◌∙◌, ap}
 use Rattle.ark_math.proofs.Lists.Lists.{read_as}
 use Rattle.ark_rows.specs.Row.{lanes}
 use Rattle.shards_lib.specs.Rows.{entry}

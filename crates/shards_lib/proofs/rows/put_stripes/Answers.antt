@@ -1,4 +1,4 @@
-use Rattle.std.proofs.Common.{◌≡◌, ℕ, ◌+◌, ◌-◌, ◌*◌, ◌<◌, ◌≤◌, ◌%◌, length, get_or, arith, sym, ◌∙◌, ap, subst}
+use Rattle.std.proofs.Common.{◌≡◌, ℕ, ◌+◌, ◌-◌, ◌*◌, ◌<◌, ◌≤◌, ◌%◌, length, arith, sym, ◌∙◌, subst}
 use Rattle.shards_lib.specs.Rows.{entry}
 use Rattle.shards_lib.proofs.Windows.{whole_len, row_written, row_kept}
 use Rattle.shards_lib.proofs.rows.put_stripes.Goals as goal

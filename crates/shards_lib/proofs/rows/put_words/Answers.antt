@@ -1,4 +1,4 @@
-use Rattle.std.proofs.Common.{◌≡◌, ℕ, ◌+◌, ◌*◌, ◌<◌, length, get_or, take, drop, arith, sym, ◌∙◌, ap, subst}
+use Rattle.std.proofs.Common.{◌+◌, ◌*◌, ◌<◌, length, get_or, arith, sym, ◌∙◌, ap, subst}
 use Rattle.ark_math.specs.Field.{natural}
 use Rattle.shards_lib.proofs.Values.{places_written}
 use Rattle.shards_lib.proofs.Windows.{part_read}

@@ -1,4 +1,4 @@
-use Rattle.std.proofs.Common.{◌≡◌, ℕ, ◌+◌, ◌<◌, length, get_or, set, true, false, arith, sym, ◌∙◌, ap, true≢false}
+use Rattle.std.proofs.Common.{◌<◌, length, get_or, arith, sym, ◌∙◌, true≢false}
 use Rattle.shards_lib.proofs.Marks.{marks-less, kept_more, all_marked, still_marked}
 use Rattle.shards_lib.proofs.stripes.keep_places.Goals as goal
 

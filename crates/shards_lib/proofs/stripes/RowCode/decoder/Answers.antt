@@ -1,4 +1,4 @@
-use Rattle.std.proofs.Common.{◌≡◌, ℕ, ◌+◌, ◌-◌, ◌<◌, List, Bool, length, get_or, true, false, arith, sym, ◌∙◌, ap, subst}
+use Rattle.std.proofs.Common.{List, Bool, length, arith, sym, ◌∙◌, ap, subst}
 use Rattle.rs_code.specs.Codeword.{mark_count}
 use Rattle.shards_lib.specs.Places.{AreKept}
 use Rattle.shards_lib.proofs.OnlyMemory.{only_memory}

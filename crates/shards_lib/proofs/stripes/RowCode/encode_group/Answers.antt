@@ -1,4 +1,4 @@
-use Rattle.std.proofs.Common.{◌≡◌, ℕ, ◌+◌, ◌*◌, ◌<◌, ◌≤◌, List, length, take, get_or, arith, rules, sym, ◌∙◌, ap, subst}
+use Rattle.std.proofs.Common.{◌≡◌, ℕ, ◌+◌, ◌*◌, ◌<◌, ◌≤◌, length, take, get_or, arith, rules, sym, ◌∙◌, ap, subst}
 use Rattle.std.proofs.lemmas.List.{length-take-le}
 use Rattle.ark_math.specs.Field.{natural}
 use Rattle.shards_lib.specs.Rows.{entry}
@@ -10,9 +10,11 @@ use Rattle.shards_lib.proofs.stripes.RowCode.encode_group.Goals as goal
 pub message_rows-requires : goal.message_rows-requires
 message_rows-requires g c = (
   search (rules, last_part),
-  (c.requires.count,
-  group_len c.args.first c.args.count c.args.stripes c.k-k.result c.args.items.now c.requires.stripes
-      (c.requires.items ∙ ap (λ m. c.args.stripes * m) (sym c.k-k.ensures))),
+  (
+    c.requires.count,
+    group_len c.args.first c.args.count c.args.stripes c.k-k.result c.args.items.now c.requires.stripes
+        (c.requires.items ∙ ap (λ m. c.args.stripes * m) (sym c.k-k.ensures)),
+  ),
 )
 
 pub overflow_mul-start : goal.overflow_mul-start
@@ -48,18 +50,26 @@ slice_bounds-message_rows-end g c =
 pub codeword-requires : goal.codeword-requires
 codeword-requires g c = (
   search rules,
-  (search (rules, last_part),
-  ap length c.deref.ensures.value ∙ c.in_ok-message.ensures.len ∙ c.k-k.ensures),
+  (
+    search (rules, last_part),
+    ap length c.deref.ensures.value ∙ c.in_ok-message.ensures.len ∙ c.k-k.ensures,
+  ),
 )
 
 pub put_rows-requires : goal.put_rows-requires
 put_rows-requires g c =
     let self = c.args.self.now in
     let rows = c.deref-2.result.now in
-    let long : self.n ≤ length rows = omega (arith, ap length c.deref-2.ensures.value, c.in_ok-codeword.ensures.len, self.room) in
-    (search (rules, last_part),
-    (c.requires.count, (c.requires.stripes,
-    c.requires.numbers ∙ ap (λ m. m * c.args.stripes) (sym (length-take-le self.n rows long)))))
+    let long : self.n ≤ length rows = omega (arith, ap length c.deref-2.ensures.value, c.in_ok-codeword.ensures.len, self.room) in (
+      search (rules, last_part),
+      (
+        c.requires.count,
+        (
+          c.requires.stripes,
+          c.requires.numbers ∙ ap (λ m. m * c.args.stripes) (sym (length-take-le self.n rows long)),
+        ),
+      ),
+    )
 
 pub returns-clause-written : goal.returns-clause-written
 returns-clause-written g c = λ i t l b.

@@ -1,4 +1,4 @@
-use Rattle.std.proofs.Common.{◌≡◌, ℕ, ◌<◌, ◌≤◌, false, true, length, map, get_or, arith, sym, ◌∙◌, ap, subst}
+use Rattle.std.proofs.Common.{◌≡◌, ℕ, ◌<◌, false, true, map, get_or, arith, subst}
 use Rattle.ark_rows.specs.Row.{lanes}
 use Rattle.shards_lib.proofs.Messages.{moved_inverse, restored_items}
 use Rattle.shards_lib.proofs.stripes.RowCode.message.Goals as goal

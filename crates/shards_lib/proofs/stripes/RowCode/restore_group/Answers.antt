@@ -1,4 +1,4 @@
-use Rattle.std.proofs.Common.{◌≡◌, ℕ, ◌+◌, ◌*◌, ◌^◌, ◌<◌, ◌≤◌, ◌%◌, true, false, length, take, get_or, arith, rules, sym, ◌∙◌, ap, subst, mod-eq_of_lt}
+use Rattle.std.proofs.Common.{◌≡◌, ℕ, ◌+◌, ◌*◌, ◌<◌, ◌%◌, true, false, length, take, get_or, arith, rules, sym, ◌∙◌, ap, subst, mod-eq_of_lt}
 use Rattle.ark_math.specs.Field.{natural}
 use Rattle.shards_lib.specs.Numbers.{value_at_place}
 use Rattle.shards_lib.specs.Rows.{entry}
@@ -11,21 +11,40 @@ use Rattle.shards_lib.proofs.stripes.RowCode.restore_group.Goals as goal
 pub word_rows-requires : goal.word_rows-requires
 word_rows-requires g c = (
   search (rules, last_part),
-  (c.requires.count,
-  (c.requires.stripes,
-  ((λ a l. subst (λ m. get_or c.args.places.now a 0 < m) (sym c.n-size.ensures)
-      (let below = c.requires.below a l in let room = c.args.self.now.room in omega (arith, below, room))),
-  (c.requires.kept.apart,
-  c.requires.numbers ∙ ap (λ m. m * c.args.stripes) (sym c.requires.places))))),
+  (
+    c.requires.count,
+    (
+      c.requires.stripes,
+      (
+        (λ a l. subst (λ m. get_or c.args.places.now a 0 < m) (sym c.n-size.ensures)
+            (let below = c.requires.below a l in let room = c.args.self.now.room in omega (arith, below, room))),
+        (
+          c.requires.kept.apart,
+          c.requires.numbers ∙ ap (λ m. m * c.args.stripes) (sym c.requires.places),
+        ),
+      ),
+    ),
+  ),
 )
 
 pub message-requires : goal.message-requires
 message-requires g c = (
   search rules,
-  (search (rules, last_part), (c.requires.code,
-  ((c.args.places.now, c.requires.kept, c.requires.places,
-      (λ a l. let below = c.requires.below a l in let room = c.args.self.now.room in omega (arith, below, room))),
-  ap length c.deref.ensures.value ∙ c.in_ok-word.ensures.len ∙ c.n-size.ensures))),
+  (
+    search (rules, last_part),
+    (
+      c.requires.code,
+      (
+        (
+          c.args.places.now,
+          c.requires.kept,
+          c.requires.places,
+          (λ a l. let below = c.requires.below a l in let room = c.args.self.now.room in omega (arith, below, room)),
+        ),
+        ap length c.deref.ensures.value ∙ c.in_ok-word.ensures.len ∙ c.n-size.ensures,
+      ),
+    ),
+  ),
 )
 
 pub put_stripes-requires : goal.put_stripes-requires
@@ -39,10 +58,16 @@ put_stripes-requires g c =
     let end = c.requires.stripes in
     let whole = c.ranges.stripes.fits in (
       search (rules, last_part),
-      (c.requires.count,
-      (length-take-le c.k-k.result c.deref-2.result.now (omega (arith, fits, room, e, len)),
-      (omega (arith, end, whole),
-      omega (arith, below, all)))),
+      (
+        c.requires.count,
+        (
+          length-take-le c.k-k.result c.deref-2.result.now (omega (arith, fits, room, e, len)),
+          (
+            omega (arith, end, whole),
+            omega (arith, below, all),
+          ),
+        ),
+      ),
     )
 
 pub returns-clause-written : goal.returns-clause-written

@@ -1,4 +1,4 @@
-use Rattle.std.proofs.Common.{◌≡◌, ℕ, ◌<◌, ◌≤◌, length, map, arith, sym, ◌∙◌, ap, subst}
+use Rattle.std.proofs.Common.{map, arith, sym, ◌∙◌, ap, subst}
 use Rattle.ark_math.specs.Module.{itself}
 use Rattle.ark_rows.specs.Lanewise.{lanewise}
 use Rattle.ark_rows.specs.Row.{lanes}

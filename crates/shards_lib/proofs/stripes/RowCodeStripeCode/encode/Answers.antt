@@ -1,4 +1,4 @@
-use Rattle.std.proofs.Common.{◌≡◌, ℕ, ◌+◌, ◌*◌, ◌<◌, ◌≤◌, get_or, inl, inr, arith, sym, ◌∙◌, subst}
+use Rattle.std.proofs.Common.{◌≡◌, ◌+◌, ◌*◌, ◌<◌, get_or, inl, inr, arith, sym, ◌∙◌, subst}
 use Rattle.shards_lib.specs.Numbers.{number_at_place}
 use Rattle.shards_lib.proofs.Windows.{below_rows, in_group}
 use Rattle.shards_lib.proofs.stripes.RowCodeStripeCode.encode.Goals as goal

@@ -1,8 +1,8 @@
-use Rattle.std.proofs.Common.{◌≡◌, ℕ, ◌<◌, ◌≤◌, arith, rules, sym, ◌∙◌, ap, subst}
+use Rattle.std.proofs.Common.{arith, rules}
 use Rattle.ark_math.specs.Domain.{IsDomain}
 use Rattle.ark_math.proofs.Domains.Domains.{radix2_is_domain}
 use Rattle.ark_math.proofs.Domains.LawfulDomains.{lawful_domain, elements_differ}
-use Rattle.rs_code.specs.Code.{CodeOver, IsCode}
+use Rattle.rs_code.specs.Code.{IsCode}
 use Rattle.shards_lib.proofs.DomainSizes.{same_domain, number_domain, domain_room}
 use Rattle.shards_lib.proofs.stripes.RowCodeStripeCode.new.Goals as goal
 

@@ -1,4 +1,4 @@
-use Rattle.std.proofs.Common.{◌≡◌, ℕ, ◌+◌, ◌*◌, ◌^◌, ◌<◌, ◌≤◌, get_or, inl, inr, arith, rules, sym, ◌∙◌, subst}
+use Rattle.std.proofs.Common.{◌≡◌, ℕ, ◌+◌, ◌*◌, ◌<◌, get_or, inl, inr, arith, rules, sym, ◌∙◌, subst}
 use Rattle.shards_lib.specs.Numbers.{number_at_place}
 use Rattle.shards_lib.proofs.Windows.{below_rows, in_group, row_place}
 use Rattle.shards_lib.proofs.stripes.RowCodeStripeCode.restore.Goals as goal
@@ -35,13 +35,27 @@ returns g c = λ s stripe h small numbered j m.
 pub restore_group-requires : goal.restore_group-requires
 restore_group-requires g c = (
   search rules,
-  (search rules,
-  (search rules,
-  (c.requires.places,
-  (c.requires.below,
-  (search rules,
-  (search rules,
-  ((let each = c.groups-group-end.ensures.each c.loop-group.group c.loop-group-test.true in
-      let width = c.min-count.ensures in omega (arith, each, width)),
-  c.loop-group.auto.items ∙ c.requires.items))))))),
+  (
+    search rules,
+    (
+      search rules,
+      (
+        c.requires.places,
+        (
+          c.requires.below,
+          (
+            search rules,
+            (
+              search rules,
+              (
+                (let each = c.groups-group-end.ensures.each c.loop-group.group c.loop-group-test.true in
+                    let width = c.min-count.ensures in omega (arith, each, width)),
+                c.loop-group.auto.items ∙ c.requires.items,
+              ),
+            ),
+          ),
+        ),
+      ),
+    ),
+  ),
 )
