@@ -1,10 +1,10 @@
 -- What reading a domain gives: the one that has the fields that were read, or a fault where there is none.
-use Rattle.std.proofs.Common.{◌≡◌, ◌≢◌, ◌↔◌, ◌⊎◌, ℕ, inl, inr, refl, sym, ap, subst, ◌∙◌, Option, Some, None, Result, Ok, Err, IfSome, IsNone}
+use Rattle.std.proofs.Common.{◌≡◌, ◌≢◌, ◌↔◌, ◌⊎◌, ℕ, inl, inr, refl, sym, ap, subst, ◌∙◌, Option, Some, None, IfSome, IsNone}
 use Rattle.std.specs.Option.{ok_or}
 use Rattle.ark_math.specs.Field.{FieldOn}
 use Rattle.ark_math.specs.Root.{Adicity, IsSupported}
 use Rattle.ark_math.specs.Format.{Format, IsFormat, IsOneToOne, word, number, ◌⊗◌, stored}
-use Rattle.ark_math.specs.Layouts.{DomainFields, long_domain, short_domain}
+use Rattle.ark_math.specs.Layouts.{DomainFields}
 use Rattle.ark_math.proofs.Formats.Domains.{short_one_to_one, long_one_to_one}
 use Rattle.ark_bytes.specs.declared.compress.Compress.{Compress}
 use Rattle.ark_bytes.specs.declared.compress.Compress.TheVariants.{Yes, No}

@@ -1,29 +1,32 @@
 -- The halving law of the transform, and its levels.
-use Rattle.std.proofs.Common.{◌≡◌, ℕ, zero, suc, ◌+◌, ◌*◌, ◌-◌, ◌/◌, ◌<◌, ◌≤◌, ◌^◌, List, length, get_or, map, ◌++◌, subst, ⊎_elim, sym, ◌∙◌, ap, ap₂, refl, arith}
+use Rattle.std.proofs.Common.{◌≡◌, ℕ, zero, suc, ◌+◌, ◌*◌, ◌-◌, ◌/◌, ◌%◌, ◌<◌, ◌≤◌, ◌^◌, List, length, get_or, take, map, length-take-le, ◌++◌, mod-eq_of_lt, subst, ⊎_elim, sym, ◌∙◌, ap, ap₂, refl, arith}
 use Rattle.std.proofs.lemmas.Bool.{cases_lt}
-use Rattle.std.proofs.lemmas.Nat.{mul-add-lt, pow_pos}
-use Rattle.std.proofs.Math.Pow.{pow_mono}
+use Rattle.std.proofs.lemmas.List.{get_or-take}
+use Rattle.std.proofs.lemmas.Nat.{pow_pos}
+use Rattle.std.proofs.Math.Nat.{one-mul}
+use Rattle.std.proofs.Math.Pow.{pow_mono, pow-lt}
 use Rattle.ark_math.specs.Field.{FieldOn, IsField, power}
 use Rattle.ark_math.specs.Root.{HasOrder}
 use Rattle.ark_math.specs.Module.{ModuleOn, IsModule, sum_below, item}
 use Rattle.ark_math.proofs.Transforms.Places.{dft_at}
-use Rattle.ark_fft.specs.Halves.{reversed, IsHalfTable}
+use Rattle.ark_fft.specs.Halves.{reversed, IsHalfTable, AreLevels}
 use Rattle.ark_math.proofs.Algebra.Groups.{zero_plus}
 use Rattle.ark_math.proofs.Lists.Lists.{read_front, read_back, read_order}
 use Rattle.ark_math.proofs.Algebra.Powers.{power-add, power-mul, power_comm, negated_one_even, negated_one_odd, half_of_order}
-use Rattle.ark_fft.proofs.Reversal.{Half, low, high, half_of, pow_suc, pow_pred, reversed_low, reversed_high, reversed_below, reversed_twice}
+use Rattle.ark_fft.proofs.Reversal.{Half, low, high, half_of, pow_suc, reversed_low, reversed_high, reversed_below, reversed_twice}
 use Rattle.ark_math.proofs.Algebra.Sums.{sum_below-same, sum_below-plus, sum_below-add}
 use Rattle.ark_math.proofs.Algebra.Solve.{◌⊗◌, ◌•◌, ◌⊞◌, ◌⊟◌, unit, negative}
 use Rattle.ark_math.proofs.Algebra.Ring.{module2_2}
-
-pub mul_within : (i h s n : ℕ) → i < h → s * h ≡ n → 0 < s → i * s < n
-mul_within i h s n l e pos = omega (arith, mul-add-lt i s 0 h l pos)
 
 pub few_levels : (n : ℕ) → 2 ^ n < 2 ^ 64 → n < 64
 few_levels n l =
     ⊎_elim (λ (a : n < 64). a)
     (λ (b : 64 ≤ n). let m : 2 ^ 64 ≤ 2 ^ n = pow_mono b in absurd (omega arith))
     (cases_lt n 64)
+
+-- a shifted one is a power
+pub shifted : (k : ℕ) → k < 64 → 1 * 2 ^ k % 18446744073709551616 ≡ 2 ^ k
+shifted k l = mod-eq_of_lt (omega (arith, pow-lt l)) ∙ one-mul (2 ^ k)
 
 pub some_level : (n size : ℕ) → size ≡ 2 ^ n → 1 < size → 0 < n
 some_level zero size is l = absurd (omega arith)
@@ -32,25 +35,6 @@ some_level (suc n) size is l = omega arith
 pub one_item : (n size : ℕ) → size ≡ 2 ^ n → size ≤ 1 → n ≡ 0
 one_item zero size is l = refl
 one_item (suc n) size is l = absurd (omega (arith, pow_suc n, pow_pos n))
-
--- at a level the strides of a half make the table, and so do the doubled strides of the level below
-pub half_strides : (n s t : ℕ) → 0 < n → 2 ^ n * s / 2 ≡ t → (s * 2 ^ (n - 1) ≡ t) × (2 ^ (n - 1) * (s * 2) / 2 ≡ t)
-half_strides n s t pos whole =
-    let e : 2 ^ n * s ≡ 2 ^ (n - 1) * s * 2 = ap (λ u. u * s) (pow_pred n pos) ∙ omega arith in
-    let f : 2 ^ (n - 1) * (s * 2) ≡ 2 ^ (n - 1) * s * 2 = omega arith in
-    let w : 2 ^ (n - 1) * s * 2 / 2 ≡ t = ap (λ u. u / 2) (sym e) ∙ whole in
-    (omega arith, ap (λ u. u / 2) f ∙ w)
-
-pub stride_within : (s h n : ℕ) → 0 < h → s * h ≡ n → n < 2 ^ 63 → s * 2 < 2 ^ 64
-stride_within s (suc h) n pos e l =
-    let f : s * suc h ≡ s * h + s = omega arith in
-    omega arith
-stride_within s zero n pos e l = absurd (omega arith)
-
-pub pair_table : (n s t : ℕ) → n ≡ 1 → 2 ^ n * s / 2 ≡ t → 0 < s → 0 < t
-pair_table n s t one whole some =
-    let e : 2 ^ 1 * s / 2 ≡ t = subst (λ k. 2 ^ k * s / 2 ≡ t) one whole in
-    omega (arith, e, some)
 
 -- the butterflies of e levels of 2 ^ n items: those of the topmost, and those of its halves
 pub count_levels : (n e : ℕ) → 0 < e → e ≤ n → 2 ^ n / 2 * e ≡ 2 ^ (n - 1) + (2 ^ (n - 1) / 2 * (e - 1) + 2 ^ (n - 1) / 2 * (e - 1))
@@ -141,51 +125,45 @@ module _ {F M : Type 0} {K : FieldOn F} {V : ModuleOn F M} (N : IsField K) (L : 
       (ap f z ∙ sym (zero_plus L (V.scale K.one (f 0)) ∙ L.one_scale (f 0)))
 
   -- two items: their sum, and their difference, which the table's first power, one, multiplies
-  pub one_pair : (n : ℕ) (w : F) (s : ℕ) (table : List F) (f r : ℕ → M) → IsHalfTable K w table → n ≡ 1 → 2 ^ n * s / 2 ≡ length table → 0 < s → r 0 ≡ V.plus (f 0) (f 1) → r 1 ≡ V.scale (get_or table 0 K.zero) (V.plus (f 0) (V.negated (f 1))) → (p : ℕ) → p < 2 ^ n → r p ≡ dft_at K V (2 ^ n) (power K w s) f (reversed n p)
-  one_pair n w s table f r t one whole some sum difference =
-      let whole1 : 2 ^ 1 * s / 2 ≡ length table = subst (λ k. 2 ^ k * s / 2 ≡ length table) one whole in
-      let all : s ≡ length table = omega (arith, whole1) in
-      let half : power K (power K w s) 1 ≡ K.negated K.one = sym (power-mul K N w s 1) ∙ (ap (power K w) (omega (arith, all)) ∙ t.half (omega (arith, all, some))) in
+  pub one_pair : (n : ℕ) (w : F) (tables : List F) (f r : ℕ → M) → AreLevels K w n tables → n ≡ 1 → length tables ≡ 2 ^ n → r 0 ≡ V.plus (f 0) (f 1) → r 1 ≡ V.scale (get_or tables 0 K.zero) (V.plus (f 0) (V.negated (f 1))) → (p : ℕ) → p < 2 ^ n → r p ≡ dft_at K V (2 ^ n) w f (reversed n p)
+  one_pair n w tables f r levels one len sum difference =
+      let t : IsHalfTable K w (take 1 tables) = (subst (λ k. AreLevels K w k tables) one levels).0 in
+      let len1 : length tables ≡ 2 ^ 1 = subst (λ k. length tables ≡ 2 ^ k) one len in
+      let len_first : length (take 1 tables) ≡ 1 = length-take-le 1 tables (omega (arith, len1)) in
+      let half : power K w 1 ≡ K.negated K.one = sym (ap (power K w) len_first) ∙ t.half (omega (arith, len_first)) in
       let g : ℕ → M = λ j. V.plus (f j) (f (1 + j)) in
-      let h : ℕ → M = λ j. V.scale (power K (power K w s) j) (V.plus (f j) (V.negated (f (1 + j)))) in
-      let first : get_or table 0 K.zero ≡ K.one = t.powers 0 (omega (arith, all, some)) in
+      let h : ℕ → M = λ j. V.scale (power K w j) (V.plus (f j) (V.negated (f (1 + j)))) in
+      let first : get_or tables 0 K.zero ≡ K.one = sym (get_or-take 1 tables 0 K.zero (omega arith)) ∙ t.powers 0 (omega (arith, len_first)) in
       let at_lo : (p : ℕ) → p < 1 → r p ≡ g p = λ p l. let z : p ≡ 0 = omega arith in subst (λ k. r k ≡ g k) (sym z) sum in
       let at_hi : (p : ℕ) → p < 1 → r (1 + p) ≡ h p = λ p l. let z : p ≡ 0 = omega arith in subst (λ k. r (1 + k) ≡ h k) (sym z) (difference ∙ ap (λ x. V.scale x (V.plus (f 0) (V.negated (f 1)))) first) in
-      subst (λ k. (p : ℕ) → p < 2 ^ k → r p ≡ dft_at K V (2 ^ k) (power K w s) f (reversed k p)) (sym one)
+      subst (λ k. (p : ℕ) → p < 2 ^ k → r p ≡ dft_at K V (2 ^ k) w f (reversed k p)) (sym one)
       (λ p l.
-      level_at 0 (power K w s) f g h r half (λ j b. refl) (λ j b. refl) (λ q b. at_lo q b ∙ no_level 0 (power K (power K w s) 2) g refl q b) (λ q b. at_hi q b ∙ no_level 0 (power K (power K w s) 2) h refl q b) p (half_of 0 p l))
+      level_at 0 w f g h r half (λ j b. refl) (λ j b. refl) (λ q b. at_lo q b ∙ no_level 0 (power K w 2) g refl q b) (λ q b. at_hi q b ∙ no_level 0 (power K w 2) h refl q b) p (half_of 0 p l))
 
 module _ {F M X : Type 0} {K : FieldOn F} {V : ModuleOn F M} (N : IsField K) (L : IsModule K V) (m : X → M) where
   -- one level, on lists: xs is lo and hi, the butterflies make them lo1 and hi1, and the levels below lo2 and hi2
-  pub one_level : (n : ℕ) (w : F) (s : ℕ) (table : List F) (xs lo hi lo1 hi1 lo2 hi2 : List X) → IsHalfTable K w table → 0 < n → 2 ^ n * s / 2 ≡ length table → 0 < s → xs ≡ lo ++ hi → length lo ≡ 2 ^ (n - 1) → length lo2 ≡ 2 ^ (n - 1) → ((i : ℕ) → i < length lo → item V (map m lo1) i ≡ V.plus (item V (map m lo) i) (item V (map m hi) i)) → ((i : ℕ) → i < length lo → item V (map m hi1) i ≡ V.scale (get_or table (i * s) K.zero) (V.plus (item V (map m lo) i) (V.negated (item V (map m hi) i)))) → ((p : ℕ) → p < 2 ^ (n - 1) → item V (map m lo2) p ≡ dft_at K V (2 ^ (n - 1)) (power K w (s * 2)) (item V (map m lo1)) (reversed (n - 1) p)) → ((p : ℕ) → p < 2 ^ (n - 1) → item V (map m hi2) p ≡ dft_at K V (2 ^ (n - 1)) (power K w (s * 2)) (item V (map m hi1)) (reversed (n - 1) p)) → (p : ℕ) → p < 2 ^ n → item V (map m (lo2 ++ hi2)) p ≡ dft_at K V (2 ^ n) (power K w s) (item V (map m xs)) (reversed n p)
-  one_level n w s table xs lo hi lo1 hi1 lo2 hi2 t pos whole some joins len_lo len_lo2 sums differences of_lo of_hi p l =
+  pub one_level : (n : ℕ) (w : F) (twiddles : List F) (xs lo hi lo1 hi1 lo2 hi2 : List X) → IsHalfTable K w twiddles → 0 < n → length twiddles ≡ 2 ^ (n - 1) → xs ≡ lo ++ hi → length lo ≡ 2 ^ (n - 1) → length lo2 ≡ 2 ^ (n - 1) → ((i : ℕ) → i < length lo → item V (map m lo1) i ≡ V.plus (item V (map m lo) i) (item V (map m hi) i)) → ((i : ℕ) → i < length lo → item V (map m hi1) i ≡ V.scale (get_or twiddles i K.zero) (V.plus (item V (map m lo) i) (V.negated (item V (map m hi) i)))) → ((p : ℕ) → p < 2 ^ (n - 1) → item V (map m lo2) p ≡ dft_at K V (2 ^ (n - 1)) (power K w 2) (item V (map m lo1)) (reversed (n - 1) p)) → ((p : ℕ) → p < 2 ^ (n - 1) → item V (map m hi2) p ≡ dft_at K V (2 ^ (n - 1)) (power K w 2) (item V (map m hi1)) (reversed (n - 1) p)) → (p : ℕ) → p < 2 ^ n → item V (map m (lo2 ++ hi2)) p ≡ dft_at K V (2 ^ n) w (item V (map m xs)) (reversed n p)
+  one_level n w twiddles xs lo hi lo1 hi1 lo2 hi2 t pos len joins len_lo len_lo2 sums differences of_lo of_hi p l =
       let k = n - 1 in
       let suc_k : suc k ≡ n = omega arith in
-      let strides = half_strides n s (length table) pos whole in
-      let first : 0 * s < length table = mul_within 0 (2 ^ k) s (length table) (pow_pos k) strides.0 some in
-      let any : 0 < length table = omega arith in
-      let half : power K (power K w s) (2 ^ k) ≡ K.negated K.one = sym (power-mul K N w s (2 ^ k)) ∙ (ap (power K w) strides.0 ∙ t.half any) in
+      let any : 0 < length twiddles = omega (arith, len, pow_pos k) in
+      let half : power K w (2 ^ k) ≡ K.negated K.one = sym (ap (power K w) len) ∙ t.half any in
       let old = item V (map m xs) in
       let front : (i : ℕ) → i < 2 ^ k → item V (map m lo) i ≡ old i = λ i b. sym (ap (λ u. item V (map m u) i) joins ∙ read_front m V.zero lo hi i (omega arith)) in
       let back : (i : ℕ) → item V (map m hi) i ≡ old (2 ^ k + i) = λ i. sym (ap (λ u. item V (map m u) (2 ^ k + i)) joins ∙ read_back m V.zero lo hi (2 ^ k) i len_lo) in
-      let squared : power K w (s * 2) ≡ power K (power K w s) 2 = power-mul K N w s 2 in
-      subst (λ u. item V (map m (lo2 ++ hi2)) p ≡ dft_at K V (2 ^ u) (power K w s) old (reversed u p)) suc_k
-      (level_at N L k (power K w s) old (item V (map m lo1)) (item V (map m hi1)) (item V (map m (lo2 ++ hi2))) half
+      subst (λ u. item V (map m (lo2 ++ hi2)) p ≡ dft_at K V (2 ^ u) w old (reversed u p)) suc_k
+      (level_at N L k w old (item V (map m lo1)) (item V (map m hi1)) (item V (map m (lo2 ++ hi2))) half
       (λ i b. sums i (omega arith) ∙ ap₂ V.plus (front i b) (back i))
-      (λ i b.
-      let within : i * s < length table = mul_within i (2 ^ k) s (length table) b strides.0 some in
-      let e : i * s ≡ s * i = omega arith in
-      differences i (omega arith)
-      ∙ ap₂ V.scale (t.powers (i * s) within ∙ (ap (power K w) e ∙ power-mul K N w s i)) (ap₂ (λ x y. V.plus x (V.negated y)) (front i b) (back i)))
-      (λ q b. read_front m V.zero lo2 hi2 q (omega arith) ∙ (of_lo q b ∙ ap (λ u. dft_at K V (2 ^ k) u (item V (map m lo1)) (reversed k q)) squared))
-      (λ q b. read_back m V.zero lo2 hi2 (2 ^ k) q len_lo2 ∙ (of_hi q b ∙ ap (λ u. dft_at K V (2 ^ k) u (item V (map m hi1)) (reversed k q)) squared))
+      (λ i b. differences i (omega arith) ∙ ap₂ V.scale (t.powers i (omega (arith, b, len))) (ap₂ (λ x y. V.plus x (V.negated y)) (front i b) (back i)))
+      (λ q b. read_front m V.zero lo2 hi2 q (omega arith) ∙ of_lo q b)
+      (λ q b. read_back m V.zero lo2 hi2 (2 ^ k) q len_lo2 ∙ of_hi q b)
       p (half_of k p (rw suc_k l)))
 
   -- all levels, their order restored
-  pub all_levels : (n : ℕ) (w : F) (old mid now : List X) → length mid ≡ 2 ^ n → length now ≡ 2 ^ n → ((p : ℕ) → p < 2 ^ n → item V (map m mid) p ≡ dft_at K V (2 ^ n) (power K w 1) (item V (map m old)) (reversed n p)) → ((p : ℕ) (d : X) → p < 2 ^ n → get_or now p d ≡ get_or mid (reversed n p) d) → (i : ℕ) → i < 2 ^ n → item V (map m now) i ≡ dft_at K V (2 ^ n) w (item V (map m old)) i
+  pub all_levels : (n : ℕ) (w : F) (old mid now : List X) → length mid ≡ 2 ^ n → length now ≡ 2 ^ n → ((p : ℕ) → p < 2 ^ n → item V (map m mid) p ≡ dft_at K V (2 ^ n) w (item V (map m old)) (reversed n p)) → ((p : ℕ) (d : X) → p < 2 ^ n → get_or now p d ≡ get_or mid (reversed n p) d) → (i : ℕ) → i < 2 ^ n → item V (map m now) i ≡ dft_at K V (2 ^ n) w (item V (map m old)) i
   all_levels n w old mid now of_mid of_now halves order i l =
       read_order m V.zero (reversed n) mid now
       (λ q c. let d : q < 2 ^ n = omega arith in let e = reversed_below n q d in omega arith)
       (λ q d c. order q d (omega arith)) i (omega arith)
       ∙ (halves (reversed n i) (reversed_below n i l)
-      ∙ ap₂ (λ u j. dft_at K V (2 ^ n) u (item V (map m old)) j) (N.times_one w) (reversed_twice n i l))
+      ∙ ap (dft_at K V (2 ^ n) w (item V (map m old))) (reversed_twice n i l))

@@ -260,3 +260,21 @@ module _ {F : Type 0} (K : FieldOn F) (N : IsField K) where
             ap (power K (power K w 2)) first.len ∙ sym (power-mul K N w 2 (size / 2 / 2)) ∙ ap (power K w) even ∙ half pos;
       } in
       subst (λ k. AreLevels K (power K w 2) k tables) same (levels_of_size n (size / 2) (power K w 2) tables h len halved seconds)
+
+  -- the tables that take the place of a table of twiddles: every second one of it, and every second one of these, and so on
+  pub packed_levels : (n : ℕ) (w : F) (table halved tables : List F) → length table ≡ 2 ^ n → length halved ≡ length table → length tables ≡ length table → IsHalfTable K w table → ((k : ℕ) → k < length table / 2 → get_or halved k K.zero ≡ get_or table (2 * k) K.zero) → ((k : ℕ) → k < length table / 2 → get_or tables k K.zero ≡ get_or halved k K.zero) → ((k : ℕ) → k < length table / 2 → get_or tables (length table / 2 + k) K.zero ≡ get_or tables (2 * k) K.zero) → AreLevels K (power K w 2) n tables
+  packed_levels n w table halved tables is len_halved len t evens first seconds =
+      let h = length table / 2 in
+      let size : length table ≡ length table = refl in
+      let len_front : length (take h tables) ≡ h = length-take-le h tables (omega (arith, len)) in
+      let front : IsHalfTable K (power K w 2) (take h tables) = record {
+        powers = λ i b.
+            let c : i < h = omega (arith, b, len_front) in
+            get_or-take h tables i K.zero c ∙ first i c ∙ evens i c ∙ t.powers (2 * i) (omega (arith, c)) ∙ power-mul K N w 2 i;
+        half = λ b.
+            ap (power K (power K w 2)) len_front
+            ∙ sym (power-mul K N w 2 h)
+            ∙ ap (power K w) (even_power n (length table) is (omega (arith, b, len_front)))
+            ∙ t.half (omega (arith, b, len_front));
+      } in
+      levels_of_size n (length table) (power K w 2) tables is len front seconds

@@ -1,8 +1,8 @@
 -- The mixed radix transform and its inverse, from what the parts of the kernel leave; its sizes and counts.
-use Rattle.std.proofs.Common.{◌≡◌, ℕ, zero, suc, ◌+◌, ◌*◌, ◌-◌, ◌/◌, ◌^◌, ◌<◌, ◌≤◌, List, length, get_or, take, map, sym, ◌∙◌, ap, ap₂, refl, arith, subst}
-use Rattle.std.proofs.lemmas.List.{get_or-take, length-take-le, length-map}
-use Rattle.std.proofs.lemmas.Nat.{div-mul-add}
-use Rattle.std.proofs.Math.Nat.{pow-suc}
+use Rattle.std.proofs.Common.{◌≡◌, ℕ, zero, suc, ◌+◌, ◌*◌, ◌-◌, ◌/◌, ◌^◌, ◌<◌, ◌≤◌, List, length, get_or, take, map, sym, ◌∙◌, ap, ap₂, refl, arith, subst, Result, Ok, Err, IfOk}
+use Rattle.std.proofs.lemmas.List.{length-map}
+use Rattle.std.proofs.lemmas.Nat.{div-mul-add, mul-lt}
+use Rattle.std.proofs.Math.Nat.{pow-suc, pow-zero}
 use Rattle.ark_math.specs.Field.{FieldOn, IsField, power, natural}
 use Rattle.ark_math.specs.Module.{ModuleOn, IsModule, item}
 use Rattle.ark_math.specs.Root.{Adicity, HasOrder, Splits, odd_base}
@@ -10,40 +10,65 @@ use Rattle.ark_math.specs.Domain.{Domain, mixed_radix}
 use Rattle.ark_math.specs.Cost.{Counts, GrowsBy, counts, Direction}
 use Rattle.ark_math.specs.Transform.{transform, IsInverse}
 use Rattle.ark_math.proofs.Transforms.Places.{dft_at}
-use Rattle.ark_fft.specs.Halves.{reversed, ArePowers, IsHalfTable}
+use Rattle.ark_fft.specs.Halves.{reversed, ArePowers, AreLevels}
+use Rattle.ark_fft.proofs.Joining.{levels_of_size}
 use Rattle.ark_fft.specs.Mixed.{IsPowerTable, mixed_counts}
 use Rattle.ark_fft.specs.Scalings.{GrowsByScalings}
 use Rattle.ark_math.proofs.Transforms.Inverses.{is_inverse}
 use Rattle.ark_math.proofs.Roots.Orthogonal.{order_of_inverse}
-use Rattle.ark_math.proofs.Algebra.Powers.{half_of_order}
+use Rattle.ark_math.proofs.Algebra.Powers.{half_of_order, power-mul}
 use Rattle.ark_math.proofs.Algebra.Sums.{sum_below-same}
 use Rattle.ark_math.proofs.Transforms.Transforms.{AreShifted, is_transform}
-use Rattle.ark_math.proofs.Algebra.Groups.{zero_plus}
-use Rattle.ark_fft.proofs.Reversal.{pow_pred, reversed_below, reversed_twice}
+use Rattle.ark_fft.proofs.Reversal.{reversed_below, reversed_twice}
 use Rattle.ark_math.proofs.Lists.Lists.{read_order}
 use Rattle.ark_traits.specs.Cost.{GrowsByCost}
 use Rattle.ark_traits.proofs.Cost.{none_grown, grows_twice, scaled_first, scaled_last, mixed_cost}
 use Rattle.ark_math.proofs.Numbers.Factors.{part_size, parts_whole}
 
--- half of a whole number of blocks of a power of two above one
-pub even_half : (n s l : ℕ) → 0 < n → 2 ^ n * s ≡ l → 2 * (l / 2) ≡ l
-even_half n s l pos whole =
-    let w : 2 ^ (n - 1) * s + 2 ^ (n - 1) * s ≡ l = omega (arith, rw (pow_pred n pos) at whole) in
-    omega arith
+-- three facts of an answer that is Ok, together
+pub IfOk_all : {A E : Type 0} {P Q R S : A → Type 0} (r : Result A E) → ((x : A) → P x → Q x → R x → S x) → IfOk r P → IfOk r Q → IfOk r R → IfOk r S
+IfOk_all (Ok x) f p q r = f x p q r
+IfOk_all (Err e) f p q r = tt
 
-pub length-half : {X : Type 0} (xs : List X) → length (take (length xs / 2) xs) ≡ length xs / 2
-length-half xs = let l : length xs / 2 ≤ length xs = omega arith in length-take-le (length xs / 2) xs l
+halves_of : (n : ℕ) → 0 < 2 ^ n / 2 → 2 ^ n / 2 * 2 ≡ 2 ^ n
+halves_of zero pos = absurd (omega arith)
+halves_of (suc n) pos = omega (arith, pow-suc 2 n)
 
-pub half_table : {F : Type 0} (K : FieldOn F) (N : IsField K) (w : F) (table : List F) → 2 * (length table / 2) ≡ length table → 0 < length table → IsPowerTable K w table → IsHalfTable K w (take (length table / 2) table)
-half_table K N w table even pos t =
-    let h = length table / 2 in
-    let n : length (take h table) ≡ h = length-half table in
-    let e : length table ≡ h * 2 = omega arith in
-    let pos_h : 0 < h = omega arith in
-    record {
-      powers = λ i l. let b : i < h = omega arith in get_or-take h table i K.zero b ∙ t.powers i (omega arith);
-      half = λ _. ap (power K w) n ∙ half_of_order K N w h pos_h (subst (HasOrder K w) e t.order);
-    }
+-- the root of the lists that are left once each part is parted again: as many parts as the base, and the base's power less one
+pub parted_root : {F : Type 0} (K : FieldOn F) (w : F) (stride q odds : ℕ) → 0 < odds → power K w (stride * q ^ odds) ≡ power K w (stride * q * q ^ (odds - 1))
+parted_root K w stride q zero some = absurd (omega arith)
+parted_root K w stride q (suc k) some =
+    let e : stride * q ^ suc k ≡ stride * q * q ^ k = ap (λ t. stride * t) (pow-suc q k) ∙ omega arith in
+    let less : k ≡ suc k - 1 = omega arith in
+    ap (power K w) (e ∙ ap (λ t. stride * q * q ^ t) less)
+
+-- and that of lists that are parted no more
+pub last_root : {F : Type 0} (K : FieldOn F) (w : F) (stride q odds : ℕ) → odds ≡ 0 → power K w (stride * q ^ odds) ≡ power K w stride
+last_root K w stride q odds none =
+    let e : stride * q ^ odds ≡ stride = ap (λ t. stride * q ^ t) none ∙ (ap (λ t. stride * t) (pow-zero q) ∙ omega arith) in
+    ap (power K w) e
+
+pub base_power : (q odds : ℕ) → 0 < q → 0 < q ^ odds
+base_power q zero some = let e : q ^ 0 ≡ 1 = pow-zero q in omega arith
+base_power q (suc k) some = let e : q ^ suc k ≡ q ^ k * q = pow-suc q k in let p : 0 < q ^ k * q = mul-lt 0 0 (q ^ k) q (base_power q k some) some in omega arith
+
+-- the tables of all levels of the lists that are left, from those of a root of order 2 ^ twos * part
+pub even_levels : {F : Type 0} (K : FieldOn F) (N : IsField K) (w : F) (size twos part : ℕ) (tables : List F) → size ≡ 2 ^ twos * part → 0 < part → HasOrder K w size → length tables ≡ 2 ^ twos →
+    ArePowers K (power K w part) (2 ^ twos / 2) (take (2 ^ twos / 2) tables) → ((k : ℕ) → k < 2 ^ twos / 2 → get_or tables (2 ^ twos / 2 + k) K.zero ≡ get_or tables (2 * k) K.zero) → AreLevels K (power K w part) twos tables
+even_levels K N w size twos part tables is some order len first seconds =
+    let h = 2 ^ twos / 2 in
+    levels_of_size K N twos (2 ^ twos) (power K w part) tables refl len
+    (record {
+      powers = λ i l. first.powers i (omega (arith, first.len, l));
+      half = λ l.
+          let pos : 0 < h = omega (arith, first.len, l) in
+          let two : h * 2 ≡ 2 ^ twos = halves_of twos pos in
+          let whole : part * h * 2 ≡ size = omega (arith, is, ap (λ t. part * t) two) in
+          ap (power K (power K w part)) first.len
+          ∙ sym (power-mul K N w part h)
+          ∙ half_of_order K N w (part * h) (mul-lt 0 0 part h some pos) (subst (HasOrder K w) (sym whole) order);
+    })
+    seconds
 
 module _ {F M X : Type 0} {K : FieldOn F} {V : ModuleOn F M} (N : IsField K) (L : IsModule K V) (m : X → M) where
   pub even_transformed : (n size : ℕ) (v : F) (old mid now : List X) → size ≡ 2 ^ n → length mid ≡ size → length now ≡ size → ((p : ℕ) → p < 2 ^ n → item V (map m mid) p ≡ dft_at K V (2 ^ n) v (item V (map m old)) (reversed n p)) → ((p : ℕ) (d : X) → p < 2 ^ n → get_or now p d ≡ get_or mid (reversed n p) d) → (p : ℕ) → p < size → item V (map m now) p ≡ dft_at K V size v (item V (map m old)) p
@@ -56,13 +81,6 @@ module _ {F M X : Type 0} {K : FieldOn F} {V : ModuleOn F M} (N : IsField K) (L 
       ∙ (halves (reversed n p) r
       ∙ (ap (dft_at K V (2 ^ n) v (item V (map m old))) (reversed_twice n p b)
       ∙ ap (λ t. dft_at K V t v (item V (map m old)) p) (sym is)))
-
-  pub one_transformed : (n size : ℕ) (v : F) (xs : List X) → size ≡ 2 ^ n → n ≡ 0 → (p : ℕ) → p < size → item V (map m xs) p ≡ dft_at K V size v (item V (map m xs)) p
-  one_transformed n size v xs is e p l =
-      let one : size ≡ 1 = is ∙ ap (λ t. 2 ^ t) e in
-      let z : p ≡ 0 = omega arith in
-      subst (λ t. item V (map m xs) t ≡ dft_at K V size v (item V (map m xs)) t) (sym z)
-      (sym (ap (λ t. dft_at K V t v (item V (map m xs)) 0) one ∙ (zero_plus L (V.scale K.one (item V (map m xs) 0)) ∙ L.one_scale (item V (map m xs) 0))))
 
 -- a level's steps, and those of the levels below it
 pub level_steps : (l q o size : ℕ) → 0 < q → 0 < o → size ≡ 2 ^ l * q ^ o → q * ((o - 1) * (size / q / q)) + size / q ≡ o * (size / q)
@@ -137,30 +155,30 @@ power_butterflies (suc k) size e =
     ap (λ t. t * suc k) half ∙ ((let c : 2 ^ k * suc k ≡ suc k * 2 ^ k = omega arith in c) ∙ sym (ap (λ t. t / 2) d ∙ div-mul-add (suc k * 2 ^ k) 2 0 pos))
 
 module _ {F M X : Type 0} {K : FieldOn F} {V : ModuleOn F M} (N : IsField K) (L : IsModule K V) (m : X → M) where
-  -- what the kernel makes of a list, with this table
-  abbrev pub AreSums : List F → List X → List X → Type 0
-  AreSums table old now = (w : F) → IsPowerTable K w table → (i : ℕ) → i < length old → item V (map m now) i ≡ dft_at K V (length old) (power K w 1) (item V (map m old)) i
+  -- what the kernel makes of a list, with this table and tables of the levels
+  abbrev pub AreSums : (F → Type 0) → List F → List X → List X → Type 0
+  AreSums AreTables table old now = (w : F) → IsPowerTable K w table → AreTables w → (i : ℕ) → i < length old → item V (map m now) i ≡ dft_at K V (length old) (power K w 1) (item V (map m old)) i
 
-  sums_at : (n : ℕ) (w : F) (table : List F) (old now : List X) → HasOrder K w n → ArePowers K w n table → length old ≡ n → AreSums table old now → (i : ℕ) → i < n → item V (map m now) i ≡ dft_at K V n w (item V (map m old)) i
-  sums_at n w table old now order t size sums i l =
+  sums_at : (AreTables : F → Type 0) (n : ℕ) (w : F) (table : List F) (old now : List X) → HasOrder K w n → ArePowers K w n table → AreTables w → length old ≡ n → AreSums AreTables table old now → (i : ℕ) → i < n → item V (map m now) i ≡ dft_at K V n w (item V (map m old)) i
+  sums_at AreTables n w table old now order t levels size sums i l =
       let is : IsPowerTable K w table = record { powers = λ k b. t.powers k (omega (arith, t.len)); order = subst (HasOrder K w) (sym t.len) order } in
-      sums w is i (omega arith)
+      sums w is levels i (omega arith)
       ∙ ap (λ k. dft_at K V k (power K w 1) (item V (map m old)) i) size
       ∙ ap (λ x. dft_at K V n x (item V (map m old)) i) (N.times_one w)
 
-  module _ (d : Domain F) (order : HasOrder K d.root d.size) where
-    pub forward : (table : List F) (old mid now : List X) → ArePowers K d.root d.size table → length mid ≡ d.size → length now ≡ d.size → AreShifted N L d (map m old) (item V (map m mid)) → AreSums table mid now → map m now ≡ transform K V d (map m old)
-    forward table old mid now t of_mid of_now shifted sums =
+  module _ (d : Domain F) (order : HasOrder K d.root d.size) (AreTables : F → Type 0) where
+    pub forward : (table : List F) (old mid now : List X) → ArePowers K d.root d.size table → AreTables d.root → length mid ≡ d.size → length now ≡ d.size → AreShifted N L d (map m old) (item V (map m mid)) → AreSums AreTables table mid now → map m now ≡ transform K V d (map m old)
+    forward table old mid now t levels of_mid of_now shifted sums =
         is_transform N L d (map m old) (map m now) (item V (map m mid)) shifted (length-map now m ∙ of_now)
-        (sums_at d.size d.root table mid now order t of_mid sums)
+        (sums_at AreTables d.size d.root table mid now order t levels of_mid sums)
 
-    pub backward : (v p f : F) (table : List F) (old fitted mid now : List X) → K.times d.root v ≡ K.one → K.times d.offset p ≡ K.one → K.times (natural K d.size) f ≡ K.one → ArePowers K v d.size table → length fitted ≡ d.size → length now ≡ d.size → ((j : ℕ) → j < d.size → item V (map m fitted) j ≡ item V (map m old) j) → AreSums table fitted mid → ((j : ℕ) → j < d.size → item V (map m now) j ≡ V.scale (K.times f (power K p j)) (item V (map m mid) j)) → IsInverse K V d (map m old) (map m now)
-    backward v p f table old fitted mid now root offset size t of_fitted of_now fit sums scaled =
+    pub backward : (v p f : F) (table : List F) (old fitted mid now : List X) → K.times d.root v ≡ K.one → K.times d.offset p ≡ K.one → K.times (natural K d.size) f ≡ K.one → ArePowers K v d.size table → AreTables v → length fitted ≡ d.size → length now ≡ d.size → ((j : ℕ) → j < d.size → item V (map m fitted) j ≡ item V (map m old) j) → AreSums AreTables table fitted mid → ((j : ℕ) → j < d.size → item V (map m now) j ≡ V.scale (K.times f (power K p j)) (item V (map m mid) j)) → IsInverse K V d (map m old) (map m now)
+    backward v p f table old fitted mid now root offset size t levels of_fitted of_now fit sums scaled =
         is_inverse N L d v p f order root offset size (map m old) (map m now) (length-map now m ∙ of_now)
         (λ j l.
         scaled j l
         ∙ ap (V.scale (K.times f (power K p j)))
-        (sums_at d.size v table fitted mid (order_of_inverse K N d.root v d.size order root) t of_fitted sums j l
+        (sums_at AreTables d.size v table fitted mid (order_of_inverse K N d.root v d.size order root) t levels of_fitted sums j l
         ∙ sum_below-same V d.size _ _ (λ k b. ap (V.scale (power K (power K v j) k)) (fit k b))))
 
 -- all parts, and the joins after them

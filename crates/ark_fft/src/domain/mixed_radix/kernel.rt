@@ -5,9 +5,10 @@ ghost use Rattle.std.specs.Prelude.{map, length, get_or, ◌+◌, ◌-◌, ◌*�
 ghost use Rattle.ark_math.specs.Domain.{mixed_radix};
 ghost use Rattle.ark_fft.specs.Coset.{coset_domain};
 ghost use Rattle.ark_math.specs.Field.{FieldOn, power};
+ghost use Rattle.ark_math.specs.Root.{HasOrder, odd_base};
 ghost use Rattle.ark_math.specs.Transform.{transform, IsInverse};
 ghost use Rattle.ark_math.proofs.Transforms.Places.{dft_at};
-ghost use Rattle.ark_fft.specs.Halves.{reversed, ArePowers};
+ghost use Rattle.ark_fft.specs.Halves.{reversed, ArePowers, AreLevels};
 ghost use Rattle.ark_fft.specs.Mixed.{IsPowerTable, joined, mixed_counts};
 ghost use Rattle.ark_math.specs.Module.{ModuleOn, item, sum_below};
 ghost use Rattle.ark_math.specs.Cost.{GrowsBy, counts, butterfly_counts, forward, inverse};
@@ -15,10 +16,10 @@ ghost use Rattle.ark_traits.specs.Cost.{GrowsByCost};
 
 use crate::domain::coset::Coset;
 use crate::domain::mixed_radix::size::odd_base;
-use crate::domain::radix2::fft::{bit_reverse, halves, powers};
+use crate::domain::radix2::fft::{bit_reverse, halves, level_tables, powers};
 use crate::domain::scaling::{scale_by_powers, shift_to_coset};
 use ark_traits::{DomainCoeff, FftField, PolyError, Work};
-use std::alloc::Global;
+use std::alloc::{AllocError, Global};
 
 /// The sum of the parts' values at one place, times the powers of the factor, by Horner's rule. The last part's is at
 /// index `last`.
@@ -180,37 +181,33 @@ fn deinterleave<T: Copy>(whole: &[T], parts: &mut [T], base: usize, m: usize)
     }
 }
 
-/// The transform of a list of 2 ^ levels items.
+/// The transform of a list of 2 ^ levels items. The tables are those of all levels.
 fn even_transform<F: FftField, T: DomainCoeff<F>>(
     work: &mut Work,
     xs: &mut [T],
-    table: &[F],
-    stride: usize,
+    tables: &[F],
     levels: u32,
 )
     requires size { length xs.old ≡ 2 ^ levels }
-    requires whole { length xs.old * stride ≡ length table.now }
-    requires small { length table.now < 2 ^ 64 }
-    requires stride_not_zero { 0 < stride }
+    requires whole { length tables.now ≡ 2 ^ levels }
+    requires small { length tables.now < 2 ^ 64 }
     ensures counted { GrowsBy (butterfly_counts (levels * length xs.old / 2)) work.old work.new }
-    ensures transformed { (w : F) → IsPowerTable F.field w table.now → (i : ℕ) → i < length xs.old
+    ensures transformed { (v : F) → AreLevels F.field v levels tables.now → (i : ℕ) → i < length xs.old
         → item T.group (map T.meaning xs.new) i
-        ≡ dft_at F.field T.group (length xs.old) (power F.field w stride)
-        (item T.group (map T.meaning xs.old)) i }
+        ≡ dft_at F.field T.group (length xs.old) v (item T.group (map T.meaning xs.old)) i }
 {
-    if levels > 0 {
-        let half = table.len() / 2;
-        halves(work, xs, &table[..half], stride, levels);
-        bit_reverse(xs, levels);
-    }
+    halves(work, xs, tables, levels);
+    bit_reverse(xs, levels);
 }
 
-/// The transform of a list of 2 ^ levels * base ^ odds items, with as many to work in.
+/// The transform of a list of 2 ^ levels * base ^ odds items, with as many to work in. The tables are those of all levels
+/// of the lists that are left once the list is parted as often as its length has the base.
 fn mixed<F: FftField, T: DomainCoeff<F>>(
     work: &mut Work,
     xs: &mut [T],
     scratch: &mut [T],
     table: &[F],
+    tables: &[F],
     stride: usize,
     base: usize,
     levels: u32,
@@ -219,14 +216,16 @@ fn mixed<F: FftField, T: DomainCoeff<F>>(
     requires size { length xs.old ≡ 2 ^ levels * base ^ odds }
     requires scratch_size { length scratch.old ≡ length xs.old }
     requires whole { length xs.old * stride ≡ length table.now }
+    requires even_part { length tables.now ≡ 2 ^ levels }
     requires small { length table.now < 2 ^ 64 }
     requires stride_not_zero { 0 < stride }
     requires above_one { 1 < base }
     requires few { base < 2 ^ 32 }
     ensures counted { GrowsBy (mixed_counts base (levels * length xs.old / 2) (odds * (length xs.old / base)))
         work.old work.new }
-    ensures transformed { (w : F) → IsPowerTable F.field w table.now → (i : ℕ) → i < length xs.old
-        → item T.group (map T.meaning xs.new) i
+    ensures transformed { (w : F) → IsPowerTable F.field w table.now
+        → AreLevels F.field (power F.field w (stride * base ^ odds)) levels tables.now → (i : ℕ)
+        → i < length xs.old → item T.group (map T.meaning xs.new) i
         ≡ dft_at F.field T.group (length xs.old) (power F.field w stride)
         (item T.group (map T.meaning xs.old)) i }
 {
@@ -240,6 +239,7 @@ fn mixed<F: FftField, T: DomainCoeff<F>>(
                 &mut scratch[from..from + m],
                 &mut xs[from..from + m],
                 table,
+                tables,
                 stride * base,
                 base,
                 levels,
@@ -248,8 +248,19 @@ fn mixed<F: FftField, T: DomainCoeff<F>>(
         }
         join(work, scratch, xs, table, base, m, stride);
     } else {
-        even_transform(work, xs, table, stride, levels);
+        even_transform(work, xs, tables, levels);
     }
+}
+
+/// The tables of all levels of the lists that are left once a list is parted as often as its length has the odd base.
+fn even_tables<F: FftField>(alloc: Global, coset: &Coset<F>, root: F) -> Result<Vec<F>, AllocError>
+    ensures len { IfOk result (λ t. length t.items ≡ 2 ^ coset.now.log_size_of_group) }
+    ensures levels { HasOrder F.field root coset.now.size → IfOk result (λ t. AreLevels F.field
+        (power F.field root (odd_base F.adicity.odd ^ coset.now.odd_exponent))
+        coset.now.log_size_of_group t.items) }
+{
+    let log_len = coset.log_size_of_group;
+    level_tables(alloc, root.pow(coset.size >> log_len), 1 << log_len)
 }
 
 /// Takes all memory, for a root's powers, for n items to work in and for n items, and cuts the list or fills it with
@@ -294,6 +305,7 @@ pub fn fft_counted<F: FftField, T: DomainCoeff<F>>(
     ensures memory { IsOkUnless result PolyError.Memory }
 {
     let (base, _) = odd_base::<F>().unwrap();
+    let tables = even_tables(alloc, coset, coset.group_gen)?;
     let (table, mut scratch) = prepare(alloc, coset.group_gen, coset.size as usize, coeffs)?;
     let xs = coeffs.as_mut_slice();
     shift_to_coset(work, xs, coset.offset);
@@ -302,6 +314,7 @@ pub fn fft_counted<F: FftField, T: DomainCoeff<F>>(
         xs,
         scratch.as_mut_slice(),
         table.as_slice(),
+        tables.as_slice(),
         1,
         base as usize,
         coset.log_size_of_group,
@@ -329,6 +342,7 @@ pub fn ifft_counted<F: FftField, T: DomainCoeff<F>>(
     ensures memory { IsOkUnless result PolyError.Memory }
 {
     let (base, _) = odd_base::<F>().unwrap();
+    let tables = even_tables(alloc, coset, coset.group_gen_inv)?;
     let (table, mut scratch) = prepare(alloc, coset.group_gen_inv, coset.size as usize, evals)?;
     let xs = evals.as_mut_slice();
     mixed(
@@ -336,6 +350,7 @@ pub fn ifft_counted<F: FftField, T: DomainCoeff<F>>(
         xs,
         scratch.as_mut_slice(),
         table.as_slice(),
+        tables.as_slice(),
         1,
         base as usize,
         coset.log_size_of_group,

@@ -32,27 +32,25 @@ fn butterfly<F: FftField, T: DomainCoeff<F>>(work: &mut Work, lo: &mut T, hi: &m
     work.butterfly();
 }
 
-/// Butterflies across two halves.
+/// Butterflies across two halves, each with the twiddle at its index.
 fn butterflies<F: FftField, T: DomainCoeff<F>>(
     work: &mut Work,
     lo: &mut [T],
     hi: &mut [T],
-    table: &[F],
-    stride: usize,
+    twiddles: &[F],
 )
     requires same { length lo.old ≡ length hi.old }
-    requires enough { length lo.old * stride ≤ length table.now }
-    requires stride_not_zero { 0 < stride }
+    requires enough { length lo.old ≡ length twiddles.now }
     ensures sums { (i : ℕ) → i < length lo.old → item T.group (map T.meaning lo.new) i
         ≡ T.group.plus (item T.group (map T.meaning lo.old) i) (item T.group (map T.meaning hi.old) i) }
     ensures differences { (i : ℕ) → i < length lo.old → item T.group (map T.meaning hi.new) i
-        ≡ T.group.scale (get_or table.now (i * stride) F.field.zero)
+        ≡ T.group.scale (get_or twiddles.now i F.field.zero)
         (T.group.plus (item T.group (map T.meaning lo.old) i)
         (T.group.negated (item T.group (map T.meaning hi.old) i))) }
     ensures counted { GrowsBy (butterfly_counts (length lo.old)) work.old work.new }
 {
     for i in 0..lo.len() {
-        butterfly(work, &mut lo[i], &mut hi[i], table[i * stride]);
+        butterfly(work, &mut lo[i], &mut hi[i], twiddles[i]);
     }
 }
 
@@ -73,32 +71,76 @@ fn pair<F: FftField, T: DomainCoeff<F>>(work: &mut Work, xs: &mut [T], twiddle: 
     xs[1] = hi;
 }
 
-/// The transform at the table's root to the stride, in place. Place i of it is left at the index that has the bits of i
-/// backwards.
+/// The transform in place. Place i of it is left at the index that has the bits of i backwards. The tables are those of
+/// all levels, the whole list's twiddles first.
 pub(crate) fn halves<F: FftField, T: DomainCoeff<F>>(
     work: &mut Work,
     xs: &mut [T],
-    table: &[F],
-    stride: usize,
+    tables: &[F],
     levels: u32,
 )
     requires size { length xs.old ≡ 2 ^ levels }
-    requires whole { 2 ^ levels * stride / 2 ≡ length table.now }
-    requires small { length table.now < 2 ^ 63 }
-    requires stride_not_zero { 0 < stride }
-    ensures sums { (w : F) → IsHalfTable F.field w table.now → (p : ℕ) → p < 2 ^ levels
-        → item T.group (map T.meaning xs.new) p ≡ dft_at F.field T.group (2 ^ levels) (power F.field w stride)
+    requires whole { length tables.now ≡ 2 ^ levels }
+    ensures sums { (w : F) → AreLevels F.field w levels tables.now → (p : ℕ) → p < 2 ^ levels
+        → item T.group (map T.meaning xs.new) p ≡ dft_at F.field T.group (2 ^ levels) w
         (item T.group (map T.meaning xs.old)) (reversed levels p) }
     ensures counted { GrowsBy (butterfly_counts (2 ^ levels / 2 * levels)) work.old work.new }
 {
     if levels == 1 {
-        pair(work, xs, table[0]);
-    } else if xs.len() > 1 {
+        pair(work, xs, tables[0]);
+    } else if levels > 1 {
         let half = xs.len() / 2;
         let (lo, hi) = xs.split_at_mut(half);
-        butterflies(work, lo, hi, table, stride);
-        halves(work, lo, table, stride * 2, levels - 1);
-        halves(work, hi, table, stride * 2, levels - 1);
+        let (twiddles, rest) = tables.split_at(half);
+        butterflies(work, lo, hi, twiddles);
+        halves(work, lo, rest, levels - 1);
+        halves(work, hi, rest, levels - 1);
+    }
+}
+
+/// Puts every second item of twice as many in front.
+fn keep_every_second<F: FftField>(xs: &mut [F], half: usize)
+    requires size { half * 2 ≤ length xs.old }
+    ensures { (i : ℕ) → i < half → get_or xs.new i F.field.zero ≡ get_or xs.old (2 * i) F.field.zero }
+{
+    for i in 0..half {
+        xs[i] = xs[2 * i];
+    }
+}
+
+/// Puts the tables of all levels below, each as many twiddles one after the other as its lists have pairs, in the place
+/// of the twiddles of a list.
+fn pack_levels<F: FftField>(table: &mut [F])
+    ensures { (w : F) (n : ℕ) → length table.old ≡ 2 ^ n → IsHalfTable F.field w table.old
+        → AreLevels F.field (power F.field w 2) n table.new }
+{
+    let half = table.len() / 2;
+    keep_every_second(table, half);
+    continue_levels(table, half);
+}
+
+/// The transform of `halves` at the table's root. Once its twiddles have been read, those of the levels below take their
+/// places, so that each level reads its own one after the other.
+fn first_halves<F: FftField, T: DomainCoeff<F>>(
+    work: &mut Work,
+    xs: &mut [T],
+    table: &mut [F],
+    levels: u32,
+)
+    requires size { length xs.old ≡ 2 ^ levels }
+    requires half { length table.old ≡ length xs.old / 2 }
+    ensures sums { (w : F) → IsHalfTable F.field w table.old → (p : ℕ) → p < 2 ^ levels
+        → item T.group (map T.meaning xs.new) p ≡ dft_at F.field T.group (2 ^ levels) w
+        (item T.group (map T.meaning xs.old)) (reversed levels p) }
+    ensures counted { GrowsBy (butterfly_counts (2 ^ levels / 2 * levels)) work.old work.new }
+{
+    if levels > 0 {
+        let half = xs.len() / 2;
+        let (lo, hi) = xs.split_at_mut(half);
+        butterflies(work, lo, hi, table);
+        pack_levels(table);
+        halves(work, lo, table, levels - 1);
+        halves(work, hi, table, levels - 1);
     }
 }
 
@@ -183,16 +225,21 @@ pub(crate) fn bit_reverse<T>(xs: &mut [T], levels: u32)
 }
 
 /// The transform at the table's root, in place and in order.
-fn in_order<F: FftField, T: DomainCoeff<F>>(work: &mut Work, xs: &mut [T], table: &[F], levels: u32)
+fn in_order<F: FftField, T: DomainCoeff<F>>(
+    work: &mut Work,
+    xs: &mut [T],
+    table: &mut [F],
+    levels: u32,
+)
     requires size { length xs.old ≡ 2 ^ levels }
     requires fits { length xs.old < 2 ^ 64 }
-    requires half { length table.now ≡ length xs.old / 2 }
-    ensures sums { (w : F) → IsHalfTable F.field w table.now → (i : ℕ) → i < length xs.old
+    requires half { length table.old ≡ length xs.old / 2 }
+    ensures sums { (w : F) → IsHalfTable F.field w table.old → (i : ℕ) → i < length xs.old
         → item T.group (map T.meaning xs.new) i
         ≡ dft_at F.field T.group (length xs.old) w (item T.group (map T.meaning xs.old)) i }
     ensures counted { GrowsBy (butterfly_counts (length xs.old / 2 * levels)) work.old work.new }
 {
-    halves(work, xs, table, 1, levels);
+    first_halves(work, xs, table, levels);
     bit_reverse(xs, levels);
 }
 
@@ -398,7 +445,11 @@ fn continue_levels<F: FftField>(xs: &mut [F], half: usize)
 
 /// The tables of all levels, of a list of n items down to lists of one: each has half as many powers of its root as its
 /// lists have items.
-fn level_tables<F: FftField>(alloc: Global, root: F, n: usize) -> Result<Vec<F>, AllocError>
+pub(crate) fn level_tables<F: FftField>(
+    alloc: Global,
+    root: F,
+    n: usize,
+) -> Result<Vec<F>, AllocError>
     ensures len { IfOk result (λ t. length t.items ≡ n) }
     ensures first { IfOk result (λ t. ArePowers F.field root (n / 2) (take (n / 2) t.items)) }
     ensures seconds { IfOk result (λ t. (i : ℕ) → i < n / 2 → get_or t.items (n / 2 + i) F.field.zero
@@ -488,10 +539,10 @@ fn in_order_fft_in_place<F: FftField, T: DomainCoeff<F>>(
     ensures uncounted { OnErr result (work.new ≡ work.old) }
     ensures memory { IsOkUnless result PolyError.Memory }
 {
-    let table = prepare(alloc, coset.group_gen, coset.size as usize, coeffs)?;
+    let mut table = prepare(alloc, coset.group_gen, coset.size as usize, coeffs)?;
     let xs = coeffs.as_mut_slice();
     shift_to_coset(work, xs, coset.offset);
-    in_order(work, xs, table.as_slice(), coset.log_size_of_group);
+    in_order(work, xs, table.as_mut_slice(), coset.log_size_of_group);
     Ok(())
 }
 
@@ -536,9 +587,9 @@ pub fn ifft_counted<F: FftField, T: DomainCoeff<F>>(
     ensures uncounted { OnErr result (work.new ≡ work.old) }
     ensures memory { IsOkUnless result PolyError.Memory }
 {
-    let table = prepare(alloc, coset.group_gen_inv, coset.size as usize, evals)?;
+    let mut table = prepare(alloc, coset.group_gen_inv, coset.size as usize, evals)?;
     let xs = evals.as_mut_slice();
-    in_order(work, xs, table.as_slice(), coset.log_size_of_group);
+    in_order(work, xs, table.as_mut_slice(), coset.log_size_of_group);
     scale_by_powers(work, xs, coset.size_inv, coset.offset_inv);
     Ok(())
 }

@@ -1,10 +1,11 @@
-use Rattle.std.proofs.Common.{rules, refl, subst, ℕ, ◌≡◌, ◌≤◌, ap, map, take, drop, length, ◌+◌, ◌-◌, ◌*◌, ◌/◌, ◌^◌, ◌<◌, sym, ◌∙◌, arith}
+use Rattle.std.proofs.Common.{suc, rules, refl, subst, ℕ, ◌≡◌, ◌≤◌, ap, map, take, drop, length, ◌+◌, ◌-◌, ◌*◌, ◌/◌, ◌^◌, ◌<◌, sym, ◌∙◌, arith}
 use Rattle.std.proofs.Math.Nat.{pow-zero}
 use Rattle.std.proofs.lemmas.Nat.{mul-lt}
 use Rattle.ark_math.specs.Field.{power}
 use Rattle.ark_math.specs.Module.{item}
 use Rattle.ark_math.proofs.Numbers.Factors.{part_size, parts_whole, part_positive}
-use Rattle.ark_fft.proofs.Mixed.{part_counted, no_part_counted, all_counted}
+use Rattle.ark_fft.specs.Halves.{AreLevels}
+use Rattle.ark_fft.proofs.Mixed.{part_counted, no_part_counted, all_counted, parted_root, last_root}
 use Rattle.ark_fft.proofs.Counts.{positive, none_yet, ended, past, middle}
 use Rattle.ark_fft.proofs.Blocks.{block_within, part_length, sub_whole, table_size, stride_small, block_done, block_after, mixed_joined, dealt_items}
 use Rattle.ark_fft.proofs.domain.mixed_radix.kernel.+mixed.Goals as goal
@@ -43,7 +44,7 @@ loop-r-init g t c =
     let size : length c.deinterleave.new.parts ≡ c.args.base * n = c.deinterleave.auto.parts ∙ (c.requires.scratch_size ∙ whole) in
     record {
       counted = no_part_counted c.args.base _ _ c.args.work.now;
-      done = λ w table r i rl il. none_yet r rl;
+      done = λ w table tables r i rl il. none_yet r rl;
       rest = λ r i l rl il. dealt_items m V.zero c.args.base n c.args.xs.now c.deinterleave.new.parts whole size c.deinterleave.ensures r i rl il;
     }
 
@@ -102,7 +103,7 @@ mixed-requires g t c κs within =
     let size = of_scratch ∙ part_size c.args.levels q c.args.odds len pos c.if-odds-gt0.true c.requires.size in
     let e = sub_whole len c.args.stride (length c.args.table.now) q n (length (take k (drop (r * n) c.loop-r.scratch))) c.requires.whole whole of_scratch in
     let p : 0 < c.args.stride * q = mul-lt 0 0 c.args.stride q c.requires.stride_not_zero pos in
-    (omega arith, (search rules, (search rules, (size, (of_xs ∙ sym of_scratch, (e, (c.requires.small, (p, (c.requires.above_one, c.requires.few)))))))))
+    (omega arith, (search rules, (search rules, (size, (of_xs ∙ sym of_scratch, (e, (c.requires.even_part, (c.requires.small, (p, (c.requires.above_one, c.requires.few))))))))))
 
 pub loop-r-preserved : goal.loop-r-preserved
 loop-r-preserved g t c =
@@ -126,8 +127,8 @@ loop-r-preserved g t c =
     let part = length (take k (drop (r0 * n) c.loop-r.scratch)) in
     record {
       counted = part_counted q r0 c.args.levels b part n v.counted c.mixed.ensures.counted of_scratch;
-      done = λ w table r i rl il.
-          block_done g.met.F.Field.field_laws g.met.T.DomainCoeff.module_laws m n q r0 k (power K w (c.args.stride * q)) c.loop-r.scratch c.mixed.new.xs (λ r k. item V (map m c.args.xs.now) (q * k + r)) c.loop-r-test.true size same of_new (c.mixed.ensures.transformed w table) v.rest (v.done w table) r i rl il;
+      done = λ w table tables r i rl il.
+          block_done g.met.F.Field.field_laws g.met.T.DomainCoeff.module_laws m n q r0 k (power K w (c.args.stride * q)) c.loop-r.scratch c.mixed.new.xs (λ r k. item V (map m c.args.xs.now) (q * k + r)) c.loop-r-test.true size same of_new (c.mixed.ensures.transformed w table (subst (λ x. AreLevels K x c.args.levels c.args.tables.now) (parted_root K w c.args.stride q c.args.odds c.if-odds-gt0.true) tables)) v.rest (v.done w table tables) r i rl il;
       rest = λ r i l rl il.
           let after = past r0 r l in
           block_after m V.zero n q r0 k c.loop-r.scratch c.mixed.new.xs r i c.loop-r-test.true size same of_new after.0 ∙ v.rest r i after.1 rl il;
@@ -155,7 +156,7 @@ returns-after-loop-r-clause-counted g t c =
     (ended c.loop-r.r c.args.base c.loop-r.auto.r-end c.loop-r-test.false) c.loop-r.invariant.counted c.join.ensures.counted
 
 pub returns-after-loop-r-clause-transformed : goal.returns-after-loop-r-clause-transformed
-returns-after-loop-r-clause-transformed g t c = λ w table i l.
+returns-after-loop-r-clause-transformed g t c = λ w table tables i l.
     let q = c.args.base in
     let pos = positive q c.requires.above_one in
     let len = length c.args.xs.now in
@@ -164,7 +165,7 @@ returns-after-loop-r-clause-transformed g t c = λ w table i l.
     let whole = parts_whole c.args.levels q c.args.odds len pos c.if-odds-gt0.true c.requires.size in
     let size = table_size len c.args.stride (length c.args.table.now) q n c.requires.whole whole in
     mixed_joined g.met.F.Field.field_laws g.met.T.DomainCoeff.module_laws g.T.DomainCoeff.meaning w c.args.table.now q n c.args.stride len c.args.xs.now c.loop-r.scratch c.join.new.whole table size whole c.requires.stride_not_zero
-    (λ r i rl il. c.loop-r.invariant.done w table r i (subst (λ k. r < k) (sym end) rl) il) c.join.ensures.joined i l
+    (λ r i rl il. c.loop-r.invariant.done w table tables r i (subst (λ k. r < k) (sym end) rl) il) c.join.ensures.joined i l
 
 -- no part is left to deal out
 even_size : (levels q odds n : ℕ) → odds ≤ 0 → n ≡ 2 ^ levels * q ^ odds → n ≡ 2 ^ levels
@@ -174,5 +175,27 @@ even_size levels q odds n none size =
     let same : 2 ^ levels * q ^ odds ≡ 2 ^ levels * 1 = ap (λ k. 2 ^ levels * k) one in
     omega (arith, size, same)
 
+-- a list is no longer than its places times a stride
+within_strides : (n s l : ℕ) → 0 < s → s * n ≡ l → n < l + 1
+within_strides n s l pos e =
+    let p : s ≡ suc (s - 1) = omega arith in
+    let f : s * n ≡ n + (s - 1) * n = ap (λ t. t * n) p ∙ omega arith in
+    omega arith
+
 pub even_transform-requires-clause-size : goal.even_transform-requires-clause-size
 even_transform-requires-clause-size g t c = even_size c.args.levels c.args.base c.args.odds (length c.args.xs.now) c.if-odds-gt0.false c.requires.size
+
+pub even_transform-requires-clause-small : goal.even_transform-requires-clause-small
+even_transform-requires-clause-small g t c =
+    let n = length c.args.xs.now in
+    let is : length c.args.tables.now ≡ n = c.requires.even_part ∙ sym (even_size c.args.levels c.args.base c.args.odds n c.if-odds-gt0.false c.requires.size) in
+    let turned : c.args.stride * n ≡ length c.args.table.now = omega (arith, c.requires.whole) in
+    let all : n < length c.args.table.now + 1 = within_strides n c.args.stride (length c.args.table.now) c.requires.stride_not_zero turned in
+    omega (arith, is, all, c.requires.small)
+
+pub returns-else-odds-gt0-clause-transformed : goal.returns-else-odds-gt0-clause-transformed
+returns-else-odds-gt0-clause-transformed g t c = λ w table tables i l.
+    let K = g.F.Field.field in
+    let none : c.args.odds ≡ 0 = omega arith in
+    let root = last_root K w c.args.stride c.args.base c.args.odds none in
+    c.even_transform.ensures.transformed (power K w c.args.stride) (subst (λ x. AreLevels K x c.args.levels c.args.tables.now) root tables) i l

@@ -1,4 +1,5 @@
-use Rattle.std.proofs.Common.{◌≡◌, ℕ, map, ◌+◌, ◌-◌, ◌*◌, ◌/◌, ◌≤◌, ◌<◌}
+use Rattle.std.proofs.Common.{◌≡◌, ℕ, map, ◌+◌, ◌-◌, ◌*◌, ◌/◌, ◌^◌, ◌≤◌, ◌<◌}
+use Rattle.ark_fft.specs.Halves.{AreLevels}
 use Rattle.ark_fft.specs.Mixed.{IsPowerTable, mixed_counts}
 use Rattle.ark_math.proofs.Transforms.Places.{dft_at}
 use Rattle.ark_math.specs.Field.{power}
@@ -15,6 +16,6 @@ invariant-loop-r g l =
     let m = g.T.DomainCoeff.meaning in
     record {
       counted : GrowsBy (mixed_counts l.base (l.r * (l.levels * l.m / 2)) (l.r * ((l.odds - 1) * (l.m / l.base)))) l.fn.work l.work;
-      done : (w : g.row.F.Denot) → IsPowerTable g.F.Field.field w l.table → (r i : ℕ) → r < l.r → i < l.m → item V (map m l.scratch) (r * l.m + i) ≡ dft_at g.F.Field.field V l.m (power g.F.Field.field w (l.stride * l.base)) (λ k. item V (map m l.fn.xs) (l.base * k + r)) i;
+      done : (w : g.row.F.Denot) → IsPowerTable g.F.Field.field w l.table → AreLevels g.F.Field.field (power g.F.Field.field w (l.stride * l.base ^ l.odds)) l.levels l.tables → (r i : ℕ) → r < l.r → i < l.m → item V (map m l.scratch) (r * l.m + i) ≡ dft_at g.F.Field.field V l.m (power g.F.Field.field w (l.stride * l.base)) (λ k. item V (map m l.fn.xs) (l.base * k + r)) i;
       rest : (r i : ℕ) → l.r ≤ r → r < l.base → i < l.m → item V (map m l.scratch) (r * l.m + i) ≡ item V (map m l.fn.xs) (l.base * i + r);
     }

@@ -1,7 +1,7 @@
-use Rattle.std.proofs.Common.{◌≡◌, ℕ, map, length, Some, ◌<◌, sym, ap, subst, ◌∙◌}
+use Rattle.std.proofs.Common.{◌≡◌, ℕ, map, length, Some, ◌<◌, ◌*◌, ◌^◌, arith, sym, ap, subst, ◌∙◌}
 use Rattle.ark_math.specs.Domain.{Domain, mixed_radix}
 use Rattle.ark_math.specs.Field.{power}
-use Rattle.ark_fft.specs.Halves.{ArePowers}
+use Rattle.ark_fft.specs.Halves.{ArePowers, AreLevels}
 use Rattle.ark_math.specs.Root.{HasOrder, odd_base}
 use Rattle.ark_math.proofs.Domains.MixedSizes.{base_above}
 use Rattle.ark_math.specs.Module.{item}
@@ -32,10 +32,17 @@ returns-clause-transform g c =
     let size_mid : length mid ≡ t.size = c.shift_to_coset.auto.xs ∙ of_fitted in
     let size_now : length c.mixed.new.xs ≡ t.size = c.mixed.auto.xs ∙ size_mid in
     let table : ArePowers K t.group_gen t.size c.as_slice.result.now = subst (ArePowers K t.group_gen t.size) (sym c.as_slice.ensures.value) c.in_ok-table.ensures.table in
+    let s = g.F.FftField.adicity in
+    let e : s.odd ≡ Some c.unwrap-base.result = sym c.odd_base.ensures ∙ c.unwrap-base.ensures in
+    let q = c.unwrap-base.result.0 in
+    let base : odd_base s.odd ^ t.odd_exponent ≡ 1 * q ^ t.odd_exponent = ap (λ k. k ^ t.odd_exponent) (ap odd_base e) ∙ omega arith in
+    let tables : AreLevels K (power K t.group_gen (1 * q ^ t.odd_exponent)) t.log_size_of_group c.as_slice-2.result.now =
+    subst (λ k. AreLevels K (power K t.group_gen k) t.log_size_of_group c.as_slice-2.result.now) base
+    (subst (AreLevels K _ t.log_size_of_group) (sym c.as_slice-2.ensures.value) (c.in_ok-tables.ensures.levels order)) in
     let shifted : AreShifted N L d (map m old) (item V (map m mid)) = λ j l.
     c.shift_to_coset.ensures.items j (subst (λ k. j < k) (sym of_fitted) l) ∙ ap (V.scale (power K t.offset j)) (fit j l) in
     ap (map m) (written_back c.mixed.new.xs _ _ (size_now ∙ sym c.in_ok-table.ensures.len))
-    ∙ mixed_kernel.forward N L m d order c.as_slice.result.now old mid c.mixed.new.xs table size_mid size_now shifted c.mixed.ensures.transformed
+    ∙ mixed_kernel.forward N L m d order (λ w. AreLevels K (power K w (1 * q ^ t.odd_exponent)) t.log_size_of_group c.as_slice-2.result.now) c.as_slice.result.now old mid c.mixed.new.xs table tables size_mid size_now shifted c.mixed.ensures.transformed
 
 pub returns-clause-cost : goal.returns-clause-cost
 returns-clause-cost g c =
@@ -54,3 +61,6 @@ mixed-requires-clause-above_one g c =
     let s = g.F.FftField.adicity in
     let e : s.odd ≡ Some c.unwrap-base.result = sym c.odd_base.ensures ∙ c.unwrap-base.ensures in
     subst (λ k. 1 < k) (ap odd_base e) (base_above s.odd c.unwrap-base.result g.met.F.FftField.roots_law.base e)
+
+pub mixed-requires-clause-even_part : goal.mixed-requires-clause-even_part
+mixed-requires-clause-even_part g c = ap length c.as_slice-2.ensures.value ∙ c.in_ok-tables.ensures.len

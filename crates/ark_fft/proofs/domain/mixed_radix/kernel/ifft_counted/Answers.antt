@@ -1,7 +1,8 @@
-use Rattle.std.proofs.Common.{◌≡◌, ℕ, map, length, Some, ◌<◌, sym, ap, subst, ◌∙◌}
+use Rattle.std.proofs.Common.{◌≡◌, ℕ, map, length, Some, ◌<◌, ◌*◌, ◌^◌, arith, sym, ap, subst, ◌∙◌}
 use Rattle.ark_math.specs.Domain.{Domain, mixed_radix}
-use Rattle.ark_math.specs.Field.{natural}
-use Rattle.ark_fft.specs.Halves.{ArePowers}
+use Rattle.ark_math.specs.Field.{natural, power}
+use Rattle.ark_math.proofs.Roots.Orthogonal.{order_of_inverse}
+use Rattle.ark_fft.specs.Halves.{ArePowers, AreLevels}
 use Rattle.ark_math.specs.Root.{HasOrder, odd_base}
 use Rattle.ark_math.proofs.Domains.MixedSizes.{base_above}
 use Rattle.ark_math.specs.Cost.{inverse}
@@ -34,8 +35,16 @@ returns-clause-inverse g c =
     let size_now : length now ≡ t.size = c.scale_by_powers.auto.xs ∙ size_mid in
     let table : ArePowers K t.group_gen_inv t.size c.as_slice.result.now =
     subst (ArePowers K t.group_gen_inv t.size) (sym c.as_slice.ensures.value) c.in_ok-table.ensures.table in
+    let s = g.F.FftField.adicity in
+    let e : s.odd ≡ Some c.unwrap-base.result = sym c.odd_base.ensures ∙ c.unwrap-base.ensures in
+    let q = c.unwrap-base.result.0 in
+    let base : odd_base s.odd ^ t.odd_exponent ≡ 1 * q ^ t.odd_exponent = ap (λ k. k ^ t.odd_exponent) (ap odd_base e) ∙ omega arith in
+    let inverse_order : HasOrder K t.group_gen_inv t.size = order_of_inverse K g.met.F.Field.field_laws t.group_gen t.group_gen_inv t.size order root_inverse in
+    let tables : AreLevels K (power K t.group_gen_inv (1 * q ^ t.odd_exponent)) t.log_size_of_group c.as_slice-2.result.now =
+    subst (λ k. AreLevels K (power K t.group_gen_inv k) t.log_size_of_group c.as_slice-2.result.now) base
+    (subst (AreLevels K _ t.log_size_of_group) (sym c.as_slice-2.ensures.value) (c.in_ok-tables.ensures.levels inverse_order)) in
     let is_inverse : IsInverse K V d (map m old) (map m now) =
-    backward g.met.F.Field.field_laws g.met.T.DomainCoeff.module_laws m d order t.group_gen_inv t.offset_inv t.size_inv c.as_slice.result.now old fitted c.mixed.new.xs now root_inverse offset_inverse size_inverse table size_fitted size_now fit c.mixed.ensures.transformed
+    backward g.met.F.Field.field_laws g.met.T.DomainCoeff.module_laws m d order (λ w. AreLevels K (power K w (1 * q ^ t.odd_exponent)) t.log_size_of_group c.as_slice-2.result.now) t.group_gen_inv t.offset_inv t.size_inv c.as_slice.result.now old fitted c.mixed.new.xs now root_inverse offset_inverse size_inverse table tables size_fitted size_now fit c.mixed.ensures.transformed
     (λ j l. c.scale_by_powers.ensures.items j (subst (λ k. j < k) (sym size_mid) l)) in
     subst (λ u. IsInverse K V d (map m old) (map m u)) (sym (written_back now _ _ (size_now ∙ sym c.in_ok-table.ensures.len))) is_inverse
 
@@ -56,3 +65,6 @@ mixed-requires-clause-above_one g c =
     let s = g.F.FftField.adicity in
     let e : s.odd ≡ Some c.unwrap-base.result = sym c.odd_base.ensures ∙ c.unwrap-base.ensures in
     subst (λ k. 1 < k) (ap odd_base e) (base_above s.odd c.unwrap-base.result g.met.F.FftField.roots_law.base e)
+
+pub mixed-requires-clause-even_part : goal.mixed-requires-clause-even_part
+mixed-requires-clause-even_part g c = ap length c.as_slice-2.ensures.value ∙ c.in_ok-tables.ensures.len

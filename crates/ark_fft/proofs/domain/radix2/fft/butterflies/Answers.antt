@@ -1,5 +1,4 @@
-use Rattle.std.proofs.Common.{refl, ◌≡◌, ◌*◌, ◌<◌, ◌≤◌, ℕ, map, length, get_or, ap, sym, subst, ◌∙◌, arith}
-use Rattle.std.proofs.lemmas.Nat.{mul-add-lt}
+use Rattle.std.proofs.Common.{refl, ◌≡◌, ◌<◌, ℕ, map, length, get_or, ap₂, sym, subst, ◌∙◌}
 use Rattle.std.proofs.lemmas.List.{get_or_read}
 use Rattle.ark_math.specs.Module.{item}
 use Rattle.ark_math.proofs.Lists.Lists.{read_at, written_more, written_rest}
@@ -8,28 +7,6 @@ use Rattle.ark_fft.proofs.Counts.{below_is_within, ended, itself, none_yet}
 use borrow.Author.Rules.{scaled_Fits}
 use borrow.Author.Count.{falls}
 use Rattle.ark_fft.proofs.domain.radix2.fft.butterflies.Goals as goal
-
-index_within : (i n s size : ℕ) → i < n → 0 < s → n * s ≤ size → i * s < size
-index_within i n s size below some enough = omega (arith, mul-add-lt i s 0 n below some, enough)
-
-pub overflow_mul-i : goal.overflow_mul-i
-overflow_mul-i g c =
-    let b = index_within c.loop-i.i (length c.args.lo.now) c.args.stride (length c.args.table.now) c.loop-i-test.true c.requires.stride_not_zero c.requires.enough in
-    omega (arith, b)
-
-pub offset_bounds-table-i : goal.offset_bounds-table-i
-offset_bounds-table-i g c =
-    below_is_within (c.loop-i.i * c.args.stride) (length c.args.table.now)
-    (index_within c.loop-i.i (length c.args.lo.now) c.args.stride (length c.args.table.now) c.loop-i-test.true c.requires.stride_not_zero c.requires.enough)
-
-pub bounds-table-i : goal.bounds-table-i
-bounds-table-i g c = index_within c.loop-i.i (length c.args.lo.now) c.args.stride (length c.args.table.now) c.loop-i-test.true c.requires.stride_not_zero c.requires.enough
-
-pub returns-clause-sums : goal.returns-clause-sums
-returns-clause-sums g c = λ i l. c.loop-i.invariant.sums i (subst (λ k. i < k) (sym (ended c.loop-i.i (length c.args.lo.now) c.loop-i.auto.i-end c.loop-i-test.false)) l)
-
-pub returns-clause-differences : goal.returns-clause-differences
-returns-clause-differences g c = λ i l. c.loop-i.invariant.differences i (subst (λ k. i < k) (sym (ended c.loop-i.i (length c.args.lo.now) c.loop-i.auto.i-end c.loop-i-test.false)) l)
 
 pub loop-i-preserved : goal.loop-i-preserved
 loop-i-preserved g c =
@@ -42,22 +19,25 @@ loop-i-preserved g c =
     let here = itself i in
     let rest_lo : m (get_or c.loop-i.lo i c.index-lo-i.result) ≡ item V (map m c.args.lo.now) i = read_at m V.zero c.loop-i.lo i c.index-lo-i.result in_lo ∙ v.rest_lo i here in
     let rest_hi : m (get_or c.loop-i.hi i c.index-hi-i.result) ≡ item V (map m c.args.hi.now) i = read_at m V.zero c.loop-i.hi i c.index-hi-i.result in_hi ∙ v.rest_hi i here in
-    let in_roots = index_within i (length c.args.lo.now) c.args.stride (length c.args.table.now) c.loop-i-test.true c.requires.stride_not_zero c.requires.enough in
-    let root : c.index-table-i.result ≡ get_or c.args.table.now (i * c.args.stride) g.F.Field.field.zero = get_or_read c.args.table.now _ _ in_roots c.index-table-i.is g.F.Field.field.zero in
+    let in_roots : i < length c.args.twiddles.now = subst (λ k. i < k) c.requires.enough c.loop-i-test.true in
+    let root : c.index-twiddles-i.result ≡ get_or c.args.twiddles.now i g.F.Field.field.zero = get_or_read c.args.twiddles.now _ _ in_roots c.index-twiddles-i.is g.F.Field.field.zero in
     let lo0 = λ (k : ℕ). item V (map m c.args.lo.now) k in
     let hi0 = λ (k : ℕ). item V (map m c.args.hi.now) k in
     record {
       counted = grows_twice v.counted c.butterfly.ensures.counted refl refl refl;
       sums = written_more m V.zero (λ k. V.plus (lo0 k) (hi0 k)) c.loop-i.lo i c.butterfly.new.lo in_lo v.sums
-          (c.butterfly.ensures.sum ∙ (ap (λ t. V.plus t (m (get_or c.loop-i.hi i c.index-hi-i.result))) rest_lo ∙ ap (V.plus (lo0 i)) rest_hi));
-      differences = written_more m V.zero (λ k. V.scale (get_or c.args.table.now (k * c.args.stride) g.F.Field.field.zero) (V.plus (lo0 k) (V.negated (hi0 k)))) c.loop-i.hi i c.butterfly.new.hi in_hi v.differences
-          (c.butterfly.ensures.difference
-          ∙ (ap (λ t. V.scale t (V.plus (m (get_or c.loop-i.lo i c.index-lo-i.result)) (V.negated (m (get_or c.loop-i.hi i c.index-hi-i.result))))) root
-          ∙ ap (V.scale (get_or c.args.table.now (i * c.args.stride) g.F.Field.field.zero))
-          (ap (λ t. V.plus t (V.negated (m (get_or c.loop-i.hi i c.index-hi-i.result)))) rest_lo ∙ ap (λ t. V.plus (lo0 i) (V.negated t)) rest_hi)));
+          (c.butterfly.ensures.sum ∙ ap₂ V.plus rest_lo rest_hi);
+      differences = written_more m V.zero (λ k. V.scale (get_or c.args.twiddles.now k g.F.Field.field.zero) (V.plus (lo0 k) (V.negated (hi0 k)))) c.loop-i.hi i c.butterfly.new.hi in_hi v.differences
+          (c.butterfly.ensures.difference ∙ ap₂ V.scale root (ap₂ (λ x y. V.plus x (V.negated y)) rest_lo rest_hi));
       rest_lo = written_rest m V.zero lo0 c.loop-i.lo i c.butterfly.new.lo v.rest_lo;
       rest_hi = written_rest m V.zero hi0 c.loop-i.hi i c.butterfly.new.hi v.rest_hi;
     }
+
+pub returns-clause-sums : goal.returns-clause-sums
+returns-clause-sums g c = λ i l. c.loop-i.invariant.sums i (subst (λ k. i < k) (sym (ended c.loop-i.i (length c.args.lo.now) c.loop-i.auto.i-end c.loop-i-test.false)) l)
+
+pub returns-clause-differences : goal.returns-clause-differences
+returns-clause-differences g c = λ i l. c.loop-i.invariant.differences i (subst (λ k. i < k) (sym (ended c.loop-i.i (length c.args.lo.now) c.loop-i.auto.i-end c.loop-i-test.false)) l)
 
 pub loop-i-init : goal.loop-i-init
 loop-i-init g c = record {
@@ -79,6 +59,12 @@ offset_bounds-hi-i g c = let inside : c.loop-i.i < length c.args.hi.now = subst 
 
 pub bounds-hi-i : goal.bounds-hi-i
 bounds-hi-i g c = subst (λ k. c.loop-i.i < k) (sym (c.loop-i.auto.hi ∙ sym c.requires.same)) c.loop-i-test.true
+
+pub offset_bounds-twiddles-i : goal.offset_bounds-twiddles-i
+offset_bounds-twiddles-i g c = below_is_within _ _ (subst (λ k. c.loop-i.i < k) c.requires.enough c.loop-i-test.true)
+
+pub bounds-twiddles-i : goal.bounds-twiddles-i
+bounds-twiddles-i g c = subst (λ k. c.loop-i.i < k) c.requires.enough c.loop-i-test.true
 
 pub loop-i-smaller : goal.loop-i-smaller
 loop-i-smaller g c = falls (length c.args.lo.now) c.loop-i.i c.loop-i-test.true

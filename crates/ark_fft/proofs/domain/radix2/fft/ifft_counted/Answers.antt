@@ -22,7 +22,7 @@ in_order-requires-clause-fits g c = subst (λ k. k < 2 ^ 64) (sym (c.as_mut_slic
 
 pub in_order-requires-clause-half : goal.in_order-requires-clause-half
 in_order-requires-clause-half g c =
-    ap length c.as_slice.ensures.value ∙ (c.in_ok-table.ensures.table.len ∙ ap (λ k. k / 2) (sym (c.as_mut_slice-xs.ensures.len ∙ c.in_ok-table.ensures.len)))
+    ap length c.as_mut_slice.ensures.value ∙ (c.in_ok-table.ensures.table.len ∙ ap (λ k. k / 2) (sym (c.as_mut_slice-xs.ensures.len ∙ c.in_ok-table.ensures.len)))
 
 pub returns-clause-inverse : goal.returns-clause-inverse
 returns-clause-inverse g c =
@@ -46,10 +46,10 @@ returns-clause-inverse g c =
     let size_fitted : length fitted ≡ t.size = c.as_mut_slice-xs.ensures.len ∙ c.in_ok-table.ensures.len in
     let size_mid : length c.in_order.new.xs ≡ t.size = c.in_order.auto.xs ∙ size_fitted in
     let size_now : length now ≡ t.size = c.scale_by_powers.auto.xs ∙ size_mid in
-    let table : ArePowers K t.group_gen_inv (t.size / 2) c.as_slice.result.now =
-    subst (ArePowers K t.group_gen_inv (t.size / 2)) (sym c.as_slice.ensures.value) c.in_ok-table.ensures.table in
+    let table : ArePowers K t.group_gen_inv (t.size / 2) c.as_mut_slice.result.now =
+    subst (ArePowers K t.group_gen_inv (t.size / 2)) (sym c.as_mut_slice.ensures.value) c.in_ok-table.ensures.table in
     let is_inverse : IsInverse K V d (map m old) (map m now) =
-    backward g.met.F.Field.field_laws g.met.T.DomainCoeff.module_laws m d t.log_size_of_group is_power order t.group_gen_inv t.offset_inv t.size_inv c.as_slice.result.now old fitted c.in_order.new.xs now root_inverse offset_inverse size_inverse table size_fitted size_now fit c.in_order.ensures.sums
+    backward g.met.F.Field.field_laws g.met.T.DomainCoeff.module_laws m d t.log_size_of_group is_power order t.group_gen_inv t.offset_inv t.size_inv c.as_mut_slice.result.now old fitted c.in_order.new.xs now root_inverse offset_inverse size_inverse table size_fitted size_now fit c.in_order.ensures.sums
     (λ j l. c.scale_by_powers.ensures.items j (subst (λ k. j < k) (sym size_mid) l)) in
     subst (λ u. IsInverse K V d (map m old) (map m u)) (sym (written_back now _ _ (size_now ∙ sym c.in_ok-table.ensures.len))) is_inverse
 

@@ -24,7 +24,7 @@ in_order-requires-clause-fits g c = subst (λ k. k < 2 ^ 64) (sym (c.shift_to_co
 
 pub in_order-requires-clause-half : goal.in_order-requires-clause-half
 in_order-requires-clause-half g c =
-    ap length c.as_slice.ensures.value
+    ap length c.as_mut_slice.ensures.value
     ∙ (c.in_ok-table.ensures.table.len ∙ ap (λ k. k / 2) (sym (c.shift_to_coset.auto.xs ∙ (c.as_mut_slice-xs.ensures.len ∙ c.in_ok-table.ensures.len))))
 
 pub returns-clause-transform : goal.returns-clause-transform
@@ -42,7 +42,7 @@ returns-clause-transform g c =
     let fitted = c.as_mut_slice-xs.result.now in
     let fit : (j : ℕ) → j < t.size → item V (map m fitted) j ≡ item V (map m old) j = λ j l.
     ap (λ xs. item V (map m xs) j) c.as_mut_slice-xs.ensures.value ∙ c.in_ok-table.ensures.fitted j l in
-    let table : ArePowers K t.group_gen (t.size / 2) c.as_slice.result.now = subst (ArePowers K t.group_gen (t.size / 2)) (sym c.as_slice.ensures.value) c.in_ok-table.ensures.table in
+    let table : ArePowers K t.group_gen (t.size / 2) c.as_mut_slice.result.now = subst (ArePowers K t.group_gen (t.size / 2)) (sym c.as_mut_slice.ensures.value) c.in_ok-table.ensures.table in
     let mid = c.shift_to_coset.new.xs in
     let of_fitted : length fitted ≡ t.size = c.as_mut_slice-xs.ensures.len ∙ c.in_ok-table.ensures.len in
     let size_mid : length mid ≡ t.size = c.shift_to_coset.auto.xs ∙ of_fitted in
@@ -50,7 +50,7 @@ returns-clause-transform g c =
     let shifted : AreShifted N L d (map m old) (item V (map m mid)) = λ j l.
     c.shift_to_coset.ensures.items j (subst (λ k. j < k) (sym of_fitted) l) ∙ ap (V.scale (power K t.offset j)) (fit j l) in
     ap (map m) (written_back c.in_order.new.xs _ _ (size_now ∙ sym c.in_ok-table.ensures.len))
-    ∙ radix2_kernel.forward N L m d t.log_size_of_group is_power order c.as_slice.result.now old mid c.in_order.new.xs table size_mid size_now shifted c.in_order.ensures.sums
+    ∙ radix2_kernel.forward N L m d t.log_size_of_group is_power order c.as_mut_slice.result.now old mid c.in_order.new.xs table size_mid size_now shifted c.in_order.ensures.sums
 
 pub returns-clause-cost : goal.returns-clause-cost
 returns-clause-cost g c =

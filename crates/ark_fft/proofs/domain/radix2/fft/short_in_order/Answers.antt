@@ -1,11 +1,10 @@
-use Rattle.std.proofs.Common.{◌≡◌, ◌-◌, ◌/◌, ◌<◌, ◌≤◌, ◌^◌, ℕ, arith, length, map, take, drop, get_or, ap, ◌∙◌, length-take-le, length-append, length-drop, ◌++◌, ◌+◌, ◌*◌, ◌%◌, ap₂, sym, mod-eq_of_lt}
-use Rattle.std.proofs.Math.Nat.{one-mul}
-use Rattle.std.proofs.Math.Pow.{pow_mono, pow_pos, pow-lt}
+use Rattle.std.proofs.Common.{◌≡◌, ◌-◌, ◌/◌, ◌<◌, ◌≤◌, ◌^◌, ℕ, arith, length, map, take, drop, get_or, ap, ◌∙◌, length-take-le, length-append, length-drop, ◌++◌, ◌+◌, ◌*◌, ap₂, sym}
+use Rattle.std.proofs.Math.Pow.{pow_mono, pow_pos}
 use Rattle.std.proofs.lemmas.Nat.{pow-add}
 use Rattle.ark_math.specs.Field.{power}
 use Rattle.ark_math.specs.Module.{item}
 use Rattle.ark_fft.specs.Halves.{reversed}
-use Rattle.ark_fft.proofs.Halving.{few_levels}
+use Rattle.ark_fft.proofs.Halving.{few_levels, shifted}
 use Rattle.ark_fft.proofs.Joining.{AreBlocks, blocks_spread, first_items}
 use Rattle.ark_fft.proofs.domain.radix2.fft.short_in_order.Goals as goal
 
@@ -35,10 +34,6 @@ overflow_shl-log_block g c =
     let b : 2 ^ c.args.levels < 2 ^ 64 = omega arith in
     let f = few_levels c.args.levels b in
     omega arith
-
--- a shifted one is a power
-shifted : (k : ℕ) → k < 64 → 1 * 2 ^ k % 18446744073709551616 ≡ 2 ^ k
-shifted k l = mod-eq_of_lt (omega (arith, pow-lt l)) ∙ one-mul (2 ^ k)
 
 pub spread_out-requires : goal.spread_out-requires
 spread_out-requires g c =
