@@ -1,13 +1,13 @@
 //! The radix 2 transform by halves, and its inverse.
 
-ghost use Rattle.std.specs.Prelude.{◌≡◌, ◌≢◌, ℕ, true, false, IsOkUnless, IfOk, OnOk, OnErr, List, map};
+ghost use Rattle.std.specs.Prelude.{◌≡◌, ◌≢◌, ◌⊎◌, ℕ, true, false, IsOkUnless, IfOk, OnOk, OnErr, List, map};
 ghost use Rattle.std.specs.Prelude.{length, get_or, take, ◌+◌, ◌-◌, ◌*◌, ◌/◌, ◌≤◌, ◌<◌, ◌^◌, vec_len};
 ghost use Rattle.ark_math.specs.Domain.{radix2};
 ghost use Rattle.ark_fft.specs.Coset.{coset_domain};
 ghost use Rattle.ark_math.specs.Field.{FieldOn, power};
 ghost use Rattle.ark_math.specs.Transform.{transform, IsInverse};
 ghost use Rattle.ark_math.proofs.Transforms.Places.{dft_at};
-ghost use Rattle.ark_fft.specs.Halves.{reversed, ArePowers, IsHalfTable, AreLevels};
+ghost use Rattle.ark_fft.specs.Halves.{reversed, ArePowers, IsHalfTable, AreLevels, IsDealt};
 ghost use Rattle.ark_math.specs.Module.{ModuleOn, item};
 ghost use Rattle.ark_math.specs.Cost.{GrowsBy, butterfly_counts, forward, inverse};
 ghost use Rattle.ark_traits.specs.Cost.{GrowsByCost};
@@ -160,67 +160,126 @@ fn next_reversed(_i: usize, before: usize, levels: u32) -> usize
     left + bit
 }
 
-/// Exchanges the highest bit of each index with the lowest one: lo's odd items with hi's even ones.
-fn exchange_ends<T>(lo: &mut [T], hi: &mut [T])
-    requires same { length lo.old ≡ length hi.old }
-    ensures lo_even { (k : ℕ) (d : T) → k < length lo.old / 2 → get_or lo.new (2 * k) d
-        ≡ get_or lo.old (2 * k) d }
-    ensures lo_odd { (k : ℕ) (d : T) → k < length lo.old / 2 → get_or lo.new (2 * k + 1) d
-        ≡ get_or hi.old (2 * k) d }
-    ensures hi_even { (k : ℕ) (d : T) → k < length lo.old / 2 → get_or hi.new (2 * k) d
-        ≡ get_or lo.old (2 * k + 1) d }
-    ensures hi_odd { (k : ℕ) (d : T) → k < length lo.old / 2 → get_or hi.new (2 * k + 1) d
-        ≡ get_or hi.old (2 * k + 1) d }
-{
-    for k in 0..lo.len() / 2 {
-        mem::swap(&mut lo[2 * k + 1], &mut hi[2 * k]);
-    }
-}
-
-/// Exchanges two pairs of neighbours.
-fn swap_pairs<T>(xs: &mut [T], i: usize, j: usize)
+/// Exchanges two items.
+fn exchange<T>(xs: &mut [T], i: usize, j: usize)
     requires apart { i < j }
-    requires within { 2 * j + 1 < length xs.old }
-    ensures first { (b : ℕ) (d : T) → b < 2 → get_or xs.new (2 * i + b) d ≡ get_or xs.old (2 * j + b) d }
-    ensures second { (b : ℕ) (d : T) → b < 2 → get_or xs.new (2 * j + b) d ≡ get_or xs.old (2 * i + b) d }
-    ensures others { (k b : ℕ) (d : T) → b < 2 → k ≢ i → k ≢ j → get_or xs.new (2 * k + b) d
-        ≡ get_or xs.old (2 * k + b) d }
+    requires within { j < length xs.old }
+    ensures first { (d : T) → get_or xs.new i d ≡ get_or xs.old j d }
+    ensures second { (d : T) → get_or xs.new j d ≡ get_or xs.old i d }
+    ensures others { (k : ℕ) (d : T) → k ≢ i → k ≢ j → get_or xs.new k d ≡ get_or xs.old k d }
 {
-    xs.swap(2 * i, 2 * j);
-    xs.swap(2 * i + 1, 2 * j + 1);
+    xs.swap(i, j);
 }
 
-/// Puts each pair of neighbours, of two lists, at the index that has the bits of its own backwards.
-fn bit_reverse_pairs<T>(lo: &mut [T], hi: &mut [T], levels: u32)
-    requires few { levels < 63 }
-    requires lo_size { length lo.old ≡ 2 * 2 ^ levels }
-    requires hi_size { length hi.old ≡ 2 * 2 ^ levels }
-    ensures lo_pairs { (r b : ℕ) (d : T) → b < 2 → r < 2 ^ levels → get_or lo.new (2 * r + b) d
-        ≡ get_or lo.old (2 * reversed levels r + b) d }
-    ensures hi_pairs { (r b : ℕ) (d : T) → b < 2 → r < 2 ^ levels → get_or hi.new (2 * r + b) d
-        ≡ get_or hi.old (2 * reversed levels r + b) d }
+/// Puts each item of a short list at the index that has the bits of its own backwards.
+fn bit_reverse_items<T>(xs: &mut [T], levels: u32)
+    requires few { levels < 64 }
+    requires size { length xs.old ≡ 2 ^ levels }
+    ensures { (p : ℕ) (d : T) → p < 2 ^ levels → get_or xs.new p d ≡ get_or xs.old (reversed levels p) d }
 {
     let mut j = 0;
-    for i in 1..lo.len() / 2 {
+    for i in 1..xs.len() {
         j = next_reversed(i - 1, j, levels);
         if i < j {
-            swap_pairs(lo, i, j);
-            swap_pairs(hi, i, j);
+            exchange(xs, i, j);
         }
     }
 }
 
-/// Puts each item at the index that has the bits of its own backwards.
+/// Exchanges two blocks of four neighbours.
+fn swap_fours<T>(xs: &mut [T], i: usize, j: usize)
+    requires apart { i < j }
+    requires within { 4 * j + 3 < length xs.old }
+    ensures first { (b : ℕ) (d : T) → b < 4 → get_or xs.new (4 * i + b) d ≡ get_or xs.old (4 * j + b) d }
+    ensures second { (b : ℕ) (d : T) → b < 4 → get_or xs.new (4 * j + b) d ≡ get_or xs.old (4 * i + b) d }
+    ensures others { (k b : ℕ) (d : T) → b < 4 → k ≢ i → k ≢ j → get_or xs.new (4 * k + b) d
+        ≡ get_or xs.old (4 * k + b) d }
+{
+    xs.swap(4 * i, 4 * j);
+    xs.swap(4 * i + 1, 4 * j + 1);
+    xs.swap(4 * i + 2, 4 * j + 2);
+    xs.swap(4 * i + 3, 4 * j + 3);
+}
+
+/// Puts each block of four neighbours at the index that has the bits of its own backwards.
+fn bit_reverse_fours<T>(xs: &mut [T], levels: u32)
+    requires few { levels < 62 }
+    requires size { length xs.old ≡ 4 * 2 ^ levels }
+    ensures { (r b : ℕ) (d : T) → b < 4 → r < 2 ^ levels → get_or xs.new (4 * r + b) d
+        ≡ get_or xs.old (4 * reversed levels r + b) d }
+{
+    let mut j = 0;
+    for i in 1..xs.len() / 4 {
+        j = next_reversed(i - 1, j, levels);
+        if i < j {
+            swap_fours(xs, i, j);
+        }
+    }
+}
+
+/// Exchanges the two highest bits of an index with the two lowest ones, backwards, at block k of each quarter of a list.
+fn turn_block<T>(first: &mut [T], second: &mut [T], third: &mut [T], fourth: &mut [T], k: usize)
+    requires within { 4 * k + 3 < length first.old }
+    requires second_len { length second.old ≡ length first.old }
+    requires third_len { length third.old ≡ length first.old }
+    requires fourth_len { length fourth.old ≡ length first.old }
+    ensures first { IsDealt first.old second.old third.old fourth.old 0 k first.new }
+    ensures second { IsDealt first.old second.old third.old fourth.old 2 k second.new }
+    ensures third { IsDealt first.old second.old third.old fourth.old 1 k third.new }
+    ensures fourth { IsDealt first.old second.old third.old fourth.old 3 k fourth.new }
+    ensures rest { (i : ℕ) (d : T) → (i < 4 * k) ⊎ (4 * k + 4 ≤ i) →
+        (get_or first.new i d ≡ get_or first.old i d) × (get_or second.new i d ≡ get_or second.old i d)
+        × (get_or third.new i d ≡ get_or third.old i d) × (get_or fourth.new i d ≡ get_or fourth.old i d) }
+{
+    mem::swap(&mut first[4 * k + 1], &mut third[4 * k]);
+    mem::swap(&mut first[4 * k + 2], &mut second[4 * k]);
+    mem::swap(&mut first[4 * k + 3], &mut fourth[4 * k]);
+    mem::swap(&mut second[4 * k + 1], &mut third[4 * k + 2]);
+    mem::swap(&mut second[4 * k + 3], &mut fourth[4 * k + 2]);
+    mem::swap(&mut third[4 * k + 3], &mut fourth[4 * k + 1]);
+}
+
+/// Exchanges the two highest bits of each index with the two lowest ones, backwards. The list is given by its quarters.
+fn turn_blocks<T>(
+    first: &mut [T],
+    second: &mut [T],
+    third: &mut [T],
+    fourth: &mut [T],
+    blocks: usize,
+)
+    requires first_len { length first.old ≡ 4 * blocks }
+    requires second_len { length second.old ≡ 4 * blocks }
+    requires third_len { length third.old ≡ 4 * blocks }
+    requires fourth_len { length fourth.old ≡ 4 * blocks }
+    ensures first { (k : ℕ) → k < blocks → IsDealt first.old second.old third.old fourth.old 0 k first.new }
+    ensures second { (k : ℕ) → k < blocks → IsDealt first.old second.old third.old fourth.old 2 k second.new }
+    ensures third { (k : ℕ) → k < blocks → IsDealt first.old second.old third.old fourth.old 1 k third.new }
+    ensures fourth { (k : ℕ) → k < blocks → IsDealt first.old second.old third.old fourth.old 3 k fourth.new }
+{
+    for k in 0..blocks {
+        turn_block(first, second, third, fourth, k);
+    }
+}
+
+/// Puts each item at the index that has the bits of its own backwards: first by the two highest and the two lowest bits,
+/// and then, in each quarter, by those between them.
 pub(crate) fn bit_reverse<T>(xs: &mut [T], levels: u32)
     requires few { levels < 64 }
     requires size { length xs.old ≡ 2 ^ levels }
     ensures { (p : ℕ) (d : T) → p < 2 ^ levels → get_or xs.new p d ≡ get_or xs.old (reversed levels p) d }
 {
-    if levels > 1 {
-        let half = xs.len() / 2;
-        let (lo, hi) = xs.split_at_mut(half);
-        exchange_ends(lo, hi);
-        bit_reverse_pairs(lo, hi, levels - 2);
+    if levels < 4 {
+        bit_reverse_items(xs, levels);
+    } else {
+        let quarter = xs.len() / 4;
+        let (lo, hi) = xs.split_at_mut(2 * quarter);
+        let (first, second) = lo.split_at_mut(quarter);
+        let (third, fourth) = hi.split_at_mut(quarter);
+        turn_blocks(first, second, third, fourth, quarter / 4);
+        bit_reverse_fours(first, levels - 4);
+        bit_reverse_fours(second, levels - 4);
+        bit_reverse_fours(third, levels - 4);
+        bit_reverse_fours(fourth, levels - 4);
     }
 }
 
