@@ -8,12 +8,11 @@ mod batches;
 mod bytes;
 mod codes;
 mod draws;
-mod large_field;
 mod points;
 mod polynomials;
 mod transforms;
 
-use ark_base::{CanonicalSerialize, Compress, F433, F65537, FftField, Field, Polynomial};
+use ark_base::{BabyBear, CanonicalSerialize, Compress, F433, F65537, FftField, Field, Polynomial};
 use ark_poly::univariate::{DensePolynomial, SparsePolynomial};
 use ark_poly::{
     DenseMultilinearExtension, DenseUVPolynomial, EvaluationDomain, MixedRadixEvaluationDomain,
@@ -23,7 +22,6 @@ use batches::{Number, report};
 use bytes::{ReadBack, Written};
 use codes::report_codes;
 use draws::Draws;
-use large_field::F2013265921;
 use points::{BoundTable, VARIABLES, ValueAtPoint, polynomial_of_terms};
 use polynomials::{Interpolation, LongDivision, OfTwo, Quotients, SparseProduct, Value, Way};
 use std::alloc::{AllocGlobal, Global};
@@ -43,7 +41,7 @@ fn main(rt: HostRuntime) -> anyhow::Result<()> {
     report_polynomials::<F65537>(&rt, rt.alloc(), timed, &mut draws)?;
     report_codes::<F65537>(&rt, rt.alloc(), timed)?;
     if timed {
-        report_growth::<F2013265921>(&rt, rt.alloc(), &mut draws)?;
+        report_growth::<BabyBear>(&rt, rt.alloc(), &mut draws)?;
     }
     Ok(())
 }
