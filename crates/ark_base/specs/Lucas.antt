@@ -1,8 +1,8 @@
 -- Lucas' test: a number is prime, and g a generator of its units, where g to the number less one leaves one, and g to
 -- each part of that by a prime does not.
-use Rattle.std.proofs.Common.{◌≡◌, ◌≢◌, ℕ, zero, suc, ◌+◌, ◌-◌, ◌*◌, ◌/◌, ◌%◌, ◌^◌, ◌<◌, ◌≤◌, Bool, true, not, ◌==◌, List, [], ◌∷◌, sym, ap, subst, ◌∙◌, inl, inr, arith, refl, mod-eq_of_lt, mod-lt, mul_assoc, mul_comm, mul_right_comm, one-mul, mul-one, zero-mul, mul-zero, lt_trans, lt_of_le_of_lt, div-le_self, suc-ne-zero, nat_le, if◌then◌else◌, le_of_lt}
+use Rattle.std.proofs.Common.{◌≡◌, ◌≢◌, ℕ, zero, suc, ◌+◌, ◌-◌, ◌*◌, ◌/◌, ◌%◌, ◌^◌, ◌<◌, ◌≤◌, Bool, true, not, ◌==◌, List, [], ◌∷◌, sym, ap, subst, ◌∙◌, inl, inr, arith, mod-eq_of_lt, mod-lt, mul_assoc, mul_right_comm, one-mul, mul-one, zero-mul, mul-zero, lt_trans, lt_of_le_of_lt, div-le_self, suc-ne-zero, nat_le, if◌then◌else◌, le_of_lt}
 use Rattle.std.specs.Prelude.{◌&&◌, nat_lt}
-use Rattle.std.proofs.Math.Nat.{mod-add-div, mod-add-div', mul-mod_left, mul-mod_right, pow-zero, eq_of_mul-eq-mul_right, zero-mod, mod-mod_of_dvd, div-eq_of_eq-mul_left, mul-le-mul_left, mul-le-mul_right, mul-suc}
+use Rattle.std.proofs.Math.Nat.{mod-add-div, mod-add-div', mul-mod_right, pow-zero, eq_of_mul-eq-mul_right, zero-mod, mod-mod_of_dvd, div-eq_of_eq-mul_left, mul-le-mul_left, mul-le-mul_right, mul-suc}
 use Rattle.std.proofs.lemmas.Nat.{pow-add, mul-mod_first}
 use Rattle.std.proofs.lemmas.Nat.Gcd.{dvd_of_mod-eq-zero}
 use Rattle.std.proofs.lemmas.Bool.{and_parts, not-true, eqb-true, eqb-false, ltb-true, cases_lt, cases_eq, cond-true, cond-false, eq-eqb, ne_eqb}

@@ -1,11 +1,11 @@
 -- What a modulus shows of its prime and its generator: the tests that compute, and what they tell.
-use Rattle.std.proofs.Common.{◌≡◌, ◌≢◌, ℕ, zero, suc, ◌-◌, ◌*◌, ◌/◌, ◌<◌, ◌≤◌, ◌%◌, ◌^◌, Option, None, Some, Bool, true, ◌==◌, ◌&&◌, ◌||◌, nat_lt, nat_le, List, inl, inr, arith, ap, sym, subst, ◌∙◌, mod-lt, le_of_lt, mul_comm, mul_right_comm, zero-mul, pow-suc}
+use Rattle.std.proofs.Common.{◌≡◌, ℕ, zero, suc, ◌-◌, ◌*◌, ◌/◌, ◌<◌, ◌≤◌, ◌%◌, ◌^◌, Option, None, Some, Bool, true, ◌==◌, ◌&&◌, ◌||◌, List, inl, inr, arith, ap, sym, subst, ◌∙◌, mod-lt, le_of_lt, mul_comm, mul_right_comm, zero-mul, pow-suc}
 use Rattle.std.proofs.Math.Nat.{mod-mod_of_dvd, zero-mod, mul-mod_left, mod-add-div', div-lt_self}
 use Rattle.std.proofs.lemmas.Nat.Gcd.{dvd_of_mod-eq-zero}
 use Rattle.std.proofs.lemmas.Bool.{and_parts, or_cases, eqb-true, leb-true, cases_eq}
 use Rattle.ark_math.specs.Root.{Adicity, odd_base, odd_most, greatest_size}
 use Rattle.ark_math.specs.Prime.{IsPrime, power_mod}
-use Rattle.ark_base.specs.Modulus.{IsGenerator, AreSizes, IsGeneratorFor}
+use Rattle.ark_base.specs.Modulus.{AreSizes, IsGeneratorFor}
 use Rattle.ark_math.proofs.Numbers.Prime.{prime_from_test}
 use Rattle.ark_math.proofs.Roots.Generator.{is_odd_base}
 use Rattle.ark_base.specs.Lucas.{passes, is_small_prime, prime_by_lucas, generator_by_lucas}

@@ -168,14 +168,13 @@ impl<M: PrimeModulus> PrimeField<M> {
         PrimeField::reduce_once(PrimeField::<M>::less_once(rest))
     }
 
-    /// A number below thrice a prime of 31 bits, less the prime where it isn't below it.
+    /// A number below thrice the prime, less the prime where it isn't below it.
     fn less_once(value: u64) -> u64
-        requires small { M.MODULUS < 2 ^ 31 }
         requires thrice { value < 3 * M.MODULUS }
         ensures same { result % M.MODULUS ≡ value % M.MODULUS }
         ensures below { result < 2 * M.MODULUS }
     {
-        if value.wrapping_sub(M::MODULUS) >> 63 == 1 {
+        if PrimeField::<M>::is_below(value) {
             value
         } else {
             value - M::MODULUS
@@ -234,10 +233,10 @@ impl<M: PrimeModulus> PrimeField<M> {
         }
     }
 
-    /// Whether a number below twice the modulus is below the modulus. Where products need no division, loops are
+    /// Whether a number below thrice the modulus is below the modulus. Where products need no division, loops are
     /// compiled to take two items at a time, and the sign of a difference is what those instructions compare.
     fn is_below(value: u64) -> bool
-        requires { value < 2 * M.MODULUS }
+        requires { value < 3 * M.MODULUS }
         ensures below { result ≡ true → value < M.MODULUS }
         ensures above { result ≡ false → M.MODULUS ≤ value }
     {

@@ -15,9 +15,9 @@ pub overflow_sub-rest : goal.overflow_sub-rest
 overflow_sub-rest g c =
     rw (c.MODULUS.ensures, c.MODULUS-2.ensures) (near _ c.args.value c.requires.above c.requires.fits).below
 
-pub less_once-requires-clause-thrice : goal.less_once-requires-clause-thrice
-less_once-requires-clause-thrice g c =
-    rw (c.MODULUS.ensures, c.MODULUS-2.ensures) (near _ c.args.value c.requires.above c.requires.fits).thrice
+pub less_once-requires : goal.less_once-requires
+less_once-requires g c =
+    rw (c.MODULUS.ensures, c.MODULUS-2.ensures) (record { thrice = (near _ c.args.value c.requires.above c.requires.fits).thrice })
 
 pub returns : goal.returns
 returns g c =

@@ -12,7 +12,7 @@ divide-init g c =
 
 pub divide-preserved : goal.divide-preserved
 divide-preserved g c =
-    rw (next_factor g.M.PrimeModulus.modulus.prime (c.divide.last / c.divide.rest) _ _ _ _ _ c.reduce_once.ensures c.mul.ensures c.sub-next_factor.ensures)
+    rw (next_factor g.M.PrimeModulus.modulus.prime (c.divide.last / c.divide.rest) c.reduce_once.result c.divide.last_factor c.divide.factor c.mul.result c.sub-next_factor.result c.reduce_once.ensures c.mul.ensures c.sub-next_factor.ensures)
     (euclid_steps _ c.args.self.now.value _ _ _ _ (pos_of_ne-zero c.divide-test.true) c.divide.invariant)
 
 pub returns-then-self-eq0-clause-none : goal.returns-then-self-eq0-clause-none
