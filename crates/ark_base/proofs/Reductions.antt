@@ -67,10 +67,7 @@ quotient_near p x m h q u r s em lu eh lr eq ls lh =
     ap (λ y. y + h * u) (mul_assoc h m p) ∙ sym (mul-add h (m * p) u) ∙ ap (λ y. h * y) em in
     near_parts (q * p) (s * p) (h * m * p) (h * u) h r x p es et eh lr (mul-le-mul_right p (le_of_lt ls)) (mul-le h u 4294967296 p (le_of_lt lh) (le_of_lt lu))
 
-less_than : (x y z : ℕ) → y ≤ x → x < y + z → x - y < z
-less_than x y z h i = omega arith
-
-rest_same : (p x q : ℕ) → q * p ≤ x → (x - q * p) % p ≡ x % p
+pub rest_same : (p x q : ℕ) → q * p ≤ x → (x - q * p) % p ≡ x % p
 rest_same p x q h =
     let whole : x - q * p + q * p ≡ x = omega (arith, h) in
     sym (add-mul-mod_self_right (x - q * p) q p) ∙ ap (λ y. y % p) whole
@@ -85,13 +82,13 @@ upper_small h r x e l = omega arith
 half_small : (q s y : ℕ) → q * 4294967296 + s ≡ y → y < 18446744073709551616 → q < 4294967296
 half_small q s y e l = omega arith
 
+-- the quotient of x by p, by way of 2^62 by p
 pub record IsNear (p x : ℕ) : Type 0 where
   pub factor : Fits w32 (4611686018427387904 / p)
   pub product : Fits w64 (x / 1073741824 * (4611686018427387904 / p))
-  pub quotient : Fits w32 (x / 1073741824 * (4611686018427387904 / p) / 4294967296)
-  pub below : x / 1073741824 * (4611686018427387904 / p) / 4294967296 * p ≤ x
-  pub thrice : x - x / 1073741824 * (4611686018427387904 / p) / 4294967296 * p < 3 * p
-  pub same : (x - x / 1073741824 * (4611686018427387904 / p) / 4294967296 * p) % p ≡ x % p
+  pub half_word : x / 1073741824 * (4611686018427387904 / p) / 4294967296 < 4294967296
+  pub not_above : x / 1073741824 * (4611686018427387904 / p) / 4294967296 * p ≤ x
+  pub near : x < x / 1073741824 * (4611686018427387904 / p) / 4294967296 * p + 3 * p
 
 some_of : (p : ℕ) → 1073741824 < p → 0 < p
 some_of p lo = omega arith
@@ -119,10 +116,9 @@ near p x lo hi =
     record {
       factor = Fits-of_lt {w = w32} lm;
       product = Fits-of_lt {w = w64} product;
-      quotient = Fits-of_lt {w = w32} (half_small q s (h * m) eq product);
-      below = both.0;
-      thrice = less_than x (q * p) (3 * p) both.0 both.1;
-      same = rest_same p x q both.0;
+      half_word = half_small q s (h * m) eq product;
+      not_above = both.0;
+      near = both.1;
     }
 
 -- ---- 2^64 - 2^32 + 1, of which 2^64 leaves 2^32 - 1, and 2^96 leaves minus one

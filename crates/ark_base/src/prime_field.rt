@@ -19,8 +19,8 @@ use std::default::Default;
 use std::marker::PhantomData;
 use std::ops::{Add, AddAssign, Mul, MulAssign, Neg, Sub, SubAssign};
 
-/// A prime below 2^64 and its constants. A field is added by one impl with two facts: `modulus` is a few computed checks,
-/// and `together` the same line for every field.
+/// A prime below 2^64 and its constants. A field is added by one impl with two facts: `modulus` is a few computed
+/// checks, and `together` the same line for every field.
 pub trait PrimeModulus {
     ghost MODULUS: { ℕ };
 
@@ -108,7 +108,8 @@ impl<M: PrimeModulus> PrimeField<M> {
         }
     }
 
-    /// Whether the prime is one more than a power of two of half a word, so that products are reduced without a division.
+    /// Whether the prime is one more than a power of two, and of half a word: products are then reduced without a
+    /// division.
     fn is_fermat() -> bool
         ensures small { result ≡ true → M.MODULUS ≤ 2 ^ 32 }
     {
@@ -130,8 +131,8 @@ impl<M: PrimeModulus> PrimeField<M> {
         M::MODULUS == 18446744069414584321
     }
 
-    /// The residue of a product of two numbers below a prime of half a word. A Fermat prime's predecessor is minus one,
-    /// and quotient and rest by it are bits; modulo a small prime half the bits are enough.
+    /// The residue of a product of two numbers below a prime of half a word. A Fermat prime's predecessor is minus
+    /// one, and quotient and rest by it are bits; modulo a small prime half the bits are enough.
     fn reduce_product(value: u64) -> Self
         requires half_word { M.MODULUS ≤ 2 ^ 32 }
         requires product { value ≤ (M.MODULUS - 1) * (M.MODULUS - 1) }
@@ -154,18 +155,30 @@ impl<M: PrimeModulus> PrimeField<M> {
         }
     }
 
-    /// The residue modulo a prime of 31 bits. The quotient is that of the value's upper bits, by a product in place of a
-    /// division, and at most two too small; all factors have 32 bits.
+    /// The residue modulo a prime of 31 bits.
     fn reduce_by_products(value: u64) -> Self
         requires above { 2 ^ 30 < M.MODULUS }
         requires below { M.MODULUS < 2 ^ 31 }
         requires fits { value < 2 ^ 62 }
         ensures { result.value ≡ value % M.MODULUS }
     {
-        let factor = (1 << 62) / M::MODULUS;
-        let quotient = (value >> 30) as u32 as u64 * factor as u32 as u64 >> 32;
+        let quotient = PrimeField::<M>::near_quotient(value);
         let rest = value - quotient as u32 as u64 * M::MODULUS as u32 as u64;
-        PrimeField::reduce_once(PrimeField::<M>::less_once(rest))
+        let less = PrimeField::<M>::less_once(rest);
+        PrimeField::reduce_once(less)
+    }
+
+    /// The quotient by a prime of 31 bits, or one or two less: that of the value's upper bits, by a product in place of
+    /// a division. Both factors have 32 bits, for which there are instructions on several items at a time.
+    fn near_quotient(value: u64) -> u64
+        requires above { 2 ^ 30 < M.MODULUS }
+        requires fits { value < 2 ^ 62 }
+        ensures half_word { result < 2 ^ 32 }
+        ensures not_above { result * M.MODULUS ≤ value }
+        ensures near { value < result * M.MODULUS + 3 * M.MODULUS }
+    {
+        let factor = (1 << 62) / M::MODULUS;
+        (value >> 30) as u32 as u64 * factor as u32 as u64 >> 32
     }
 
     /// A number below thrice the prime, less the prime where it isn't below it.
@@ -196,7 +209,7 @@ impl<M: PrimeModulus> PrimeField<M> {
         }
     }
 
-    /// The residue of `low + 2^64 * high` modulo 2^64 - 2^32 + 1, which 2^64 leaves as 2^32 - 1, and 2^96 as minus one.
+    /// The residue of `low + 2^64 * high` modulo 2^64 - 2^32 + 1, of which 2^64 leaves 2^32 - 1, and 2^96 minus one.
     fn reduce_goldilocks(low: u64, high: u64) -> Self
         requires { M.MODULUS ≡ 18446744069414584321 }
         ensures { result.value ≡ (low + 2 ^ 64 * high) % M.MODULUS }
