@@ -1,4 +1,5 @@
 -- Lemmas of this crate, beside those of `ark_math`.
 pub mod Element
+pub mod Reductions
 pub use Rattle.ark_traits.proofs.Cost
 pub use Rattle.ark_bytes.proofs.Transfer

@@ -4,8 +4,9 @@ use Rattle.std.proofs.Common.{option_map, Option, mod-lt, le_of_lt}
 use Rattle.ark_math.specs.Field.{FieldOn}
 use Rattle.ark_math.specs.Prime.{IsPrime}
 use Rattle.ark_math.specs.Root.{Adicity, adicity_of}
-use Rattle.ark_math.specs.Generator.{IsModulus, root_by}
-use Rattle.ark_math.proofs.Numbers.Residues.{below_modulus}
+use Rattle.ark_math.specs.Generator.{root_by}
+use Rattle.ark_base.specs.Modulus.{IsModulus}
+use Rattle.ark_base.specs.ModulusLaws.{below_modulus}
 use Rattle.ark_base.specs.declared.prime_field.PrimeField.{PrimeField}
 use Rattle.ark_base.specs.declared.prime_field.PrimeModulus.{Ghosts}
 
@@ -43,7 +44,7 @@ abbrev pub field_of : {M : Type 0} {g : Ghosts M} → Shown g → FieldOn (Prime
 field_of S = prime_field S.prime
 
 abbrev pub generator_of : {M : Type 0} {g : Ghosts M} → Shown g → PrimeField M g
-generator_of {g = g} S = residue g.GENERATOR S.generator.below
+generator_of {g = g} S = residue g.GENERATOR S.generator.powers.below
 
 -- the generator's power of order n
 abbrev pub prime_root : {M : Type 0} {g : Ghosts M} → Shown g → ℕ → PrimeField M g

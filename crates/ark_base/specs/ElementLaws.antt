@@ -10,10 +10,12 @@ use Rattle.ark_math.specs.Field.{FieldOn, IsField, power, natural}
 use Rattle.ark_math.specs.Prime.{IsPrime, power_mod}
 use Rattle.ark_math.specs.Module.{IsModule, IsItself, itself}
 use Rattle.ark_math.specs.Root.{Adicity, AreRoots, AreGreatest, odd_base, greatest_size}
-use Rattle.ark_math.specs.Generator.{Generates, IsGenerator, for_odd, root_by}
+use Rattle.ark_math.specs.Generator.{Generates, for_odd, root_by}
+use Rattle.ark_base.specs.Modulus.{IsGeneratorFor}
+use Rattle.ark_base.specs.ModulusLaws.{power_mod-below, half_part, odd_part}
 use Rattle.ark_math.proofs.Algebra.Groups.{itself_is_module}
 use Rattle.ark_math.proofs.Numbers.PowerMod.{power_mod-is}
-use Rattle.ark_math.proofs.Numbers.Residues.{plus_assoc, plus_negated, times_assoc, times_plus, inverts, power_mod-below}
+use Rattle.ark_math.proofs.Numbers.Residues.{plus_assoc, plus_negated, times_assoc, times_plus, inverts}
 use Rattle.ark_math.proofs.Roots.Roots.{roots_from_generator}
 use Rattle.ark_base.specs.Element.{residue_of, prime_field, Shown, adicity, generator_of, prime_root, two_adic_root, large_root}
 use Rattle.ark_base.specs.declared.prime_field.PrimeField.{PrimeField}
@@ -58,24 +60,31 @@ module _ (M : Type 0) (g : Ghosts M) (P : IsPrime g.MODULUS) where
       let p = g.MODULUS in
       ap (λ v. (v + 1) % p) (natural_value n) ∙ mod-add-mod n p 1 ∙ ap (λ v. v % p) (omega arith)
 
-  -- the power of a residue, by squaring
-  fast_value : (v n : ℕ) → v < g.MODULUS → n < 2 ^ 32 → (power (prime_field {M = M} {g = g} P) (residue_of {M = M} {g = g} P v) n).value ≡ power_mod g.MODULUS 32 v n
-  fast_value v n h small =
-      let p = g.MODULUS in
-      power_value (residue_of P v) n ∙ ap (λ w. w ^ n % p) (mod-eq_of_lt h) ∙ sym (power_mod-is p 32 v n small)
+  -- the power of a residue, and by squaring
+  plain_value : (v n : ℕ) → v < g.MODULUS → (power (prime_field {M = M} {g = g} P) (residue_of {M = M} {g = g} P v) n).value ≡ v ^ n % g.MODULUS
+  plain_value v n h = power_value (residue_of P v) n ∙ ap (λ w. w ^ n % g.MODULUS) (mod-eq_of_lt h)
 
-  generates : {s : Adicity} {v : ℕ} → g.MODULUS < 2 ^ 32 → IsGenerator g.MODULUS s v → Generates (prime_field {M = M} {g = g} P) s (g.MODULUS - 1) (residue_of P v)
+  fast_value : (v n : ℕ) → v < g.MODULUS → n < 2 ^ 64 → (power (prime_field {M = M} {g = g} P) (residue_of {M = M} {g = g} P v) n).value ≡ power_mod g.MODULUS 64 v n
+  fast_value v n h small = plain_value v n h ∙ sym (power_mod-is g.MODULUS 64 v n small)
+
+  generates : {s : Adicity} {v : ℕ} → g.MODULUS < 2 ^ 64 → IsGeneratorFor g.MODULUS s v → Generates (prime_field {M = M} {g = g} P) s (g.MODULUS - 1) (residue_of P v)
   generates {s = s} {v = v} small G =
       let p = g.MODULUS in
       let above = P.above_one in
+      let powers = G.powers in
       record {
         positive = omega arith;
-        odd = G.odd;
-        divided = G.divided;
-        base = G.base;
-        whole = same_from_value _ _ (fast_value v (p - 1) G.below (omega arith) ∙ G.whole);
-        half = λ lo e. G.half lo (sym (fast_value v ((p - 1) / 2) G.below (omega arith)) ∙ ap (λ x. x.value) e);
-        part = λ lo e. G.part lo (sym (fast_value v ((p - 1) / odd_base s.odd) G.below (lt_of_le_of_lt (div-le_self (p - 1) (odd_base s.odd)) (omega arith))) ∙ ap (λ x. x.value) e);
+        odd = G.sizes.odd;
+        divided = G.sizes.divided;
+        base = G.sizes.base;
+        whole = same_from_value _ _ (fast_value v (p - 1) powers.below (omega arith) ∙ powers.whole);
+        half = λ lo e.
+            let part = half_part P G.sizes lo in
+            powers.order ((p - 1) / 2) part.some part.less (sym (plain_value v ((p - 1) / 2) powers.below) ∙ ap (λ x. x.value) e);
+        part = λ lo e.
+            let part = odd_part P G.sizes lo in
+            let n = (p - 1) / odd_base s.odd in
+            powers.order n part.some part.less (sym (plain_value v n powers.below) ∙ ap (λ x. x.value) e);
       }
 
 pub prime_field_equals : {M : Type 0} {g : Ghosts M} (a b : PrimeField M g) → Decides (a.value == b.value && true) (a ≡ b)
@@ -87,7 +96,7 @@ module _ (M : Type 0) (g : Ghosts M) (S : Shown g) where
   K = prime_field {M = M} {g = g} S.prime
 
   generator_residue : generator_of {M = M} {g = g} S ≡ residue_of S.prime g.GENERATOR
-  generator_residue = same_from_value _ _ (sym (mod-eq_of_lt S.generator.below))
+  generator_residue = same_from_value _ _ (sym (mod-eq_of_lt S.generator.powers.below))
 
   pub prime_roots : AreRoots (prime_field {M = M} {g = g} S.prime) (adicity g) (prime_root {M = M} {g = g} S)
   prime_roots =
@@ -97,16 +106,16 @@ module _ (M : Type 0) (g : Ghosts M) (S : Shown g) where
       (λ n lo hi e. ne_of_gt lo (sym (mod-eq_of_lt (omega arith)) ∙ sym (natural_value M g S.prime n) ∙ ap (λ x. x.value) e)))
 
   pub generator_not_zero : generator_of {M = M} {g = g} S ≢ (prime_field {M = M} {g = g} S.prime).zero
-  generator_not_zero e = ne_of_gt S.generator.positive (ap (λ x. x.value) e)
+  generator_not_zero e = ne_of_gt S.generator.powers.positive (ap (λ x. x.value) e)
 
   -- a power of the generator, by squaring
-  root_value : (n : ℕ) → (prime_root {M = M} {g = g} S n).value ≡ power_mod g.MODULUS 32 g.GENERATOR ((g.MODULUS - 1) / n)
+  root_value : (n : ℕ) → (prime_root {M = M} {g = g} S n).value ≡ power_mod g.MODULUS 64 g.GENERATOR ((g.MODULUS - 1) / n)
   root_value n =
       let above = S.prime.above_one in
       let small = S.small in
       let k = (g.MODULUS - 1) / n in
       ap (λ x. (power K x k).value) generator_residue
-      ∙ fast_value M g S.prime g.GENERATOR k S.generator.below (lt_of_le_of_lt (div-le_self (g.MODULUS - 1) n) (omega arith))
+      ∙ fast_value M g S.prime g.GENERATOR k S.generator.powers.below (lt_of_le_of_lt (div-le_self (g.MODULUS - 1) n) (omega arith))
 
   -- a constant is there exactly with the base, and is the power that it has to be
   record IsLarge (o : Option (ℕ × ℕ)) (l : Option ℕ) (v : ℕ) : Type 0 where

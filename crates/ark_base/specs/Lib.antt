@@ -1,4 +1,9 @@
 -- What a prime field's elements are, with their laws beside them, and the words of the crate that this one shows again.
+pub mod Modulus
+pub mod Lucas
+pub mod ModulusLaws
+pub mod Widths
+pub mod WidthLaws
 pub mod Element
 pub mod ElementLaws
 pub mod ElementBytes

@@ -1,6 +1,7 @@
 //! Prime fields of one word, beside the fields and modules with laws that all crates share.
 #![tactic(auto)]
 
+mod fields;
 mod prime_field;
 
 pub use ark_traits::{
@@ -8,6 +9,9 @@ pub use ark_traits::{
     Field, IoSink, IoSource, Lanes, One, PolyError, Polynomial, SerializationError, Sink, Source,
     Spelled, Valid, Work, Zero, batch_inversion, k_adicity, list_size, log2, read_list,
     read_number, recompress, write_list, write_number, written_then_read,
+};
+pub use fields::{
+    BabyBear, BabyBearModulus, Goldilocks, GoldilocksModulus, KoalaBear, KoalaBearModulus,
 };
 pub use prime_field::{
     F5, F433, F65537, Modulus5, Modulus433, Modulus65537, PrimeField, PrimeModulus,

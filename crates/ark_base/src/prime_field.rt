@@ -1,14 +1,14 @@
-//! The fields of the integers modulo a prime below 2^32, on one word each.
+//! The fields of the integers modulo a prime below 2^64, on one word each.
 
 ghost use Rattle.std.specs.Prelude.{◌≡◌, ℕ, true, false, ◌+◌, ◌*◌, ◌-◌, ◌%◌, ◌/◌, ◌<◌, ◌≤◌, ◌^◌, ◌↔◌, Option};
-ghost use Rattle.std.specs.Prelude.{None, Some, IsSome, refl};
+ghost use Rattle.std.specs.Prelude.{None, Some, IsSome, refl, [], ◌∷◌};
 ghost use Rattle.std.proofs.Common.{lit<, ◌∙◌};
 ghost use Rattle.ark_math.specs.Field.{FieldOn, minus, natural};
 ghost use Rattle.ark_math.specs.Module.{itself};
 ghost use Rattle.ark_math.specs.Root.{adicity_of};
-ghost use Rattle.ark_math.specs.Generator.{IsModulus};
 ghost use Rattle.ark_math.proofs.Numbers.Prime.{prime_from_test};
-ghost use Rattle.ark_math.proofs.Roots.Generator.{generator_from_test};
+ghost use Rattle.ark_base.specs.Modulus.{IsModulus};
+ghost use Rattle.ark_base.specs.ModulusLaws.{generator_from_primes};
 
 mod bytes;
 
@@ -19,8 +19,8 @@ use std::default::Default;
 use std::marker::PhantomData;
 use std::ops::{Add, AddAssign, Mul, MulAssign, Neg, Sub, SubAssign};
 
-/// A prime below 2^32 and its constants. A field is added by one impl with two facts: `modulus` is a few computed checks,
-/// and `together` the same line for every field.
+/// A prime below 2^64 and its constants. A field is added by one impl with two facts: `modulus` is a few computed
+/// checks, and `together` the same line for every field.
 pub trait PrimeModulus {
     ghost MODULUS: { ℕ };
 
@@ -47,7 +47,7 @@ pub trait PrimeModulus {
     /// The prime.
     const MODULUS: u64;
 
-    /// A number whose powers are all but zero, or at least the roots of the supported sizes.
+    /// A number whose powers are all numbers below the prime but zero.
     const GENERATOR: u64;
 
     /// The greatest `a` of a size `2^a` that domains take. It may be less than the prime allows.
@@ -108,20 +108,41 @@ impl<M: PrimeModulus> PrimeField<M> {
         }
     }
 
-    /// Whether the prime is one more than a power of two, so that products are reduced without a division.
-    fn is_fermat() -> bool {
-        (M::MODULUS - 1).is_power_of_two()
+    /// Whether the prime is one more than a power of two, and of half a word: products are then reduced without a
+    /// division.
+    fn is_fermat() -> bool
+        ensures small { result ≡ true → M.MODULUS ≤ 2 ^ 32 }
+    {
+        M::MODULUS <= 1 << 32 && (M::MODULUS - 1).is_power_of_two()
     }
 
-    /// The residue of a product of two numbers below the modulus. A Fermat prime's predecessor is minus one, and
-    /// quotient and rest by it are bits; modulo a small prime half the bits are enough.
+    /// Whether the prime has 31 bits, so that products are reduced by two further products.
+    fn has_31_bits() -> bool
+        ensures above { result ≡ true → 2 ^ 30 < M.MODULUS }
+        ensures below { result ≡ true → M.MODULUS < 2 ^ 31 }
+    {
+        1 << 30 < M::MODULUS && M::MODULUS < 1 << 31
+    }
+
+    /// Whether the prime is 2^64 - 2^32 + 1.
+    fn is_goldilocks() -> bool
+        ensures { result ≡ true → M.MODULUS ≡ 18446744069414584321 }
+    {
+        M::MODULUS == 18446744069414584321
+    }
+
+    /// The residue of a product of two numbers below a prime of half a word. A Fermat prime's predecessor is minus
+    /// one, and quotient and rest by it are bits; modulo a small prime half the bits are enough.
     fn reduce_product(value: u64) -> Self
-        requires { value ≤ (M.MODULUS - 1) * (M.MODULUS - 1) }
+        requires half_word { M.MODULUS ≤ 2 ^ 32 }
+        requires product { value ≤ (M.MODULUS - 1) * (M.MODULUS - 1) }
         ensures { result.value ≡ value % M.MODULUS }
     {
         if PrimeField::<M>::is_fermat() {
             let less = M::MODULUS - 1;
             PrimeField::reduce_once(value % less + (M::MODULUS - value / less))
+        } else if PrimeField::<M>::has_31_bits() {
+            PrimeField::reduce_by_products(value)
         } else {
             PrimeField {
                 value: if M::MODULUS <= 1 << 16 {
@@ -131,6 +152,82 @@ impl<M: PrimeModulus> PrimeField<M> {
                 },
                 marker: PhantomData,
             }
+        }
+    }
+
+    /// The residue modulo a prime of 31 bits.
+    fn reduce_by_products(value: u64) -> Self
+        requires above { 2 ^ 30 < M.MODULUS }
+        requires below { M.MODULUS < 2 ^ 31 }
+        requires fits { value < 2 ^ 62 }
+        ensures { result.value ≡ value % M.MODULUS }
+    {
+        let quotient = PrimeField::<M>::near_quotient(value);
+        let rest = value - quotient as u32 as u64 * M::MODULUS as u32 as u64;
+        let less = PrimeField::<M>::less_once(rest);
+        PrimeField::reduce_once(less)
+    }
+
+    /// The quotient by a prime of 31 bits, or one or two less: that of the value's upper bits, by a product in place of
+    /// a division. Both factors have 32 bits, for which there are instructions on several items at a time.
+    fn near_quotient(value: u64) -> u64
+        requires above { 2 ^ 30 < M.MODULUS }
+        requires fits { value < 2 ^ 62 }
+        ensures half_word { result < 2 ^ 32 }
+        ensures not_above { result * M.MODULUS ≤ value }
+        ensures near { value < result * M.MODULUS + 3 * M.MODULUS }
+    {
+        let factor = (1 << 62) / M::MODULUS;
+        (value >> 30) as u32 as u64 * factor as u32 as u64 >> 32
+    }
+
+    /// A number below thrice the prime, less the prime where it isn't below it.
+    fn less_once(value: u64) -> u64
+        requires thrice { value < 3 * M.MODULUS }
+        ensures same { result % M.MODULUS ≡ value % M.MODULUS }
+        ensures below { result < 2 * M.MODULUS }
+    {
+        if PrimeField::<M>::is_below(value) {
+            value
+        } else {
+            value - M::MODULUS
+        }
+    }
+
+    /// The residue of a product of two numbers below a prime of more than half a word.
+    fn reduce_wide(value: u128) -> Self
+        requires { value ≤ (M.MODULUS - 1) * (M.MODULUS - 1) }
+        ensures { result.value ≡ value % M.MODULUS }
+    {
+        if PrimeField::<M>::is_goldilocks() {
+            PrimeField::reduce_goldilocks((value % (1 << 64)) as u64, (value / (1 << 64)) as u64)
+        } else {
+            PrimeField {
+                value: (value % M::MODULUS as u128) as u64,
+                marker: PhantomData,
+            }
+        }
+    }
+
+    /// The residue of `low + 2^64 * high` modulo 2^64 - 2^32 + 1, of which 2^64 leaves 2^32 - 1, and 2^96 minus one.
+    fn reduce_goldilocks(low: u64, high: u64) -> Self
+        requires { M.MODULUS ≡ 18446744069414584321 }
+        ensures { result.value ≡ (low + 2 ^ 64 * high) % M.MODULUS }
+    {
+        let top = high >> 32;
+        let rest = if low < top {
+            low + (M::MODULUS - top)
+        } else {
+            low - top
+        };
+        let middle = high % (1 << 32) * 4294967295;
+        PrimeField {
+            value: if rest < M::MODULUS - middle {
+                rest + middle
+            } else {
+                rest - (M::MODULUS - middle)
+            },
+            marker: PhantomData,
         }
     }
 
@@ -149,17 +246,33 @@ impl<M: PrimeModulus> PrimeField<M> {
         }
     }
 
-    /// Whether a number below twice the modulus is below the modulus. Where products need no division, loops are
+    /// Whether a number below thrice the modulus is below the modulus. Where products need no division, loops are
     /// compiled to take two items at a time, and the sign of a difference is what those instructions compare.
     fn is_below(value: u64) -> bool
-        requires { value < 2 * M.MODULUS }
+        requires { value < 3 * M.MODULUS }
         ensures below { result ≡ true → value < M.MODULUS }
         ensures above { result ≡ false → M.MODULUS ≤ value }
     {
-        if PrimeField::<M>::is_fermat() {
+        if PrimeField::<M>::is_fermat() || PrimeField::<M>::has_31_bits() {
             value.wrapping_sub(M::MODULUS) >> 63 == 1
         } else {
             value < M::MODULUS
+        }
+    }
+
+    /// The residue of a difference, of numbers that may have a whole word: no sum passes the modulus.
+    fn difference(left: u64, right: u64) -> Self
+        requires left { left < M.MODULUS }
+        requires right { right ≤ M.MODULUS }
+        ensures { result.value ≡ (left + (M.MODULUS - right)) % M.MODULUS }
+    {
+        PrimeField {
+            value: if left < right {
+                left + (M::MODULUS - right)
+            } else {
+                left - right
+            },
+            marker: PhantomData,
         }
     }
 }
@@ -227,7 +340,11 @@ impl<M: PrimeModulus> Add<PrimeField<M>> for PrimeField<M> {
     ghost add_gives = { λ a b r. r ≡ (field_of M.modulus).plus a b };
 
     fn add(self, rhs: PrimeField<M>) -> PrimeField<M> {
-        PrimeField::reduce_once(self.value + rhs.value)
+        if M::MODULUS <= 1 << 32 {
+            PrimeField::reduce_once(self.value + rhs.value)
+        } else {
+            PrimeField::difference(self.value, M::MODULUS - rhs.value)
+        }
     }
 }
 
@@ -249,7 +366,11 @@ impl<M: PrimeModulus> Sub<PrimeField<M>> for PrimeField<M> {
     ghost sub_gives = { λ a b r. r ≡ minus (field_of M.modulus) a b };
 
     fn sub(self, rhs: PrimeField<M>) -> PrimeField<M> {
-        PrimeField::reduce_once(self.value + (M::MODULUS - rhs.value))
+        if M::MODULUS <= 1 << 32 {
+            PrimeField::reduce_once(self.value + (M::MODULUS - rhs.value))
+        } else {
+            PrimeField::difference(self.value, rhs.value)
+        }
     }
 }
 
@@ -271,7 +392,11 @@ impl<M: PrimeModulus> Mul<PrimeField<M>> for PrimeField<M> {
     ghost mul_gives = { λ a b r. r ≡ (field_of M.modulus).times a b };
 
     fn mul(self, rhs: PrimeField<M>) -> PrimeField<M> {
-        PrimeField::reduce_product(self.value as u32 as u64 * rhs.value as u32 as u64)
+        if M::MODULUS <= 1 << 32 {
+            PrimeField::reduce_product(self.value as u32 as u64 * rhs.value as u32 as u64)
+        } else {
+            PrimeField::reduce_wide(self.value as u128 * rhs.value as u128)
+        }
     }
 }
 
@@ -301,7 +426,7 @@ impl<M: PrimeModulus> Field for PrimeField<M> {
     ghost use Rattle.ark_base.specs.Element.{field_of};
     ghost use Rattle.ark_base.specs.ElementLaws.{prime_field_laws, prime_field_equals, natural_residue};
     ghost use Rattle.ark_base.specs.ElementBytes.{prime_elements};
-    ghost use Rattle.ark_math.specs.Layouts.{width_of};
+    ghost use Rattle.ark_base.specs.Widths.{width_of};
     ghost use Rattle.ark_math.proofs.Formats.Modes.{one_format};
 
     ghost field = { field_of M.modulus };
@@ -314,22 +439,18 @@ impl<M: PrimeModulus> Field for PrimeField<M> {
             return None;
         }
         let mut last = M::MODULUS;
-        let mut last_factor = 0;
+        let mut last_factor: Self = Zero::zero();
         let mut rest = self.value;
-        let mut factor = 1;
+        let mut factor: Self = One::one();
         'divide: while rest != 0 {
-            let taken = last / rest * factor % M::MODULUS;
-            let next_factor = (last_factor + M::MODULUS - taken) % M::MODULUS;
+            let next_factor = last_factor - PrimeField::reduce_once(last / rest) * factor;
             let next = last % rest;
             last = rest;
             last_factor = factor;
             rest = next;
             factor = next_factor;
         }
-        Some(PrimeField {
-            value: last_factor,
-            marker: PhantomData,
-        })
+        Some(last_factor)
     }
 
     /// A number below the prime, each as likely as the others.
@@ -533,7 +654,7 @@ impl PrimeModulus for Modulus5 {
     ghost modulus = { record {
       prime = prime_from_test 1 5 refl;
       small = lit< tt;
-      generator = generator_from_test 5 (adicity_of 2 None None) 2 refl;
+      generator = generator_from_primes 5 (adicity_of 2 None None) 2 (2 ∷ []) refl;
       two_adic_is = refl;
       large_is = refl;
       greatest_is = refl;
@@ -581,7 +702,7 @@ impl PrimeModulus for Modulus433 {
     ghost modulus = { record {
       prime = prime_from_test 19 433 refl;
       small = lit< tt;
-      generator = generator_from_test 433 (adicity_of 4 (Some 3) (Some 3)) 5 refl;
+      generator = generator_from_primes 433 (adicity_of 4 (Some 3) (Some 3)) 5 (2 ∷ 3 ∷ []) refl;
       two_adic_is = refl;
       large_is = refl;
       greatest_is = refl;
@@ -629,7 +750,7 @@ impl PrimeModulus for Modulus65537 {
     ghost modulus = { record {
       prime = prime_from_test 255 65537 refl;
       small = lit< tt;
-      generator = generator_from_test 65537 (adicity_of 16 None None) 3 refl;
+      generator = generator_from_primes 65537 (adicity_of 16 None None) 3 (2 ∷ []) refl;
       two_adic_is = refl;
       large_is = refl;
       greatest_is = refl;

@@ -8,12 +8,14 @@ mod batches;
 mod bytes;
 mod codes;
 mod draws;
-mod large_field;
 mod points;
 mod polynomials;
 mod transforms;
 
-use ark_base::{CanonicalSerialize, Compress, F433, F65537, FftField, Field, Polynomial};
+use ark_base::{
+    BabyBear, CanonicalSerialize, Compress, F433, F65537, FftField, Field, Goldilocks, KoalaBear,
+    Polynomial,
+};
 use ark_poly::univariate::{DensePolynomial, SparsePolynomial};
 use ark_poly::{
     DenseMultilinearExtension, DenseUVPolynomial, EvaluationDomain, MixedRadixEvaluationDomain,
@@ -23,7 +25,6 @@ use batches::{Number, report};
 use bytes::{ReadBack, Written};
 use codes::report_codes;
 use draws::Draws;
-use large_field::F2013265921;
 use points::{BoundTable, VARIABLES, ValueAtPoint, polynomial_of_terms};
 use polynomials::{Interpolation, LongDivision, OfTwo, Quotients, SparseProduct, Value, Way};
 use std::alloc::{AllocGlobal, Global};
@@ -38,12 +39,23 @@ fn main(rt: HostRuntime) -> anyhow::Result<()> {
         None => false,
     };
     let mut draws = Draws::new();
-    report_radix2::<F65537>(&rt, rt.alloc(), timed, &mut draws)?;
+    let names = ["radix2_fft_in_place", "radix2_ifft_in_place"];
+    let sizes = [1 << 10, 1 << 12, 1 << 14, 1 << 16];
+    report_radix2::<F65537>(&rt, rt.alloc(), timed, &mut draws, names, &sizes)?;
     report_mixed_radix::<F433>(&rt, rt.alloc(), timed, &mut draws)?;
     report_polynomials::<F65537>(&rt, rt.alloc(), timed, &mut draws)?;
     report_codes::<F65537>(&rt, rt.alloc(), timed)?;
+    let names = ["baby_bear_fft_in_place", "baby_bear_ifft_in_place"];
+    report_large_field::<BabyBear>(&rt, rt.alloc(), timed, names)?;
+    let names = ["koala_bear_fft_in_place", "koala_bear_ifft_in_place"];
+    report_large_field::<KoalaBear>(&rt, rt.alloc(), timed, names)?;
+    let names = ["goldilocks_fft_in_place", "goldilocks_ifft_in_place"];
+    report_large_field::<Goldilocks>(&rt, rt.alloc(), timed, names)?;
     if timed {
-        report_growth::<F2013265921>(&rt, rt.alloc(), &mut draws)?;
+        // How the time grows with the size.
+        let names = ["growth_fft_in_place", "growth_ifft_in_place"];
+        let sizes = [1 << 16, 1 << 18, 1 << 20, 1 << 22];
+        report_radix2::<BabyBear>(&rt, rt.alloc(), true, &mut draws, names, &sizes)?;
     }
     Ok(())
 }
@@ -53,29 +65,33 @@ fn report_radix2<F: FftField + Number>(
     alloc: Global,
     timed: bool,
     draws: &mut Draws,
+    names: [&'static str; 2],
+    sizes: &[usize],
 ) -> anyhow::Result<()> {
-    for size in [1 << 10, 1 << 12, 1 << 14, 1 << 16] {
-        if let Some(domain) = Radix2EvaluationDomain::<F>::new(size) {
-            let names = ["radix2_fft_in_place", "radix2_ifft_in_place"];
+    for size in sizes {
+        if let Some(domain) = Radix2EvaluationDomain::<F>::new(*size) {
             report_both_ways(rt, alloc, timed, draws, names, domain)?;
         }
     }
     Ok(())
 }
 
-// How the time grows with the size, over a field with great domains.
-fn report_growth<F: FftField + Number>(
+// A field with large domains, on draws of its own.
+fn report_large_field<F: FftField + Number>(
     rt: &(impl Print + Clock),
     alloc: Global,
-    draws: &mut Draws,
+    timed: bool,
+    names: [&'static str; 2],
 ) -> anyhow::Result<()> {
-    for size in [1 << 16, 1 << 18, 1 << 20, 1 << 22] {
-        if let Some(domain) = Radix2EvaluationDomain::<F>::new(size) {
-            let names = ["growth_fft_in_place", "growth_ifft_in_place"];
-            report_both_ways(rt, alloc, true, draws, names, domain)?;
-        }
-    }
-    Ok(())
+    let mut draws = Draws::new();
+    report_radix2::<F>(
+        rt,
+        alloc,
+        timed,
+        &mut draws,
+        names,
+        &[1 << 16, 1 << 20],
+    )
 }
 
 fn report_mixed_radix<F: FftField + Number>(

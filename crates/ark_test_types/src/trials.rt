@@ -3,7 +3,7 @@
 //! Only `over_field` names concrete fields, since what names one is dear to check.
 
 use crate::numbered::Numbered;
-use ark_base::{F5, F433, F65537, FftField, Field, PolyError};
+use ark_base::{BabyBear, F5, F433, F65537, FftField, Field, Goldilocks, KoalaBear, PolyError};
 use rand::Rng;
 use std::alloc::{AllocError, Global};
 
@@ -13,6 +13,9 @@ pub enum Prime {
     P5,
     P433,
     P65537,
+    BabyBear,
+    KoalaBear,
+    Goldilocks,
 }
 
 /// What is tried over any field.
@@ -31,6 +34,9 @@ pub fn over_field<T: FieldTrial>(
         Prime::P5 => trial.holds_in::<F5>(alloc),
         Prime::P433 => trial.holds_in::<F433>(alloc),
         Prime::P65537 => trial.holds_in::<F65537>(alloc),
+        Prime::BabyBear => trial.holds_in::<BabyBear>(alloc),
+        Prime::KoalaBear => trial.holds_in::<KoalaBear>(alloc),
+        Prime::Goldilocks => trial.holds_in::<Goldilocks>(alloc),
     }
 }
 

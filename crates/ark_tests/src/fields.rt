@@ -1,4 +1,7 @@
-use ark_base::{F5, F65537, Field};
+use ark_base::{
+    BabyBearModulus, F5, F65537, Field, GoldilocksModulus, KoalaBearModulus, PrimeField,
+    PrimeModulus,
+};
 use rand_pcg::Pcg64;
 
 // Draws differ, and none is past the modulus.
@@ -13,4 +16,76 @@ fn drawn_elements(rt: HostRuntime) {
         assert!(rt; F65537::rand(&mut rng).value() < 65537);
     }
     assert!(rt; seen == [true; 5]);
+}
+
+// Whether the operations on the residues of two numbers are those of 128 bits.
+fn agree<M: PrimeModulus>(prime: u64, left: u64, right: u64) -> bool
+    requires { 0 < prime }
+{
+    let modulus = prime as u128;
+    let (first, second) = (left as u128 % modulus, right as u128 % modulus);
+    let (x, y) = (PrimeField::<M>::from(left), PrimeField::<M>::from(right));
+    (x + y).value() as u128 == (first + second) % modulus
+        && (x - y).value() as u128 == (first + (modulus - second)) % modulus
+        && (x * y).value() as u128 == first * second % modulus
+        && (-x).value() as u128 == (modulus - first) % modulus
+}
+
+// The same of each two of these numbers, and of so many drawn ones.
+fn all_agree<M: PrimeModulus>(prime: u64, edges: &[u64], drawn: u64) -> bool
+    requires { 0 < prime }
+{
+    let mut right = true;
+    for a in edges {
+        for b in edges {
+            right = right && agree::<M>(prime, *a, *b);
+        }
+    }
+    let mut rng = Pcg64::new(11, 13);
+    for _ in 0..drawn {
+        let a = PrimeField::<M>::rand(&mut rng).value();
+        let b = PrimeField::<M>::rand(&mut rng).value();
+        right = right && agree::<M>(prime, a, b);
+    }
+    right
+}
+
+const BABY_BEAR: [u64; 7] = [
+    0,
+    1,
+    2013265920,
+    2013265921,
+    4294967295,
+    4294967296,
+    1 << 63,
+];
+
+const KOALA_BEAR: [u64; 7] = [
+    0,
+    1,
+    2130706432,
+    2130706433,
+    4294967295,
+    4294967296,
+    1 << 63,
+];
+
+const GOLDILOCKS: [u64; 9] = [
+    0,
+    1,
+    4294967294,
+    4294967295,
+    4294967296,
+    1 << 63,
+    18446744069414584319,
+    18446744069414584320,
+    18446744073709551615,
+];
+
+// Sums and products at the edges of words, and of drawn elements.
+#[test]
+fn operations_of_128_bits(rt: HostRuntime) {
+    assert!(rt; all_agree::<BabyBearModulus>(2013265921, &BABY_BEAR, 10_000));
+    assert!(rt; all_agree::<KoalaBearModulus>(2130706433, &KOALA_BEAR, 10_000));
+    assert!(rt; all_agree::<GoldilocksModulus>(18446744069414584321, &GOLDILOCKS, 10_000));
 }

@@ -50,6 +50,8 @@ impl Trial for Tried<'_> {
     }
 }
 
+const SMALL_POWERS: [usize; 9] = [1, 2, 4, 8, 16, 32, 64, 128, 256];
+
 const POWERS: [usize; 11] = [1, 2, 4, 8, 16, 32, 64, 128, 256, 512, 1024];
 
 // The sizes of the field of 433 elements.
@@ -57,8 +59,23 @@ const SIZES: [usize; 20] = [
     1, 2, 3, 4, 6, 8, 9, 12, 16, 18, 24, 27, 36, 48, 54, 72, 108, 144, 216, 432,
 ];
 
-const TRIED: [(Prime, Kind, Tried<'static>); 18] = [
+const TRIED: [(Prime, Kind, Tried<'static>); 21] = [
     (Prime::P65537, Kind::Radix2, Tried::PlainSums(&POWERS)),
+    (
+        Prime::BabyBear,
+        Kind::Radix2,
+        Tried::PlainSums(&SMALL_POWERS),
+    ),
+    (
+        Prime::KoalaBear,
+        Kind::Radix2,
+        Tried::PlainSums(&SMALL_POWERS),
+    ),
+    (
+        Prime::Goldilocks,
+        Kind::Radix2,
+        Tried::PlainSums(&SMALL_POWERS),
+    ),
     (Prime::P433, Kind::Mixed, Tried::PlainSums(&SIZES)),
     (Prime::P433, Kind::General, Tried::PlainSums(&SIZES)),
     (Prime::P65537, Kind::Radix2, Tried::PlainPasses(&POWERS)),

@@ -1,34 +1,33 @@
-//! A prime field of one's own with large domains: the integers modulo 2^31 - 2^27 + 1.
+//! A prime field of one's own of a whole word, with large domains: the integers modulo 2^64 - 2^40 + 1.
 
-ghost use Rattle.std.specs.Prelude.{◌≡◌, ◌^◌, None, Some, refl};
+ghost use Rattle.std.specs.Prelude.{◌≡◌, ◌^◌, None, Some, refl, [], ◌∷◌};
 ghost use Rattle.std.proofs.Common.{lit<};
 ghost use Rattle.ark_math.specs.Root.{adicity_of};
-ghost use Rattle.ark_math.proofs.Numbers.Prime.{prime_from_test};
-ghost use Rattle.ark_math.proofs.Roots.Generator.{generator_from_test};
+ghost use Rattle.ark_base.specs.ModulusLaws.{prime_from_powers, generator_from_primes};
 
 use ark_base::{PrimeField, PrimeModulus};
 use ark_poly::{EvaluationDomain, Radix2EvaluationDomain};
 
-/// The prime 2^31 - 2^27 + 1, which is one more than 2^27 * 15.
-pub struct Modulus2013265921;
+/// The prime 2^64 - 2^40 + 1, which is one more than 2^40 * 3 * 3 * 5 * 7 * 13 * 17 * 241.
+pub struct Modulus18446742974197923841;
 
-impl PrimeModulus for Modulus2013265921 {
-    const MODULUS: u64 = 2013265921;
+impl PrimeModulus for Modulus18446742974197923841 {
+    const MODULUS: u64 = 18446742974197923841;
 
-    ghost MODULUS = { 2013265921 };
+    ghost MODULUS = { 18446742974197923841 };
 
-    const GENERATOR: u64 = 31;
+    const GENERATOR: u64 = 19;
 
-    ghost GENERATOR = { 31 };
+    ghost GENERATOR = { 19 };
 
-    const TWO_ADICITY: u32 = 27;
+    const TWO_ADICITY: u32 = 40;
 
-    ghost TWO_ADICITY = { 27 };
+    ghost TWO_ADICITY = { 40 };
 
-    // 31^15
-    const TWO_ADIC_ROOT_OF_UNITY: u64 = 440564289;
+    // 19^16777215
+    const TWO_ADIC_ROOT_OF_UNITY: u64 = 8305042458189611734;
 
-    ghost TWO_ADIC_ROOT_OF_UNITY = { 440564289 };
+    ghost TWO_ADIC_ROOT_OF_UNITY = { 8305042458189611734 };
 
     const SMALL_SUBGROUP_BASE: Option<u32> = None;
 
@@ -42,15 +41,15 @@ impl PrimeModulus for Modulus2013265921 {
 
     ghost LARGE_SUBGROUP_ROOT_OF_UNITY = { None };
 
-    const GREATEST_SIZE: u64 = 134217728;
+    const GREATEST_SIZE: u64 = 1099511627776;
 
-    ghost GREATEST_SIZE = { 134217728 };
+    ghost GREATEST_SIZE = { 1099511627776 };
 
-    // None of 2 to 44869 divides the prime, which is below 44870 * 44870.
+    // The powers of 19 show both, at the predecessor and at its parts by each of its primes.
     ghost modulus = { record {
-      prime = prime_from_test 44868 2013265921 refl;
+      prime = prime_from_powers 18446742974197923841 19 (2 ∷ 3 ∷ 5 ∷ 7 ∷ 13 ∷ 17 ∷ 241 ∷ []) refl;
       small = lit< tt;
-      generator = generator_from_test 2013265921 (adicity_of 27 None None) 31 refl;
+      generator = generator_from_primes 18446742974197923841 (adicity_of 40 None None) 19 (2 ∷ 3 ∷ 5 ∷ 7 ∷ 13 ∷ 17 ∷ 241 ∷ []) refl;
       two_adic_is = refl;
       large_is = refl;
       greatest_is = refl;
@@ -59,12 +58,12 @@ impl PrimeModulus for Modulus2013265921 {
     ghost together = { ((λ h. h), (λ h. h)) };
 }
 
-/// The field of 2^31 - 2^27 + 1 elements.
-pub type F2013265921 = PrimeField<Modulus2013265921>;
+/// The field of 2^64 - 2^40 + 1 elements.
+pub type F18446742974197923841 = PrimeField<Modulus18446742974197923841>;
 
 /// The least domain with room for a hundred million coefficients has 2^27 elements.
 pub fn size_for_a_hundred_million() -> Option<usize>
     ensures { result ≡ Some (2 ^ 27) }
 {
-    Radix2EvaluationDomain::<F2013265921>::compute_size_of_domain(100_000_000)
+    Radix2EvaluationDomain::<F18446742974197923841>::compute_size_of_domain(100_000_000)
 }

@@ -115,7 +115,7 @@ module _ (M : Type 0) (g : Ghosts M) (S : Shown g) where
   lawful : (kind : Kind) (n h : ℕ) → IsSize (adicity g) kind n → h % g.MODULUS ≢ 0 → IsOurs M g S (carried residue (domain_of (shown_field g) kind n h))
   lawful kind n h is some =
       let k = (g.MODULUS - 1) / n in
-      let same : residue g.GENERATOR ≡ generator_of {M = M} {g = g} S = same_from_value _ _ (mod-eq_of_lt S.generator.below) in
+      let same : residue g.GENERATOR ≡ generator_of {M = M} {g = g} S = same_from_value _ _ (mod-eq_of_lt S.generator.powers.below) in
       record {
         size_of = is;
         root_of = power-carried residue_carries g.GENERATOR k ∙ ap (λ x. power K x k) same;

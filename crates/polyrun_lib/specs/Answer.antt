@@ -3,7 +3,7 @@ use Rattle.std.specs.Prelude.{◌≡◌, ◌≢◌, ℕ, ◌+◌, ◌-◌, ◌*�
 use Rattle.ark_math.specs.Field.{FieldOn, power}
 use Rattle.ark_math.specs.Module.{itself}
 use Rattle.ark_math.specs.Root.{Adicity}
-use Rattle.ark_math.specs.Generator.{IsModulus}
+use Rattle.ark_base.specs.Modulus.{IsModulus}
 use Rattle.ark_math.specs.Domain.{Kind, Domain, HasNoSize, IsGeneral}
 use Rattle.ark_math.specs.Transform.{transform, value_at, IsInverse}
 use Rattle.ark_math.specs.NormalForms.{trim}

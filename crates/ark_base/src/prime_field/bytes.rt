@@ -1,7 +1,7 @@
 //! Elements of prime fields in bytes: the number below the modulus, the low byte first.
 
 ghost use Rattle.std.specs.Prelude.{◌≡◌};
-ghost use Rattle.ark_math.specs.Layouts.{width_of};
+ghost use Rattle.ark_base.specs.Widths.{width_of};
 
 use crate::prime_field::{PrimeField, PrimeModulus};
 use ark_bytes::{
@@ -22,14 +22,22 @@ impl<M: PrimeModulus> PrimeField<M> {
             2
         } else if M::MODULUS < 1 << 24 {
             3
-        } else {
+        } else if M::MODULUS < 1 << 32 {
             4
+        } else if M::MODULUS < 1 << 40 {
+            5
+        } else if M::MODULUS < 1 << 48 {
+            6
+        } else if M::MODULUS < 1 << 56 {
+            7
+        } else {
+            8
         }
     }
 }
 
 impl<M: PrimeModulus> Spelled for PrimeField<M> {
-    ghost use Rattle.ark_math.specs.Layouts.{residue};
+    ghost use Rattle.ark_base.specs.Widths.{residue};
     ghost use Rattle.ark_base.specs.Element.{number};
     ghost use Rattle.ark_base.specs.ElementBytes.{prime_format, prime_tells};
 

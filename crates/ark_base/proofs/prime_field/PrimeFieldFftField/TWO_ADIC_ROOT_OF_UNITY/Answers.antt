@@ -1,6 +1,6 @@
 use Rattle.std.proofs.Common.{◌∙◌}
 use Rattle.ark_base.specs.ElementLaws.{same_from_value}
-use Rattle.ark_math.proofs.Numbers.Residues.{below_modulus}
+use Rattle.ark_base.specs.ModulusLaws.{below_modulus}
 use Rattle.ark_base.proofs.prime_field.PrimeFieldFftField.TWO_ADIC_ROOT_OF_UNITY.Goals as goal
 
 pub invariant_of-result : goal.invariant_of-result

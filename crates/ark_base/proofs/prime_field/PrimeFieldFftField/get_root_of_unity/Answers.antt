@@ -32,4 +32,4 @@ returns-clause-supported g c =
     let m = g.M.PrimeModulus in
     let divides : greatest_size (adicity m) % c.args.n ≡ 0 =
     ap (λ v. v % c.args.n) (sym (c.GREATEST_SIZE.ensures ∙ m.modulus.greatest_is)) ∙ c.if-GREATEST_SIZE-n-ne0.false in
-    (λ some. supported_from_divisor (adicity m) c.args.n m.modulus.generator.base c.ranges.n.fits divides, λ h. refl)
+    (λ some. supported_from_divisor (adicity m) c.args.n m.modulus.generator.sizes.base c.ranges.n.fits divides, λ h. refl)

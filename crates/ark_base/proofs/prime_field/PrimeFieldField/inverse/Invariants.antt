@@ -2,7 +2,7 @@ use Rattle.ark_math.proofs.Numbers.Euclid.{Euclid}
 use Rattle.ark_base.proofs.prime_field.PrimeFieldField.inverse.Given as goal
 
 abbrev pub invariant-divide : goal.invariant-divide
-invariant-divide g l = Euclid g.M.PrimeModulus.MODULUS l.self.value l.last l.last_factor l.rest l.factor
+invariant-divide g l = Euclid g.M.PrimeModulus.MODULUS l.self.value l.last l.last_factor.value l.rest l.factor.value
 
 abbrev pub decreases-divide : goal.decreases-divide
 decreases-divide g l = l.rest

@@ -1,10 +1,15 @@
-use Rattle.std.proofs.Common.{arith}
-use Rattle.std.proofs.Math.Nat.{mul-le-mul}
 use Rattle.ark_base.specs.ElementLaws.{same_from_value}
+use Rattle.ark_base.proofs.Reductions.{largest_product}
 use Rattle.ark_base.proofs.prime_field.PrimeFieldMul.mul.Goals as goal
 
-pub reduce_product-requires : goal.reduce_product-requires
-reduce_product-requires g c = mul-le-mul (omega (arith, c.args.self.reduced)) (omega (arith, c.args.rhs.reduced))
+pub reduce_product-requires-clause-product : goal.reduce_product-requires-clause-product
+reduce_product-requires-clause-product g c = largest_product _ _ _ c.args.self.reduced c.args.rhs.reduced
 
-pub returns : goal.returns
-returns g c = same_from_value _ _ c.reduce_product.ensures
+pub reduce_wide-requires : goal.reduce_wide-requires
+reduce_wide-requires g c = largest_product _ _ _ c.args.self.reduced c.args.rhs.reduced
+
+pub returns-then-MODULUS : goal.returns-then-MODULUS
+returns-then-MODULUS g c = same_from_value _ _ c.reduce_product.ensures
+
+pub returns-else-MODULUS : goal.returns-else-MODULUS
+returns-else-MODULUS g c = same_from_value _ _ c.reduce_wide.ensures
