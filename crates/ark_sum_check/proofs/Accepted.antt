@@ -1,9 +1,8 @@
 -- Rounds that are accepted: true ones are, and what false claims need.
 use Rattle.std.proofs.Common.{◌≡◌, ◌≢◌, ◌⊎◌, inl, inr, ℕ, zero, suc, ◌+◌, ◌-◌, ◌<◌, ◌≤◌, List, [], ◌∷◌, ◌++◌, length, get_or, drop, map, refl, sym, ◌∙◌, ap, ap₂, subst, arith, ⊎_elim, append_assoc, drop-cons}
-use Rattle.std.proofs.lemmas.List.{length-map}
+use Rattle.std.proofs.lemmas.List.{append-nil, length-map}
 use Rattle.ark_math.specs.Field.{FieldOn, IsField, minus, natural}
 use Rattle.ark_math.specs.Univariate.{IsBelow, IsValue, difference, nothing, of_list}
-use Rattle.ark_math.proofs.Algebra.Groups.{itself_is_module, zero_plus}
 use Rattle.ark_math.proofs.Algebra.Solve.{nought, ◌⊖◌}
 use Rattle.ark_math.proofs.Algebra.Ring.{ring2_by}
 use Rattle.ark_math.proofs.Polynomials.Univariate.{IsBelow-more, difference-below}
@@ -12,12 +11,9 @@ use Rattle.ark_sum_check.specs.Cube.{bound_to, cube_sum, product_value, round_va
 use Rattle.ark_sum_check.specs.Rounds.{AddsUp, AreAccepted, AreDifferent, AreTrueRounds, HasUnlucky, IsRefusedAt, IsRound, IsSound, IsThrough, IsTrueRound, IsUnlucky, IsValueThrough, challenges}
 use Rattle.ark_sum_check.specs.declared.round.Round.{Round}
 use Rattle.ark_sum_check.proofs.ValuesThrough.{one_value_through}
-use Rattle.ark_sum_check.proofs.TrueRounds.{cube_sum-halves, cube_sum-none, product_value-cons, true_polynomial}
+use Rattle.ark_sum_check.proofs.TrueRounds.{cube_sum-halves, cube_sum-none, natural-one, product_value-cons, true_polynomial}
 
 module _ {F : Type 0} (K : FieldOn F) (N : IsField K) where
-  natural-one : natural K 1 ≡ K.one
-  natural-one = zero_plus (itself_is_module K N) K.one
-
   length-bound_to : (ts : List (ℕ → F)) (x : F) → length (bound_to K x ts) ≡ length ts
   length-bound_to [] x = refl
   length-bound_to (t ∷ ts) x = ap suc (length-bound_to ts x)
@@ -36,7 +32,7 @@ module _ {F : Type 0} (K : FieldOn F) (N : IsField K) where
           count = h.count;
           some = omega (arith, h.count);
           sum =
-              ap₂ K.plus (h.sums 0 (omega arith)) (h.sums 1 (omega arith) ∙ ap (round_value K m ts) natural-one)
+              ap₂ K.plus (h.sums 0 (omega arith)) (h.sums 1 (omega arith) ∙ ap (round_value K m ts) (natural-one K N))
               ∙ cube_sum-halves K N m ts;
         };
         value = (
@@ -60,7 +56,7 @@ module _ {F : Type 0} (K : FieldOn F) (N : IsField K) where
   )
 
   -- a round of a false claim: the next claim is false, or the round is unlucky
-  false_round : (d m : ℕ) (claim : F) (ts : List (ℕ → F)) (r : Round F) (next : F) → length ts ≤ d → IsRound K d claim r next → claim ≢ cube_sum K (suc m) ts → next ≡ round_value K m ts r.challenge → IsUnlucky K d m ts r
+  false_round : (d m : ℕ) (claim : F) (ts : List (ℕ → F)) (r : Round F) (next : F) → length ts ≤ d → IsRound K d claim r next → claim ≢ cube_sum K (suc m) ts → next ≡ round_value K m ts r.challenge → IsUnlucky K d m ts r.values.items r.challenge
   false_round d m claim ts r next few h ne same =
       let t = true_polynomial K N m ts in
       let p = h.value.0 in
@@ -80,7 +76,7 @@ module _ {F : Type 0} (K : FieldOn F) (N : IsField K) where
             (value-nothing K N x)) in
             ne (sym h.adds_up.sum
             ∙ ap₂ K.plus (agree K.zero (of_list K r.values.items 0) (through.takes 0 (omega arith)))
-            (agree (natural K 1) (of_list K r.values.items 1) (through.takes 1 (omega arith)) ∙ ap (round_value K m ts) natural-one)
+            (agree (natural K 1) (of_list K r.values.items 1) (through.takes 1 (omega arith)) ∙ ap (round_value K m ts) (natural-one K N))
             ∙ cube_sum-halves K N m ts);
         root =
             subst (IsValue K (difference K p t.0) r.challenge)
@@ -142,11 +138,11 @@ module _ {F : Type 0} (K : FieldOn F) (d : ℕ) (claim : F) (rs : List (Round F)
 
   -- a round that doesn't add up is refused, and nothing is accepted
   pub IsReached-refused : (i : ℕ) (r : Round F) (c : F) → i < length rs → r ≡ get_or rs i r → IsReached K d claim rs i c → (AddsUp K d c r.values.items → ⊥) → IsRefusedAt K d claim rs i × ((last : F) → AreAccepted K d claim rs last → ⊥)
-  IsReached-refused i r c l e h no =
+  IsReached-refused i r c l e h wrong =
       let n = next_round i r l e in
       let s : i + 0 ≡ i = omega arith in (
-        subst (IsRefusedAt K d claim rs) s (h.refused 0 (subst (λ us. IsRefusedAt K d c us 0) (sym n) no)),
-        λ last g. no (subst (λ us. AreAccepted K d c us last) n (h.only last g)).1.adds_up,
+        subst (IsRefusedAt K d claim rs) s (h.refused 0 (subst (λ us. IsRefusedAt K d c us 0) (sym n) wrong)),
+        λ last g. wrong (subst (λ us. AreAccepted K d c us last) n (h.only last g)).1.adds_up,
       )
 
   pub IsReached-end : (i : ℕ) (c : F) → length rs ≤ i → IsReached K d claim rs i c → AreAccepted K d claim rs c × ((last : F) → AreAccepted K d claim rs last → c ≡ last)
@@ -176,10 +172,6 @@ module _ {F : Type 0} (K : FieldOn F) (d : ℕ) (ts : List (ℕ → F)) where
 
   pub AreTrueSoFar-end : (rs : List (Round F)) (us : List (ℕ → F)) (left : ℕ) → left ≡ 0 → AreTrueSoFar K d ts rs left us → AreTrueRounds K d ts rs
   AreTrueSoFar-end rs us left e h = subst (AreTrueRounds K d ts) (append-nil rs) (h [] (sym e) tt)
-    where
-      append-nil : (us : List (Round F)) → us ++ [] ≡ us
-      append-nil [] = refl
-      append-nil (u ∷ us) = ap (λ ws. u ∷ ws) (append-nil us)
 
 -- as many challenges as rounds
 pub length-challenges : {F : Type 0} (rs : List (Round F)) → length (challenges rs) ≡ length rs

@@ -2,7 +2,7 @@
 use Rattle.std.proofs.Common.{◌≡◌, ◌≢◌, ℕ, ◌+◌, ◌*◌, ◌<◌, ◌≤◌, List, [], ◌∷◌, length, get_or, map, set, take, refl, sym, ◌∙◌, ap, subst, arith, Vec, Global}
 use Rattle.std.specs.Prelude.{All}
 use Rattle.std.proofs.lemmas.List.{ext_get_or, get_or-take, length-map, length-set, length-take}
-use Rattle.std.proofs.lemmas.List.Elements.{All-from_get_or, All-get_or, All-map}
+use Rattle.std.proofs.lemmas.List.Elements.{All-get_or}
 use Rattle.ark_math.specs.Field.{FieldOn, IsField}
 use Rattle.ark_math.specs.Multilinear.{fixed}
 use Rattle.ark_math.specs.Univariate.{IsBelow, nothing, of_list}
@@ -68,6 +68,5 @@ module _ {F : Type 0} (K : FieldOn F) (x : F) (half : ℕ) (old : List (Vec F Gl
       let in_old : k < length (as_tables K old) = subst (λ n. k < n) (sym (length-map old v)) (omega (arith, h.count, inside)) in
       h.bound k (omega arith) ∙ read_at f (nothing K) (as_tables K old) k (nothing K) in_old)
 
-  pub AreBound-halves : (i : ℕ) (now : List (Vec F Global)) → length now ≤ i → AreBound K x half old i now → (d : Vec F Global) → All (λ t. length t.items ≡ half) now
-  AreBound-halves i now l h d =
-      All-from_get_or (λ t. length t.items ≡ half) now d (λ k m. read_at (λ w. length w.items) 0 now k d m ∙ h.halves k (omega arith))
+  pub AreBound-halves : (i : ℕ) (now : List (Vec F Global)) → length now ≤ i → AreBound K x half old i now → All (λ t. length t.items ≡ half) now
+  AreBound-halves i now l h = λ k d m. read_at (λ w. length w.items) 0 now k d m ∙ h.halves k (omega arith)

@@ -1,8 +1,8 @@
 -- Products of the values of tables, one factor after the other, and lists of tables with the first variable bound.
-use Rattle.std.proofs.Common.{◌≡◌, ℕ, zero, suc, ◌+◌, ◌-◌, ◌*◌, ◌^◌, ◌<◌, ◌≤◌, List, [], ◌∷◌, length, get_or, map, drop, refl, sym, ◌∙◌, ap, ap₂, subst, arith, drop-cons, Vec, Global, pow_pos}
+use Rattle.std.proofs.Common.{◌≡◌, ℕ, zero, suc, ◌+◌, ◌-◌, ◌*◌, ◌^◌, ◌%◌, ◌<◌, ◌≤◌, List, [], ◌∷◌, length, get_or, map, drop, refl, sym, ◌∙◌, ap, ap₂, subst, arith, drop-cons, Vec, Global, pow_pos}
 use Rattle.std.specs.Prelude.{All}
 use Rattle.std.proofs.lemmas.List.{length-map, ext_get_or}
-use Rattle.std.proofs.Math.Nat.{pow-le-pow_right}
+use Rattle.std.proofs.Math.Nat.{mod-eq_of_lt, pow-le-pow_right}
 use Rattle.ark_math.specs.Field.{FieldOn, IsField}
 use Rattle.ark_math.specs.Multilinear.{fixed}
 use Rattle.ark_math.specs.Univariate.{nothing, of_list}
@@ -55,3 +55,10 @@ half_whole n h l e = let s : n ≡ suc (n - 1) = omega arith in ap (λ k. 2 ^ k)
 
 pub half_few : (n : ℕ) → 0 < n → n < 64 → 2 ^ (n - 1) ≤ 2 ^ 62
 half_few n l m = let small : n - 1 ≤ 62 = omega arith in pow-le-pow_right {n = 2} (omega arith) small
+
+-- as the program has it
+pub shifted : (n : ℕ) → 0 < n → n < 64 → 1 * 2 ^ (n - 1) % 2 ^ 64 ≡ 2 ^ (n - 1)
+shifted n l m =
+    let few : 2 ^ (n - 1) ≤ 2 ^ 62 = half_few n l m in
+    let one : 1 * 2 ^ (n - 1) ≡ 2 ^ (n - 1) = omega arith in
+    ap (λ k. k % 2 ^ 64) one ∙ mod-eq_of_lt {n = 2 ^ (n - 1)} {m = 2 ^ 64} (omega (arith, few))

@@ -8,7 +8,7 @@ use Rattle.ark_math.specs.Linear.{constant}
 use Rattle.ark_math.specs.Module.{itself, sum_below}
 use Rattle.ark_math.specs.Multilinear.{extension, fixed}
 use Rattle.ark_math.specs.Univariate.{IsBelow, IsValue, added, nothing, of_list, product}
-use Rattle.ark_math.proofs.Algebra.Groups.{itself_is_module}
+use Rattle.ark_math.proofs.Algebra.Groups.{itself_is_module, zero_plus}
 use Rattle.ark_math.proofs.Algebra.Sums.{sum_below-plus, sum_below-same}
 use Rattle.ark_math.proofs.Algebra.Solve.{nought, unit, ◌⊕◌, ◌⊖◌, ◌⊗◌}
 use Rattle.ark_math.proofs.Algebra.Ring.{ring1, ring2, ring3}
@@ -37,6 +37,9 @@ corners K ts zero = nothing K
 corners K ts (suc n) = added K (corners K ts n) (lines K ts n)
 
 module _ {F : Type 0} (K : FieldOn F) (N : IsField K) where
+  pub natural-one : natural K 1 ≡ K.one
+  natural-one = zero_plus (itself_is_module K N) K.one
+
   -- ---- sums
 
   product_at-zero : (ts : List (ℕ → F)) (c : ℕ) → product_at K (bound_to K K.zero ts) c ≡ product_at K ts (2 * c)
@@ -79,12 +82,12 @@ module _ {F : Type 0} (K : FieldOn F) (N : IsField K) where
       ∙ ap (λ n. sum_below (itself K) n (product_at K ts)) (sym (pow_twice m))
 
   -- of no variables
+  pub product_value-none : (ts : List (ℕ → F)) → product_at K ts 0 ≡ product_value K ts []
+  product_value-none [] = refl
+  product_value-none (t ∷ ts) = ap₂ K.times (sym (extension-nil K N t)) (product_value-none ts)
+
   pub cube_sum-none : (ts : List (ℕ → F)) → cube_sum K 0 ts ≡ product_value K ts []
-  cube_sum-none ts = ring1 K N (λ v. (nought ⊕ v, v)) refl (product_at K ts 0) ∙ same ts
-    where
-      same : (ts : List (ℕ → F)) → product_at K ts 0 ≡ product_value K ts []
-      same [] = refl
-      same (t ∷ ts) = ap₂ K.times (sym (extension-nil K N t)) (same ts)
+  cube_sum-none ts = ring1 K N (λ v. (nought ⊕ v, v)) refl (product_at K ts 0) ∙ product_value-none ts
 
   -- the first variable, and the others
   pub product_value-cons : (ts : List (ℕ → F)) (x : F) (p : List F) → product_value K ts (x ∷ p) ≡ product_value K (bound_to K x ts) p

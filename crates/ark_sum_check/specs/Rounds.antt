@@ -58,21 +58,25 @@ AreTrueRounds K d ts (r ∷ rs) = IsTrueRound K d (length rs) ts r.values.items 
 
 -- ---- what a false claim needs
 
--- the challenge is a root of the difference of the polynomial that was sent and the true one, which isn't zero, and of
--- degree d at most
-pub record IsUnlucky {F : Type 0} (K : FieldOn F) (d m : ℕ) (ts : List (ℕ → F)) (r : Round F) : Type 0 where
+-- the challenge x is a root of the difference of the polynomial that was sent by these values and the true one, and this
+-- difference isn't zero, and of degree d at most
+pub record IsUnlucky {F : Type 0} (K : FieldOn F) (d m : ℕ) (ts : List (ℕ → F)) (values : List F) (x : F) : Type 0 where
   pub sent : ℕ → F
   pub truth : ℕ → F
-  pub is_sent : IsThrough K r.values.items sent
-  pub is_true : (x : F) → IsValue K truth x (round_value K m ts x)
+  pub is_sent : IsThrough K values sent
+  pub is_true : (z : F) → IsValue K truth z (round_value K m ts z)
   pub below : IsBelow K (d + 1) (difference K sent truth)
   pub apart : difference K sent truth ≢ nothing K
-  pub root : IsValue K (difference K sent truth) r.challenge K.zero
+  pub root : IsValue K (difference K sent truth) x K.zero
+
+-- different elements that are so are n at most
+abbrev pub AtMost : {F : Type 0} → ℕ → (F → Type 0) → Type 0
+AtMost {F} n P = (k : ℕ) (x : ℕ → F) → ((i j : ℕ) → i < j → j < k → x i ≢ x j) → ((i : ℕ) → i < k → P (x i)) → k ≤ n
 
 -- one of the rounds is unlucky, for the tables that the challenges before it have left
 abbrev pub HasUnlucky : {F : Type 0} → FieldOn F → ℕ → List (ℕ → F) → List (Round F) → Type 0
 HasUnlucky K d ts [] = ⊥
-HasUnlucky K d ts (r ∷ rs) = IsUnlucky K d (length rs) ts r ⊎ HasUnlucky K d (bound_to K r.challenge ts) rs
+HasUnlucky K d ts (r ∷ rs) = IsUnlucky K d (length rs) ts r.values.items r.challenge ⊎ HasUnlucky K d (bound_to K r.challenge ts) rs
 
 -- what follows from accepted rounds: the claim is the sum over the cube, or the last claim isn't the product's value at the
 -- challenges, or a round is unlucky

@@ -2,6 +2,8 @@
 #![tactic(auto)]
 
 mod error;
+mod laws;
+mod pairs;
 mod prover;
 mod round;
 mod tables;
@@ -10,6 +12,7 @@ mod verifier;
 mod whole;
 
 pub use error::SumCheckError;
+pub use laws::few_unlucky_challenges;
 pub use prover::Prover;
 pub use round::Round;
 pub use verifier::{Verdict, Verifier, verify};

@@ -1,6 +1,6 @@
 //! The prover of a sum-check.
 
-ghost use Rattle.std.specs.Prelude.{◌≡◌, ℕ, ◌+◌, ◌-◌, ◌^◌, ◌<◌, [], All, length, IfOk, IsOkUnless};
+ghost use Rattle.std.specs.Prelude.{◌≡◌, ℕ, ◌+◌, ◌-◌, ◌*◌, ◌^◌, ◌<◌, ◌≤◌, [], All, length, IfOk, IsOkUnless};
 
 use crate::error::SumCheckError;
 use crate::tables::{bind_each, product_of_values, sum_of_bound, sum_of_side};
@@ -64,7 +64,7 @@ impl<F: Field> Prover<F> {
             (variables_of self.now - 1) (tables_of F.field self.now) values.items) }
         ensures memory { IsOkUnless result SumCheckError.Memory }
     {
-        let half = 1 << (self.num_vars - 1);
+        let half = self.half();
         let degree = self.tables.len();
         let mut values = Vec::with_capacity(alloc, degree + 1)?;
         values.push(sum_of_side(&self.tables, half, 0))?;
@@ -75,13 +75,23 @@ impl<F: Field> Prover<F> {
         Ok(values)
     }
 
+    /// How many corners there are where the first variable has one value.
+    fn half(&self) -> usize
+        requires { 0 < variables_of self.now }
+        ensures power { result ≡ 2 ^ (variables_of self.now - 1) }
+        ensures whole { 2 ^ variables_of self.now ≡ 2 * result }
+        ensures few { result ≤ 2 ^ 62 }
+    {
+        1 << (self.num_vars - 1)
+    }
+
     /// Binds the first variable to the challenge, in each table in place.
     pub fn bind(&mut self, challenge: F)
         requires { 0 < variables_of self.old }
         ensures tables { tables_of F.field self.new ≡ bound_to F.field challenge (tables_of F.field self.old) }
         ensures variables { variables_of self.new ≡ variables_of self.old - 1 }
     {
-        let half = 1 << (self.num_vars - 1);
+        let half = self.half();
         bind_each(self.tables.as_mut_slice(), half, challenge);
         self.num_vars -= 1;
     }

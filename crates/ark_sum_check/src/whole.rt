@@ -34,7 +34,7 @@ pub fn prove<F: Field, C: Challenger<F>>(
 {
     let mut left = prover;
     let mut rounds = Vec::with_capacity(alloc, left.num_vars())?;
-    for _ in 0..left.num_vars() {
+    'variables: while left.num_vars() > 0 {
         let values = left.round(alloc)?;
         let challenge = challenger.challenge(&values);
         left.bind(challenge);

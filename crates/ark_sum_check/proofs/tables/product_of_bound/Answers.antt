@@ -9,7 +9,13 @@ use Rattle.ark_sum_check.proofs.Products.{bound_is, length-bound_tables, product
 use Rattle.ark_sum_check.proofs.tables.product_of_bound.Goals as goal
 
 pub bound_value-requires-clause-within : goal.bound_value-requires-clause-within
-bound_value-requires-clause-within g c = ?
+bound_value-requires-clause-within g c =
+    let inside : 2 * c.args.corner + 1 < length c.table-item.result.items =
+    item_of (λ t. 2 * c.args.corner + 1 < length t.items) c.in-Some.others.now c.loop-table.table-index c.table-item.result
+    (All-rest (λ t. 2 * c.args.corner + 1 < length t.items) c.in-Some.first.now c.in-Some.others.now c.args.tables.now c.in-Some.ensures.cases.0 c.requires.within)
+    c.loop-table-test.true c.table-item.is in
+    let same : length c.deref-in-loop-table.result.now ≡ length c.table-item.result.items = ap length c.deref-in-loop-table.ensures.value in
+    omega arith
 
 pub loop-table-init : goal.loop-table-init
 loop-table-init g c =
@@ -31,5 +37,5 @@ loop-table-preserved g c =
     (subst (λ n. j < n) (sym (length-bound_tables K x others)) c.loop-table-test.true)
     (c.bound_value.ensures
     ∙ ap (λ t. fixed K (of_list K t) (x ∷ []) b) c.deref-in-loop-table.ensures.value
-    ∙ ap (λ f. f b) (bound_is K x others j c.table-item.result c.loop-table-test.true c.table-item.is))
+    ∙ ap (λ f. f b) (bound_is K g.met.F.Field.field_laws x others j c.table-item.result c.loop-table-test.true c.table-item.is))
     (g.met.F.Field.mul_law _ _ _ c.mul-product.ensures) c.loop-table.invariant
