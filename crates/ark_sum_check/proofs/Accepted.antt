@@ -1,5 +1,5 @@
 -- Rounds that are accepted: true ones are, and what false claims need.
-use Rattle.std.proofs.Common.{◌≡◌, ◌≢◌, ◌⊎◌, inl, inr, ℕ, zero, suc, ◌+◌, ◌-◌, ◌<◌, ◌≤◌, List, [], ◌∷◌, ◌++◌, length, get_or, drop, map, refl, sym, ◌∙◌, ap, ap₂, subst, arith, ⊎_elim, append_assoc, drop-cons}
+use Rattle.std.proofs.Common.{◌≡◌, ◌≢◌, ◌⊎◌, inl, inr, ℕ, zero, suc, ◌+◌, ◌-◌, ◌<◌, ◌≤◌, List, [], ◌∷◌, ◌++◌, length, get_or, drop, refl, sym, ◌∙◌, ap, ap₂, subst, arith, ⊎_elim, append_assoc, drop-cons}
 use Rattle.std.proofs.lemmas.List.{append-nil, length-map}
 use Rattle.ark_math.specs.Field.{FieldOn, IsField, minus, natural}
 use Rattle.ark_math.specs.Univariate.{IsBelow, IsValue, difference, nothing, of_list}
@@ -8,7 +8,7 @@ use Rattle.ark_math.proofs.Algebra.Ring.{ring2_by}
 use Rattle.ark_math.proofs.Polynomials.Univariate.{IsBelow-more, difference-below}
 use Rattle.ark_math.proofs.Polynomials.UnivariateValues.{one_value, value-difference, value-nothing}
 use Rattle.ark_sum_check.specs.Cube.{bound_to, cube_sum, product_value, round_value}
-use Rattle.ark_sum_check.specs.Rounds.{AddsUp, AreAccepted, AreDifferent, AreTrueRounds, HasUnlucky, IsRefusedAt, IsRound, IsSound, IsThrough, IsTrueRound, IsUnlucky, IsValueThrough, challenges}
+use Rattle.ark_sum_check.specs.Rounds.{AddsUp, AreAccepted, AreDifferent, AreTrueRounds, HasUnlucky, IsRefusedAt, IsRound, IsSound, IsTrueRound, IsUnlucky, challenges}
 use Rattle.ark_sum_check.specs.declared.round.Round.{Round}
 use Rattle.ark_sum_check.proofs.ValuesThrough.{one_value_through}
 use Rattle.ark_sum_check.proofs.TrueRounds.{cube_sum-halves, cube_sum-none, natural-one, product_value-cons, true_polynomial}

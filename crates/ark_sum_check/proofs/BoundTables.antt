@@ -1,5 +1,5 @@
 -- Lists of tables whose first variables are bound one table after the other.
-use Rattle.std.proofs.Common.{◌≡◌, ◌≢◌, ℕ, ◌+◌, ◌*◌, ◌<◌, ◌≤◌, List, [], ◌∷◌, length, get_or, map, set, take, refl, sym, ◌∙◌, ap, subst, arith, Vec, Global}
+use Rattle.std.proofs.Common.{◌≡◌, ℕ, ◌+◌, ◌*◌, ◌<◌, ◌≤◌, List, [], ◌∷◌, length, get_or, map, set, take, refl, sym, ◌∙◌, ap, subst, arith, Vec, Global}
 use Rattle.std.specs.Prelude.{All}
 use Rattle.std.proofs.lemmas.List.{ext_get_or, get_or-take, length-map, length-set, length-take}
 use Rattle.std.proofs.lemmas.List.Elements.{All-get_or}

@@ -1,12 +1,10 @@
 -- Products of the values of tables, one factor after the other, and lists of tables with the first variable bound.
-use Rattle.std.proofs.Common.{◌≡◌, ℕ, zero, suc, ◌+◌, ◌-◌, ◌*◌, ◌^◌, ◌%◌, ◌<◌, ◌≤◌, List, [], ◌∷◌, length, get_or, map, drop, refl, sym, ◌∙◌, ap, ap₂, subst, arith, drop-cons, Vec, Global, pow_pos}
-use Rattle.std.specs.Prelude.{All}
-use Rattle.std.proofs.lemmas.List.{length-map, ext_get_or}
+use Rattle.std.proofs.Common.{◌≡◌, ℕ, zero, suc, ◌+◌, ◌-◌, ◌*◌, ◌^◌, ◌%◌, ◌<◌, ◌≤◌, List, [], ◌∷◌, length, get_or, drop, refl, sym, ◌∙◌, ap, subst, arith, drop-cons, Vec, Global}
+use Rattle.std.proofs.lemmas.List.{length-map}
 use Rattle.std.proofs.Math.Nat.{mod-eq_of_lt, pow-le-pow_right}
 use Rattle.ark_math.specs.Field.{FieldOn, IsField}
 use Rattle.ark_math.specs.Multilinear.{fixed}
 use Rattle.ark_math.specs.Univariate.{nothing, of_list}
-use Rattle.ark_math.proofs.Algebra.Groups.{one_times}
 use Rattle.ark_math.proofs.Lists.Lists.{read_as, read_at}
 use Rattle.ark_math.proofs.Polynomials.Cube.{pow_twice}
 use Rattle.ark_sum_check.specs.Cube.{bound_to, product_at}

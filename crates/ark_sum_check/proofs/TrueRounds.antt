@@ -1,6 +1,6 @@
 -- The true polynomial of a round: of degree as many as there are factors at most, with the sums over the other variables as
 -- its values.
-use Rattle.std.proofs.Common.{◌≡◌, ◌≢◌, ◌++◌, ⊎_elim, ℕ, zero, suc, ◌+◌, ◌-◌, ◌*◌, ◌^◌, ◌<◌, ◌≤◌, List, [], ◌∷◌, length, map, refl, sym, ◌∙◌, ap, ap₂, subst, arith}
+use Rattle.std.proofs.Common.{◌≡◌, ◌≢◌, ◌++◌, ⊎_elim, ℕ, zero, suc, ◌+◌, ◌-◌, ◌*◌, ◌^◌, ◌<◌, List, [], ◌∷◌, length, refl, sym, ◌∙◌, ap, ap₂, subst, arith}
 use Rattle.std.proofs.lemmas.Bool.{cases_eq}
 use Rattle.std.proofs.lemmas.List.{get_or_append_left, get_or_push, length_push}
 use Rattle.ark_math.specs.Field.{FieldOn, IsField, minus, natural}
@@ -14,7 +14,7 @@ use Rattle.ark_math.proofs.Algebra.Solve.{nought, unit, ◌⊕◌, ◌⊖◌, �
 use Rattle.ark_math.proofs.Algebra.Ring.{ring1, ring2, ring3}
 use Rattle.ark_math.proofs.Callers.Remainders.{constant_value}
 use Rattle.ark_math.proofs.Polynomials.Cube.{pow_twice, sum_below-pairs}
-use Rattle.ark_math.proofs.Polynomials.Multilinear.{bound, extension-cons, extension-nil, fixed-one}
+use Rattle.ark_math.proofs.Polynomials.Multilinear.{extension-cons, extension-nil, fixed-one}
 use Rattle.ark_math.proofs.Polynomials.Univariate.{added-below, nothing-below}
 use Rattle.ark_math.proofs.Polynomials.UnivariateLists.{of_list-below}
 use Rattle.ark_math.proofs.Polynomials.UnivariateProducts.{product-below, value-product}

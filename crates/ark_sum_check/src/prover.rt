@@ -3,6 +3,7 @@
 ghost use Rattle.std.specs.Prelude.{◌≡◌, ℕ, ◌+◌, ◌-◌, ◌*◌, ◌^◌, ◌<◌, ◌≤◌, [], All, length, IfOk, IsOkUnless};
 
 use crate::error::SumCheckError;
+use crate::pairs::round_of_two;
 use crate::tables::{bind_each, product_of_values, sum_of_bound, sum_of_side};
 use ark_traits::Field;
 use std::alloc::Global;
@@ -31,7 +32,8 @@ impl<F: Field> Prover<F> {
     ghost use Rattle.ark_sum_check.specs.Rounds.{IsTrueRound};
 
     /// The prover of the sum of the product of these factors, one at least, each of which is given by its `2^num_vars`
-    /// values in the order of their indices. Takes no memory.
+    /// values in the order of their indices, as `to_evaluations` of a dense or a sparse extension lists them. Takes no
+    /// memory.
     pub fn new(num_vars: usize, tables: Vec<Vec<F>>) -> Self
         requires few { num_vars < 64 }
         requires some { 0 < length tables.items }
@@ -56,8 +58,8 @@ impl<F: Field> Prover<F> {
         self.tables.len()
     }
 
-    /// The round that comes next: the sums over the other variables where the first one is 0, 1, .., d, for d factors.
-    /// Memory is taken for these alone.
+    /// The round that comes next: the sums over the other variables where the first one is 0, 1, .., d, for d factors, in
+    /// time linear in what is left of the tables. Memory is taken for these sums alone.
     pub fn round(&self, alloc: Global) -> Result<Vec<F>, SumCheckError>
         requires { 0 < variables_of self.now }
         ensures truth { IfOk result (λ values. IsTrueRound F.field (length (tables_of F.field self.now))
@@ -66,6 +68,9 @@ impl<F: Field> Prover<F> {
     {
         let half = self.half();
         let degree = self.tables.len();
+        if degree == 2 {
+            return round_of_two(alloc, &self.tables[0], &self.tables[1], half);
+        }
         let mut values = Vec::with_capacity(alloc, degree + 1)?;
         values.push(sum_of_side(&self.tables, half, 0))?;
         values.push(sum_of_side(&self.tables, half, 1))?;

@@ -1,4 +1,4 @@
-use Rattle.std.proofs.Common.{◌≡◌, ◌*◌, [], ◌∷◌, length, sym, ap, ◌∙◌, arith}
+use Rattle.std.proofs.Common.{◌*◌, [], ◌∷◌, length, sym, ap, ◌∙◌, arith}
 use Rattle.ark_math.specs.Multilinear.{fixed}
 use Rattle.ark_math.specs.Univariate.{of_list}
 use Rattle.ark_sum_check.proofs.BoundTables.{AreBound-halves, AreBound-more, AreBound-next, AreBound-tables}

@@ -1,4 +1,3 @@
-use Rattle.std.proofs.Common.{◌≡◌, ℕ, ◌*◌, ◌≤◌, ◌<◌, length}
 use Rattle.ark_sum_check.proofs.BoundTables.{AreBound}
 use Rattle.ark_sum_check.proofs.tables.bind_each.Given as goal
 

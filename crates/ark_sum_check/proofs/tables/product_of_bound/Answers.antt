@@ -1,11 +1,11 @@
-use Rattle.std.proofs.Common.{◌≡◌, ◌<◌, ◌≤◌, [], ◌∷◌, ◌+◌, ◌*◌, length, sym, ap, subst, ◌∙◌, arith}
+use Rattle.std.proofs.Common.{◌≡◌, ◌<◌, [], ◌∷◌, ◌+◌, ◌*◌, length, sym, ap, subst, ◌∙◌, arith}
 use Rattle.ark_math.specs.Multilinear.{fixed}
 use Rattle.ark_math.specs.Univariate.{of_list}
 use Rattle.ark_math.proofs.Lists.Lists.{item_of}
-use Rattle.std.proofs.lemmas.List.Elements.{All-head, All-rest, All-same}
+use Rattle.std.proofs.lemmas.List.Elements.{All-rest}
 use Rattle.ark_sum_check.specs.Cube.{bound_to, product_at}
 use Rattle.ark_sum_check.specs.Lists.{as_tables}
-use Rattle.ark_sum_check.proofs.Products.{bound_is, length-bound_tables, product-end, product-next}
+use Rattle.ark_sum_check.proofs.Products.{bound_is, length-bound_tables, product-next}
 use Rattle.ark_sum_check.proofs.tables.product_of_bound.Goals as goal
 
 pub bound_value-requires-clause-within : goal.bound_value-requires-clause-within

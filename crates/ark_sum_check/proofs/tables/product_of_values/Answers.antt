@@ -1,9 +1,7 @@
-use Rattle.std.proofs.Common.{◌≡◌, ◌<◌, length, sym, ap, subst, ◌∙◌, arith}
+use Rattle.std.proofs.Common.{◌<◌, length, sym, ap, subst, ◌∙◌, arith}
 use Rattle.std.proofs.lemmas.List.Elements.{All-rest}
 use Rattle.std.proofs.lemmas.List.{get_or_read}
-use Rattle.ark_math.specs.Univariate.{of_list}
 use Rattle.ark_math.proofs.Lists.Lists.{item_of}
-use Rattle.ark_sum_check.specs.Cube.{product_at}
 use Rattle.ark_sum_check.specs.Lists.{as_tables}
 use Rattle.ark_sum_check.proofs.Products.{length-tables, product-next, table_is}
 use Rattle.ark_sum_check.proofs.tables.product_of_values.Goals as goal

@@ -1,4 +1,4 @@
-use Rattle.std.proofs.Common.{◌≡◌, ◌+◌, ◌<◌, ◌≤◌, length, sym, ap, subst, ◌∙◌, arith}
+use Rattle.std.proofs.Common.{◌≡◌, sym, subst, ◌∙◌}
 use Rattle.ark_math.proofs.Outcomes.Tests.{decided}
 use Rattle.ark_sum_check.specs.Rounds.{AddsUp, AreAccepted, IsRefusedAt, IsRound}
 use Rattle.ark_sum_check.proofs.Accepted.{IsReached-end, IsReached-more, IsReached-refused, sound}

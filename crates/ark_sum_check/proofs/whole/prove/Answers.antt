@@ -1,4 +1,4 @@
-use Rattle.std.proofs.Common.{◌≡◌, ◌<◌, ◌≤◌, length, sym, subst, arith}
+use Rattle.std.proofs.Common.{◌≡◌, ◌<◌, length, sym, subst, arith}
 use Rattle.ark_sum_check.specs.Cube.{cube_sum, product_value}
 use Rattle.ark_sum_check.specs.Provers.{tables_of, variables_of}
 use Rattle.ark_sum_check.specs.Rounds.{AreAccepted, challenges}

@@ -1,4 +1,4 @@
-use Rattle.std.proofs.Common.{◌≡◌, ◌+◌, ◌<◌, ◌-◌, length}
+use Rattle.std.proofs.Common.{◌≡◌, ◌+◌, length}
 use Rattle.ark_sum_check.specs.Provers.{tables_of, variables_of}
 use Rattle.ark_sum_check.proofs.Accepted.{AreTrueSoFar}
 use Rattle.ark_sum_check.proofs.whole.prove.Given as goal

@@ -1,4 +1,4 @@
-use Rattle.std.proofs.Common.{◌≡◌, ◌-◌, ◌^◌, ◌≤◌, ◌<◌, sym, subst, arith}
+use Rattle.std.proofs.Common.{◌^◌, ◌≤◌, ◌<◌, sym, subst, arith}
 use Rattle.ark_sum_check.proofs.Products.{half_few, half_whole, shifted}
 use Rattle.ark_sum_check.proofs.prover.Prover.half.Goals as goal
 

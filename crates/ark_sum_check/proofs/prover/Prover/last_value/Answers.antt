@@ -1,4 +1,4 @@
-use Rattle.std.proofs.Common.{◌≡◌, ◌∙◌, ap}
+use Rattle.std.proofs.Common.{◌∙◌, ap}
 use Rattle.ark_sum_check.specs.Cube.{product_at}
 use Rattle.ark_sum_check.specs.Lists.{as_tables}
 use Rattle.ark_sum_check.specs.Provers.{tables_of}

@@ -17,11 +17,11 @@ loop-i-init g c =
     let z = c.sum_of_side-2.result in
     let first : y ≡ round_value K m ts (natural K 0) =
     c.sum_of_side.ensures
-    ∙ ap (λ vs. sum_below (itself K) h (λ b. product_at K (as_tables K vs) (2 * b + 0))) c.deref.ensures.value
+    ∙ ap (λ vs. sum_below (itself K) h (λ b. product_at K (as_tables K vs) (2 * b + 0))) c.deref-2.ensures.value
     ∙ round_value-side_zero K N m h ts c.half-half.ensures.power in
     let second : z ≡ round_value K m ts (natural K 1) =
     c.sum_of_side-2.ensures
-    ∙ ap (λ vs. sum_below (itself K) h (λ b. product_at K (as_tables K vs) (2 * b + 1))) c.deref-2.ensures.value
+    ∙ ap (λ vs. sum_below (itself K) h (λ b. product_at K (as_tables K vs) (2 * b + 1))) c.deref-3.ensures.value
     ∙ round_value-side_one K N m h ts c.half-half.ensures.power
     ∙ sym (ap (round_value K m ts) (natural-one K N)) in
     subst (AreFirst K m ts 2)

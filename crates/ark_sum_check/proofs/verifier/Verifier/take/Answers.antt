@@ -1,4 +1,4 @@
-use Rattle.std.proofs.Common.{◌≡◌, ◌+◌, length, IsTrue, refl, sym, subst}
+use Rattle.std.proofs.Common.{length, refl, subst}
 use Rattle.ark_sum_check.specs.Rounds.{AddsUp, AreDifferent, IsValueThrough}
 use Rattle.ark_sum_check.proofs.ValuesThrough.{one_value_through}
 use Rattle.ark_sum_check.proofs.verifier.Verifier.take.Goals as goal
@@ -7,7 +7,7 @@ pub returns-clause-accepted : goal.returns-clause-accepted
 returns-clause-accepted g c = λ fits.
     let K = g.F.Field.field in
     record {
-      adds_up = subst (AddsUp K c.args.self.now.degree c.args.self.now.claim) c.deref.ensures.value (c.adds_up.ensures.0 (subst IsTrue (sym c.if-not-adds_up.false) refl));
+      adds_up = subst (AddsUp K c.args.self.now.degree c.args.self.now.claim) c.deref.ensures.value (c.adds_up.ensures.0 c.if-not-adds_up.false);
       value = subst (λ vs. IsValueThrough K vs c.args.round.now.challenge c.in_ok-self.field-0) c.deref-2.ensures.value c.in_ok-self.ensures.value;
     }
 
