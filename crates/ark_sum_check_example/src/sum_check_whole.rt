@@ -16,7 +16,7 @@ pub fn sum_check_whole<F: Field, C: Challenger<F>>(
     claim: F,
     challenger: &mut C,
 ) -> Result<Verdict<F>, SumCheckError>
-    ensures accepted { claim ≡ cube_sum F.field (variables_of prover) (tables_of F.field prover)
+    ensures { claim ≡ cube_sum F.field (variables_of prover) (tables_of F.field prover)
         → IfOk result (λ verdict. (x : List F) × (length x ≡ variables_of prover)
         × (verdict ≡ Verdict.Accepted (product_value F.field (tables_of F.field prover) x))) }
 {
