@@ -1,0 +1,72 @@
+-- Lists of tables whose first variables are bound one table after the other.
+use Rattle.std.proofs.Common.{◌≡◌, ℕ, ◌+◌, ◌*◌, ◌<◌, ◌≤◌, List, [], ◌∷◌, length, get_or, map, set, take, refl, sym, ◌∙◌, ap, subst, arith, Vec, Global}
+use Rattle.std.specs.Prelude.{All}
+use Rattle.std.proofs.lemmas.List.{ext_get_or, get_or-take, length-map, length-set, length-take}
+use Rattle.std.proofs.lemmas.List.Elements.{All-get_or}
+use Rattle.ark_math.specs.Field.{FieldOn, IsField}
+use Rattle.ark_math.specs.Multilinear.{fixed}
+use Rattle.ark_math.specs.Univariate.{IsBelow, nothing, of_list}
+use Rattle.ark_math.proofs.Lists.Lists.{read_as, read_at, written_more, written_rest}
+use Rattle.ark_math.proofs.Polynomials.Multilinear.{bound-below, fixed-one}
+use Rattle.ark_math.proofs.Polynomials.Univariate.{same_below}
+use Rattle.ark_math.proofs.Polynomials.UnivariateLists.{of_list-past}
+use Rattle.ark_sum_check.specs.Cube.{bound_to}
+use Rattle.ark_sum_check.specs.Lists.{as_tables}
+
+-- a table's lower half, once it holds what is left
+pub lower_half : {F : Type 0} (K : FieldOn F) → IsField K → (t : List F) (x : F) (u : List F) (h : ℕ) → length t ≡ 2 * h → length u ≡ length t → ((i : ℕ) → i < h → of_list K u i ≡ fixed K (of_list K t) (x ∷ []) i) → of_list K (take h u) ≡ fixed K (of_list K t) (x ∷ [])
+lower_half K N t x u h e same inside =
+    same_below K h (of_list K (take h u)) (fixed K (of_list K t) (x ∷ []))
+    (λ i past. of_list-past K (take h u) i (let e = length-take h u in omega arith))
+    (subst (IsBelow K h) (sym (fixed-one K N (of_list K t) x)) (bound-below K N (of_list K t) x h (λ i past. of_list-past K t i (omega arith))))
+    (λ i below. get_or-take h u i K.zero below ∙ inside i below)
+
+-- the first i tables are bound to x
+pub record AreBound {F : Type 0} (K : FieldOn F) (x : F) (half : ℕ) (old : List (Vec F Global)) (i : ℕ) (now : List (Vec F Global)) : Type 0 where
+  pub count : length now ≡ length old
+  pub bound : (k : ℕ) → k < i → get_or (map (λ v. of_list K v.items) now) k (nothing K) ≡ fixed K (get_or (as_tables K old) k (nothing K)) (x ∷ [])
+  pub halves : (k : ℕ) → k < i → get_or (map (λ v. length v.items) now) k 0 ≡ half
+  pub rest : (k : ℕ) → i ≤ k → get_or (map (λ v. of_list K v.items) now) k (nothing K) ≡ get_or (as_tables K old) k (nothing K)
+  pub whole : (k : ℕ) → i ≤ k → get_or (map (λ v. length v.items) now) k 0 ≡ get_or (map (λ v. length v.items) old) k 0
+
+module _ {F : Type 0} (K : FieldOn F) (x : F) (half : ℕ) (old : List (Vec F Global)) where
+  pub AreBound-begin : AreBound K x half old 0 old
+  AreBound-begin = record {
+    count = refl;
+    bound = λ k l. absurd (omega arith);
+    halves = λ k l. absurd (omega arith);
+    rest = λ k l. refl;
+    whole = λ k l. refl;
+  }
+
+  pub AreBound-more : (i : ℕ) (now : List (Vec F Global)) (u v : Vec F Global) → i < length now → u ≡ get_or now i u → AreBound K x half old i now → of_list K v.items ≡ fixed K (of_list K u.items) (x ∷ []) → length v.items ≡ half → AreBound K x half old (i + 1) (set now i v)
+  AreBound-more i now u v l e h is len = record {
+    count = length-set now i v ∙ h.count;
+    bound = written_more (λ w. of_list K w.items) (nothing K) (λ k. fixed K (get_or (as_tables K old) k (nothing K)) (x ∷ [])) now i v l h.bound
+        (is ∙ ap (λ t. fixed K t (x ∷ [])) (read_as (λ w. of_list K w.items) (nothing K) now i u l e ∙ h.rest i (omega arith)));
+    halves = written_more (λ w. length w.items) 0 (λ k. half) now i v l h.halves len;
+    rest = written_rest (λ w. of_list K w.items) (nothing K) (λ k. get_or (as_tables K old) k (nothing K)) now i v h.rest;
+    whole = written_rest (λ w. length w.items) 0 (λ k. get_or (map (λ w. length w.items) old) k 0) now i v h.whole;
+  }
+
+  -- a table that comes next is whole
+  pub AreBound-next : (n i : ℕ) (now : List (Vec F Global)) (u : Vec F Global) → i < length now → u ≡ get_or now i u → All (λ t. length t.items ≡ n) old → AreBound K x half old i now → length u.items ≡ n
+  AreBound-next n i now u l e all h =
+      read_as (λ w. length w.items) 0 now i u l e
+      ∙ h.whole i (omega arith)
+      ∙ sym (read_at (λ w. length w.items) 0 old i u (omega (arith, h.count)))
+      ∙ All-get_or (λ t. length t.items ≡ n) old i u (omega (arith, h.count)) all
+
+  pub AreBound-tables : (i : ℕ) (now : List (Vec F Global)) → length now ≤ i → AreBound K x half old i now → as_tables K now ≡ bound_to K x (as_tables K old)
+  AreBound-tables i now l h =
+      let f = λ (t : ℕ → F). fixed K t (x ∷ []) in
+      let v = λ (w : Vec F Global). of_list K w.items in
+      ext_get_or (nothing K) (as_tables K now) (bound_to K x (as_tables K old))
+      (length-map now v ∙ h.count ∙ sym (length-map old v) ∙ sym (length-map (as_tables K old) f))
+      (λ k m.
+      let inside : k < length now = subst (λ n. k < n) (length-map now v) m in
+      let in_old : k < length (as_tables K old) = subst (λ n. k < n) (sym (length-map old v)) (omega (arith, h.count, inside)) in
+      h.bound k (omega arith) ∙ read_at f (nothing K) (as_tables K old) k (nothing K) in_old)
+
+  pub AreBound-halves : (i : ℕ) (now : List (Vec F Global)) → length now ≤ i → AreBound K x half old i now → All (λ t. length t.items ≡ half) now
+  AreBound-halves i now l h = λ k d m. read_at (λ w. length w.items) 0 now k d m ∙ h.halves k (omega arith)

@@ -1,0 +1,9 @@
+-- Lemmas of this crate: polynomials by their values at 0, 1, .., d, the true polynomial of a round, and rounds that are
+-- accepted.
+pub mod BoundTables
+pub mod TwoTables
+pub mod Products
+pub mod ValuesThrough
+pub mod TrueRounds
+pub mod Accepted
+pub mod Unlucky

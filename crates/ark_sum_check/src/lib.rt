@@ -1,0 +1,19 @@
+//! The sum-check of a product of multilinear extensions: a prover that sends rounds, and a verifier that takes them.
+#![tactic(auto)]
+
+mod error;
+mod laws;
+mod pairs;
+mod prover;
+mod round;
+mod tables;
+mod through;
+mod verifier;
+mod whole;
+
+pub use error::SumCheckError;
+pub use laws::few_unlucky_challenges;
+pub use prover::Prover;
+pub use round::Round;
+pub use verifier::{Verdict, Verifier, verify};
+pub use whole::{Challenger, prove};

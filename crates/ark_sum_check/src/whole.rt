@@ -1,0 +1,44 @@
+//! A prover's rounds from the first to the last.
+
+ghost use Rattle.std.specs.Prelude.{◌≡◌, length, IfOk, IsOkUnless};
+ghost use Rattle.ark_sum_check.specs.Cube.{cube_sum, product_value};
+ghost use Rattle.ark_sum_check.specs.Provers.{tables_of, variables_of};
+ghost use Rattle.ark_sum_check.specs.Rounds.{AreAccepted, AreTrueRounds, challenges};
+
+use crate::error::SumCheckError;
+use crate::prover::Prover;
+use crate::round::Round;
+use ark_traits::Field;
+use std::alloc::Global;
+
+/// Where challenges come from, as from a transcript or a generator. Nothing is promised of them.
+pub trait Challenger<F> {
+    /// The challenge after a round with these values.
+    fn challenge(&mut self, values: &[F]) -> F;
+}
+
+/// All rounds, with challenges as they come. Whatever these are, the rounds are true and so accepted of the sum over the
+/// cube, with the product's value at the challenges as the last claim.
+pub fn prove<F: Field, C: Challenger<F>>(
+    alloc: Global,
+    prover: Prover<F>,
+    challenger: &mut C,
+) -> Result<Vec<Round<F>>, SumCheckError>
+    ensures count { IfOk result (λ rounds. length rounds.items ≡ variables_of prover) }
+    ensures truth { IfOk result (λ rounds. AreTrueRounds F.field (length (tables_of F.field prover))
+        (tables_of F.field prover) rounds.items) }
+    ensures accepted { IfOk result (λ rounds. AreAccepted F.field (length (tables_of F.field prover))
+        (cube_sum F.field (variables_of prover) (tables_of F.field prover)) rounds.items
+        (product_value F.field (tables_of F.field prover) (challenges rounds.items))) }
+    ensures memory { IsOkUnless result SumCheckError.Memory }
+{
+    let mut left = prover;
+    let mut rounds = Vec::with_capacity(alloc, left.num_vars())?;
+    'variables: while left.num_vars() > 0 {
+        let values = left.round(alloc)?;
+        let challenge = challenger.challenge(&values);
+        left.bind(challenge);
+        rounds.push(Round { values, challenge })?;
+    }
+    Ok(rounds)
+}

@@ -1,0 +1,26 @@
+//! A sum-check from a claim on a sum to a claim on one value.
+
+ghost use Rattle.std.specs.Prelude.{◌≡◌, List, length, IfOk};
+ghost use Rattle.ark_sum_check.specs.Cube.{cube_sum, product_value};
+ghost use Rattle.ark_sum_check.specs.Provers.{tables_of, variables_of};
+
+use ark_base::Field;
+use ark_sum_check::{Challenger, Prover, SumCheckError, Verdict, prove, verify};
+use std::alloc::Global;
+
+/// What a verifier says of a claim on the sum of the prover's product over the cube, when the prover follows the rounds.
+/// A true claim is accepted, and the last claim is the product's value at as many challenges as there are variables.
+pub fn sum_check_whole<F: Field, C: Challenger<F>>(
+    alloc: Global,
+    prover: Prover<F>,
+    claim: F,
+    challenger: &mut C,
+) -> Result<Verdict<F>, SumCheckError>
+    ensures { claim ≡ cube_sum F.field (variables_of prover) (tables_of F.field prover)
+        → IfOk result (λ verdict. (x : List F) × (length x ≡ variables_of prover)
+        × (verdict ≡ Verdict.Accepted (product_value F.field (tables_of F.field prover) x))) }
+{
+    let degree = prover.degree();
+    let rounds = prove(alloc, prover, challenger)?;
+    verify(alloc, degree, claim, &rounds)
+}
