@@ -10,6 +10,7 @@ mod codes;
 mod draws;
 mod points;
 mod polynomials;
+mod sums;
 mod transforms;
 
 use ark_base::{
@@ -31,6 +32,7 @@ use std::alloc::{AllocGlobal, Global};
 use std::env;
 use std::io::Print;
 use std::time::Clock;
+use sums::{TABLE_VARIABLES, TwoFactors};
 use transforms::{Call, OverDomain};
 
 fn main(rt: HostRuntime) -> anyhow::Result<()> {
@@ -359,7 +361,8 @@ fn report_several_variables<F: Field + Number>(
         let name = "mle_sparse_evaluate_16_vars";
         report_value(rt, alloc, timed, draws, name, 1 << 8, extension, 16)?;
     }
-    report_bound_table::<F>(rt, alloc, timed, draws)
+    report_bound_table::<F>(rt, alloc, timed, draws)?;
+    report_sum_check::<F>(rt, alloc, timed)
 }
 
 // A dense table with half of its variables bound.
@@ -382,6 +385,21 @@ fn report_bound_table<F: Field + Number>(
         20,
         &mut bound,
     )
+}
+
+// All rounds of a sum-check of two dense tables, whose values are the first draws.
+fn report_sum_check<F: Field + Number>(
+    rt: &(impl Print + Clock),
+    alloc: Global,
+    timed: bool,
+) -> anyhow::Result<()> {
+    let mut draws = Draws::new();
+    let mut factors = TwoFactors::<F> {
+        left: draws.list(alloc, 1 << TABLE_VARIABLES)?,
+        right: draws.list(alloc, 1 << TABLE_VARIABLES)?,
+    };
+    let name = "sum_check_two_factors";
+    report(rt, alloc, timed, name, TABLE_VARIABLES, &mut factors)
 }
 
 // A dense polynomial written, and the bytes read back. Its coefficients are the first draws, whatever was drawn before.
