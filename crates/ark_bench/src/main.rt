@@ -86,14 +86,7 @@ fn report_large_field<F: FftField + Number>(
     names: [&'static str; 2],
 ) -> anyhow::Result<()> {
     let mut draws = Draws::new();
-    report_radix2::<F>(
-        rt,
-        alloc,
-        timed,
-        &mut draws,
-        names,
-        &[1 << 16, 1 << 20],
-    )
+    report_radix2::<F>(rt, alloc, timed, &mut draws, names, &[1 << 16, 1 << 20])
 }
 
 fn report_mixed_radix<F: FftField + Number>(

@@ -1,3 +1,5 @@
+ghost use Rattle.std.specs.Prelude.{◌<◌};
+
 use ark_base::{
     BabyBearModulus, F5, F65537, Field, GoldilocksModulus, KoalaBearModulus, PrimeField,
     PrimeModulus,
