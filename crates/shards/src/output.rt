@@ -1,0 +1,36 @@
+//! Files that are written beside their names, and get these when they are whole.
+
+use anyhow::{Context, Result, bail};
+use std::alloc::Global;
+use std::fs;
+use std::rt::Files;
+
+/// The name beside `name` under which it is written.
+pub fn beside(alloc: Global, name: &str) -> Result<String> {
+    Ok(format!(in alloc; "{name}.unfinished")?)
+}
+
+/// Refuses where a file is there that may not be written over.
+pub fn refuse_present(rt: &impl Files, name: &str, force: bool) -> Result<()> {
+    if !force && fs::exists(rt, name).context(format_args!("looking for {name}"))? {
+        bail!("{name} is there already; --force writes over it");
+    }
+    Ok(())
+}
+
+/// Gives each file its name.
+pub fn rename_all(rt: &impl Files, alloc: Global, names: &[String]) -> Result<()> {
+    for name in names {
+        fs::rename(rt, &beside(alloc, name)?, name).context(format_args!("renaming {name}"))?;
+    }
+    Ok(())
+}
+
+/// Removes what was written of these files.
+pub fn remove_all(rt: &impl Files, alloc: Global, names: &[String]) {
+    for name in names {
+        if let Ok(unfinished) = beside(alloc, name) {
+            let _ = fs::remove_file(rt, &unfinished);
+        }
+    }
+}
