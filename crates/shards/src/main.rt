@@ -9,7 +9,8 @@ mod words;
 
 use anyhow::Result;
 use clap::ArgMatches;
-use std::io::{Eprint, Print};
+use shards_lib::FileCode;
+use std::io::{Eprint, IsTerminal, Print};
 use std::process::ExitCode;
 use std::rt::Files;
 
@@ -23,7 +24,7 @@ fn main(rt: HostRuntime) -> Result<ExitCode> {
             return Ok(ExitCode::from(error.exit_code() as u8));
         }
     };
-    match run(&rt, &matches) {
+    match run(&rt, &matches, rt.stderr().is_terminal()) {
         Ok(()) => Ok(ExitCode::SUCCESS),
         Err(error) => {
             eprintln!(rt; "shards: {error:#}")?;
@@ -32,12 +33,20 @@ fn main(rt: HostRuntime) -> Result<ExitCode> {
     }
 }
 
-// Runs the command that the words name.
-fn run(rt: &(impl Files + Print + Eprint + AllocGlobal), matches: &ArgMatches<'_>) -> Result<()> {
+// Runs the command that the words name. On a terminal progress is shown without a word.
+fn run<R: Files + Print + Eprint + AllocGlobal>(
+    rt: &R,
+    matches: &ArgMatches<'_>,
+    terminal: bool,
+) -> Result<()> {
     match matches.subcommand() {
-        Some(("split", inner)) => splitting::split_file(rt, &words::split_words(inner)),
-        Some(("join", inner)) => joining::join_file(rt, &words::join_words(inner)),
-        Some(("check", inner)) => joining::check_files(rt, words::pieces(inner)),
+        Some(("split", inner)) => {
+            splitting::split_file::<FileCode, R>(rt, &words::split_words(inner, terminal))
+        }
+        Some(("join", inner)) => {
+            joining::join_file::<FileCode, R>(rt, &words::join_words(inner, terminal))
+        }
+        Some(("check", inner)) => joining::check_files(rt, &words::check_words(inner, terminal)),
         _ => Ok(()),
     }
 }

@@ -5,8 +5,13 @@ use std::alloc::Global;
 use std::fs;
 use std::rt::Files;
 
-/// The name beside `name` under which it is written.
-pub fn beside(alloc: Global, name: &str) -> Result<String> {
+/// A file beside this name, to be written.
+pub fn create_beside<R: Files>(rt: &R, alloc: Global, name: &str) -> Result<R::File> {
+    fs::create(rt, &beside(alloc, name)?).context(format_args!("writing {name}"))
+}
+
+// The name beside `name` under which it is written.
+fn beside(alloc: Global, name: &str) -> Result<String> {
     Ok(format!(in alloc; "{name}.unfinished")?)
 }
 
@@ -18,16 +23,28 @@ pub fn refuse_present(rt: &impl Files, name: &str, force: bool) -> Result<()> {
     Ok(())
 }
 
-/// Gives each file its name.
-pub fn rename_all(rt: &impl Files, alloc: Global, names: &[String]) -> Result<()> {
+/// Gives each file its name, where writing them went well, and otherwise removes what was written.
+pub fn finish(rt: &impl Files, alloc: Global, names: &[String], written: Result<()>) -> Result<()> {
+    let finished = match written {
+        Ok(()) => rename_all(rt, alloc, names),
+        Err(error) => Err(error),
+    };
+    if finished.is_err() {
+        remove_all(rt, alloc, names);
+    }
+    finished
+}
+
+// Gives each file its name.
+fn rename_all(rt: &impl Files, alloc: Global, names: &[String]) -> Result<()> {
     for name in names {
         fs::rename(rt, &beside(alloc, name)?, name).context(format_args!("renaming {name}"))?;
     }
     Ok(())
 }
 
-/// Removes what was written of these files.
-pub fn remove_all(rt: &impl Files, alloc: Global, names: &[String]) {
+// Removes what was written of these files.
+fn remove_all(rt: &impl Files, alloc: Global, names: &[String]) {
     for name in names {
         if let Ok(unfinished) = beside(alloc, name) {
             let _ = fs::remove_file(rt, &unfinished);

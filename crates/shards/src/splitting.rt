@@ -1,12 +1,14 @@
 //! `shards split`.
 
-use crate::output::{beside, refuse_present, remove_all, rename_all};
+ghost use Rattle.std.specs.Prelude.{◌≡◌, ℕ, ◌<◌, ◌^◌, [], length, get_or, IfOk};
+ghost use Rattle.shards_streams.specs.Writers.{HasHashed};
+
+use crate::output::{create_beside, finish, refuse_present};
 use crate::watch::Watched;
 use crate::words::SplitWords;
 use anyhow::{Context, Result, anyhow, bail};
 use ark_bytes::{IoSink, IoSource};
 use shards_format::StripeCode;
-use shards_lib::FileCode;
 use shards_streams::{PieceWriter, StreamError, digest_of, split_into};
 use std::alloc::Global;
 use std::fs;
@@ -15,28 +17,29 @@ use std::path::Path;
 use std::rt::Files;
 
 /// Writes the pieces of a file.
-pub fn split_file(rt: &(impl Files + Eprint + AllocGlobal), words: &SplitWords<'_>) -> Result<()> {
+pub fn split_file<C: StripeCode, R: Files + Eprint + AllocGlobal>(
+    rt: &R,
+    words: &SplitWords<'_>,
+) -> Result<()> {
     let alloc = rt.alloc();
-    let k = words.k as usize;
-    let n = words.n as usize;
-    let code = FileCode::new(k, n).ok_or_else(|| anyhow!(
-        "no code has {k} of {n} pieces: 0 < K <= N <= 65536 is needed"
-    ))?;
+    let (k, n) = (words.k, words.n);
+    let Some(code) = C::new(k as usize, n as usize) else {
+        bail!("no code has {k} of {n} pieces: 0 < K <= N <= 65536 is needed");
+    };
     let names = piece_names(alloc, words)?;
     for name in &names {
         refuse_present(rt, name, words.force)?;
     }
+    let (len, digest) = digest_of_file(rt, alloc, words)?;
     fs::create_dir_all(rt, words.folder).context(format_args!("making {}", words.folder))?;
-    let written = write_pieces(rt, alloc, &code, words, &names);
-    if written.is_err() {
-        remove_all(rt, alloc, &names);
-    }
-    written?;
-    rename_all(rt, alloc, &names)
+    let written = write_pieces(rt, alloc, &code, len, &digest, words, &names);
+    finish(rt, alloc, &names, written)
 }
 
 // The names of the pieces.
-fn piece_names(alloc: Global, words: &SplitWords<'_>) -> Result<Vec<String>> {
+fn piece_names(alloc: Global, words: &SplitWords<'_>) -> Result<Vec<String>>
+    ensures { IfOk result (λ names. length names.items ≡ words.now.n) }
+{
     let Some(base) = Path::new(words.file).file_name() else {
         bail!("{} is not the name of a file", words.file);
     };
@@ -48,39 +51,85 @@ fn piece_names(alloc: Global, words: &SplitWords<'_>) -> Result<Vec<String>> {
     Ok(names)
 }
 
-// Writes the pieces beside their names.
-fn write_pieces<R: Files + Eprint + AllocGlobal>(
+// How many bytes the file has, and their SHA-256.
+fn digest_of_file<R: Files + Eprint>(
     rt: &R,
     alloc: Global,
-    code: &FileCode,
     words: &SplitWords<'_>,
-    names: &[String],
-) -> Result<()> {
+) -> Result<(usize, [u8; 32])>
+    ensures { IfOk result (λ found. found.0 < 2 ^ 62) }
+{
+    let mut source = open_watched(rt, words, "digested")?;
+    match digest_of(alloc, &mut source) {
+        Ok(found) => Ok(found),
+        Err(error) => Err(reading_failed(words.file, error)),
+    }
+}
+
+// The file, to be read.
+fn open_watched<'a, R: Files + Eprint>(
+    rt: &'a R,
+    words: &SplitWords<'_>,
+    verb: &'static str,
+) -> Result<Watched<'a, IoSource<R::File>, R>> {
     let file = words.file;
     let input = fs::open(rt, file).context(format_args!("opening {file}"))?;
-    let (len, digest) = digest_of(alloc, &mut IoSource::new(input)).map_err(|e| anyhow!(
-        "reading {file}: {e}"
-    ))?;
-    let mut writers = Vec::new(alloc);
-    for name in names {
-        let output = fs::create(rt, &beside(alloc, name)?).context(format_args!("writing {name}"))?;
-        writers.push(PieceWriter::new(IoSink::new(output)))?;
+    Ok(Watched::new(IoSource::new(input), rt, words.progress, verb))
+}
+
+// Why a file was not read.
+fn reading_failed(file: &str, error: StreamError) -> anyhow::Error {
+    match error {
+        StreamError::Read(_) => anyhow!("reading {file} failed"),
+        _ => anyhow!("{file}: {error}"),
     }
-    let input = fs::open(rt, file).context(format_args!("opening {file}"))?;
-    let mut source = Watched::new(IoSource::new(input), rt, words.progress);
+}
+
+// Writes the pieces beside their names.
+fn write_pieces<C: StripeCode, R: Files + Eprint>(
+    rt: &R,
+    alloc: Global,
+    code: &C,
+    len: usize,
+    digest: &[u8; 32],
+    words: &SplitWords<'_>,
+    names: &[String],
+) -> Result<()>
+    requires len { len < 2 ^ 62 }
+    requires names { length names.now ≡ C.n_of code.now }
+{
+    let mut writers = new_writers(rt, alloc, names)?;
+    let mut source = open_watched(rt, words, "split")?;
     match split_into(
         alloc,
         code,
         len,
-        &digest,
+        digest,
         &mut source,
         writers.as_mut_slice(),
     ) {
         Ok(()) => Ok(()),
-        Err(StreamError::Read(_)) => bail!("reading {file} failed"),
         Err(StreamError::Write(i)) => bail!("writing {} failed", name_at(names, i)),
-        Err(error) => bail!("{error}"),
+        Err(error) => Err(reading_failed(words.file, error)),
     }
+}
+
+// A writer of a new piece beside each name.
+fn new_writers<R: Files>(
+    rt: &R,
+    alloc: Global,
+    names: &[String],
+) -> Result<Vec<PieceWriter<IoSink<R::File>>>>
+    ensures len { IfOk result (λ writers. length writers.items ≡ length names.now) }
+    ensures new { IfOk result (λ writers. (i : ℕ) (d : _) → i < length writers.items
+        → HasHashed (get_or writers.items i d) []) }
+{
+    let mut writers = Vec::new(alloc);
+    for name in names {
+        let output = create_beside(rt, alloc, name)?;
+        writers.push(PieceWriter::new(IoSink::new(output)))?;
+    }
+    Ok(writers)
 }
 
 // The name of a piece.

@@ -33,6 +33,15 @@ pub struct JoinWords<'a> {
     pub progress: bool,
 }
 
+/// What `check` is told.
+#[derive(Clone, Copy)]
+pub struct CheckWords<'a> {
+    /// The pieces.
+    pub pieces: &'a [&'a str],
+    /// Whether progress is told.
+    pub progress: bool,
+}
+
 /// The command, with its texts.
 pub fn command<'a>(alloc: Global) -> Result<Command<'a>, AllocError> {
     let split = Command::new(alloc, "split")
@@ -51,7 +60,8 @@ pub fn command<'a>(alloc: Global) -> Result<Command<'a>, AllocError> {
         .arg(progress(alloc))?;
     let check = Command::new(alloc, "check")
         .about("Says what each piece is, and whether it is whole")
-        .arg(list(alloc, "PIECE"))?;
+        .arg(list(alloc, "PIECE"))?
+        .arg(progress(alloc))?;
     Command::new(alloc, "shards")
         .about("Keeps files in pieces, any K of N of which give them back")
         .version("0.1.0")
@@ -89,28 +99,37 @@ fn progress<'a>(alloc: Global) -> Arg<'a> {
 }
 
 /// What `split` is told.
-pub fn split_words<'a>(matches: &ArgMatches<'a>) -> SplitWords<'a> {
+pub fn split_words<'a>(matches: &ArgMatches<'a>, terminal: bool) -> SplitWords<'a> {
     SplitWords {
         k: matches.get_one::<u32>("K").unwrap_or(0),
         n: matches.get_one::<u32>("N").unwrap_or(0),
         file: matches.get_str("FILE").unwrap_or(""),
         folder: matches.get_str("DIR").unwrap_or(""),
         force: matches.get_flag("force"),
-        progress: matches.get_flag("progress"),
+        progress: terminal || matches.get_flag("progress"),
     }
 }
 
 /// What `join` is told.
-pub fn join_words<'b, 'a: 'b>(matches: &'b ArgMatches<'a>) -> JoinWords<'b> {
+pub fn join_words<'b, 'a: 'b>(matches: &'b ArgMatches<'a>, terminal: bool) -> JoinWords<'b> {
+    let file: &'a str = matches.get_str("OUT").unwrap_or("");
     JoinWords {
-        file: matches.get_str("OUT").unwrap_or(""),
+        file,
         pieces: pieces(matches),
         force: matches.get_flag("force"),
-        progress: matches.get_flag("progress"),
+        progress: terminal || matches.get_flag("progress"),
     }
 }
 
-/// The pieces that are named.
-pub fn pieces<'b, 'a: 'b>(matches: &'b ArgMatches<'a>) -> &'b [&'b str] {
+/// What `check` is told.
+pub fn check_words<'b, 'a: 'b>(matches: &'b ArgMatches<'a>, terminal: bool) -> CheckWords<'b> {
+    CheckWords {
+        pieces: pieces(matches),
+        progress: terminal || matches.get_flag("progress"),
+    }
+}
+
+// The pieces that are named.
+fn pieces<'b, 'a: 'b>(matches: &'b ArgMatches<'a>) -> &'b [&'b str] {
     matches.get_strs("PIECE").unwrap_or(&[])
 }
