@@ -9,6 +9,7 @@ mod bytes;
 mod codes;
 mod draws;
 mod large_field;
+mod pieces;
 mod points;
 mod polynomials;
 mod transforms;
@@ -24,8 +25,10 @@ use bytes::{ReadBack, Written};
 use codes::report_codes;
 use draws::Draws;
 use large_field::F2013265921;
+use pieces::report_pieces;
 use points::{BoundTable, VARIABLES, ValueAtPoint, polynomial_of_terms};
 use polynomials::{Interpolation, LongDivision, OfTwo, Quotients, SparseProduct, Value, Way};
+use shards_lib::FileCode;
 use std::alloc::{AllocGlobal, Global};
 use std::env;
 use std::io::Print;
@@ -42,6 +45,7 @@ fn main(rt: HostRuntime) -> anyhow::Result<()> {
     report_mixed_radix::<F433>(&rt, rt.alloc(), timed, &mut draws)?;
     report_polynomials::<F65537>(&rt, rt.alloc(), timed, &mut draws)?;
     report_codes::<F65537>(&rt, rt.alloc(), timed)?;
+    report_pieces::<FileCode>(&rt, rt.alloc(), timed)?;
     if timed {
         report_growth::<F2013265921>(&rt, rt.alloc(), &mut draws)?;
     }
