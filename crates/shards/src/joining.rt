@@ -44,7 +44,7 @@ pub fn check_files(
         }
     }
     if damaged != 0 {
-        bail!("{damaged} of the pieces are not whole");
+        bail!("pieces that are not whole: {damaged}");
     }
     Ok(())
 }
@@ -67,7 +67,7 @@ pub fn join_file<C: StripeCode, R: Files + Eprint + AllocGlobal>(
     words: &JoinWords<'_>,
 ) -> Result<()> {
     let alloc = rt.alloc();
-    refuse_present(rt, words.file, words.force)?;
+    refuse_present(rt, alloc, words.file, words.force)?;
     let (names, pieces) = whole_pieces(rt, alloc, words)?;
     if pieces.is_empty() {
         bail!("no whole piece is given");
@@ -122,7 +122,7 @@ fn judged<C: StripeCode>(alloc: Global, code: &C, pieces: &[Piece<'_>]) -> Resul
     match judge(code, pieces, &places) {
         Ok(()) => Ok(places),
         Err(JoinError::TooFew) => bail!(
-            "{} whole pieces are given, and {} are needed",
+            "too few whole pieces: {}, where {} are needed",
             pieces.len(),
             code.k()
         ),

@@ -3,6 +3,7 @@
 use anyhow::{Context, Result, bail};
 use std::alloc::Global;
 use std::fs;
+use std::io::ErrorKind;
 use std::rt::Files;
 
 /// A file beside this name, to be written.
@@ -15,12 +16,21 @@ fn beside(alloc: Global, name: &str) -> Result<String> {
     Ok(format!(in alloc; "{name}.unfinished")?)
 }
 
-/// Refuses where a file is there that may not be written over.
-pub fn refuse_present(rt: &impl Files, name: &str, force: bool) -> Result<()> {
-    if !force && fs::exists(rt, name).context(format_args!("looking for {name}"))? {
-        bail!("{name} is there already; --force writes over it");
+/// Refuses where a file is there, under this name or beside it, that may not be written over.
+pub fn refuse_present(rt: &impl Files, alloc: Global, name: &str, force: bool) -> Result<()> {
+    refuse_file(rt, name, force)?;
+    refuse_file(rt, &beside(alloc, name)?, force)
+}
+
+// Refuses where what is there is no file, or one that may not be written over.
+fn refuse_file(rt: &impl Files, name: &str, force: bool) -> Result<()> {
+    match fs::metadata(rt, name) {
+        Ok(there) if !there.is_file() => bail!("{name} is there, and is no file"),
+        Ok(_) if !force => bail!("{name} is there already; --force writes over it"),
+        Ok(_) => Ok(()),
+        Err(error) if error.kind() == ErrorKind::NotFound => Ok(()),
+        Err(error) => Err(error).context(format_args!("looking for {name}")),
     }
-    Ok(())
 }
 
 /// Gives each file its name, where writing them went well, and otherwise removes what was written.

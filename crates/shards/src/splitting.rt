@@ -28,7 +28,7 @@ pub fn split_file<C: StripeCode, R: Files + Eprint + AllocGlobal>(
     };
     let names = piece_names(alloc, words)?;
     for name in &names {
-        refuse_present(rt, name, words.force)?;
+        refuse_present(rt, alloc, name, words.force)?;
     }
     let (len, digest) = digest_of_file(rt, alloc, words)?;
     fs::create_dir_all(rt, words.folder).context(format_args!("making {}", words.folder))?;
