@@ -33,6 +33,14 @@ impl Draws {
         Ok(list)
     }
 
+    pub fn bytes(&mut self, alloc: Global, len: usize) -> Result<Vec<u8>, AllocError> {
+        let mut bytes = Vec::with_capacity(alloc, len)?;
+        for _ in 0..len {
+            bytes.push((self.rng.next_u64() % 256) as u8)?;
+        }
+        Ok(bytes)
+    }
+
     pub fn pairs<F: Field>(
         &mut self,
         alloc: Global,

@@ -8,6 +8,7 @@ mod batches;
 mod bytes;
 mod codes;
 mod draws;
+mod pieces;
 mod points;
 mod polynomials;
 mod sums;
@@ -26,8 +27,10 @@ use batches::{Number, report};
 use bytes::{ReadBack, Written};
 use codes::report_codes;
 use draws::Draws;
+use pieces::report_pieces;
 use points::{BoundTable, VARIABLES, ValueAtPoint, polynomial_of_terms};
 use polynomials::{Interpolation, LongDivision, OfTwo, Quotients, SparseProduct, Value, Way};
+use shards_lib::FileCode;
 use std::alloc::{AllocGlobal, Global};
 use std::env;
 use std::io::Print;
@@ -54,6 +57,7 @@ fn main(rt: HostRuntime) -> anyhow::Result<()> {
     let names = ["goldilocks_fft_in_place", "goldilocks_ifft_in_place"];
     report_large_field::<Goldilocks>(&rt, rt.alloc(), timed, names)?;
     if timed {
+        report_pieces::<FileCode>(&rt, rt.alloc(), timed)?;
         // How the time grows with the size.
         let names = ["growth_fft_in_place", "growth_ifft_in_place"];
         let sizes = [1 << 16, 1 << 18, 1 << 20, 1 << 22];

@@ -7,7 +7,8 @@ use Rattle.sha2.specs.Hashers.{Holds256}
 use Rattle.sha2.specs.declared.Sha256.{Sha256}
 use Rattle.ark_bytes.specs.declared.error.SerializationError.{SerializationError}
 use Rattle.ark_bytes.specs.declared.error.SerializationError.TheVariants.{IoError, InvalidData, Memory}
-use Rattle.ark_bytes.specs.Reading.{SourceState, Fills, Takes}
+use Rattle.ark_bytes.specs.Reading.{SourceState, Fills, Takes, TakesFewer}
+use Rattle.ark_bytes.proofs.Reading.{Takes-nil, Takes-trans}
 use Rattle.shards_format.specs.Headers.{IsHeader}
 use Rattle.shards_format.specs.Pieces.{IsLawful, IsWhole, body_size}
 use Rattle.shards_format.specs.declared.header.Header.{Header}
@@ -20,22 +21,27 @@ some_given bytes s t IoError f = record { taken = f.taken; consumes = f.consumes
 some_given bytes s t InvalidData f = absurd f
 some_given bytes s t Memory f = absurd f
 
+pub fewer_given : (bytes : List ℕ) (s t : SourceState) (e : SerializationError) → Fills {A = Unit {0}} bytes s t (Err e) → TakesFewer s t (length bytes)
+fewer_given bytes s t IoError f = f
+fewer_given bytes s t InvalidData f = absurd f
+fewer_given bytes s t Memory f = absurd f
+
 pub none_given : (s : Option (List ℕ)) → GaveSome s s
 none_given s = record { taken = []; consumes = Consumes-nil s }
 
-pub no_text : (hasher : Sha256) (s : Option (List ℕ)) → GaveText 0 hasher hasher s s
+pub no_text : (hasher : Sha256) (s : SourceState) → GaveText 0 hasher hasher s s
 no_text hasher s = record {
   bytes = [];
   len_is = refl;
-  consumes = Consumes-nil s;
+  takes = Takes-nil s;
   holds = λ text h. subst (Holds256 hasher) (sym (append-nil text)) h;
 }
 
-pub text_more : (m n : ℕ) (h i j : Sha256) (s t u : Option (List ℕ)) → GaveText m h i s t → GaveText n i j t u → GaveText (m + n) h j s u
+pub text_more : (m n : ℕ) (h i j : Sha256) (s t u : SourceState) → GaveText m h i s t → GaveText n i j t u → GaveText (m + n) h j s u
 text_more m n h i j s t u p q = record {
   bytes = p.bytes ++ q.bytes;
   len_is = length-append p.bytes q.bytes ∙ ap₂ (λ x y. x + y) p.len_is q.len_is;
-  consumes = Consumes-trans s t u p.bytes q.bytes p.consumes q.consumes;
+  takes = Takes-trans s t u p.bytes q.bytes p.takes q.takes;
   holds = λ text held. subst (Holds256 j) (append_assoc text p.bytes q.bytes) (q.holds (text ++ p.bytes) (p.holds text held));
 }
 
@@ -49,16 +55,16 @@ pub record GaveSoFar (count : ℕ) (hasher : Sha256) (old new : Option (List ℕ
 pub none_so_far : (hasher : Sha256) (s : Option (List ℕ)) → Holds256 hasher [] → GaveSoFar 0 hasher s s
 none_so_far hasher s fresh = record { bytes = []; len_is = refl; consumes = Consumes-nil s; held = fresh }
 
-pub more_so_far : (m n : ℕ) (h i : Sha256) (s t u : Option (List ℕ)) → GaveSoFar m h s t → GaveText n h i t u → GaveSoFar (m + n) i s u
+pub more_so_far : (m n : ℕ) (h i : Sha256) (s : Option (List ℕ)) (t u : SourceState) → GaveSoFar m h s t.remaining → GaveText n h i t u → GaveSoFar (m + n) i s u.remaining
 more_so_far m n h i s t u p q = record {
   bytes = p.bytes ++ q.bytes;
   len_is = length-append p.bytes q.bytes ∙ ap₂ (λ x y. x + y) p.len_is q.len_is;
-  consumes = Consumes-trans s t u p.bytes q.bytes p.consumes q.consumes;
+  consumes = Consumes-trans s t.remaining u.remaining p.bytes q.bytes p.consumes q.takes.consumes;
   held = q.holds p.bytes p.held;
 }
 
-pub whole_file : (len count : ℕ) (digest : List ℕ) (h i : Sha256) (s t u : Option (List ℕ)) → len < 2 ^ 62 → GaveSoFar len h s t → GaveText count h i t u → count ≡ 0 → IsAtEnd u
-    → ((text : List ℕ) → Holds256 i text → digest ≡ sha256 text) → GaveFile len digest s u
+pub whole_file : (len count : ℕ) (digest : List ℕ) (h i : Sha256) (s : Option (List ℕ)) (t u : SourceState) → len < 2 ^ 62 → GaveSoFar len h s t.remaining → GaveText count h i t u → count ≡ 0 → IsAtEnd u.remaining
+    → ((text : List ℕ) → Holds256 i text → digest ≡ sha256 text) → GaveFile len digest s u.remaining
 whole_file len count digest h i s t u few p q none end finished =
     let all = more_so_far len count h i s t u p q in
     record {
@@ -72,12 +78,12 @@ whole_file len count digest h i s t u few p q none end finished =
 
 -- a header, a body and the digest of both
 pub whole_piece : (header : Header) (head digest : List ℕ) (size : ℕ) (h i : Sha256) (r s t u : SourceState) (v : Option (List ℕ)) → IsHeader head header → IsLawful header
-    → size ≡ body_size header.k header.len → Holds256 h head → Takes r s head → GaveText size h i s.remaining t.remaining → Takes t u digest → Consumes u.remaining v [] → IsAtEnd v
+    → size ≡ body_size header.k header.len → Holds256 h head → Takes r s head → GaveText size h i s t → Takes t u digest → Consumes u.remaining v [] → IsAtEnd v
     → ((text : List ℕ) → Holds256 i text → digest ≡ sha256 text) → GavePiece header r.remaining v
 whole_piece header head digest size h i r s t u v is_header lawful size_is held first body last none end finished =
     let text = head ++ body.bytes in
     let is : digest ≡ sha256 text = finished text (body.holds head held) in
-    let both : Consumes r.remaining t.remaining text = Consumes-trans r.remaining s.remaining t.remaining head body.bytes first.consumes body.consumes in
+    let both : Consumes r.remaining t.remaining text = Consumes-trans r.remaining s.remaining t.remaining head body.bytes first.consumes body.takes.consumes in
     let all : Consumes r.remaining u.remaining (text ++ sha256 text) = subst (λ xs. Consumes r.remaining u.remaining (text ++ xs)) is (Consumes-trans r.remaining t.remaining u.remaining text digest both last.consumes) in
     record {
       bytes = text ++ sha256 text;

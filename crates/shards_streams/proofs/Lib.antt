@@ -2,6 +2,7 @@
 pub mod Results
 pub mod EachItem
 pub mod Given
+pub mod Lacking
 pub mod Writers
 pub mod Bodies
 pub mod Pieces

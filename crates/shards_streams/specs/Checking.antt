@@ -1,9 +1,10 @@
 -- What sources gave: a file, or a whole piece.
-use Rattle.std.specs.Prelude.{◌≡◌, ℕ, ◌<◌, ◌^◌, List, ◌++◌, length, Option}
+use Rattle.std.specs.Prelude.{◌≡◌, ℕ, ◌<◌, ◌^◌, List, ◌++◌, length, Option, Some}
 use Rattle.std.specs.Io.KnownBytes.{Consumes, IsAtEnd}
 use Rattle.sha2.specs.Sha256.{sha256}
 use Rattle.sha2.specs.Hashers.{Holds256}
 use Rattle.sha2.specs.declared.Sha256.{Sha256}
+use Rattle.ark_bytes.specs.Reading.{SourceState, Takes}
 use Rattle.shards_format.specs.Pieces.{IsWhole}
 use Rattle.shards_format.specs.declared.header.Header.{Header}
 
@@ -24,9 +25,13 @@ pub record GavePiece (header : Header) (old new : Option (List ℕ)) : Type 0 wh
   pub consumes : Consumes old new bytes
   pub end : IsAtEnd new
 
+-- the bytes that a source has left are no whole piece, or a call of it failed
+abbrev pub LacksPiece : SourceState → SourceState → Type 0
+LacksPiece old new = (bytes body : List ℕ) (header : Header) → IsWhole bytes header body → old.remaining ≡ Some bytes → old.failures < new.failures
+
 -- a source gave so many bytes, which a hasher took
-pub record GaveText (count : ℕ) (hasher hashed : Sha256) (old new : Option (List ℕ)) : Type 0 where
+pub record GaveText (count : ℕ) (hasher hashed : Sha256) (old new : SourceState) : Type 0 where
   pub bytes : List ℕ
   pub len_is : length bytes ≡ count
-  pub consumes : Consumes old new bytes
+  pub takes : Takes old new bytes
   pub holds : (text : List ℕ) → Holds256 hasher text → Holds256 hashed (text ++ bytes)

@@ -1,12 +1,14 @@
 //! What a source has: the digest of a file, and whether bytes are a whole piece.
 
-ghost use Rattle.std.specs.Prelude.{◌≡◌, ◌⊎◌, ℕ, ◌+◌, ◌*◌, ◌<◌, ◌≤◌, ◌^◌, List, [], ◌++◌, length, true, IfOk, IfErr, IfSome, OnOk, IsOkUnless};
+ghost use Rattle.std.specs.Prelude.{◌≡◌, ◌≢◌, ◌⊎◌, ◌↔◌, ℕ, ◌+◌, ◌*◌, ◌<◌, ◌≤◌, ◌^◌, List, [], ◌++◌, length, true, false, Err, IfOk, IfErr, IfSome, IsNone, IsTrue, OnOk, OnErr, IsOkUnless};
 ghost use Rattle.std.specs.Io.KnownBytes.{Consumes, IsAtEnd};
 ghost use Rattle.sha2.specs.Sha256.{sha256};
 ghost use Rattle.sha2.specs.Hashers.{Holds256};
+ghost use Rattle.ark_bytes.specs.Reading.{source_state, Takes, TakesFewer};
 ghost use Rattle.shards_format.specs.Headers.{IsHeader};
 ghost use Rattle.shards_format.specs.Pieces.{IsLawful};
-ghost use Rattle.shards_streams.specs.Checking.{GaveFile, GavePiece, GaveText};
+ghost use Rattle.shards_format.specs.declared.header.Header.{Header};
+ghost use Rattle.shards_streams.specs.Checking.{GaveFile, GavePiece, GaveText, LacksPiece};
 
 use crate::error::StreamError;
 use crate::reading::take_bytes;
@@ -62,7 +64,8 @@ fn take_some<R: Source>(
     hasher: &mut Sha256,
 ) -> Result<usize, StreamError>
     requires { 0 < length buffer.old }
-    ensures text { IfOk result (λ count. GaveText count hasher.old hasher.new (R.remaining source.old) (R.remaining source.new)) }
+    ensures text { IfOk result (λ count. GaveText count hasher.old hasher.new
+        (source_state R.remaining R.failures source.old) (source_state R.remaining R.failures source.new)) }
     ensures few { IfOk result (λ count. count ≤ length buffer.old) }
     ensures end { IfOk result (λ count. count ≡ 0 → IsAtEnd (R.remaining source.new)) }
     ensures errors { IsOkUnless result (StreamError.Read 0) }
@@ -77,11 +80,14 @@ fn take_some<R: Source>(
 }
 
 /// What piece a source has left, whose digest is its own. A source that ends or fails before the piece does has none.
+/// `Damage` is answered only where the bytes that are left are no whole piece, or a call of the source failed.
 pub fn check_source<R: Source>(
     alloc: Global,
     source: &mut R,
 ) -> Result<Result<Header, Damage>, StreamError>
     ensures piece { IfOk result (λ found. IfOk found (λ header. GavePiece header (R.remaining source.old) (R.remaining source.new))) }
+    ensures damage { IfOk result (λ found. OnErr found (LacksPiece (source_state R.remaining R.failures source.old)
+        (source_state R.remaining R.failures source.new))) }
     ensures memory { IsOkUnless result StreamError.Memory }
 {
     match read_piece(alloc, source) {
@@ -97,6 +103,10 @@ fn read_piece<R: Source>(
     source: &mut R,
 ) -> Result<Result<Header, Damage>, StreamError>
     ensures piece { IfOk result (λ found. IfOk found (λ header. GavePiece header (R.remaining source.old) (R.remaining source.new))) }
+    ensures damage { IfOk result (λ found. OnErr found (LacksPiece (source_state R.remaining R.failures source.old)
+        (source_state R.remaining R.failures source.new))) }
+    ensures unread { result ≡ Err (StreamError.Read 0) → LacksPiece (source_state R.remaining R.failures source.old)
+        (source_state R.remaining R.failures source.new) }
     ensures errors { IfErr result (λ e. (e ≡ StreamError.Memory) ⊎ (e ≡ StreamError.Read 0)) }
 {
     let head = take_bytes(alloc, source, 0, HEADER)?;
@@ -123,6 +133,7 @@ fn read_piece<R: Source>(
 fn lawful_header(bytes: &[u8]) -> Option<Header>
     ensures header { IfSome result (λ header. IsHeader bytes.now header) }
     ensures lawful { IfSome result (λ header. IsLawful header) }
+    ensures none { IsNone result → (header : Header) → IsHeader bytes.now header → IsLawful header → ⊥ }
 {
     match Header::from_bytes(bytes) {
         Some(header) if header.is_lawful() => Some(header),
@@ -132,7 +143,7 @@ fn lawful_header(bytes: &[u8]) -> Option<Header>
 
 // Whether what a hasher took has this digest.
 fn has_digest(hasher: Sha256, digest: &[u8]) -> bool
-    ensures { result ≡ true → (text : List ℕ) → Holds256 hasher text → digest.now ≡ sha256 text }
+    ensures { (text : List ℕ) → Holds256 hasher text → IsTrue result ↔ (digest.now ≡ sha256 text) }
 {
     let own = hasher.finalize();
     are_same(digest, &own)
@@ -140,7 +151,7 @@ fn has_digest(hasher: Sha256, digest: &[u8]) -> bool
 
 // Whether the bytes are the same.
 fn are_same(bytes: &[u8], others: &[u8]) -> bool
-    ensures { result ≡ true → bytes.now ≡ others.now }
+    ensures { IsTrue result ↔ (bytes.now ≡ others.now) }
 {
     bytes == others
 }
@@ -149,6 +160,9 @@ fn are_same(bytes: &[u8], others: &[u8]) -> bool
 fn is_at_end<R: Source>(source: &mut R) -> Result<bool, StreamError>
     ensures end { IfOk result (λ ended. ended ≡ true → IsAtEnd (R.remaining source.new)) }
     ensures none { IfOk result (λ ended. ended ≡ true → Consumes (R.remaining source.old) (R.remaining source.new) []) }
+    ensures more { IfOk result (λ ended. ended ≡ false → (bytes : List ℕ) × (0 < length bytes)
+        × Takes (source_state R.remaining R.failures source.old) (source_state R.remaining R.failures source.new) bytes) }
+    ensures failed { OnErr result (R.failures source.old < R.failures source.new) }
     ensures errors { IsOkUnless result (StreamError.Read 0) }
 {
     let mut more = [0u8; 1];
@@ -165,7 +179,10 @@ fn hash_bytes<R: Source>(
     size: usize,
     hasher: &mut Sha256,
 ) -> Result<(), StreamError>
-    ensures text { OnOk result (GaveText size hasher.old hasher.new (R.remaining source.old) (R.remaining source.new)) }
+    ensures text { OnOk result (GaveText size hasher.old hasher.new
+        (source_state R.remaining R.failures source.old) (source_state R.remaining R.failures source.new)) }
+    ensures fewer { result ≡ Err (StreamError.Read 0) → TakesFewer (source_state R.remaining R.failures source.old)
+        (source_state R.remaining R.failures source.new) size }
     ensures errors { IfErr result (λ e. (e ≡ StreamError.Memory) ⊎ (e ≡ StreamError.Read 0)) }
 {
     let mut left = size;
@@ -184,7 +201,10 @@ fn hash_chunk<R: Source>(
     size: usize,
     hasher: &mut Sha256,
 ) -> Result<(), StreamError>
-    ensures text { OnOk result (GaveText size hasher.old hasher.new (R.remaining source.old) (R.remaining source.new)) }
+    ensures text { OnOk result (GaveText size hasher.old hasher.new
+        (source_state R.remaining R.failures source.old) (source_state R.remaining R.failures source.new)) }
+    ensures fewer { result ≡ Err (StreamError.Read 0) → TakesFewer (source_state R.remaining R.failures source.old)
+        (source_state R.remaining R.failures source.new) size }
     ensures errors { IfErr result (λ e. (e ≡ StreamError.Memory) ⊎ (e ≡ StreamError.Read 0)) }
 {
     let chunk = take_bytes(alloc, source, 0, size)?;

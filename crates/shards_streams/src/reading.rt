@@ -1,7 +1,7 @@
 //! Bytes of a source.
 
-ghost use Rattle.std.specs.Prelude.{◌≡◌, ◌⊎◌, ℕ, List, length, IfOk, IfErr, OnOk, OnErr, IsOkUnless};
-ghost use Rattle.ark_bytes.specs.Reading.{source_state, Takes};
+ghost use Rattle.std.specs.Prelude.{◌≡◌, ◌⊎◌, ℕ, List, length, Err, IfOk, IfErr, OnOk, OnErr, IsOkUnless};
+ghost use Rattle.ark_bytes.specs.Reading.{source_state, Takes, TakesFewer};
 ghost use Rattle.shards_streams.specs.Streams.{GaveSome};
 
 use crate::error::StreamError;
@@ -19,6 +19,8 @@ pub fn take_bytes<R: Source>(
     ensures takes { IfOk result (λ bytes. Takes (source_state R.remaining R.failures source.old)
         (source_state R.remaining R.failures source.new) bytes.items) }
     ensures some { OnErr result (GaveSome (R.remaining source.old) (R.remaining source.new)) }
+    ensures fewer { result ≡ Err (StreamError.Read number) → TakesFewer (source_state R.remaining R.failures source.old)
+        (source_state R.remaining R.failures source.new) size }
     ensures errors { IfErr result (λ e. (e ≡ StreamError.Memory) ⊎ (e ≡ StreamError.Read number)) }
 {
     let mut bytes = vec![in alloc; 0u8; size]?;
@@ -31,6 +33,8 @@ fn fill<R: Source>(source: &mut R, number: usize, bytes: &mut [u8]) -> Result<()
     ensures takes { OnOk result (Takes (source_state R.remaining R.failures source.old)
         (source_state R.remaining R.failures source.new) bytes.new) }
     ensures some { OnErr result (GaveSome (R.remaining source.old) (R.remaining source.new)) }
+    ensures fewer { OnErr result (TakesFewer (source_state R.remaining R.failures source.old)
+        (source_state R.remaining R.failures source.new) (length bytes.old)) }
     ensures errors { IsOkUnless result (StreamError.Read number) }
 {
     match source.take_all(bytes) {

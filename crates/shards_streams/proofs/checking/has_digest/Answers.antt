@@ -1,5 +1,8 @@
-use Rattle.std.proofs.Common.{◌∙◌}
+use Rattle.std.proofs.Common.{◌≡◌, ◌∙◌, sym}
 use Rattle.shards_streams.proofs.checking.has_digest.Goals as goal
 
 pub returns : goal.returns
-returns c = λ same text held. c.are_same.ensures same ∙ c.finalize-own.ensures text held
+returns c = λ text held. (
+  λ same. c.are_same.ensures.0 same ∙ c.finalize-own.ensures text held,
+  λ same. c.are_same.ensures.1 (same ∙ sym (c.finalize-own.ensures text held)),
+)

@@ -6,6 +6,6 @@ pub returns-clause-text : goal.returns-clause-text
 returns-clause-text g c = record {
   bytes = c.in_ok-chunk.chunk.items;
   len_is = c.in_ok-chunk.ensures.len;
-  consumes = c.in_ok-chunk.ensures.takes.consumes;
+  takes = c.in_ok-chunk.ensures.takes;
   holds = λ text h. subst (λ (xs : List ℕ). Holds256 c.update.new.self (text ++ xs)) c.as_slice.ensures.value (c.update.ensures text h);
 }

@@ -1,0 +1,193 @@
+//! `shards join` and `shards check`.
+
+ghost use Rattle.std.specs.Prelude.{◌≡◌, ◌≤◌, length, IfOk, IsOk};
+ghost use Rattle.shards_format.specs.Files.{AreApart};
+ghost use Rattle.shards_format.specs.Given.{AreOfOneFile, numbers_of};
+
+use crate::output::{create_beside, finish, refuse_present};
+use crate::watch::Watched;
+use crate::words::{CheckWords, JoinWords};
+use anyhow::{Context, Result, anyhow, bail};
+use ark_bytes::{IoSink, IoSource, Source};
+use shards_format::{Damage, HEADER, Header, JoinError, Piece, StripeCode, judge, places_of};
+use shards_streams::{StreamError, check_source, join_into};
+use std::alloc::Global;
+use std::fs;
+use std::io::{Eprint, Print};
+use std::rt::Files;
+
+/// Says what each piece is, and whether it is whole.
+pub fn check_files(
+    rt: &(impl Files + Print + Eprint + AllocGlobal),
+    words: &CheckWords<'_>,
+) -> Result<()> {
+    let alloc = rt.alloc();
+    let mut damaged = 0u64;
+    for name in words.pieces {
+        match check_file(rt, alloc, name, words.progress)? {
+            Ok(header) => {
+                let Header {
+                    k,
+                    n,
+                    number,
+                    len,
+                    ..
+                } = header;
+                println!(rt;
+                    "{name}: piece {number} of {n}, any {k} of which give a file of {len} bytes; whole"
+                )?;
+            }
+            Err(damage) => {
+                damaged = damaged.saturating_add(1);
+                println!(rt; "{name}: {damage}")?;
+            }
+        }
+    }
+    if damaged != 0 {
+        bail!("pieces that are not whole: {damaged}");
+    }
+    Ok(())
+}
+
+// Reads a piece and compares it with its digest.
+fn check_file(
+    rt: &(impl Files + Eprint),
+    alloc: Global,
+    name: &str,
+    progress: bool,
+) -> Result<Result<Header, Damage>> {
+    let file = fs::open(rt, name).context(format_args!("opening {name}"))?;
+    let mut source = Watched::new(IoSource::new(file), rt, progress, "checked");
+    check_source(alloc, &mut source).map_err(|e| anyhow!("reading {name}: {e}"))
+}
+
+/// Writes the file that pieces are of.
+pub fn join_file<C: StripeCode, R: Files + Eprint + AllocGlobal>(
+    rt: &R,
+    words: &JoinWords<'_>,
+) -> Result<()> {
+    let alloc = rt.alloc();
+    refuse_present(rt, alloc, words.file, words.force)?;
+    let (names, pieces) = whole_pieces(rt, alloc, words)?;
+    if pieces.is_empty() {
+        bail!("no whole piece is given");
+    }
+    let code: C = code_of(&pieces[0].header)?;
+    let places = judged(alloc, &code, &pieces)?;
+    let mut output = Vec::new(alloc);
+    output.push(String::from_str(alloc, words.file)?)?;
+    let written = write_file(rt, alloc, &code, &pieces, &places, &names, words);
+    finish(rt, alloc, &output, written)
+}
+
+// The pieces that are whole, with their names. Of the others it is said that they are not.
+fn whole_pieces<'a>(
+    rt: &(impl Files + Eprint),
+    alloc: Global,
+    words: &JoinWords<'a>,
+) -> Result<(Vec<&'a str>, Vec<Piece<'a>>)>
+    ensures { IfOk result (λ found. length found.0.items ≡ length found.1.items) }
+{
+    let mut names = Vec::new(alloc);
+    let mut pieces = Vec::new(alloc);
+    for name in words.pieces {
+        match check_file(rt, alloc, name, words.progress)? {
+            Ok(header) => {
+                names.push(*name)?;
+                pieces.push(Piece { header, body: &[] })?;
+            }
+            Err(damage) => eprintln!(rt; "{name}: {damage}; it is left out")?,
+        }
+    }
+    Ok((names, pieces))
+}
+
+// The code that a piece is of.
+fn code_of<C: StripeCode>(header: &Header) -> Result<C> {
+    let (k, n) = (header.k, header.n);
+    let Some(code) = C::new(k as usize, n as usize) else {
+        bail!("no code has {k} of {n} pieces");
+    };
+    Ok(code)
+}
+
+// The places of pieces that can be joined.
+fn judged<C: StripeCode>(alloc: Global, code: &C, pieces: &[Piece<'_>]) -> Result<Vec<usize>>
+    ensures places { IfOk result (λ places. places.items ≡ numbers_of pieces.now) }
+    ensures one_file { IsOk result → AreOfOneFile (C.k_of code.now) (C.n_of code.now) pieces.now }
+    ensures apart { IsOk result → AreApart (numbers_of pieces.now) }
+    ensures enough { IsOk result → C.k_of code.now ≤ length pieces.now }
+{
+    let places = places_of(alloc, pieces)?;
+    match judge(code, pieces, &places) {
+        Ok(()) => Ok(places),
+        Err(JoinError::TooFew) => bail!(
+            "too few whole pieces: {}, where {} are needed",
+            pieces.len(),
+            code.k()
+        ),
+        Err(error) => bail!("{error}"),
+    }
+}
+
+// Writes the file beside its name.
+fn write_file<C: StripeCode, R: Files + Eprint>(
+    rt: &R,
+    alloc: Global,
+    code: &C,
+    pieces: &[Piece<'_>],
+    places: &[usize],
+    names: &[&str],
+    words: &JoinWords<'_>,
+) -> Result<()>
+    requires places { places.now ≡ numbers_of pieces.now }
+    requires one_file { AreOfOneFile (C.k_of code.now) (C.n_of code.now) pieces.now }
+    requires apart { AreApart places.now }
+    requires enough { C.k_of code.now ≤ length pieces.now }
+    requires names { length names.now ≡ length pieces.now }
+{
+    let k = code.k();
+    let header = pieces[0].header;
+    let mut sources = open_bodies(rt, alloc, &names[..k])?;
+    let output = create_beside(rt, alloc, words.file)?;
+    let mut sink = Watched::new(IoSink::new(output), rt, words.progress, "joined");
+    match join_into(
+        alloc,
+        code,
+        &places[..k],
+        header.len as usize,
+        sources.as_mut_slice(),
+        &mut sink,
+    ) {
+        Ok(digest) if digest == header.digest => Ok(()),
+        Ok(_) => bail!("the pieces do not give the file"),
+        Err(StreamError::Read(i)) => bail!(
+            "reading {} failed",
+            names.get(i).copied().unwrap_or("a piece")
+        ),
+        Err(StreamError::Write(_)) => bail!("writing {} failed", words.file),
+        Err(error) => bail!("{error}"),
+    }
+}
+
+// The files with these names, past their headers.
+fn open_bodies<R: Files>(rt: &R, alloc: Global, names: &[&str]) -> Result<Vec<IoSource<R::File>>>
+    ensures { IfOk result (λ sources. length sources.items ≡ length names.now) }
+{
+    let mut sources = Vec::new(alloc);
+    for name in names {
+        sources.push(open_body(rt, name)?)?;
+    }
+    Ok(sources)
+}
+
+// The file with this name, past its header.
+fn open_body<R: Files>(rt: &R, name: &str) -> Result<IoSource<R::File>> {
+    let file = fs::open(rt, name).context(format_args!("opening {name}"))?;
+    let mut source = IoSource::new(file);
+    let mut head = [0u8; HEADER];
+    if source.take_all(&mut head).is_err() {
+        bail!("reading {name} failed");
+    }
+    Ok(source)
+}
