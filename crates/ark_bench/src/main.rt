@@ -4,6 +4,7 @@
 //! All but `main` is generic over the field, since what names a domain over a concrete one is dear to check.
 #![tactic(auto)]
 
+mod at_points;
 mod batches;
 mod bytes;
 mod codes;
@@ -23,6 +24,7 @@ use ark_poly::{
     DenseMultilinearExtension, DenseUVPolynomial, EvaluationDomain, MixedRadixEvaluationDomain,
     MultilinearExtension, Radix2EvaluationDomain, SparseMultilinearExtension,
 };
+use at_points::report_at_points;
 use batches::{Number, report};
 use bytes::{ReadBack, Written};
 use codes::report_codes;
@@ -49,6 +51,7 @@ fn main(rt: HostRuntime) -> anyhow::Result<()> {
     report_radix2::<F65537>(&rt, rt.alloc(), timed, &mut draws, names, &sizes)?;
     report_mixed_radix::<F433>(&rt, rt.alloc(), timed, &mut draws)?;
     report_polynomials::<F65537>(&rt, rt.alloc(), timed, &mut draws)?;
+    report_at_points::<F65537>(&rt, rt.alloc(), timed)?;
     report_codes::<F65537>(&rt, rt.alloc(), timed)?;
     let names = ["baby_bear_fft_in_place", "baby_bear_ifft_in_place"];
     report_large_field::<BabyBear>(&rt, rt.alloc(), timed, names)?;

@@ -1,0 +1,127 @@
+//! Polynomials at many points of a caller's own, and shares of secrets.
+
+use crate::batches::{Benchmark, Number, mixed, report};
+use crate::draws::Draws;
+use ark_base::{Field, PolyError, Polynomial};
+use ark_points::{evaluate_at, from_points};
+use ark_poly::univariate::DensePolynomial;
+use ark_sharing::share;
+use rand_pcg::Pcg64;
+use std::alloc::Global;
+use std::io::Print;
+use std::time::Clock;
+
+/// The values of a polynomial at points, of which the last one is the next first point.
+#[derive(Drop)]
+pub struct ValuesAtPoints<F: Field> {
+    pub polynomial: DensePolynomial<F>,
+    pub points: Vec<F>,
+}
+
+impl<F: Field + Number> Benchmark for ValuesAtPoints<F> {
+    fn call(&mut self, alloc: Global) -> Result<(), PolyError> {
+        let values = evaluate_at(alloc, &self.polynomial, &self.points)?;
+        if let (Some(first), Some(value)) = (self.points.first_mut(), values.last()) {
+            *first = *value;
+        }
+        Ok(())
+    }
+
+    fn checksum(&self) -> u64 {
+        mixed(self.points.as_slice())
+    }
+}
+
+/// The polynomial through points, whose degree is the next value at the first of them.
+#[derive(Drop)]
+pub struct ThroughPoints<F: Field> {
+    pub points: Vec<(F, F)>,
+}
+
+impl<F: Field + Number> Benchmark for ThroughPoints<F> {
+    fn call(&mut self, alloc: Global) -> Result<(), PolyError> {
+        // No two of the points are one.
+        let polynomial = from_points(alloc, &self.points).map_err(|_| PolyError::Memory)?;
+        if let Some(first) = self.points.first_mut() {
+            first.1 = F::from(polynomial.degree() as u64);
+        }
+        Ok(())
+    }
+
+    fn checksum(&self) -> u64 {
+        match self.points.first() {
+            Some(first) => first.1.number(),
+            None => 0,
+        }
+    }
+}
+
+/// How many secrets are shared in a call.
+const SECRETS: u64 = 10_000;
+
+/// How many shares give a secret back.
+const THRESHOLD: usize = 3;
+
+/// Secrets, each in a share for each point, and the sum of the last shares.
+#[derive(Drop)]
+pub struct Shares<F: Field> {
+    pub points: Vec<F>,
+    pub rng: Pcg64,
+    pub sum: F,
+}
+
+impl<F: Field + Number> Benchmark for Shares<F> {
+    fn call(&mut self, alloc: Global) -> Result<(), PolyError> {
+        for secret in 0..SECRETS {
+            // There are enough points, all different and none of them zero.
+            let shares = share(
+                alloc,
+                F::from(secret),
+                THRESHOLD,
+                &self.points,
+                &mut self.rng,
+            )
+            .map_err(|_| PolyError::Memory)?;
+            if let Some(last) = shares.last() {
+                self.sum += last.1;
+            }
+        }
+        Ok(())
+    }
+
+    fn checksum(&self) -> u64 {
+        self.sum.number()
+    }
+}
+
+/// Values at as many points as a polynomial has coefficients, the polynomial through as many, and shares at five points.
+pub fn report_at_points<F: Field + Number>(
+    rt: &(impl Print + Clock),
+    alloc: Global,
+    timed: bool,
+) -> anyhow::Result<()> {
+    let mut draws = Draws::new();
+    let len = 1 << 12;
+    let mut values = ValuesAtPoints::<F> {
+        polynomial: draws.dense(alloc, len)?,
+        points: draws.list(alloc, len)?,
+    };
+    report(rt, alloc, timed, "evaluate_at", len, &mut values)?;
+    let mut points = Vec::with_capacity(alloc, len)?;
+    for i in 0..len {
+        points.push((F::from(i as u64), draws.element()))?;
+    }
+    let mut through = ThroughPoints::<F> { points };
+    report(rt, alloc, timed, "from_points", len, &mut through)?;
+    let mut points = Vec::new(alloc);
+    for i in 1..=5 {
+        points.push(F::from(i))?;
+    }
+    let mut shares = Shares::<F> {
+        points,
+        rng: Pcg64::new(2, 1),
+        sum: F::zero(),
+    };
+    let name = "share_3_of_5";
+    report(rt, alloc, timed, name, SECRETS as usize, &mut shares)
+}
