@@ -1,8 +1,8 @@
--- Sums, differences and products modulo a prime, and why products are reduced by the prime's form: a prime of 31 bits, and
--- 2^64 - 2^32 + 1. All is over plain numbers.
-use Rattle.std.proofs.Common.{◌≡◌, ℕ, ◌+◌, ◌*◌, ◌-◌, ◌/◌, ◌%◌, ◌<◌, ◌≤◌, ◌⊎◌, inl, inr, sym, ap, ◌∙◌, arith, mod-lt, mod-eq_of_lt, add-mul, mul-add, mul_assoc, mul_right_comm, mul_comm, mul-one, ap₂, le_of_lt, lt_of_le_of_lt, Fits, w32, w64}
+-- Sums, differences and products modulo a prime, and why products are reduced by the prime's form, a Fermat prime or one of
+-- 31 bits. All is over plain numbers.
+use Rattle.std.proofs.Common.{◌≡◌, ℕ, ◌+◌, ◌*◌, ◌-◌, ◌/◌, ◌%◌, ◌<◌, ◌≤◌, sym, ap, ◌∙◌, arith, mod-lt, mod-eq_of_lt, add-mul, mul-add, mul_assoc, mul_right_comm, mul_comm, mul-one, ap₂, le_of_lt, lt_of_le_of_lt, Fits, w32, w64}
 use Rattle.std.proofs.Math.Facts.{Fits-of_lt}
-use Rattle.std.proofs.Math.Nat.{div-add-mod, div-le_of_le-mul, add-mod_right, add-mul-mod_self_left, add-mul-mod_self_right, mul-le-mul_left, mul-le-mul_right}
+use Rattle.std.proofs.Math.Nat.{div-add-mod, div-le_of_le-mul, add-mod_right, add-mul-mod_self_right, mul-le-mul_left, mul-le-mul_right}
 use Rattle.std.proofs.lemmas.Nat.{div-add-mod', mul-le, mul-lt}
 
 -- ---- differences
@@ -120,26 +120,3 @@ near p x lo hi =
       not_above = both.0;
       near = both.1;
     }
-
--- ---- 2^64 - 2^32 + 1, of which 2^64 leaves 2^32 - 1, and 2^96 leaves minus one
-
--- low less the top, where it may pass zero, and then the middle, where it may pass the prime
-pub goldilocks : (low high rest v : ℕ) → high < 18446744073709551616 →
-    ((rest + high / 4294967296 ≡ low) ⊎ ((low < high / 4294967296) × (rest + high / 4294967296 ≡ low + 18446744069414584321))) →
-    ((v ≡ rest + high % 4294967296 * 4294967295) ⊎ (v + 18446744069414584321 ≡ rest + high % 4294967296 * 4294967295)) →
-    v < 18446744069414584321 → v ≡ (low + 18446744073709551616 * high) % 18446744069414584321
-goldilocks low high rest v fits first second below =
-    let top = high / 4294967296 in
-    let middle = high % 4294967296 in
-    let finish : (k : ℕ) → low + 18446744073709551616 * high ≡ v + 18446744069414584321 * k → v ≡ (low + 18446744073709551616 * high) % 18446744069414584321 =
-    λ k e. sym (ap (λ y. y % 18446744069414584321) e ∙ add-mul-mod_self_left v 18446744069414584321 k ∙ mod-eq_of_lt below) in
-    elim first [
-      | inl a ↦ elim second [
-        | inl b ↦ finish (middle + 4294967297 * top) (omega (arith, a, b))
-        | inr b ↦ finish (middle + 4294967297 * top + 1) (omega (arith, a, b))
-      ]
-      | inr a ↦ elim second [
-        | inl b ↦ finish (middle + 4294967297 * top - 1) (omega (arith, a.0, a.1, b))
-        | inr b ↦ finish (middle + 4294967297 * top) (omega (arith, a.0, a.1, b))
-      ]
-    ]

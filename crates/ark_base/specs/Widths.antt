@@ -1,5 +1,5 @@
 -- How many bytes an element has.
-use Rattle.std.specs.Prelude.{ℕ, ◌^◌, nat_lt, if◌then◌else◌}
+use Rattle.std.specs.Prelude.{◌≡◌, ℕ, refl, ◌^◌, nat_lt, if◌then◌else◌}
 use Rattle.ark_math.specs.Format.{Format, number, stored}
 
 -- how many bytes a number below 2^64 has
@@ -17,3 +17,6 @@ width_of n =
 -- an element of a prime field: its number below the modulus, in as many bytes as the modulus has
 abbrev pub residue : {F : Type 0} → ℕ → (F → ℕ) → Format F
 residue modulus number_of_element = stored (number (width_of modulus)) number_of_element
+
+widths : (width_of 5 ≡ 1) × (width_of 433 ≡ 2) × (width_of 65537 ≡ 3) × (width_of 2147483647 ≡ 4) × (width_of 18446744069414584321 ≡ 8)
+widths = (refl, refl, refl, refl, refl)

@@ -210,25 +210,40 @@ impl<M: PrimeModulus> PrimeField<M> {
     }
 
     /// The residue of `low + 2^64 * high` modulo 2^64 - 2^32 + 1, of which 2^64 leaves 2^32 - 1, and 2^96 minus one.
+    /// Where `rest` isn't zero, `more` is above zero and below the prime, so that one comparison is enough.
     fn reduce_goldilocks(low: u64, high: u64) -> Self
         requires { M.MODULUS ≡ 18446744069414584321 }
         ensures { result.value ≡ (low + 2 ^ 64 * high) % M.MODULUS }
     {
-        let top = high >> 32;
-        let rest = if low < top {
-            low + (M::MODULUS - top)
+        let (top, rest) = (high >> 32, high % (1 << 32));
+        let (low, more) = if rest == 0 {
+            (PrimeField::<M>::rest_of_difference(low, top), 0)
         } else {
-            low - top
+            (low, rest * 4294967295 - top)
         };
-        let middle = high % (1 << 32) * 4294967295;
         PrimeField {
-            value: if rest < M::MODULUS - middle {
-                rest + middle
+            value: if low < M::MODULUS - more {
+                low + more
             } else {
-                rest - (M::MODULUS - middle)
+                low - (M::MODULUS - more)
             },
             marker: PhantomData,
         }
+    }
+
+    /// The residue of a word less half a word, modulo 2^64 - 2^32 + 1.
+    fn rest_of_difference(low: u64, top: u64) -> u64
+        requires goldilocks { M.MODULUS ≡ 18446744069414584321 }
+        requires half_word { top < 2 ^ 32 }
+        ensures below { result < M.MODULUS }
+        ensures residue { result ≡ (low + (M.MODULUS - top)) % M.MODULUS }
+    {
+        let low = if low < M::MODULUS {
+            low
+        } else {
+            low - M::MODULUS
+        };
+        PrimeField::<M>::difference(low, top).value
     }
 
     /// The residue of a number below twice the modulus, without a division.

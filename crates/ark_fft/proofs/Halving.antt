@@ -1,7 +1,7 @@
 -- The halving law of the transform, and its levels.
-use Rattle.std.proofs.Common.{◌≡◌, ℕ, zero, suc, ◌+◌, ◌*◌, ◌-◌, ◌/◌, ◌%◌, ◌<◌, ◌≤◌, ◌^◌, List, length, get_or, take, map, length-take-le, ◌++◌, mod-eq_of_lt, subst, ⊎_elim, sym, ◌∙◌, ap, ap₂, refl, arith}
+use Rattle.std.proofs.Common.{◌≡◌, ℕ, zero, suc, ◌+◌, ◌*◌, ◌-◌, ◌/◌, ◌%◌, ◌<◌, ◌≤◌, ◌^◌, List, length, get_or, take, drop, map, length-take-le, length-drop, ◌++◌, mod-eq_of_lt, subst, ⊎_elim, sym, ◌∙◌, ap, ap₂, refl, arith}
 use Rattle.std.proofs.lemmas.Bool.{cases_lt}
-use Rattle.std.proofs.lemmas.List.{get_or-take}
+use Rattle.std.proofs.lemmas.List.{get_or-take, get_or-drop}
 use Rattle.std.proofs.lemmas.Nat.{pow_pos}
 use Rattle.std.proofs.Math.Nat.{one-mul}
 use Rattle.std.proofs.Math.Pow.{pow_mono, pow-lt}
@@ -62,6 +62,16 @@ is_half_table K N levels size w table is len order powers = record {
   powers = powers;
   half = λ pos. half_of_order K N w (length table) pos (subst (HasOrder K w) (halved levels size (length table) is len pos) order);
 }
+
+-- the first of two, at 0, and the second one, elsewhere
+abbrev first_or : {M : Type 0} → M → M → ℕ → M
+first_or a b zero = a
+first_or a b (suc i) = b
+
+of_two : (P : ℕ → Type 0) → P 0 → P 1 → (j : ℕ) → j < 2 → P j
+of_two P first second zero s = first
+of_two P first second (suc zero) s = second
+of_two P first second (suc (suc j)) s = absurd (omega arith)
 
 module _ {F M : Type 0} {K : FieldOn F} {V : ModuleOn F M} (N : IsField K) (L : IsModule K V) where
   -- the two halves of a sum, joined term by term
@@ -140,10 +150,31 @@ module _ {F M : Type 0} {K : FieldOn F} {V : ModuleOn F M} (N : IsField K) (L : 
       (λ p l.
       level_at 0 w f g h r half (λ j b. refl) (λ j b. refl) (λ q b. at_lo q b ∙ no_level 0 (power K w 2) g refl q b) (λ q b. at_hi q b ∙ no_level 0 (power K w 2) h refl q b) p (half_of 0 p l))
 
+  -- four items: the butterflies across their halves, and then those of two pairs
+  pub four_items : (w : F) (tables : List F) (f r : ℕ → M) (a b c d : M) → AreLevels K w 2 tables → length tables ≡ 4 → a ≡ V.plus (f 0) (f 2) → b ≡ V.plus (f 1) (f 3) → c ≡ V.scale (get_or tables 0 K.zero) (V.plus (f 0) (V.negated (f 2))) → d ≡ V.scale (get_or tables 1 K.zero) (V.plus (f 1) (V.negated (f 3))) → r 0 ≡ V.plus a b → r 1 ≡ V.scale (get_or tables 2 K.zero) (V.plus a (V.negated b)) → r 2 ≡ V.plus c d → r 3 ≡ V.scale (get_or tables 2 K.zero) (V.plus c (V.negated d)) → (p : ℕ) → p < 4 → r p ≡ dft_at K V 4 w f (reversed 2 p)
+  four_items w tables f r a b c d levels len of_a of_b of_c of_d r0 r1 r2 r3 p l =
+      let t : IsHalfTable K w (take 2 tables) = levels.0 in
+      let rest = drop 2 tables in
+      let len_first : length (take 2 tables) ≡ 2 = length-take-le 2 tables (omega (arith, len)) in
+      let len_rest : length rest ≡ 2 = length-drop 2 tables ∙ omega (arith, len) in
+      let half : power K w 2 ≡ K.negated K.one = sym (ap (power K w) len_first) ∙ t.half (omega (arith, len_first)) in
+      let entry : (i : ℕ) → i < 2 → get_or tables i K.zero ≡ power K w i = λ i b. sym (get_or-take 2 tables i K.zero b) ∙ t.powers i (omega (arith, b, len_first)) in
+      let next : get_or tables 2 K.zero ≡ get_or rest 0 K.zero = sym (get_or-drop 2 tables 0 K.zero) in
+      let g : ℕ → M = first_or a b in
+      let h : ℕ → M = first_or c d in
+      level_at 1 w f g h r half
+      (λ j s. of_two (λ i. g i ≡ V.plus (f i) (f (2 + i))) of_a of_b j s)
+      (λ j s. of_two (λ i. h i ≡ V.scale (power K w i) (V.plus (f i) (V.negated (f (2 + i)))))
+      (of_c ∙ ap (λ x. V.scale x (V.plus (f 0) (V.negated (f 2)))) (entry 0 (omega arith)))
+      (of_d ∙ ap (λ x. V.scale x (V.plus (f 1) (V.negated (f 3)))) (entry 1 (omega arith))) j s)
+      (λ q s. one_pair 1 (power K w 2) rest g r levels.1 refl len_rest r0 (r1 ∙ ap (λ x. V.scale x (V.plus a (V.negated b))) next) q s)
+      (λ q s. one_pair 1 (power K w 2) rest h (λ i. r (2 + i)) levels.1 refl len_rest r2 (r3 ∙ ap (λ x. V.scale x (V.plus c (V.negated d))) next) q s)
+      p (half_of 1 p l)
+
 module _ {F M X : Type 0} {K : FieldOn F} {V : ModuleOn F M} (N : IsField K) (L : IsModule K V) (m : X → M) where
-  -- one level, on lists: xs is lo and hi, the butterflies make them lo1 and hi1, and the levels below lo2 and hi2
-  pub one_level : (n : ℕ) (w : F) (twiddles : List F) (xs lo hi lo1 hi1 lo2 hi2 : List X) → IsHalfTable K w twiddles → 0 < n → length twiddles ≡ 2 ^ (n - 1) → xs ≡ lo ++ hi → length lo ≡ 2 ^ (n - 1) → length lo2 ≡ 2 ^ (n - 1) → ((i : ℕ) → i < length lo → item V (map m lo1) i ≡ V.plus (item V (map m lo) i) (item V (map m hi) i)) → ((i : ℕ) → i < length lo → item V (map m hi1) i ≡ V.scale (get_or twiddles i K.zero) (V.plus (item V (map m lo) i) (V.negated (item V (map m hi) i)))) → ((p : ℕ) → p < 2 ^ (n - 1) → item V (map m lo2) p ≡ dft_at K V (2 ^ (n - 1)) (power K w 2) (item V (map m lo1)) (reversed (n - 1) p)) → ((p : ℕ) → p < 2 ^ (n - 1) → item V (map m hi2) p ≡ dft_at K V (2 ^ (n - 1)) (power K w 2) (item V (map m hi1)) (reversed (n - 1) p)) → (p : ℕ) → p < 2 ^ n → item V (map m (lo2 ++ hi2)) p ≡ dft_at K V (2 ^ n) w (item V (map m xs)) (reversed n p)
-  one_level n w twiddles xs lo hi lo1 hi1 lo2 hi2 t pos len joins len_lo len_lo2 sums differences of_lo of_hi p l =
+  -- one level, on lists: xs is lo and hi, and the butterflies make them lo1 and hi1, whose transforms are known
+  pub one_level_to : (n : ℕ) (w : F) (twiddles : List F) (xs lo hi lo1 hi1 : List X) (r : ℕ → M) → IsHalfTable K w twiddles → 0 < n → length twiddles ≡ 2 ^ (n - 1) → xs ≡ lo ++ hi → length lo ≡ 2 ^ (n - 1) → ((i : ℕ) → i < length lo → item V (map m lo1) i ≡ V.plus (item V (map m lo) i) (item V (map m hi) i)) → ((i : ℕ) → i < length lo → item V (map m hi1) i ≡ V.scale (get_or twiddles i K.zero) (V.plus (item V (map m lo) i) (V.negated (item V (map m hi) i)))) → ((p : ℕ) → p < 2 ^ (n - 1) → r p ≡ dft_at K V (2 ^ (n - 1)) (power K w 2) (item V (map m lo1)) (reversed (n - 1) p)) → ((p : ℕ) → p < 2 ^ (n - 1) → r (2 ^ (n - 1) + p) ≡ dft_at K V (2 ^ (n - 1)) (power K w 2) (item V (map m hi1)) (reversed (n - 1) p)) → (p : ℕ) → p < 2 ^ n → r p ≡ dft_at K V (2 ^ n) w (item V (map m xs)) (reversed n p)
+  one_level_to n w twiddles xs lo hi lo1 hi1 r t pos len joins len_lo sums differences of_lo of_hi p l =
       let k = n - 1 in
       let suc_k : suc k ≡ n = omega arith in
       let any : 0 < length twiddles = omega (arith, len, pow_pos k) in
@@ -151,13 +182,19 @@ module _ {F M X : Type 0} {K : FieldOn F} {V : ModuleOn F M} (N : IsField K) (L 
       let old = item V (map m xs) in
       let front : (i : ℕ) → i < 2 ^ k → item V (map m lo) i ≡ old i = λ i b. sym (ap (λ u. item V (map m u) i) joins ∙ read_front m V.zero lo hi i (omega arith)) in
       let back : (i : ℕ) → item V (map m hi) i ≡ old (2 ^ k + i) = λ i. sym (ap (λ u. item V (map m u) (2 ^ k + i)) joins ∙ read_back m V.zero lo hi (2 ^ k) i len_lo) in
-      subst (λ u. item V (map m (lo2 ++ hi2)) p ≡ dft_at K V (2 ^ u) w old (reversed u p)) suc_k
-      (level_at N L k w old (item V (map m lo1)) (item V (map m hi1)) (item V (map m (lo2 ++ hi2))) half
+      subst (λ u. r p ≡ dft_at K V (2 ^ u) w old (reversed u p)) suc_k
+      (level_at N L k w old (item V (map m lo1)) (item V (map m hi1)) r half
       (λ i b. sums i (omega arith) ∙ ap₂ V.plus (front i b) (back i))
       (λ i b. differences i (omega arith) ∙ ap₂ V.scale (t.powers i (omega (arith, b, len))) (ap₂ (λ x y. V.plus x (V.negated y)) (front i b) (back i)))
+      of_lo of_hi p (half_of k p (rw suc_k l)))
+
+  -- and the levels below make them lo2 and hi2
+  pub one_level : (n : ℕ) (w : F) (twiddles : List F) (xs lo hi lo1 hi1 lo2 hi2 : List X) → IsHalfTable K w twiddles → 0 < n → length twiddles ≡ 2 ^ (n - 1) → xs ≡ lo ++ hi → length lo ≡ 2 ^ (n - 1) → length lo2 ≡ 2 ^ (n - 1) → ((i : ℕ) → i < length lo → item V (map m lo1) i ≡ V.plus (item V (map m lo) i) (item V (map m hi) i)) → ((i : ℕ) → i < length lo → item V (map m hi1) i ≡ V.scale (get_or twiddles i K.zero) (V.plus (item V (map m lo) i) (V.negated (item V (map m hi) i)))) → ((p : ℕ) → p < 2 ^ (n - 1) → item V (map m lo2) p ≡ dft_at K V (2 ^ (n - 1)) (power K w 2) (item V (map m lo1)) (reversed (n - 1) p)) → ((p : ℕ) → p < 2 ^ (n - 1) → item V (map m hi2) p ≡ dft_at K V (2 ^ (n - 1)) (power K w 2) (item V (map m hi1)) (reversed (n - 1) p)) → (p : ℕ) → p < 2 ^ n → item V (map m (lo2 ++ hi2)) p ≡ dft_at K V (2 ^ n) w (item V (map m xs)) (reversed n p)
+  one_level n w twiddles xs lo hi lo1 hi1 lo2 hi2 t pos len joins len_lo len_lo2 sums differences of_lo of_hi p l =
+      one_level_to n w twiddles xs lo hi lo1 hi1 (item V (map m (lo2 ++ hi2))) t pos len joins len_lo sums differences
       (λ q b. read_front m V.zero lo2 hi2 q (omega arith) ∙ of_lo q b)
-      (λ q b. read_back m V.zero lo2 hi2 (2 ^ k) q len_lo2 ∙ of_hi q b)
-      p (half_of k p (rw suc_k l)))
+      (λ q b. read_back m V.zero lo2 hi2 (2 ^ (n - 1)) q len_lo2 ∙ of_hi q b)
+      p l
 
   -- all levels, their order restored
   pub all_levels : (n : ℕ) (w : F) (old mid now : List X) → length mid ≡ 2 ^ n → length now ≡ 2 ^ n → ((p : ℕ) → p < 2 ^ n → item V (map m mid) p ≡ dft_at K V (2 ^ n) w (item V (map m old)) (reversed n p)) → ((p : ℕ) (d : X) → p < 2 ^ n → get_or now p d ≡ get_or mid (reversed n p) d) → (i : ℕ) → i < 2 ^ n → item V (map m now) i ≡ dft_at K V (2 ^ n) w (item V (map m old)) i

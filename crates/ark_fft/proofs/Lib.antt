@@ -1,8 +1,9 @@
--- Lemmas of the kernels, over plain lists and tables: the transform by halves (Halving, Reversal, Carries, Places, Joining, Radix2, Short), by parts (Split, Parts, Blocks, Mixed), what their loops count (Counts), the iterator over a domain (Yielded), and what reading a domain gives (DomainReading).
+-- Lemmas of the kernels, over plain lists and tables: the transform by halves (Halving, Fours, Reversal, Carries, Places, Joining, Radix2, Short), by parts (Split, Parts, Blocks, Mixed), what their loops count (Counts), the iterator over a domain (Yielded), and what reading a domain gives (DomainReading).
 pub mod Blocks
 pub mod Carries
 pub mod Counts
 pub mod DomainReading
+pub mod Fours
 pub mod Halving
 pub mod Joining
 pub mod Mixed

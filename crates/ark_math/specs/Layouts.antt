@@ -1,7 +1,7 @@
 -- The layout of each type, over the format e of its field's elements. Where a type has lawful values alone, its `fields`
 -- are all that is said. The modes differ for domains, and so for
 -- evaluations: long is all fields, and short is size and offset.
-use Rattle.std.specs.Prelude.{◌≡◌, ◌⊎◌, ◌↔◌, ℕ, ◌^◌, ◌<◌, List, length, nat_lt, if◌then◌else◌}
+use Rattle.std.specs.Prelude.{◌≡◌, ◌⊎◌, ◌↔◌, ℕ, ◌<◌, List, length}
 use Rattle.ark_math.specs.Field.{FieldOn}
 use Rattle.ark_math.specs.Univariate.{IsTrimmed, IsSparse}
 use Rattle.ark_math.specs.Term.{IsTerm}
@@ -21,14 +21,6 @@ pub record AreAlike {F : Type 0} (e other : Format F) : Type 0 where
   pub spellings : (x : F) → e.spelling x ≡ other.spelling x
   pub have : (x : F) → e.HasSpelling x ↔ other.HasSpelling x
   pub faults : (bytes : List ℕ) → e.IsFault bytes ↔ other.IsFault bytes
-
--- how many bytes a number below 2^32 has
-abbrev pub width_of : ℕ → ℕ
-width_of n = if nat_lt n (2 ^ 8) then 1 else if nat_lt n (2 ^ 16) then 2 else if nat_lt n (2 ^ 24) then 3 else 4
-
--- an element of a prime field: its number below the modulus, in as many bytes as the modulus has
-abbrev pub residue : {F : Type 0} → ℕ → (F → ℕ) → Format F
-residue modulus number_of_element = stored (number (width_of modulus)) number_of_element
 
 -- ---- polynomials
 

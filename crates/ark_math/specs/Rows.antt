@@ -13,7 +13,7 @@ use Rattle.ark_math.specs.Points.{vanishing, reindexed}
 use Rattle.ark_math.specs.Multilinear.{corner, weight, extension, fixed, exchanged, written}
 use Rattle.ark_math.specs.NormalForms.{trim, gather}
 use Rattle.ark_math.specs.Format.{number}
-use Rattle.ark_math.specs.Layouts.{width_of, dense, sparse, term, multivariate, dense_extension, sparse_extension, long_domain, short_domain, general_domain, evaluations}
+use Rattle.ark_math.specs.Layouts.{dense, sparse, term, multivariate, dense_extension, sparse_extension, long_domain, short_domain, general_domain, evaluations}
 
 abbrev modulo : ℕ → FieldOn ℕ
 modulo p = record { zero = 0; one = 1; plus = λ x y. (x + y) % p; times = λ x y. (x * y) % p; negated = λ x. (p - x) % p }
@@ -208,6 +208,3 @@ sizes_of_two = (refl, refl)
 short_evaluations_bytes : (evaluations (number 1) (short_domain (number 1) (λ d. d)) (λ v. v) (λ v. Unit {0})).spelling (3 ∷ 4 ∷ [], (2, 2))
     ≡ byte_word 2 ++ 3 ∷ 4 ∷ [] ++ byte_word 2 ++ 2 ∷ []
 short_evaluations_bytes = refl
-
-widths : (width_of 5 ≡ 1) × (width_of 433 ≡ 2) × (width_of 65537 ≡ 3) × (width_of 2147483647 ≡ 4)
-widths = (refl, refl, refl, refl)

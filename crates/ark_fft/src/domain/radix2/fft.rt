@@ -1,7 +1,7 @@
 //! The radix 2 transform by halves, and its inverse.
 
 ghost use Rattle.std.specs.Prelude.{◌≡◌, ◌≢◌, ◌⊎◌, ℕ, true, false, IsOkUnless, IfOk, OnOk, OnErr, List, map};
-ghost use Rattle.std.specs.Prelude.{length, get_or, take, ◌+◌, ◌-◌, ◌*◌, ◌/◌, ◌≤◌, ◌<◌, ◌^◌, vec_len};
+ghost use Rattle.std.specs.Prelude.{length, get_or, take, ◌+◌, ◌-◌, ◌*◌, ◌/◌, ◌%◌, ◌≤◌, ◌<◌, ◌^◌, vec_len};
 ghost use Rattle.ark_math.specs.Domain.{radix2};
 ghost use Rattle.ark_fft.specs.Coset.{coset_domain};
 ghost use Rattle.ark_math.specs.Field.{FieldOn, power};
@@ -71,6 +71,91 @@ fn pair<F: FftField, T: DomainCoeff<F>>(work: &mut Work, xs: &mut [T], twiddle: 
     xs[1] = hi;
 }
 
+/// The transform of four items, block r of a list, by two levels. Place i of it is left at the index that has the bits of
+/// i backwards. The tables are those of both levels.
+fn four<F: FftField, T: DomainCoeff<F>>(work: &mut Work, xs: &mut [T], tables: &[F], r: usize)
+    requires within { 4 * r + 3 < length xs.old }
+    requires whole { length tables.now ≡ 4 }
+    ensures sums { (w : F) → AreLevels F.field w 2 tables.now → (q : ℕ) → q < 4
+        → item T.group (map T.meaning xs.new) (4 * r + q) ≡ dft_at F.field T.group 4 w
+        (λ b. item T.group (map T.meaning xs.old) (4 * r + b)) (reversed 2 q) }
+    ensures others { (k : ℕ) → (k < 4 * r) ⊎ (4 * r + 4 ≤ k)
+        → item T.group (map T.meaning xs.new) k ≡ item T.group (map T.meaning xs.old) k }
+    ensures counted { GrowsBy (butterfly_counts 4) work.old work.new }
+{
+    let mut first = xs[4 * r];
+    let mut second = xs[4 * r + 1];
+    let mut third = xs[4 * r + 2];
+    let mut fourth = xs[4 * r + 3];
+    butterfly(work, &mut first, &mut third, tables[0]);
+    butterfly(work, &mut second, &mut fourth, tables[1]);
+    butterfly(work, &mut first, &mut second, tables[2]);
+    butterfly(work, &mut third, &mut fourth, tables[2]);
+    xs[4 * r] = first;
+    xs[4 * r + 1] = second;
+    xs[4 * r + 2] = third;
+    xs[4 * r + 3] = fourth;
+}
+
+/// The transforms of all blocks of four items. No block waits for another, so that several can be taken at a time.
+fn fours<F: FftField, T: DomainCoeff<F>>(work: &mut Work, xs: &mut [T], tables: &[F])
+    requires { length tables.now ≡ 4 }
+    ensures sums { (w : F) → AreLevels F.field w 2 tables.now → (r q : ℕ) → r < length xs.old / 4 → q < 4
+        → item T.group (map T.meaning xs.new) (4 * r + q) ≡ dft_at F.field T.group 4 w
+        (λ b. item T.group (map T.meaning xs.old) (4 * r + b)) (reversed 2 q) }
+    ensures counted { GrowsBy (butterfly_counts (4 * (length xs.old / 4))) work.old work.new }
+{
+    for r in 0..xs.len() / 4 {
+        four(work, xs, tables, r);
+    }
+}
+
+/// The levels of `halves` above blocks of four items: the transform's places are then those of the blocks' own ones.
+fn down_to_fours<F: FftField, T: DomainCoeff<F>>(
+    work: &mut Work,
+    xs: &mut [T],
+    tables: &[F],
+    levels: u32,
+)
+    requires some { 2 ≤ levels }
+    requires size { length xs.old ≡ 2 ^ levels }
+    requires whole { length tables.now ≡ 2 ^ levels }
+    ensures sums { (w : F) → AreLevels F.field w levels tables.now → (p : ℕ) → p < 2 ^ levels
+        → dft_at F.field T.group 4 (power F.field w (2 ^ (levels - 2)))
+        (λ b. item T.group (map T.meaning xs.new) (4 * (p / 4) + b)) (reversed 2 (p % 4))
+        ≡ dft_at F.field T.group (2 ^ levels) w (item T.group (map T.meaning xs.old)) (reversed levels p) }
+    ensures counted { GrowsBy (butterfly_counts (2 ^ levels / 2 * (levels - 2))) work.old work.new }
+{
+    if levels > 2 {
+        let half = xs.len() / 2;
+        let (lo, hi) = xs.split_at_mut(half);
+        let (twiddles, rest) = tables.split_at(half);
+        butterflies(work, lo, hi, twiddles);
+        down_to_fours(work, lo, rest, levels - 1);
+        down_to_fours(work, hi, rest, levels - 1);
+    }
+}
+
+/// The transform of `halves` of a list that is short enough to be passed over once more for its last two levels.
+fn short_halves<F: FftField, T: DomainCoeff<F>>(
+    work: &mut Work,
+    xs: &mut [T],
+    tables: &[F],
+    levels: u32,
+)
+    requires some { 2 ≤ levels }
+    requires size { length xs.old ≡ 2 ^ levels }
+    requires whole { length tables.now ≡ 2 ^ levels }
+    ensures sums { (w : F) → AreLevels F.field w levels tables.now → (p : ℕ) → p < 2 ^ levels
+        → item T.group (map T.meaning xs.new) p ≡ dft_at F.field T.group (2 ^ levels) w
+        (item T.group (map T.meaning xs.old)) (reversed levels p) }
+    ensures counted { GrowsBy (butterfly_counts (2 ^ levels / 2 * levels)) work.old work.new }
+{
+    down_to_fours(work, xs, tables, levels);
+    let (_above, last) = tables.split_at(tables.len() - 4);
+    fours(work, xs, last);
+}
+
 /// The transform in place. Place i of it is left at the index that has the bits of i backwards. The tables are those of
 /// all levels, the whole list's twiddles first.
 pub(crate) fn halves<F: FftField, T: DomainCoeff<F>>(
@@ -88,7 +173,9 @@ pub(crate) fn halves<F: FftField, T: DomainCoeff<F>>(
 {
     if levels == 1 {
         pair(work, xs, tables[0]);
-    } else if levels > 1 {
+    } else if 1 < levels && levels <= 8 {
+        short_halves(work, xs, tables, levels);
+    } else if levels > 8 {
         let half = xs.len() / 2;
         let (lo, hi) = xs.split_at_mut(half);
         let (twiddles, rest) = tables.split_at(half);

@@ -38,8 +38,8 @@ halves-requires g t c κs within =
       ),
     )
 
-pub halves-requires-then-levels-gt1 : goal.halves-requires-then-levels-gt1
-halves-requires-then-levels-gt1 g t c κs within =
+pub halves-requires-then-levels-gt8 : goal.halves-requires-then-levels-gt8
+halves-requires-then-levels-gt8 g t c κs within =
     let n = c.args.levels in
     let some : 0 < n = omega arith in
     let len = length c.args.xs.now in
@@ -58,8 +58,8 @@ halves-requires-then-levels-gt1 g t c κs within =
       ),
     )
 
-pub returns-then-levels-gt1-clause-sums : goal.returns-then-levels-gt1-clause-sums
-returns-then-levels-gt1-clause-sums g t c = λ w levels p l.
+pub returns-then-levels-gt8-clause-sums : goal.returns-then-levels-gt8-clause-sums
+returns-then-levels-gt8-clause-sums g t c = λ w levels p l.
     let n = c.args.levels in
     let some : 0 < n = omega arith in
     let len = length c.args.xs.now in
@@ -69,23 +69,23 @@ returns-then-levels-gt1-clause-sums g t c = λ w levels p l.
     let n2 : length c.halves.new.xs ≡ 2 ^ (n - 1) = c.halves.auto.xs ∙ (c.butterflies.auto.lo ∙ n0) in
     let half : len / 2 ≡ 2 ^ (n - 1) = sym s.ensures.front_len ∙ n0 in
     let both = next_levels g.F.Field.field n (len / 2) w c.args.tables.now r.result.0.now r.result.1.now some half r.ensures.front r.ensures.back levels in
-    one_level g.met.F.Field.field_laws g.met.T.DomainCoeff.module_laws g.T.DomainCoeff.meaning n w r.result.0.now c.args.xs.now s.result.0.now s.result.1.now c.butterflies.new.lo c.butterflies.new.hi c.halves.new.xs c.halves-then-levels-gt1.new.xs both.0 some (r.ensures.front_len ∙ half) s.ensures.value n0 n2
-    c.butterflies.ensures.sums c.butterflies.ensures.differences (c.halves.ensures.sums _ both.1) (c.halves-then-levels-gt1.ensures.sums _ both.1) p l
+    one_level g.met.F.Field.field_laws g.met.T.DomainCoeff.module_laws g.T.DomainCoeff.meaning n w r.result.0.now c.args.xs.now s.result.0.now s.result.1.now c.butterflies.new.lo c.butterflies.new.hi c.halves.new.xs c.halves-then-levels-gt8.new.xs both.0 some (r.ensures.front_len ∙ half) s.ensures.value n0 n2
+    c.butterflies.ensures.sums c.butterflies.ensures.differences (c.halves.ensures.sums _ both.1) (c.halves-then-levels-gt8.ensures.sums _ both.1) p l
 
-pub returns-then-levels-gt1-clause-counted : goal.returns-then-levels-gt1-clause-counted
-returns-then-levels-gt1-clause-counted g t c =
+pub returns-then-levels-gt8-clause-counted : goal.returns-then-levels-gt8-clause-counted
+returns-then-levels-gt8-clause-counted g t c =
     let n = c.args.levels in
     let some : 0 < n = omega arith in
     let s = c.split_at_mut-lo in
     split_count n n some (itself n) (length s.result.0.now) c.butterflies.ensures.counted
-    (front_half n n some (itself n) (length c.args.xs.now) (length s.result.0.now) c.requires.size s.ensures.front_len) c.halves.ensures.counted c.halves-then-levels-gt1.ensures.counted
+    (front_half n n some (itself n) (length c.args.xs.now) (length s.result.0.now) c.requires.size s.ensures.front_len) c.halves.ensures.counted c.halves-then-levels-gt8.ensures.counted
 
-pub returns-else-levels-gt1-clause-sums : goal.returns-else-levels-gt1-clause-sums
-returns-else-levels-gt1-clause-sums g t c = λ w levels p l.
+pub returns-else-levels-gt8-clause-sums : goal.returns-else-levels-gt8-clause-sums
+returns-else-levels-gt8-clause-sums g t c = λ w levels p l.
     no_level g.met.F.Field.field_laws g.met.T.DomainCoeff.module_laws c.args.levels w _ (omega arith) p l
 
-pub returns-else-levels-gt1-clause-counted : goal.returns-else-levels-gt1-clause-counted
-returns-else-levels-gt1-clause-counted g t c = no_count (2 ^ c.args.levels / 2) c.args.levels c.args.work.now (omega arith)
+pub returns-else-levels-gt8-clause-counted : goal.returns-else-levels-gt8-clause-counted
+returns-else-levels-gt8-clause-counted g t c = no_count (2 ^ c.args.levels / 2) c.args.levels c.args.work.now (omega arith)
 
 pub returns-then-levels-eq1-clause-sums : goal.returns-then-levels-eq1-clause-sums
 returns-then-levels-eq1-clause-sums g t c = λ w levels p l.

@@ -1,0 +1,173 @@
+-- The last two levels of the transform by halves, of lists of four items one after the other.
+use Rattle.std.proofs.Common.{◌≡◌, ◌≢◌, ◌⊎◌, ℕ, suc, zero, ◌+◌, ◌*◌, ◌-◌, ◌/◌, ◌%◌, ◌<◌, ◌≤◌, ◌^◌, ◌++◌, List, length, get_or, set, take, drop, map, length-set, subst, sym, ◌∙◌, ap, ap₂, refl, arith, ⊎_elim}
+use Rattle.std.proofs.lemmas.List.{drop-drop}
+use Rattle.std.proofs.lemmas.Nat.{pow_pos}
+use Rattle.ark_math.specs.Field.{FieldOn, IsField, power}
+use Rattle.ark_math.specs.Module.{ModuleOn, IsModule, item}
+use Rattle.ark_math.specs.Cost.{Counts, GrowsBy, butterfly_counts}
+use Rattle.ark_math.proofs.Transforms.Places.{dft_at}
+use Rattle.ark_math.proofs.Algebra.Powers.{power-mul}
+use Rattle.ark_math.proofs.Algebra.Sums.{sum_below-same}
+use Rattle.ark_math.proofs.Lists.Lists.{read_front, read_back, written_same, written_other}
+use Rattle.ark_traits.proofs.Cost.{grows_twice}
+use Rattle.ark_fft.specs.Halves.{reversed, AreLevels, IsHalfTable}
+use Rattle.ark_fft.proofs.Halving.{one_level_to, four_items}
+use Rattle.ark_fft.proofs.Reversal.{pow_suc}
+
+-- as many items as blocks of four have
+pub fours : (n : ℕ) → 2 ≤ n → 2 ^ n ≡ 4 * 2 ^ (n - 2)
+fours n le =
+    let m = n - 2 in
+    let e : suc (suc m) ≡ n = omega (arith, le) in
+    ap (λ t. 2 ^ t) (sym e) ∙ omega (arith, pow_suc m, pow_suc (suc m))
+
+-- the levels above, and then two butterflies for two items
+pub fours_count : {before between after : Counts} (n len : ℕ) → 2 ≤ n → len ≡ 2 ^ n → GrowsBy (butterfly_counts (2 ^ n / 2 * (n - 2))) before between → GrowsBy (butterfly_counts (4 * (len / 4))) between after → GrowsBy (butterfly_counts (2 ^ n / 2 * n)) before after
+fours_count n len le is above last =
+    let h = 2 ^ n / 2 in
+    let j = n - 2 in
+    let e : j + 2 ≡ n = omega (arith, le) in
+    let two : 4 * (len / 4) ≡ h * 2 = omega (arith, is, fours n le) in
+    let parts : h * (j + 2) ≡ h * j + h * 2 = omega arith in
+    let all : h * n ≡ h * j + 4 * (len / 4) = ap (λ t. h * t) (sym e) ∙ (parts ∙ ap (λ t. h * j + t) (sym two)) in
+    grows_twice above last all all refl
+
+-- the tables of the last two levels
+below_levels : {F : Type 0} (K : FieldOn F) (N : IsField K) (j : ℕ) (w : F) (tables : List F) → AreLevels K w (suc (suc j)) tables → AreLevels K (power K w (2 ^ j)) 2 (drop (2 ^ suc (suc j) - 4) tables)
+below_levels K N zero w tables levels = subst (λ x. AreLevels K x 2 tables) (sym (N.times_one w)) levels
+below_levels K N (suc j) w tables levels =
+    let h = 2 ^ suc (suc j) in
+    let twice : 2 * 2 ^ j ≡ 2 ^ suc j = omega (arith, pow_suc j) in
+    let root : power K (power K w 2) (2 ^ j) ≡ power K w (2 ^ suc j) = sym (power-mul K N w 2 (2 ^ j)) ∙ ap (power K w) twice in
+    let there : h + (h - 4) ≡ 2 ^ suc (suc (suc j)) - 4 = omega (arith, pow_suc (suc (suc j)), pow_suc (suc j), pow_suc j, pow_pos j) in
+    subst (λ x. AreLevels K x 2 (drop (2 ^ suc (suc (suc j)) - 4) tables)) root
+    (subst (AreLevels K (power K (power K w 2) (2 ^ j)) 2) (drop-drop (h - 4) h tables ∙ ap (λ t. drop t tables) there)
+    (below_levels K N j (power K w 2) (drop h tables) levels.1))
+
+pub last_levels : {F : Type 0} (K : FieldOn F) (N : IsField K) (n len : ℕ) (w : F) (tables last : List F) → 2 ≤ n → len ≡ 2 ^ n → last ≡ drop (len - 4) tables → AreLevels K w n tables → AreLevels K (power K w (2 ^ (n - 2))) 2 last
+last_levels K N n len w tables last le is is_last levels =
+    let e : n ≡ suc (suc (n - 2)) = omega (arith, le) in
+    subst (AreLevels K (power K w (2 ^ (n - 2))) 2) (ap (λ k. drop (2 ^ k - 4) tables) (sym e) ∙ ap (λ k. drop (k - 4) tables) (sym is) ∙ sym is_last)
+    (below_levels K N (n - 2) w tables (subst (λ k. AreLevels K w k tables) e levels))
+
+module _ {M X : Type 0} (m : X → M) (z : M) (xs : List X) (n : ℕ) (a b c d : X) (inside : n + 3 < length xs) where
+  -- four items written one after the other
+  abbrev first_written : List X
+  first_written = set xs n a
+
+  abbrev second_written : List X
+  second_written = set first_written (n + 1) b
+
+  abbrev third_written : List X
+  third_written = set second_written (n + 2) c
+
+  abbrev pub four_written : List X
+  four_written = set third_written (n + 3) d
+
+  first_len : length first_written ≡ length xs
+  first_len = length-set xs n a
+
+  second_len : length second_written ≡ length xs
+  second_len = length-set first_written (n + 1) b ∙ first_len
+
+  third_len : length third_written ≡ length xs
+  third_len = length-set second_written (n + 2) c ∙ second_len
+
+  pub four_len : length four_written ≡ length xs
+  four_len = length-set third_written (n + 3) d ∙ third_len
+
+  pub written_first : get_or (map m four_written) n z ≡ m a
+  written_first =
+      written_other m z third_written (n + 3) n d (omega arith)
+      ∙ written_other m z second_written (n + 2) n c (omega arith)
+      ∙ written_other m z first_written (n + 1) n b (omega arith)
+      ∙ written_same m z xs n a (omega (arith, inside))
+
+  pub written_second : get_or (map m four_written) (n + 1) z ≡ m b
+  written_second =
+      written_other m z third_written (n + 3) (n + 1) d (omega arith)
+      ∙ written_other m z second_written (n + 2) (n + 1) c (omega arith)
+      ∙ written_same m z first_written (n + 1) b (omega (arith, inside, first_len))
+
+  pub written_third : get_or (map m four_written) (n + 2) z ≡ m c
+  written_third =
+      written_other m z third_written (n + 3) (n + 2) d (omega arith)
+      ∙ written_same m z second_written (n + 2) c (omega (arith, inside, second_len))
+
+  pub written_fourth : get_or (map m four_written) (n + 3) z ≡ m d
+  written_fourth = written_same m z third_written (n + 3) d (omega (arith, inside, third_len))
+
+  pub written_nowhere_else : (k : ℕ) → (k < n) ⊎ (n + 4 ≤ k) → get_or (map m four_written) k z ≡ get_or (map m xs) k z
+  written_nowhere_else k out =
+      let ne : (j : ℕ) → j < 4 → k ≢ n + j = λ j l e. ⊎_elim (λ (h : k < n). absurd (omega arith)) (λ (h : n + 4 ≤ k). absurd (omega arith)) out in
+      let ne0 : k ≢ n = λ e. ne 0 (omega arith) (omega arith) in
+      written_other m z third_written (n + 3) k d (ne 3 (omega arith))
+      ∙ written_other m z second_written (n + 2) k c (ne 2 (omega arith))
+      ∙ written_other m z first_written (n + 1) k b (ne 1 (omega arith))
+      ∙ written_other m z xs n k a ne0
+
+-- the parts of a place: its block of four, and the place in it
+pub in_block : (p : ℕ) → 4 * (p / 4) + p % 4 ≡ p
+in_block p = omega arith
+
+module _ {F M X : Type 0} {K : FieldOn F} {V : ModuleOn F M} (N : IsField K) (L : IsModule K V) (m : X → M) where
+  -- place q of the transform at v of block r
+  abbrev pub of_block : F → List X → ℕ → ℕ → M
+  of_block v xs r q = dft_at K V 4 v (λ b. item V (map m xs) (4 * r + b)) (reversed 2 q)
+
+  -- blocks of the same items
+  pub same_block : (v : F) (xs ys : List X) (r s q : ℕ) → ((b : ℕ) → b < 4 → item V (map m xs) (4 * r + b) ≡ item V (map m ys) (4 * s + b)) → of_block v xs r q ≡ of_block v ys s q
+  same_block v xs ys r s q same = sum_below-same V 4 _ _ (λ b l. ap (V.scale (power K (power K v (reversed 2 q)) b)) (same b l))
+
+  -- one level above blocks of four: the butterflies make lo1 and hi1 of both halves, and the levels below lo2 and hi2
+  pub level_of_blocks : (n : ℕ) (w : F) (twiddles : List F) (xs lo hi lo1 hi1 lo2 hi2 : List X) → IsHalfTable K w twiddles → 2 < n → length twiddles ≡ 2 ^ (n - 1) → xs ≡ lo ++ hi → length lo ≡ 2 ^ (n - 1) → length lo2 ≡ 2 ^ (n - 1) → ((i : ℕ) → i < length lo → item V (map m lo1) i ≡ V.plus (item V (map m lo) i) (item V (map m hi) i)) → ((i : ℕ) → i < length lo → item V (map m hi1) i ≡ V.scale (get_or twiddles i K.zero) (V.plus (item V (map m lo) i) (V.negated (item V (map m hi) i)))) → ((p : ℕ) → p < 2 ^ (n - 1) → of_block (power K (power K w 2) (2 ^ (n - 1 - 2))) lo2 (p / 4) (p % 4) ≡ dft_at K V (2 ^ (n - 1)) (power K w 2) (item V (map m lo1)) (reversed (n - 1) p)) → ((p : ℕ) → p < 2 ^ (n - 1) → of_block (power K (power K w 2) (2 ^ (n - 1 - 2))) hi2 (p / 4) (p % 4) ≡ dft_at K V (2 ^ (n - 1)) (power K w 2) (item V (map m hi1)) (reversed (n - 1) p)) → (p : ℕ) → p < 2 ^ n → of_block (power K w (2 ^ (n - 2))) (lo2 ++ hi2) (p / 4) (p % 4) ≡ dft_at K V (2 ^ n) w (item V (map m xs)) (reversed n p)
+  level_of_blocks n w twiddles xs lo hi lo1 hi1 lo2 hi2 t some len joins len_lo len_lo2 sums differences of_lo of_hi p l =
+      let j = n - 1 - 2 in
+      let next : suc j ≡ n - 2 = omega arith in
+      let twice : 2 * 2 ^ j ≡ 2 ^ (n - 2) = omega (arith, pow_suc j) ∙ ap (λ u. 2 ^ u) next in
+      let root : power K w (2 ^ (n - 2)) ≡ power K (power K w 2) (2 ^ j) = ap (power K w) (sym twice) ∙ power-mul K N w 2 (2 ^ j) in
+      let size : 2 ^ (n - 1) ≡ 4 * 2 ^ j = fours (n - 1) (omega arith) in
+      let there : (u : ℕ) → of_block (power K w (2 ^ (n - 2))) (lo2 ++ hi2) (u / 4) (u % 4) ≡ of_block (power K (power K w 2) (2 ^ j)) (lo2 ++ hi2) (u / 4) (u % 4) = λ u.
+      ap (λ v. of_block v (lo2 ++ hi2) (u / 4) (u % 4)) root in
+      one_level_to N L m n w twiddles xs lo hi lo1 hi1 (λ u. of_block (power K w (2 ^ (n - 2))) (lo2 ++ hi2) (u / 4) (u % 4)) t (omega arith) len joins len_lo sums differences
+      (λ u b. there u ∙ (same_block (power K (power K w 2) (2 ^ j)) (lo2 ++ hi2) lo2 (u / 4) (u / 4) (u % 4) (λ e s. read_front m V.zero lo2 hi2 (4 * (u / 4) + e) (omega (arith, b, s, size, len_lo2))) ∙ of_lo u b))
+      (λ u b.
+      let block : (2 ^ (n - 1) + u) / 4 ≡ 2 ^ j + u / 4 = omega (arith, size) in
+      let place : (2 ^ (n - 1) + u) % 4 ≡ u % 4 = omega (arith, size) in
+      let where_from : (e : ℕ) → 4 * (2 ^ j + u / 4) + e ≡ 2 ^ (n - 1) + (4 * (u / 4) + e) = λ e. omega (arith, size) in
+      there (2 ^ (n - 1) + u)
+      ∙ (ap₂ (of_block (power K (power K w 2) (2 ^ j)) (lo2 ++ hi2)) block place
+      ∙ (same_block (power K (power K w 2) (2 ^ j)) (lo2 ++ hi2) hi2 (2 ^ j + u / 4) (u / 4) (u % 4)
+      (λ e s. ap (item V (map m (lo2 ++ hi2))) (where_from e) ∙ read_back m V.zero lo2 hi2 (2 ^ (n - 1)) (4 * (u / 4) + e) len_lo2)
+      ∙ of_hi u b)))
+      p l
+
+  -- four items are one block
+  pub one_block_of_four : (n : ℕ) (w : F) (xs : List X) → n ≡ 2 → (p : ℕ) → p < 2 ^ n → of_block (power K w (2 ^ (n - 2))) xs (p / 4) (p % 4) ≡ dft_at K V (2 ^ n) w (item V (map m xs)) (reversed n p)
+  one_block_of_four n w xs is p l =
+      let b : p < 4 = rw is at l in
+      let block : p / 4 ≡ 0 = omega (arith, b) in
+      let place : p % 4 ≡ p = omega (arith, b) in
+      subst (λ k. of_block (power K w (2 ^ (k - 2))) xs (p / 4) (p % 4) ≡ dft_at K V (2 ^ k) w (item V (map m xs)) (reversed k p)) (sym is)
+      (ap (λ v. of_block v xs (p / 4) (p % 4)) (N.times_one w) ∙ ap₂ (of_block w xs) block place)
+
+  -- the blocks' own transforms make the whole one
+  pub blocks_transformed : (n : ℕ) (w : F) (old mid now : List X) → ((p : ℕ) → p < 2 ^ n → of_block (power K w (2 ^ (n - 2))) mid (p / 4) (p % 4) ≡ dft_at K V (2 ^ n) w (item V (map m old)) (reversed n p)) → 2 ≤ n → ((r q : ℕ) → r < 2 ^ (n - 2) → q < 4 → item V (map m now) (4 * r + q) ≡ of_block (power K w (2 ^ (n - 2))) mid r q) → (p : ℕ) → p < 2 ^ n → item V (map m now) p ≡ dft_at K V (2 ^ n) w (item V (map m old)) (reversed n p)
+  blocks_transformed n w old mid now above le blocks p l =
+      ap (item V (map m now)) (sym (in_block p)) ∙ (blocks (p / 4) (p % 4) (omega (arith, l, fours n le)) (omega arith) ∙ above p l)
+
+  -- a block's four items, written over what they were
+  pub block_written : (w : F) (tables : List F) (xs : List X) (r : ℕ) (a b c d e f g h : X) → AreLevels K w 2 tables → length tables ≡ 4 → (inside : 4 * r + 3 < length xs) → m a ≡ V.plus (item V (map m xs) (4 * r)) (item V (map m xs) (4 * r + 2)) → m b ≡ V.plus (item V (map m xs) (4 * r + 1)) (item V (map m xs) (4 * r + 3)) → m c ≡ V.scale (get_or tables 0 K.zero) (V.plus (item V (map m xs) (4 * r)) (V.negated (item V (map m xs) (4 * r + 2)))) → m d ≡ V.scale (get_or tables 1 K.zero) (V.plus (item V (map m xs) (4 * r + 1)) (V.negated (item V (map m xs) (4 * r + 3)))) → m e ≡ V.plus (m a) (m b) → m f ≡ V.scale (get_or tables 2 K.zero) (V.plus (m a) (V.negated (m b))) → m g ≡ V.plus (m c) (m d) → m h ≡ V.scale (get_or tables 2 K.zero) (V.plus (m c) (V.negated (m d))) → (q : ℕ) → q < 4 → item V (map m (four_written m V.zero xs (4 * r) e f g h inside)) (4 * r + q) ≡ of_block w xs r q
+  block_written w tables xs r a b c d e f g h levels len inside of_a of_b of_c of_d of_e of_f of_g of_h q l =
+      let old = item V (map m xs) in
+      let here : 4 * r + 0 ≡ 4 * r = omega arith in
+      let start : old (4 * r) ≡ old (4 * r + 0) = ap old (sym here) in
+      let now = four_written m V.zero xs (4 * r) e f g h inside in
+      four_items N L w tables (λ j. old (4 * r + j)) (λ j. item V (map m now) (4 * r + j)) (m a) (m b) (m c) (m d) levels len
+      (of_a ∙ ap (λ x. V.plus x (old (4 * r + 2))) start) of_b
+      (of_c ∙ ap (λ x. V.scale (get_or tables 0 K.zero) (V.plus x (V.negated (old (4 * r + 2))))) start) of_d
+      (ap (item V (map m now)) here ∙ (written_first m V.zero xs (4 * r) e f g h inside ∙ of_e))
+      (written_second m V.zero xs (4 * r) e f g h inside ∙ of_f)
+      (written_third m V.zero xs (4 * r) e f g h inside ∙ of_g)
+      (written_fourth m V.zero xs (4 * r) e f g h inside ∙ of_h)
+      q l

@@ -1,0 +1,93 @@
+use Rattle.std.proofs.Common.{rules, arith, ◌≡◌, ◌-◌, ◌^◌, ◌/◌, ◌<◌, ◌∙◌, sym, length, map}
+use Rattle.ark_fft.proofs.Fours.{level_of_blocks, one_block_of_four}
+use Rattle.ark_fft.proofs.Joining.{front_half, back_half, next_levels, no_count, split_count}
+use Rattle.ark_fft.proofs.Counts.{itself}
+use Rattle.ark_fft.proofs.domain.radix2.fft.+down_to_fours.Goals as goal
+
+pub butterflies-requires-clause-same : goal.butterflies-requires-clause-same
+butterflies-requires-clause-same g t c =
+    let n = c.args.levels in
+    let some : 0 < n = omega arith in
+    let len = length c.args.xs.now in
+    let s = c.split_at_mut-lo in
+    front_half n n some (itself n) len (length s.result.0.now) c.requires.size s.ensures.front_len
+    ∙ sym (back_half n n some (itself n) len len (length s.result.1.now) c.requires.size c.requires.size s.ensures.back_len)
+
+pub butterflies-requires-clause-enough : goal.butterflies-requires-clause-enough
+butterflies-requires-clause-enough g t c = c.split_at_mut-lo.ensures.front_len ∙ sym c.split_at.ensures.front_len
+
+pub down_to_fours-requires : goal.down_to_fours-requires
+down_to_fours-requires g t c κs within =
+    let n = c.args.levels in
+    let some : 0 < n = omega arith in
+    let len = length c.args.xs.now in
+    let s = c.split_at_mut-lo in
+    let r = c.split_at in (
+      omega arith,
+      (
+        search rules,
+        (
+          search rules,
+          (
+            omega arith,
+            (
+              c.butterflies.auto.lo ∙ front_half n n some (itself n) len (length s.result.0.now) c.requires.size s.ensures.front_len,
+              back_half n n some (itself n) (length c.args.tables.now) len (length r.result.1.now) c.requires.whole c.requires.size r.ensures.back_len,
+            ),
+          ),
+        ),
+      ),
+    )
+
+pub down_to_fours-requires-then-levels-gt2 : goal.down_to_fours-requires-then-levels-gt2
+down_to_fours-requires-then-levels-gt2 g t c κs within =
+    let n = c.args.levels in
+    let some : 0 < n = omega arith in
+    let len = length c.args.xs.now in
+    let s = c.split_at_mut-lo in
+    let r = c.split_at in (
+      omega arith,
+      (
+        search rules,
+        (
+          search rules,
+          (
+            omega arith,
+            (
+              c.butterflies.auto.hi ∙ back_half n n some (itself n) len len (length s.result.1.now) c.requires.size c.requires.size s.ensures.back_len,
+              back_half n n some (itself n) (length c.args.tables.now) len (length r.result.1.now) c.requires.whole c.requires.size r.ensures.back_len,
+            ),
+          ),
+        ),
+      ),
+    )
+
+pub returns-then-levels-gt2-clause-sums : goal.returns-then-levels-gt2-clause-sums
+returns-then-levels-gt2-clause-sums g t c = λ w levels p l.
+    let n = c.args.levels in
+    let some : 0 < n = omega arith in
+    let len = length c.args.xs.now in
+    let s = c.split_at_mut-lo in
+    let r = c.split_at in
+    let n0 : length s.result.0.now ≡ 2 ^ (n - 1) = front_half n n some (itself n) len (length s.result.0.now) c.requires.size s.ensures.front_len in
+    let n2 : length c.down_to_fours.new.xs ≡ 2 ^ (n - 1) = c.down_to_fours.auto.xs ∙ (c.butterflies.auto.lo ∙ n0) in
+    let half : len / 2 ≡ 2 ^ (n - 1) = sym s.ensures.front_len ∙ n0 in
+    let both = next_levels g.F.Field.field n (len / 2) w c.args.tables.now r.result.0.now r.result.1.now some half r.ensures.front r.ensures.back levels in
+    level_of_blocks g.met.F.Field.field_laws g.met.T.DomainCoeff.module_laws g.T.DomainCoeff.meaning n w r.result.0.now c.args.xs.now s.result.0.now s.result.1.now c.butterflies.new.lo c.butterflies.new.hi c.down_to_fours.new.xs c.down_to_fours-then-levels-gt2.new.xs both.0 (omega arith) (r.ensures.front_len ∙ half) s.ensures.value n0 n2
+    c.butterflies.ensures.sums c.butterflies.ensures.differences (c.down_to_fours.ensures.sums _ both.1) (c.down_to_fours-then-levels-gt2.ensures.sums _ both.1) p l
+
+pub returns-then-levels-gt2-clause-counted : goal.returns-then-levels-gt2-clause-counted
+returns-then-levels-gt2-clause-counted g t c =
+    let n = c.args.levels in
+    let some : 0 < n = omega arith in
+    let s = c.split_at_mut-lo in
+    let less : n - 1 - 2 ≡ n - 2 - 1 = omega arith in
+    split_count n (n - 2) (omega arith) (omega arith) (length s.result.0.now) c.butterflies.ensures.counted
+    (front_half n n some (itself n) (length c.args.xs.now) (length s.result.0.now) c.requires.size s.ensures.front_len) (rw less at c.down_to_fours.ensures.counted) (rw less at c.down_to_fours-then-levels-gt2.ensures.counted)
+
+pub returns-else-levels-gt2-clause-sums : goal.returns-else-levels-gt2-clause-sums
+returns-else-levels-gt2-clause-sums g t c = λ w levels p l.
+    one_block_of_four g.met.F.Field.field_laws g.met.T.DomainCoeff.module_laws g.T.DomainCoeff.meaning c.args.levels w c.args.xs.now (omega arith) p l
+
+pub returns-else-levels-gt2-clause-counted : goal.returns-else-levels-gt2-clause-counted
+returns-else-levels-gt2-clause-counted g t c = no_count (2 ^ c.args.levels / 2) (c.args.levels - 2) c.args.work.now (omega arith)
