@@ -77,6 +77,15 @@ pub fn scale_each<F: Field>(coeffs: &mut [F], factor: F)
     }
 }
 
+/// Negates each coefficient.
+pub fn negate_each<F: Field>(coeffs: &mut [F])
+    ensures { of_list F.field coeffs.new ≡ opposite F.field (of_list F.field coeffs.old) }
+{
+    for i in 0..coeffs.len() {
+        coeffs[i] = -coeffs[i];
+    }
+}
+
 /// Multiplies each item by the one at its place.
 pub fn multiply_each<F: Field>(items: &mut [F], other: &[F])
     requires { length other.now ≡ length items.old }

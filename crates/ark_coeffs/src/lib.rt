@@ -3,4 +3,5 @@
 
 pub mod dense;
 pub mod draws;
+pub mod multiple;
 pub mod sparse;

@@ -5,7 +5,9 @@ ghost use Rattle.std.specs.Prelude.{◌↔◌, IsTrue, OnOk, IfOk, IfSome, IsNon
 ghost use Rattle.std.specs.List.{All, AllPairs};
 ghost use Rattle.std.specs.List.Sorted.{IsNonDecreasingBy};
 ghost use Rattle.ark_math.specs.Univariate.{IsSparse, IsValue, of_pairs, added, monomial, opposite, scaled};
+ghost use Rattle.ark_coeffs.specs.Multiples.{factor_of};
 
+use crate::multiple::Multiple;
 use ark_traits::{Field, PolyError};
 use std::alloc::Global;
 
@@ -90,6 +92,34 @@ fn split_at_degree<F: Field>(terms: &[(usize, F)], degree: usize) -> (F, &[(usiz
 }
 
 /// The sum of terms and a multiple of others, without zeros. One pass over both lists, and room for both at once.
+pub fn sum_with_multiple<F: Field>(
+    alloc: Global,
+    left: &[(usize, F)],
+    multiple: Multiple<F>,
+    right: &[(usize, F)],
+) -> Result<Vec<(usize, F)>, PolyError>
+    requires left { IsSparse F.field left.now }
+    requires right { IsSparse F.field right.now }
+    ensures sparse { IfOk result (λ s. IsSparse F.field s.items) }
+    ensures sum { IfOk result (λ s. of_pairs F.field s.items ≡ added F.field (of_pairs F.field left.now)
+        (scaled F.field (factor_of F.field multiple) (of_pairs F.field right.now))) }
+    ensures memory { IsOkUnless result PolyError.Memory }
+{
+    let mut sum = Vec::with_capacity(alloc, left.len().saturating_add(right.len()))?;
+    let mut left = left;
+    let mut right = right;
+    while let Some(degree) = least_degree(left, right) {
+        let (coefficient, higher) = split_at_degree(left, degree);
+        let (other, others) = split_at_degree(right, degree);
+        push_term(&mut sum, degree, coefficient + multiple.of(other))?;
+        left = higher;
+        right = others;
+    }
+    Ok(sum)
+}
+
+/// The sum of terms and others times a factor, without zeros. The factors one and minus one take no product. One pass
+/// over both lists, and room for both at once.
 pub fn sum_of_terms<F: Field>(
     alloc: Global,
     left: &[(usize, F)],
@@ -103,17 +133,7 @@ pub fn sum_of_terms<F: Field>(
         (scaled F.field factor (of_pairs F.field right.now))) }
     ensures memory { IsOkUnless result PolyError.Memory }
 {
-    let mut sum = Vec::with_capacity(alloc, left.len().saturating_add(right.len()))?;
-    let mut left = left;
-    let mut right = right;
-    while let Some(degree) = least_degree(left, right) {
-        let (coefficient, higher) = split_at_degree(left, degree);
-        let (other, others) = split_at_degree(right, degree);
-        push_term(&mut sum, degree, coefficient + factor * other)?;
-        left = higher;
-        right = others;
-    }
-    Ok(sum)
+    sum_with_multiple(alloc, left, Multiple::by(factor), right)
 }
 
 /// The difference of terms and others, without zeros. One pass over both lists, and room for both at once.
@@ -129,7 +149,7 @@ pub fn difference_of_terms<F: Field>(
         ≡ added F.field (of_pairs F.field left.now) (opposite F.field (of_pairs F.field right.now))) }
     ensures memory { IsOkUnless result PolyError.Memory }
 {
-    sum_of_terms(alloc, left, -F::one(), right)
+    sum_with_multiple(alloc, left, Multiple::Opposite, right)
 }
 
 /// The multiple of terms, without zeros: none for the factor zero. Takes room for all of them at once.

@@ -57,20 +57,29 @@ pub record IsLeft {F : Type 0} (K : FieldOn F) (t p : List F) (i : ℕ) (left : 
   pub values : of_list K left ≡ fixed K (of_list K t) (take i p)
   pub len : length left * 2 ^ i ≡ length t
 
+-- what is left is halved when one more variable is bound
+pub halved : (a b i h : ℕ) → a * 2 ^ i ≡ h → 2 * b ≡ a → b * 2 ^ (i + 1) ≡ h
+halved a b i h e half =
+    let next : i + 1 ≡ suc i = omega arith in
+    let twice : 2 ^ (i + 1) ≡ 2 * 2 ^ i = ap (λ k. 2 ^ k) next ∙ pow_twice i in
+    let double : b * 2 ≡ a = omega arith in
+    ap (λ k. b * k) twice ∙ sym (mul_assoc b 2 (2 ^ i)) ∙ ap (λ k. k * 2 ^ i) double ∙ e
+
 module _ {F : Type 0} (K : FieldOn F) (N : IsField K) where
+  -- and its values are those with one more item of the point
+  pub fixed-next : (f : ℕ → F) (p : List F) (i : ℕ) (g h : ℕ → F) (y : F) → i < length p → y ≡ get_or p i y → g ≡ fixed K f (take i p) → h ≡ fixed K g (y ∷ []) → h ≡ fixed K f (take (i + 1) p)
+  fixed-next f p i g h y l is before after =
+      let next : i + 1 ≡ suc i = omega arith in
+      let items : take (i + 1) p ≡ take i p ++ y ∷ [] = ap (λ k. take k p) next ∙ take-suc p i y l ∙ ap (λ z. take i p ++ z ∷ []) (sym is) in
+      after ∙ ap (λ t. fixed K t (y ∷ [])) before ∙ fixed-one K N (fixed K f (take i p)) y
+      ∙ sym (fixed-push K N f (take i p) y)
+      ∙ ap (fixed K f) (sym items)
+
   pub IsLeft-more : (t p : List F) (i : ℕ) (u v : List F) (y : F) → i < length p → y ≡ get_or p i y → IsLeft K t p i u → of_list K v ≡ fixed K (of_list K u) (y ∷ []) → 2 * length v ≡ length u → IsLeft K t p (i + 1) v
-  IsLeft-more t p i u v y l is left values half =
-      let i1 : i + 1 ≡ suc i = omega arith in
-      let items : take (i + 1) p ≡ take i p ++ y ∷ [] = ap (λ k. take k p) i1 ∙ take-suc p i y l ∙ ap (λ z. take i p ++ z ∷ []) (sym is) in
-      let twice : 2 ^ (i + 1) ≡ 2 * 2 ^ i = ap (λ k. 2 ^ k) i1 ∙ pow_twice i in
-      let double : length v * 2 ≡ length u = omega arith in
-      record {
-        values =
-            values ∙ ap (λ f. fixed K f (y ∷ [])) left.values ∙ fixed-one K N (fixed K (of_list K t) (take i p)) y
-            ∙ sym (fixed-push K N (of_list K t) (take i p) y)
-            ∙ ap (fixed K (of_list K t)) (sym items);
-        len = ap (λ k. length v * k) twice ∙ sym (mul_assoc (length v) 2 (2 ^ i)) ∙ ap (λ k. k * 2 ^ i) double ∙ left.len;
-      }
+  IsLeft-more t p i u v y l is left values half = record {
+    values = fixed-next (of_list K t) p i (of_list K u) (of_list K v) y l is left.values values;
+    len = halved (length u) (length v) i (length t) left.len half;
+  }
 
 -- ---- bits of an index exchanged, in words of 64 bits
 

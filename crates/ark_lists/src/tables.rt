@@ -58,9 +58,10 @@ fn bind_first<F: Field>(table: &mut Vec<F>, x: F)
     table.truncate(table.len() / 2);
 }
 
-/// What is left of a table when its first variables are bound to the point's items, in a list of its own. Each variable
-/// halves the table, and takes one product for each pair of values; the first is bound on the way into the list, which
-/// takes half the memory of the table. Of a point without items it is a copy.
+/// What is left of a table when its first variables are bound to the point's items, in a list of its own with room for
+/// no more. Each variable halves the table, and takes one product for each pair of values. The first is bound on the way
+/// into a new list, which takes half the memory of the table, the last one on the way into the list that is given, and
+/// those between in place. Of a point without items it is a copy.
 pub fn fixed_table<F: Field>(alloc: Global, table: &[F], point: &[F]) -> Result<Vec<F>, AllocError>
     requires { (n : ℕ) × (n * 2 ^ length point.now ≡ length table.now) }
     ensures values { IfOk result (λ t. of_list F.field t.items
@@ -71,10 +72,13 @@ pub fn fixed_table<F: Field>(alloc: Global, table: &[F], point: &[F]) -> Result<
         return Vec::from_slice(alloc, table);
     };
     let mut left = bound_table(alloc, table, *first)?;
-    for x in others {
+    let Some((last, between)) = others.split_last() else {
+        return Ok(left);
+    };
+    for x in between {
         bind_first(&mut left, *x);
     }
-    Ok(left)
+    bound_table(alloc, &left, *last)
 }
 
 /// Binds the last variable of a table in two halves to `x`: what is left is written over the lower one.

@@ -2,7 +2,7 @@
 
 ghost use Rattle.std.specs.Prelude.{◌≡◌, ◌≢◌, ◌↔◌, ◌⊎◌, ◌<◌, ◌≤◌, ◌-◌, ◌^◌, ◌==◌, ℕ, List};
 ghost use Rattle.std.specs.Prelude.{flat_map, if◌then◌else◌, length, max, min, set};
-ghost use Rattle.std.specs.Prelude.{IfErr, IfOk, IfSome, IsOkUnless, IsSome, IsTrue, OnErr, OnOk};
+ghost use Rattle.std.specs.Prelude.{IfErr, IfOk, IfSome, IsOk, IsOkUnless, IsSome, IsTrue, OnErr, OnOk};
 ghost use Rattle.std.specs.Slice.Iter.{iter_rest};
 ghost use Rattle.std.specs.Iterator.Adapters.{IterYieldsInOrder};
 ghost use Rattle.ark_math.specs.Multilinear.{AreAddable, AreWindows, IsConcat, extension, exchanged, fixed};
@@ -12,7 +12,7 @@ ghost use Rattle.ark_math.specs.Univariate.{of_list};
 mod bytes;
 
 use crate::multilinear::MultilinearExtension;
-use ark_coeffs::dense::{add_each, add_scaled, scale_each, subtract_each};
+use ark_coeffs::dense::{add_each, add_scaled, negate_each, scale_each, subtract_each};
 use ark_coeffs::draws::push_drawn;
 use ark_lists::tables::{fixed_table, relabel_table, value_of_table};
 use ark_traits::{Field, PolyError, Polynomial, log2};
@@ -129,7 +129,9 @@ impl<F: Field> Polynomial<F> for DenseMultilinearExtension<F> {
     }
 
     fn neg(&self, alloc: Global) -> Result<Self, PolyError> {
-        self.multiple(alloc, -F::one())
+        let mut opposite = self.clone()?;
+        negate_each(opposite.evaluations.as_mut_slice());
+        Ok(opposite)
     }
 
     fn add_assign(&mut self, alloc: Global, other: &Self) -> Result<(), PolyError> {
@@ -376,17 +378,31 @@ impl<F: Field> DenseMultilinearExtension<F> {
         self.multiple(alloc, factor)
     }
 
-    /// The multiple by the factor, in place. After an error it has the value that it had.
+    /// The multiple by the factor, in place: zero of no variables where the factor is zero. Only then it takes memory,
+    /// for one value. After an error it has the value that it had.
     pub fn mul_assign(&mut self, alloc: Global, factor: F) -> Result<(), PolyError>
         ensures multiple { factor ≢ F.field.zero → OnOk result (dense_table F.field self.new
             ≡ table_scaled F.field factor (dense_table F.field self.old)) }
         ensures zero { factor ≡ F.field.zero
             → OnOk result (dense_table F.field self.new ≡ zero_table F.field) }
+        ensures succeeds { factor ≢ F.field.zero → IsOk result }
         ensures kept { OnErr result (self.new ≡ self.old) }
         ensures memory { IsOkUnless result PolyError.Memory }
     {
-        *self = self.mul_scalar(alloc, factor)?;
+        if factor.is_zero() {
+            *self = DenseMultilinearExtension::zero(alloc)?;
+        } else {
+            self.scale(factor);
+        }
         Ok(())
+    }
+
+    /// Multiplies all values by the factor, which keeps the variables.
+    fn scale(&mut self, factor: F)
+        ensures { dense_table F.field self.new
+            ≡ table_scaled F.field factor (dense_table F.field self.old) }
+    {
+        scale_each(self.evaluations.as_mut_slice(), factor);
     }
 
     /// Adds a multiple of another, where one of the two is zero of no variables.
@@ -413,7 +429,7 @@ impl<F: Field> DenseMultilinearExtension<F> {
         ensures memory { IsOkUnless result PolyError.Memory }
     {
         let mut multiple = self.clone()?;
-        scale_each(multiple.evaluations.as_mut_slice(), factor);
+        multiple.scale(factor);
         Ok(multiple)
     }
 }

@@ -7,11 +7,13 @@ ghost use Rattle.std.specs.Iterator.Adapters.{IterYieldsInOrder};
 ghost use Rattle.ark_math.specs.Multilinear.{AreAddable, extension, written};
 ghost use Rattle.ark_math.specs.Multilinear.{table_operations, table_sum, table_scaled};
 ghost use Rattle.ark_math.specs.Univariate.{HasAtMost, IsSparse, of_list, of_pairs};
+ghost use Rattle.ark_coeffs.specs.Multiples.{factor_of};
 
 mod bytes;
 
 use crate::multilinear::{DenseMultilinearExtension, MultilinearExtension};
-use ark_coeffs::sparse::sum_of_terms;
+use ark_coeffs::multiple::Multiple;
+use ark_coeffs::sparse::sum_with_multiple;
 use ark_lists::draws::drawn_entries;
 use ark_lists::windows::{
     bind_variables, relabel_entries, value_at, values_of_entries, written_entries,
@@ -128,11 +130,11 @@ impl<F: Field> Polynomial<F> for SparseMultilinearExtension<F> {
     }
 
     fn add(&self, alloc: Global, other: &Self) -> Result<Self, PolyError> {
-        self.plus_multiple(alloc, F::one(), other)
+        self.plus_multiple(alloc, Multiple::Same, other)
     }
 
     fn sub(&self, alloc: Global, other: &Self) -> Result<Self, PolyError> {
-        self.plus_multiple(alloc, -F::one(), other)
+        self.plus_multiple(alloc, Multiple::Opposite, other)
     }
 
     fn neg(&self, alloc: Global) -> Result<Self, PolyError> {
@@ -156,7 +158,7 @@ impl<F: Field> Polynomial<F> for SparseMultilinearExtension<F> {
         factor: F,
         other: &Self,
     ) -> Result<(), PolyError> {
-        *self = self.plus_multiple(alloc, factor, other)?;
+        *self = self.plus_multiple(alloc, Multiple::Times(factor), other)?;
         Ok(())
     }
 
@@ -334,13 +336,19 @@ impl<F: Field> SparseMultilinearExtension<F> {
     }
 
     /// The sum with a multiple of another, the zeros dropped.
-    fn plus_multiple(&self, alloc: Global, factor: F, other: &Self) -> Result<Self, PolyError>
-        ensures sum { IfOk result (λ p. sparse_table F.field p ≡ table_sum F.field
-            (sparse_table F.field self.now) (table_scaled F.field factor (sparse_table F.field other.now))) }
+    fn plus_multiple(
+        &self,
+        alloc: Global,
+        multiple: Multiple<F>,
+        other: &Self,
+    ) -> Result<Self, PolyError>
+        ensures sum { IfOk result (λ p. sparse_table F.field p
+            ≡ table_sum F.field (sparse_table F.field self.now)
+            (table_scaled F.field (factor_of F.field multiple) (sparse_table F.field other.now))) }
         ensures memory { IsOkUnless result PolyError.Memory }
     {
         Ok(SparseMultilinearExtension {
-            evaluations: sum_of_terms(alloc, &self.evaluations, factor, &other.evaluations)?,
+            evaluations: sum_with_multiple(alloc, &self.evaluations, multiple, &other.evaluations)?,
             num_vars: self.num_vars.max(other.num_vars),
             zero: self.zero,
         })

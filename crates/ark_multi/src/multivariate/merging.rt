@@ -6,8 +6,10 @@ ghost use Rattle.ark_math.specs.Multivariate.{single, IsTotalDegree, IsValueAt, 
 ghost use Rattle.ark_multi.specs.SortedTerms.{AreRising, IsLeastTerm};
 ghost use Rattle.ark_math.specs.Term.{IsWithin};
 ghost use Rattle.ark_math.specs.Univariate.{added, scaled};
+ghost use Rattle.ark_coeffs.specs.Multiples.{factor_of};
 
 use crate::multivariate::Term;
+use ark_coeffs::multiple::Multiple;
 use ark_traits::{Field, PolyError};
 use std::alloc::Global;
 use std::cmp::Ordering;
@@ -69,13 +71,13 @@ struct Least<'a, F, T> {
 /// The least term of the sum of one list and a multiple of another; `None` where both are empty.
 fn least_term<'a, F: Field, T: Term>(
     left: &'a [(F, T)],
-    factor: F,
+    multiple: Multiple<F>,
     right: &'a [(F, T)],
 ) -> Option<Least<'a, F, T>>
     requires left { AreRising F.field T.cmp left.now }
     requires right { AreRising F.field T.cmp right.now }
-    ensures least { IfSome result (λ l. IsLeastTerm F.field T.cmp T.listed left.now factor right.now
-        l.coefficient l.term.now l.left.now l.right.now) }
+    ensures least { IfSome result (λ l. IsLeastTerm F.field T.cmp T.listed left.now
+        (factor_of F.field multiple) right.now l.coefficient l.term.now l.left.now l.right.now) }
     ensures none { IsNone result → (left.now ≡ []) × (right.now ≡ []) }
 {
     match (left.split_first(), right.split_first()) {
@@ -87,13 +89,13 @@ fn least_term<'a, F: Field, T: Term>(
                 right,
             }),
             Ordering::Equal => Some(Least {
-                coefficient: term.0 + factor * other.0,
+                coefficient: term.0 + multiple.of(other.0),
                 term: &term.1,
                 left: rest,
                 right: others,
             }),
             Ordering::Greater => Some(Least {
-                coefficient: factor * other.0,
+                coefficient: multiple.of(other.0),
                 term: &other.1,
                 left,
                 right: others,
@@ -106,7 +108,7 @@ fn least_term<'a, F: Field, T: Term>(
             right,
         }),
         (None, Some((other, others))) => Some(Least {
-            coefficient: factor * other.0,
+            coefficient: multiple.of(other.0),
             term: &other.1,
             left,
             right: others,
@@ -119,7 +121,7 @@ fn least_term<'a, F: Field, T: Term>(
 pub(crate) fn sum_of_terms<F: Field, T: Term>(
     alloc: Global,
     left: &[(F, T)],
-    factor: F,
+    multiple: Multiple<F>,
     right: &[(F, T)],
 ) -> Result<Vec<(F, T)>, PolyError>
     requires left { AreRising F.field T.cmp left.now }
@@ -127,13 +129,13 @@ pub(crate) fn sum_of_terms<F: Field, T: Term>(
     ensures rising { IfOk result (λ s. AreRising F.field T.cmp s.items) }
     ensures sum { IfOk result (λ s. of_listed F.field T.listed s.items
         ≡ added F.field (of_listed F.field T.listed left.now)
-        (scaled F.field factor (of_listed F.field T.listed right.now))) }
+        (scaled F.field (factor_of F.field multiple) (of_listed F.field T.listed right.now))) }
     ensures memory { IsOkUnless result PolyError.Memory }
 {
     let mut sum = Vec::with_capacity(alloc, left.len().saturating_add(right.len()))?;
     let mut left = left;
     let mut right = right;
-    while let Some(least) = least_term(left, factor, right) {
+    while let Some(least) = least_term(left, multiple, right) {
         push_term(&mut sum, least.coefficient, least.term.clone()?)?;
         left = least.left;
         right = least.right;

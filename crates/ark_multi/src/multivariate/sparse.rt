@@ -5,13 +5,15 @@ ghost use Rattle.std.specs.Prelude.{IfOk, IsOk, OnOk, IsOkUnless};
 ghost use Rattle.std.specs.declared.cmp.Ordering.TheVariants.{Less};
 ghost use Rattle.ark_math.specs.Term.{IsOnePower, IsWithin};
 ghost use Rattle.ark_math.specs.Multivariate.{each_listed, of_listed, of_terms, IsValueAt, IsTotalDegree};
-ghost use Rattle.ark_math.specs.Univariate.{added, coefficient_operations, scaled as multiple};
+ghost use Rattle.ark_math.specs.Univariate.{added, coefficient_operations, scaled};
+ghost use Rattle.ark_coeffs.specs.Multiples.{factor_of};
 
 mod bytes;
 
 use crate::multivariate::Term;
 use crate::multivariate::merging::{degree_of_terms, gathered_terms, sum_of_terms, value_of_terms};
 use crate::polynomial::DenseMVPolynomial;
+use ark_coeffs::multiple::Multiple;
 use ark_traits::{Field, PolyError, Polynomial};
 use rand::Rng;
 use std::alloc::{AllocError, Global};
@@ -117,11 +119,11 @@ impl<F: Field, T: Term> Polynomial<F> for SparsePolynomial<F, T> {
     }
 
     fn add(&self, alloc: Global, other: &Self) -> Result<Self, PolyError> {
-        self.plus_multiple(alloc, F::one(), other)
+        self.plus_multiple(alloc, Multiple::Same, other)
     }
 
     fn sub(&self, alloc: Global, other: &Self) -> Result<Self, PolyError> {
-        self.plus_multiple(alloc, -F::one(), other)
+        self.plus_multiple(alloc, Multiple::Opposite, other)
     }
 
     fn neg(&self, alloc: Global) -> Result<Self, PolyError> {
@@ -145,7 +147,7 @@ impl<F: Field, T: Term> Polynomial<F> for SparsePolynomial<F, T> {
         factor: F,
         other: &Self,
     ) -> Result<(), PolyError> {
-        *self = self.plus_multiple(alloc, factor, other)?;
+        *self = self.plus_multiple(alloc, Multiple::Times(factor), other)?;
         Ok(())
     }
 
@@ -174,16 +176,22 @@ impl<F: Field, T: Term> Polynomial<F> for SparsePolynomial<F, T> {
 
 impl<F: Field, T: Term> SparsePolynomial<F, T> {
     /// The sum with a multiple of another.
-    fn plus_multiple(&self, alloc: Global, factor: F, other: &Self) -> Result<Self, PolyError>
+    fn plus_multiple(
+        &self,
+        alloc: Global,
+        multiple: Multiple<F>,
+        other: &Self,
+    ) -> Result<Self, PolyError>
         ensures sum { IfOk result (λ p. of_listed F.field T.listed p.terms.items
             ≡ added F.field (of_listed F.field T.listed self.now.terms.items)
-            (multiple F.field factor (of_listed F.field T.listed other.now.terms.items))) }
+            (scaled F.field (factor_of F.field multiple)
+            (of_listed F.field T.listed other.now.terms.items))) }
         ensures variables { IfOk result (λ p. p.num_vars ≡ max self.now.num_vars other.now.num_vars) }
         ensures memory { IsOkUnless result PolyError.Memory }
     {
         Ok(SparsePolynomial {
             num_vars: self.num_vars.max(other.num_vars),
-            terms: sum_of_terms(alloc, &self.terms, factor, &other.terms)?,
+            terms: sum_of_terms(alloc, &self.terms, multiple, &other.terms)?,
         })
     }
 }

@@ -1,61 +1,11 @@
-use Rattle.std.proofs.Common.{refl, sym, subst, ap, ◌∙◌}
+use Rattle.std.proofs.Common.{ap, ◌∙◌}
 use Rattle.ark_math.specs.Univariate.{of_pairs, added, scaled}
-use Rattle.ark_math.proofs.Polynomials.SparseSums.{IsLeft, all_left, none_left, done_below, next_left, fewer_left}
+use Rattle.ark_math.proofs.Outcomes.Results.{IfOk_more}
 use Rattle.ark_coeffs.proofs.sparse.sum_of_terms.Goals as goal
-
-pub loop-degree-init : goal.loop-degree-init
-loop-degree-init g c =
-    let K = g.F.Field.field in
-    let N = g.met.F.Field.field_laws in
-    let left = c.args.left.now in
-    let right = c.args.right.now in
-    subst (λ t. IsLeft K N (added K (of_pairs K left) (scaled K c.args.factor (of_pairs K right))) c.args.factor t left right) (sym c.in_ok-sum.ensures.items) (all_left K N c.args.factor left right c.requires.left c.requires.right)
-
-pub least_degree-requires-clause-left : goal.least_degree-requires-clause-left
-least_degree-requires-clause-left g c = c.loop-degree.invariant.left
-
-pub least_degree-requires-clause-right : goal.least_degree-requires-clause-right
-least_degree-requires-clause-right g c = c.loop-degree.invariant.right
-
-pub split_at_degree-coefficient-requires-clause-sparse : goal.split_at_degree-coefficient-requires-clause-sparse
-split_at_degree-coefficient-requires-clause-sparse g c = c.loop-degree.invariant.left
-
-pub split_at_degree-coefficient-requires-clause-lowest : goal.split_at_degree-coefficient-requires-clause-lowest
-split_at_degree-coefficient-requires-clause-lowest g c = c.in-Some.ensures.left
-
-pub split_at_degree-other-requires-clause-sparse : goal.split_at_degree-other-requires-clause-sparse
-split_at_degree-other-requires-clause-sparse g c = c.loop-degree.invariant.right
-
-pub split_at_degree-other-requires-clause-lowest : goal.split_at_degree-other-requires-clause-lowest
-split_at_degree-other-requires-clause-lowest g c = c.in-Some.ensures.right
-
-pub push_term-requires-clause-sparse : goal.push_term-requires-clause-sparse
-push_term-requires-clause-sparse g c = c.loop-degree.invariant.sparse
-
-pub push_term-requires-clause-below : goal.push_term-requires-clause-below
-push_term-requires-clause-below g c =
-    done_below g.F.Field.field g.met.F.Field.field_laws _ c.args.factor c.loop-degree.sum.items c.loop-degree.left.now c.loop-degree.right.now c.in-Some.degree c.loop-degree.invariant c.in-Some.ensures.greatest
-
-pub loop-degree-smaller : goal.loop-degree-smaller
-loop-degree-smaller g c =
-    let left = c.split_at_degree-coefficient in
-    let right = c.split_at_degree-other in
-    fewer_left g.F.Field.field g.met.F.Field.field_laws c.loop-degree.left.now c.loop-degree.right.now left.result.1.now right.result.1.now c.in-Some.degree c.in-Some.ensures.greatest left.ensures.higher right.ensures.higher left.ensures.shorter right.ensures.shorter
-
-pub loop-degree-preserved : goal.loop-degree-preserved
-loop-degree-preserved g c =
-    let K = g.F.Field.field in
-    let left = c.split_at_degree-coefficient in
-    let right = c.split_at_degree-other in
-    let pushed = c.in_ok-push_term.ensures in
-    next_left K g.met.F.Field.field_laws _ c.args.factor left.result.0 right.result.0 c.add.result c.loop-degree.sum.items c.loop-degree.left.now c.loop-degree.right.now c.push_term.new.terms.items left.result.1.now right.result.1.now c.in-Some.degree c.loop-degree.invariant
-    left.ensures.sum right.ensures.sum left.ensures.sparse right.ensures.sparse left.ensures.higher right.ensures.higher pushed.sparse pushed.sum pushed.below
-    (g.met.F.Field.add_law _ _ _ c.add.ensures ∙ ap (K.plus left.result.0) (g.met.F.Field.mul_law _ _ _ c.mul.ensures))
-
-pub returns-clause-sparse : goal.returns-clause-sparse
-returns-clause-sparse g c = c.loop-degree.invariant.sparse
 
 pub returns-clause-sum : goal.returns-clause-sum
 returns-clause-sum g c =
-    let none = c.in_default.ensures.none refl in
-    none_left g.F.Field.field g.met.F.Field.field_laws _ c.args.factor c.loop-degree.sum.items c.loop-degree.left.now c.loop-degree.right.now c.loop-degree.invariant none.0 none.1
+    let K = g.F.Field.field in
+    IfOk_more c.sum_with_multiple.result
+    (λ s e. e ∙ ap (λ f. added K (of_pairs K c.args.left.now) (scaled K f (of_pairs K c.args.right.now))) c.by.ensures)
+    c.sum_with_multiple.ensures.sum

@@ -1,5 +1,5 @@
 use Rattle.std.proofs.Common.{ap, ◌∙◌}
-use Rattle.ark_math.specs.Multilinear.{table_sum, table_scaled}
+use Rattle.ark_math.specs.Multilinear.{table_sum}
 use Rattle.ark_math.proofs.Outcomes.Results.{IfOk_more}
 use Rattle.ark_math.proofs.Polynomials.Tables.{table_scaled-one}
 use Rattle.ark_lists.proofs.SparseTables.{stored}
@@ -8,9 +8,8 @@ use Rattle.ark_multi.proofs.multilinear.sparse.SparseMultilinearExtensionPolynom
 pub returns-clause-sum : goal.returns-clause-sum
 returns-clause-sum g c =
     let K = g.F.Field.field in
-    let F = g.met.F.Field in
     let a = stored K c.args.self.now.num_vars c.args.self.now.evaluations.items in
     let b = stored K c.args.other.now.num_vars c.args.other.now.evaluations.items in
     IfOk_more c.plus_multiple.result
-    (λ p e. e ∙ ap (table_sum K a) (ap (λ f. table_scaled K f b) (c.one.ensures ∙ F.one_law) ∙ table_scaled-one K F.field_laws b))
+    (λ p e. e ∙ ap (table_sum K a) (table_scaled-one K g.met.F.Field.field_laws b))
     c.plus_multiple.ensures.sum

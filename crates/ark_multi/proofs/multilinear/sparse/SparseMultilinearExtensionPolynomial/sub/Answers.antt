@@ -1,5 +1,5 @@
 use Rattle.std.proofs.Common.{ap, ◌∙◌}
-use Rattle.ark_math.specs.Multilinear.{table_sum, table_scaled}
+use Rattle.ark_math.specs.Multilinear.{table_sum}
 use Rattle.ark_math.proofs.Outcomes.Results.{IfOk_more}
 use Rattle.ark_math.proofs.Polynomials.Tables.{table_opposite-scaled}
 use Rattle.ark_lists.proofs.SparseTables.{stored}
@@ -8,10 +8,8 @@ use Rattle.ark_multi.proofs.multilinear.sparse.SparseMultilinearExtensionPolynom
 pub returns-clause-difference : goal.returns-clause-difference
 returns-clause-difference g c =
     let K = g.F.Field.field in
-    let F = g.met.F.Field in
     let a = stored K c.args.self.now.num_vars c.args.self.now.evaluations.items in
     let b = stored K c.args.other.now.num_vars c.args.other.now.evaluations.items in
-    let negative = F.neg_law _ _ c.neg.ensures ∙ ap K.negated (c.one.ensures ∙ F.one_law) in
     IfOk_more c.plus_multiple.result
-    (λ p e. e ∙ ap (table_sum K a) (ap (λ f. table_scaled K f b) negative ∙ table_opposite-scaled K F.field_laws b))
+    (λ p e. e ∙ ap (table_sum K a) (table_opposite-scaled K g.met.F.Field.field_laws b))
     c.plus_multiple.ensures.sum

@@ -1,4 +1,4 @@
-use Rattle.std.proofs.Common.{ap, ◌∙◌}
+use Rattle.std.proofs.Common.{refl, ap, ◌∙◌}
 use Rattle.ark_math.specs.Multivariate.{of_listed}
 use Rattle.ark_math.specs.Univariate.{added}
 use Rattle.ark_math.proofs.Outcomes.Results.{IfOk_more}
@@ -8,9 +8,8 @@ use Rattle.ark_multi.proofs.multivariate.sparse.SparsePolynomialPolynomial.sub.G
 pub returns-clause-difference : goal.returns-clause-difference
 returns-clause-difference g c =
     let K = g.F.Field.field in
-    let N = g.met.F.Field.field_laws in
     let own = of_listed K g.T.Term.listed c.args.self.now.terms.items in
     let other = of_listed K g.T.Term.listed c.args.other.now.terms.items in
     IfOk_more c.plus_multiple.result
-    (λ p e. e ∙ ap (added K own) (scaled-negated_one K N c.neg.result other (g.met.F.Field.neg_law _ _ c.neg.ensures ∙ ap K.negated (c.one.ensures ∙ g.met.F.Field.one_law))))
+    (λ p e. e ∙ ap (added K own) (scaled-negated_one K g.met.F.Field.field_laws (K.negated K.one) other refl))
     c.plus_multiple.ensures.sum

@@ -1,0 +1,2 @@
+-- Words of the lists behind the forms of polynomials.
+pub mod Multiples
