@@ -3,6 +3,7 @@
 pub mod BoundTables
 pub mod TwoTables
 pub mod Products
+pub mod Factors
 pub mod ValuesThrough
 pub mod TrueRounds
 pub mod Accepted

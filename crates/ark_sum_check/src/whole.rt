@@ -32,6 +32,9 @@ pub fn prove<F: Field, C: Challenger<F>>(
         (product_value F.field (tables_of F.field prover) (challenges rounds.items))) }
     ensures memory { IsOkUnless result SumCheckError.Memory }
 {
+    // There is a factor, so a round has two values at least.
+    let degree = prover.degree();
+    prove!(degree > 0);
     let mut left = prover;
     let mut rounds = Vec::with_capacity(alloc, left.num_vars())?;
     'variables: while left.num_vars() > 0 {
