@@ -6,5 +6,6 @@ pub mod Products
 pub mod Factors
 pub mod ValuesThrough
 pub mod TrueRounds
+pub mod EntryTables
 pub mod Accepted
 pub mod Unlucky
