@@ -1,4 +1,4 @@
-//! The sum-check of a product of multilinear extensions: a prover that sends rounds, and a verifier that takes them.
+//! The sum-check of a product of multilinear extensions: provers that send rounds, and a verifier that takes them.
 #![tactic(auto)]
 
 mod entries;

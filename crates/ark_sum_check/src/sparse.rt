@@ -12,8 +12,8 @@ use std::marker::Model;
 /// the table is zero at all other indices, and the values of entries at one index add up. The variables are bound in the
 /// order of a `Prover`, and the verifier is the same.
 ///
-/// All rounds together take time by the number of entries and that of rounds, however many corners the cube has. Where
-/// indices rise, there is never more than one entry for each corner.
+/// A round and a binding take one pass over the entries each, however many corners the cube has, and entries don't become
+/// more: where two that stand side by side come to one index, they are merged. So indices should rise.
 ///
 /// ```
 /// let mut prover = SparseProver::new(num_vars, entries);
