@@ -1,7 +1,9 @@
 -- Tables by their entries: sums over the even or the odd indices, and the first variable bound one entry after the other.
-use Rattle.std.proofs.Common.{◌≡◌, ◌≢◌, ℕ, ◌+◌, ◌-◌, ◌*◌, ◌/◌, ◌%◌, ◌^◌, ◌<◌, List, [], ◌∷◌, ◌++◌, length, get_or, set, take, drop, refl, sym, ◌∙◌, ap, ap₂, subst, arith}
+use Rattle.std.proofs.Common.{◌≡◌, ◌≢◌, ℕ, ◌+◌, ◌-◌, ◌*◌, ◌/◌, ◌%◌, ◌^◌, ◌<◌, ◌≤◌, List, [], ◌∷◌, ◌++◌, length, get_or, set, take, drop, refl, sym, ◌∙◌, ap, ap₂, subst, arith, ⊎_elim}
 use Rattle.std.specs.Prelude.{All}
-use Rattle.std.proofs.lemmas.List.{get_or-drop, take_more_set}
+use Rattle.std.proofs.lemmas.List.{get_or-drop, get_or-set_other, get_or-set_same, get_or-take, get_or_default, length-set, length-take-le, take_more_set}
+use Rattle.std.proofs.lemmas.Bool.{cases_eq}
+use Rattle.std.proofs.lemmas.List.Quantifiers.{all_pairs_push}
 use Rattle.std.proofs.lemmas.List.Elements.{All-push, All-set, All-weaker}
 use Rattle.std.proofs.Math.Seq.{take-set-lt}
 use Rattle.ark_math.specs.Field.{FieldOn, IsField, minus, natural}
@@ -19,6 +21,7 @@ use Rattle.ark_math.proofs.Polynomials.Multilinear.{fixed-added, fixed-monomial}
 use Rattle.ark_math.proofs.Polynomials.Univariate.{coefficients_are_module, monomial-other, monomial-same}
 use Rattle.ark_math.proofs.Polynomials.UnivariatePairs.{monomial-added, of_pairs-push, take_next}
 use Rattle.ark_sum_check.specs.Cube.{product_at, product_value, round_value}
+use Rattle.ark_sum_check.specs.Provers.{AreRising}
 use Rattle.ark_sum_check.specs.Rounds.{IsTrueRound}
 use Rattle.ark_sum_check.proofs.Products.{half_whole}
 use Rattle.ark_sum_check.proofs.TrueRounds.{AreFirst-none, AreFirst-push, AreFirst-round, natural-one, product_value-none, round_value-side_one, round_value-side_zero}
@@ -156,6 +159,63 @@ below_halves n ps some h = subst (λ k. All (λ e. e.0 < k) ps) (half_whole n (2
 pub below_two : {F : Type 0} (n : ℕ) (ps : List (ℕ × F)) → n ≡ 0 → All (λ e. e.0 < 2 ^ n) ps → All (λ e. e.0 < 2 * 1) ps
 below_two n ps none h =
     All-weaker (λ e. e.0 < 2 ^ n) (λ e. e.0 < 2 * 1) (λ e l. let first : e.0 < 1 = subst (λ k. e.0 < 2 ^ k) none l in omega arith) ps h
+
+-- ---- indices that rise
+
+-- the entries that are kept are at half the index, or before it, of each old one from i on
+abbrev pub AreBehind : {F : Type 0} → List (ℕ × F) → ℕ → List (ℕ × F) → Type 0
+AreBehind {F} old i kept = (j : ℕ) (d : ℕ × F) → i ≤ j → j < length old → All (λ p. p.0 ≤ (get_or old j d).0 / 2) kept
+
+module _ {F : Type 0} where
+  pub behind-more : (old : List (ℕ × F)) (i : ℕ) (e : ℕ × F) (now next : List (ℕ × F)) → AreRising old → i < length old → e ≡ get_or old i e → AreBehind old i now
+      → ((n : ℕ) → e.0 / 2 < n → All (λ p. p.0 < n) now → All (λ p. p.0 < n) next) → AreBehind old (i + 1) next
+  behind-more old i e now next rising l is h put j d a b =
+      let m = (get_or old j d).0 in
+      let before : (get_or old i d).0 < m = rising i j d (omega arith) b in
+      let same : e.0 ≡ (get_or old i d).0 = ap (λ p. p.0) (is ∙ get_or_default old i e d l) in
+      let here : e.0 / 2 < m / 2 + 1 = omega arith in
+      All-weaker (λ p. p.0 < m / 2 + 1) (λ p. p.0 ≤ m / 2) (λ p q. omega arith) next
+      (put (m / 2 + 1) here (All-weaker (λ p. p.0 ≤ m / 2) (λ p. p.0 < m / 2 + 1) (λ p q. omega arith) now (h j d (omega arith) b)))
+
+  -- the index at a place that is written with the index that was there
+  same_index : (t : List (ℕ × F)) (j : ℕ) (y last : ℕ × F) → j < length t → y.0 ≡ (get_or t j last).0 → (i : ℕ) (d : ℕ × F) → (get_or (set t j y) i d).0 ≡ (get_or t i d).0
+  same_index t j y last l e i d = ⊎_elim
+      (λ (s : i ≡ j).
+      subst (λ k. (get_or (set t j y) k d).0 ≡ (get_or t k d).0) (sym s)
+      (ap (λ p. p.0) (get_or-set_same t j y d l) ∙ e ∙ ap (λ p. p.0) (get_or_default t j last d l)))
+      (λ (ne : i ≢ j). ap (λ p. p.0) (get_or-set_other t j i y d ne))
+      (cases_eq i j)
+
+  rising-set : (t : List (ℕ × F)) (j : ℕ) (y last : ℕ × F) → j < length t → y.0 ≡ (get_or t j last).0 → AreRising t → AreRising (set t j y)
+  rising-set t j y last l e h a b d less inside =
+      let first = same_index t j y last l e a d in
+      let second = same_index t j y last l e b d in
+      let old : (get_or t a d).0 < (get_or t b d).0 = h a b d less (subst (λ n. b < n) (length-set t j y) inside) in
+      omega arith
+
+  pub rising_onto : (ps : List (ℕ × F)) (k : ℕ) (x last : ℕ × F) → 0 < k → k < length ps → last ≡ get_or ps (k - 1) last → last.0 ≡ x.0 → AreRising (take k ps) → AreRising (take k (set ps (k - 1) x))
+  rising_onto ps k x last some l e same h =
+      let t = take k ps in
+      let count : length t ≡ k = length-take-le k ps (omega arith) in
+      let there : last ≡ get_or t (k - 1) last = e ∙ sym (get_or-take k ps (k - 1) last (omega arith)) in
+      subst (λ us. AreRising us) (sym (take-set-lt k ps (k - 1) x (omega arith))) (rising-set t (k - 1) x last (omega arith) (sym same ∙ ap (λ p. p.0) there) h)
+
+  pub rising_after : (ps : List (ℕ × F)) (k : ℕ) (x : ℕ × F) → k < length ps → ((d : ℕ × F) → 0 < k → (get_or ps (k - 1) d).0 ≢ x.0) → All (λ p. p.0 ≤ x.0) (take k ps) → AreRising (take k ps) → AreRising (take (k + 1) (set ps k x))
+  rising_after ps k x l apart most h =
+      let t = take k ps in
+      let j = k - 1 in
+      let count : length t ≡ k = length-take-le k ps (omega arith) in
+      subst (λ us. AreRising us) (sym (take_more_set ps k x l))
+      (all_pairs_push (λ p q. p.0 < q.0) t x h
+      (λ i d m.
+      let seen : (get_or t j d).0 ≡ (get_or ps j d).0 = ap (λ p. p.0) (get_or-take k ps j d (omega arith)) in
+      let ne : (get_or ps j d).0 ≢ x.0 = apart d (omega arith) in
+      let le : (get_or t j d).0 ≤ x.0 = most j d (omega arith) in
+      let last : (get_or t j d).0 < x.0 = omega arith in
+      ⊎_elim
+      (λ (s : i ≡ j). subst (λ a. (get_or t a d).0 < x.0) (sym s) last)
+      (λ (no : i ≢ j). let r : (get_or t i d).0 < (get_or t j d).0 = h i j d (omega arith) (omega arith) in omega arith)
+      (cases_eq i j)))
 
 -- an entry that is still the old one
 pub still_there : {X : Type 0} (old now : List X) (i : ℕ) (e : X) → drop i now ≡ drop i old → e ≡ get_or now i e → e ≡ get_or old i e

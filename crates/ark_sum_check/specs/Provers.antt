@@ -1,5 +1,5 @@
 -- What contracts see of a prover: its factors' tables, and how many variables they have left.
-use Rattle.std.specs.Prelude.{ℕ, List, [], ◌∷◌, map}
+use Rattle.std.specs.Prelude.{ℕ, List, [], ◌∷◌, ◌<◌, AllPairs, map}
 use Rattle.ark_math.specs.Field.{FieldOn}
 use Rattle.ark_math.specs.Univariate.{of_list, of_pairs}
 
@@ -26,3 +26,7 @@ pub record Entries (F : Type 0) : Type 0 where
 -- the table with these entries and zeros elsewhere, the only factor
 abbrev pub factor_of : {F : Type 0} → FieldOn F → Entries F → List (ℕ → F)
 factor_of K p = of_pairs K p.entries ∷ []
+
+-- their indices rise: one entry at most for each corner
+abbrev pub AreRising : {F : Type 0} → List (ℕ × F) → Type 0
+AreRising es = AllPairs (λ p q. p.0 < q.0) es

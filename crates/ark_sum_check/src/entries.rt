@@ -5,6 +5,7 @@ ghost use Rattle.std.specs.Prelude.{◌≡◌, ℕ, ◌+◌, ◌*◌, ◌/◌, �
 ghost use Rattle.ark_math.specs.Module.{itself, sum_below};
 ghost use Rattle.ark_math.specs.Multilinear.{fixed};
 ghost use Rattle.ark_math.specs.Univariate.{added, monomial, of_pairs};
+ghost use Rattle.ark_sum_check.specs.Provers.{AreRising};
 
 use ark_traits::Field;
 
@@ -43,6 +44,8 @@ fn put<F: Field>(entries: &mut [(usize, F)], kept: usize, index: usize, value: F
         ≡ added F.field (of_pairs F.field (take kept entries.old)) (monomial F.field index value) }
     ensures below { (n : ℕ) → index < n → All (λ e. e.0 < n) (take kept entries.old)
         → All (λ e. e.0 < n) (take result entries.new) }
+    ensures rising { AreRising (take kept entries.old) → All (λ e. e.0 ≤ index) (take kept entries.old)
+        → AreRising (take result entries.new) }
     ensures rest { (i : ℕ) → kept < i → drop i entries.new ≡ drop i entries.old }
     ensures few { result ≤ kept + 1 }
 {
@@ -62,6 +65,7 @@ fn bind_in_place<F: Field>(entries: &mut [(usize, F)], x: F) -> usize
     ensures values { of_pairs F.field (take result entries.new)
         ≡ fixed F.field (of_pairs F.field entries.old) (x ∷ []) }
     ensures below { (n : ℕ) → All (λ e. e.0 < 2 * n) entries.old → All (λ e. e.0 < n) (take result entries.new) }
+    ensures rising { AreRising entries.old → AreRising (take result entries.new) }
     ensures few { result ≤ length entries.old }
 {
     let mut kept = 0;
@@ -78,6 +82,7 @@ pub(crate) fn bind_entries<F: Field>(entries: &mut Vec<(usize, F)>, x: F)
     ensures values { of_pairs F.field entries.new.items
         ≡ fixed F.field (of_pairs F.field entries.old.items) (x ∷ []) }
     ensures below { (n : ℕ) → All (λ e. e.0 < 2 * n) entries.old.items → All (λ e. e.0 < n) entries.new.items }
+    ensures rising { AreRising entries.old.items → AreRising entries.new.items }
     ensures few { length entries.new.items ≤ length entries.old.items }
 {
     let kept = bind_in_place(entries.as_mut_slice(), x);

@@ -13,7 +13,8 @@ use std::marker::Model;
 /// order of a `Prover`, and the verifier is the same.
 ///
 /// A round and a binding take one pass over the entries each, however many corners the cube has, and entries don't become
-/// more: where two that stand side by side come to one index, they are merged. So indices should rise.
+/// more: where two that stand side by side come to one index, they are merged. So let indices rise: then they do so after
+/// each binding, and there is never more than one entry for each corner.
 ///
 /// ```
 /// let mut prover = SparseProver::new(num_vars, entries);
@@ -42,7 +43,7 @@ impl<F> Model for SparseProver<F> {
 impl<F: Field> SparseProver<F> {
     ghost use Rattle.ark_math.specs.Univariate.{of_pairs};
     ghost use Rattle.ark_sum_check.specs.Cube.{bound_to, product_value};
-    ghost use Rattle.ark_sum_check.specs.Provers.{factor_of};
+    ghost use Rattle.ark_sum_check.specs.Provers.{AreRising, factor_of};
     ghost use Rattle.ark_sum_check.specs.Rounds.{IsTrueRound};
 
     /// The prover of the sum of a factor's values over all corners, by its entries. Takes no memory.
@@ -81,6 +82,7 @@ impl<F: Field> SparseProver<F> {
         requires { 0 < self.old.variables }
         ensures tables { factor_of F.field self.new ≡ bound_to F.field challenge (factor_of F.field self.old) }
         ensures variables { self.new.variables ≡ self.old.variables - 1 }
+        ensures rising { AreRising self.old.entries → AreRising self.new.entries }
         ensures few { length self.new.entries ≤ length self.old.entries }
     {
         bind_entries(&mut self.entries, challenge);
