@@ -41,7 +41,6 @@ impl<F> Model for SparseProver<F> {
 }
 
 impl<F: Field> SparseProver<F> {
-    ghost use Rattle.ark_math.specs.Univariate.{of_pairs};
     ghost use Rattle.ark_sum_check.specs.Cube.{bound_to, product_value};
     ghost use Rattle.ark_sum_check.specs.Provers.{AreRising, factor_of};
     ghost use Rattle.ark_sum_check.specs.Rounds.{IsTrueRound};
