@@ -3,7 +3,9 @@
 pub mod BoundTables
 pub mod TwoTables
 pub mod Products
+pub mod Factors
 pub mod ValuesThrough
 pub mod TrueRounds
+pub mod EntryTables
 pub mod Accepted
 pub mod Unlucky

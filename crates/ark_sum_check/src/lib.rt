@@ -1,11 +1,13 @@
-//! The sum-check of a product of multilinear extensions: a prover that sends rounds, and a verifier that takes them.
+//! The sum-check of a product of multilinear extensions: provers that send rounds, and a verifier that takes them.
 #![tactic(auto)]
 
+mod entries;
 mod error;
 mod laws;
 mod pairs;
 mod prover;
 mod round;
+mod sparse;
 mod tables;
 mod through;
 mod verifier;
@@ -15,5 +17,6 @@ pub use error::SumCheckError;
 pub use laws::few_unlucky_challenges;
 pub use prover::Prover;
 pub use round::Round;
+pub use sparse::SparseProver;
 pub use verifier::{Verdict, Verifier, verify};
-pub use whole::{Challenger, prove};
+pub use whole::{Challenger, prove, prove_sparse};

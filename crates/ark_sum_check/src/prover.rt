@@ -7,6 +7,7 @@ use crate::pairs::round_of_two;
 use crate::tables::{bind_each, product_of_values, sum_of_bound, sum_of_side};
 use ark_traits::Field;
 use std::alloc::Global;
+use std::marker::Model;
 
 /// A prover between two rounds: what is left of the factors' tables, whose variables are bound one after the other, the
 /// first one first. Bit i of an index is the value of variable i.
@@ -16,13 +17,23 @@ use std::alloc::Global;
 /// let values = prover.round(alloc)?; // to be sent; then the challenge comes
 /// prover.bind(challenge);            // and so until no variable is left
 /// ```
+///
+/// Contracts see the lists of the tables' values, and the number of variables left.
 #[derive(Drop)]
 pub struct Prover<F> {
     tables: Vec<Vec<F>>,
     num_vars: usize,
-    ghost some: { 0 < length tables.items },
-    ghost whole: { All (λ t. length t.items ≡ 2 ^ num_vars) tables.items },
-    ghost few: { num_vars < 64 },
+}
+
+impl<F> Model for Prover<F> {
+    ghost use Rattle.ark_sum_check.specs.Lists.{AreFactors, as_factors};
+    ghost use Rattle.ark_sum_check.specs.Provers.{Factors};
+
+    ghost Value = { Factors F };
+
+    ghost view = { λ p. as_factors p.tables.items p.num_vars };
+
+    ghost invariant = { λ p. AreFactors p.tables.items p.num_vars };
 }
 
 impl<F: Field> Prover<F> {
@@ -51,9 +62,10 @@ impl<F: Field> Prover<F> {
         self.num_vars
     }
 
-    /// How many factors there are: the degree that a round's polynomial may have.
+    /// How many factors there are, one at least: the degree that a round's polynomial may have.
     pub fn degree(&self) -> usize
-        ensures { result ≡ length (tables_of F.field self.now) }
+        ensures factors { result ≡ length (tables_of F.field self.now) }
+        ensures some { 0 < result }
     {
         self.tables.len()
     }
@@ -66,7 +78,7 @@ impl<F: Field> Prover<F> {
             (variables_of self.now - 1) (tables_of F.field self.now) values.items) }
         ensures memory { IsOkUnless result SumCheckError.Memory }
     {
-        let half = self.half();
+        let half = half(self.num_vars);
         let degree = self.tables.len();
         if degree == 2 {
             return round_of_two(alloc, &self.tables[0], &self.tables[1], half);
@@ -80,23 +92,13 @@ impl<F: Field> Prover<F> {
         Ok(values)
     }
 
-    /// How many corners there are where the first variable has one value.
-    fn half(&self) -> usize
-        requires { 0 < variables_of self.now }
-        ensures power { result ≡ 2 ^ (variables_of self.now - 1) }
-        ensures whole { 2 ^ variables_of self.now ≡ 2 * result }
-        ensures few { result ≤ 2 ^ 62 }
-    {
-        1 << (self.num_vars - 1)
-    }
-
     /// Binds the first variable to the challenge, in each table in place.
     pub fn bind(&mut self, challenge: F)
         requires { 0 < variables_of self.old }
         ensures tables { tables_of F.field self.new ≡ bound_to F.field challenge (tables_of F.field self.old) }
         ensures variables { variables_of self.new ≡ variables_of self.old - 1 }
     {
-        let half = self.half();
+        let half = half(self.num_vars);
         bind_each(self.tables.as_mut_slice(), half, challenge);
         self.num_vars -= 1;
     }
@@ -108,4 +110,15 @@ impl<F: Field> Prover<F> {
     {
         product_of_values(&self.tables, 0)
     }
+}
+
+/// How many corners there are where the first of the variables has one value.
+fn half(num_vars: usize) -> usize
+    requires some { 0 < num_vars }
+    requires few { num_vars < 64 }
+    ensures power { result ≡ 2 ^ (num_vars - 1) }
+    ensures whole { 2 ^ num_vars ≡ 2 * result }
+    ensures few { result ≤ 2 ^ 62 }
+{
+    1 << (num_vars - 1)
 }

@@ -2,12 +2,13 @@
 
 ghost use Rattle.std.specs.Prelude.{◌≡◌, length, IfOk, IsOkUnless};
 ghost use Rattle.ark_sum_check.specs.Cube.{cube_sum, product_value};
-ghost use Rattle.ark_sum_check.specs.Provers.{tables_of, variables_of};
+ghost use Rattle.ark_sum_check.specs.Provers.{factor_of, tables_of, variables_of};
 ghost use Rattle.ark_sum_check.specs.Rounds.{AreAccepted, AreTrueRounds, challenges};
 
 use crate::error::SumCheckError;
 use crate::prover::Prover;
 use crate::round::Round;
+use crate::sparse::SparseProver;
 use ark_traits::Field;
 use std::alloc::Global;
 
@@ -30,6 +31,33 @@ pub fn prove<F: Field, C: Challenger<F>>(
     ensures accepted { IfOk result (λ rounds. AreAccepted F.field (length (tables_of F.field prover))
         (cube_sum F.field (variables_of prover) (tables_of F.field prover)) rounds.items
         (product_value F.field (tables_of F.field prover) (challenges rounds.items))) }
+    ensures memory { IsOkUnless result SumCheckError.Memory }
+{
+    // There is a factor, so a round has two values at least.
+    let degree = prover.degree();
+    prove!(degree > 0);
+    let mut left = prover;
+    let mut rounds = Vec::with_capacity(alloc, left.num_vars())?;
+    'variables: while left.num_vars() > 0 {
+        let values = left.round(alloc)?;
+        let challenge = challenger.challenge(&values);
+        left.bind(challenge);
+        rounds.push(Round { values, challenge })?;
+    }
+    Ok(rounds)
+}
+
+/// All rounds of a factor that is given by its entries, as `prove` makes them of one that is given by all its values.
+pub fn prove_sparse<F: Field, C: Challenger<F>>(
+    alloc: Global,
+    prover: SparseProver<F>,
+    challenger: &mut C,
+) -> Result<Vec<Round<F>>, SumCheckError>
+    ensures count { IfOk result (λ rounds. length rounds.items ≡ prover.variables) }
+    ensures truth { IfOk result (λ rounds. AreTrueRounds F.field 1 (factor_of F.field prover) rounds.items) }
+    ensures accepted { IfOk result (λ rounds. AreAccepted F.field 1
+        (cube_sum F.field prover.variables (factor_of F.field prover)) rounds.items
+        (product_value F.field (factor_of F.field prover) (challenges rounds.items))) }
     ensures memory { IsOkUnless result SumCheckError.Memory }
 {
     let mut left = prover;

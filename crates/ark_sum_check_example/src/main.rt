@@ -1,14 +1,15 @@
-//! A sum-check of a product of two multilinear extensions, from a claim on a sum to a claim on one value. The program
-//! prints the rounds, and what the verifier says of a true claim, and of a false one.
+//! A sum-check of a product of two multilinear extensions, from a claim on a sum to a claim on one value: the program
+//! prints what the verifier says of a true claim, and of a false one. Then one of an extension of forty variables, which
+//! is zero at all corners but three.
 #![tactic(auto)]
 
 mod sum_check_whole;
 
 use ark_base::{F65537, Field, PrimeField, PrimeModulus};
-use ark_sum_check::{Challenger, Prover, SumCheckError, Verdict};
+use ark_sum_check::{Challenger, Prover, SparseProver, SumCheckError, Verdict};
 use std::alloc::Global;
 use std::io::Print;
-use sum_check_whole::sum_check_whole;
+use sum_check_whole::{sum_check_of_entries, sum_check_whole};
 
 fn main(rt: HostRuntime) -> anyhow::Result<()> {
     let alloc = rt.alloc();
@@ -22,7 +23,12 @@ fn main(rt: HostRuntime) -> anyhow::Result<()> {
         let verdict = sum_check_whole(alloc, prover, F65537::from(claim), &mut drawn)?;
         print_verdict(&rt, claim, verdict)?;
     }
-    Ok(())
+    let mut drawn = Drawn {
+        left: vec![in alloc; F65537::from(2); 40]?,
+    };
+    let prover = three_entries(alloc)?;
+    let verdict = sum_check_of_entries(alloc, prover, F65537::from(23), &mut drawn)?;
+    print_verdict(&rt, 23, verdict)
 }
 
 /// Challenges that were drawn before, the next one last; zero once they are spent.
@@ -50,6 +56,15 @@ fn two_factors<F: Field>(
     tables.push(Vec::from_slice(alloc, left)?)?;
     tables.push(Vec::from_slice(alloc, right)?)?;
     Ok(Prover::new(2, tables))
+}
+
+/// The prover of a factor of forty variables by its three entries.
+fn three_entries<F: Field>(alloc: Global) -> Result<SparseProver<F>, SumCheckError> {
+    let mut entries = Vec::with_capacity(alloc, 3)?;
+    entries.push((0, F::from(5)))?;
+    entries.push((3, F::from(7)))?;
+    entries.push((0x80_0000_0001, F::from(11)))?;
+    Ok(SparseProver::new(40, entries))
 }
 
 fn print_verdict<M: PrimeModulus>(

@@ -17,7 +17,7 @@ returns g c = λ e.
     let degree = c.degree-degree.result in
     let accepted : AreAccepted K degree c.args.claim c.deref.result.now last =
     subst (λ us. AreAccepted K degree c.args.claim us last) (sym c.deref.ensures.value)
-    (subst (λ d. AreAccepted K d c.args.claim rs last) (sym c.degree-degree.ensures)
+    (subst (λ d. AreAccepted K d c.args.claim rs last) (sym c.degree-degree.ensures.factors)
     (subst (λ s. AreAccepted K (length ts) s rs last) (sym e) c.in_ok-rounds.ensures.accepted)) in
     IfOk-weaker c.verify.result (λ v. v ≡ Accepted last) (λ v. (x : List g.row.F.Denot) × (length x ≡ variables_of p) × (v ≡ Accepted (product_value K ts x)))
     (λ v h. (challenges rs, length-challenges rs ∙ c.in_ok-rounds.ensures.count, h)) (c.verify.ensures.complete last accepted)

@@ -1,0 +1,15 @@
+use Rattle.std.proofs.Common.{◌≡◌, ◌+◌, length}
+use Rattle.ark_sum_check.specs.Provers.{factor_of}
+use Rattle.ark_sum_check.proofs.Accepted.{AreTrueSoFar}
+use Rattle.ark_sum_check.proofs.whole.prove_sparse.Given as goal
+
+abbrev pub invariant-variables : goal.invariant-variables
+invariant-variables g l =
+    let K = g.F.Field.field in
+    record {
+      count : length l.rounds.items + l.left.variables ≡ l.fn.prover.variables;
+      truth : AreTrueSoFar K 1 (factor_of K l.fn.prover) l.rounds.items l.left.variables (factor_of K l.left);
+    }
+
+abbrev pub decreases-variables : goal.decreases-variables
+decreases-variables g l = l.left.variables
