@@ -13,7 +13,6 @@ mod domains;
 mod forms;
 mod given;
 mod kinds;
-mod points;
 mod programs;
 mod several;
 mod swept;
@@ -23,7 +22,6 @@ use crate::bytes::answer_of_bytes;
 use crate::codes::{OfCode, OfDecoder};
 use crate::domains::OverDomain;
 use crate::forms::OfForm;
-use crate::points::OfPoints;
 use crate::programs::OfProgram;
 use crate::several::OfSeveral;
 use crate::swept::{Ended, attempt};
@@ -121,7 +119,6 @@ fn of_several<F: FftField + Numbered, R: Print>(
         "several_variables" => attempt::<OfSeveral<F>, R>(alloc, watched, name, given),
         "code" => attempt::<OfCode<F>, R>(alloc, watched, name, given),
         "decoder" => attempt::<OfDecoder<F>, R>(alloc, watched, name, given),
-        "points" => attempt::<OfPoints<F>, R>(alloc, watched, name, given),
         _ => answer_of_bytes::<F, R>(alloc, watched, form, name, given),
     }
 }
