@@ -1,0 +1,2 @@
+-- What a polynomial makes of a sequence.
+pub mod Pairings
