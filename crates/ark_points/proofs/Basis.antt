@@ -1,13 +1,12 @@
 -- Products of x - x j for the j below n other than i: their values, and that they have no other zeros.
-use Rattle.std.proofs.Common.{◌≡◌, ◌≢◌, ℕ, zero, suc, ◌+◌, ◌-◌, ◌<◌, ◌≤◌, ◌==◌, List, [], ◌∷◌, if◌then◌else◌, refl, sym, ◌∙◌, ap, ap₂, subst, arith, add-one, ⊎_elim, eqb}
+use Rattle.std.proofs.Common.{◌≡◌, ◌≢◌, ℕ, zero, suc, ◌+◌, ◌<◌, ◌≤◌, ◌==◌, [], ◌∷◌, if◌then◌else◌, refl, sym, ◌∙◌, ap, subst, arith, add-one, ⊎_elim, eqb}
 use Rattle.std.proofs.lemmas.Bool.{cases_eq, cases_lt, cond-true, cond-false, eq-eqb, ne_eqb}
 use Rattle.ark_math.specs.Field.{FieldOn, IsField, minus}
 use Rattle.ark_math.specs.Linear.{linear_factor}
-use Rattle.ark_math.specs.Module.{itself}
 use Rattle.ark_math.specs.Multilinear.{product_below}
-use Rattle.ark_math.specs.Univariate.{IsBelow, IsValue, monomial, of_list, product}
+use Rattle.ark_math.specs.Univariate.{IsBelow, IsValue, monomial, product}
 use Rattle.ark_math.proofs.Algebra.Powers.{times_zero, zero_factor}
-use Rattle.ark_math.proofs.Algebra.Ring.{ring1, ring2, ring2_by}
+use Rattle.ark_math.proofs.Algebra.Ring.{ring2, ring2_by}
 use Rattle.ark_math.proofs.Algebra.Solve.{◌⊗◌, ◌⊕◌, ◌⊖◌, negative, nought, unit}
 use Rattle.ark_math.proofs.Polynomials.Univariate.{IsBelow-more, monomial-below}
 use Rattle.ark_math.proofs.Polynomials.UnivariateLists.{of_list-below}

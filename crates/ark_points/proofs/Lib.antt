@@ -1,6 +1,13 @@
--- Lemmas of this crate: what divides by x - z, the polynomial through given points, and the weights of points.
+-- Lemmas of this crate: what divides by x - z, the polynomial through given points, the weights of points, and products of
+-- x - z over halves of points, with what stands for a polynomial over each.
 pub mod Basis
+pub mod Halves
 pub mod Lagrange
 pub mod Linear
 pub mod Newton
+pub mod Nodes
 pub mod PairParts
+pub mod Root
+pub mod StandIns
+pub mod Weighed
+pub mod Wrapped

@@ -1,15 +1,15 @@
 -- A product with x - z, coefficient by coefficient, and the quotient by it.
-use Rattle.std.proofs.Common.{◌≡◌, ℕ, zero, suc, ◌+◌, ◌-◌, ◌<◌, ◌≤◌, inl, inr, List, [], ◌∷◌, length, refl, sym, ◌∙◌, ap, ap₂, arith, add-one}
-use Rattle.std.proofs.lemmas.Bool.{cases_lt}
+use Rattle.std.proofs.Common.{◌≡◌, ◌≢◌, ℕ, zero, suc, ◌+◌, ◌-◌, ◌<◌, ◌≤◌, inl, inr, ⊎_elim, List, [], ◌∷◌, ◌++◌, length, refl, sym, ◌∙◌, ap, ap₂, arith, add-one}
+use Rattle.std.proofs.lemmas.Bool.{cases_eq, cases_lt}
 use mathlib.Core.Path.{fun_ext}
-use Rattle.std.proofs.lemmas.List.{drop_all}
+use Rattle.std.proofs.lemmas.List.{drop_all, get_or_append_left, get_or_past, get_or_push, length-append}
 use Rattle.ark_math.specs.Field.{FieldOn, IsField, minus}
 use Rattle.ark_math.specs.Linear.{constant, linear_factor}
 use Rattle.ark_math.specs.Module.{itself}
 use Rattle.ark_math.specs.Transform.{value_at}
 use Rattle.ark_math.specs.Univariate.{IsBelow, IsQuotient, added, difference, monomial, of_list, product}
 use Rattle.ark_math.proofs.Algebra.Solve.{◌⊗◌, ◌⊕◌, ◌⊖◌, negative, nought, unit}
-use Rattle.ark_math.proofs.Algebra.Ring.{ring2, ring3}
+use Rattle.ark_math.proofs.Algebra.Ring.{ring1, ring2, ring3}
 use Rattle.ark_math.proofs.Polynomials.Univariate.{monomial-other}
 use Rattle.ark_math.proofs.Polynomials.UnivariateLists.{of_list-past, of_list-below}
 use Rattle.ark_math.proofs.Polynomials.UnivariateProducts.{product_comm, difference-product, monomial-product_before, monomial-product_past}
@@ -48,6 +48,31 @@ module _ {F : Type 0} (K : FieldOn F) (N : IsField K) where
       moved q (suc i) =
           let e : suc i - 1 ≡ i = omega arith in
           monomial-product_past K N 1 K.one q (suc i) (omega arith) ∙ ap (λ t. K.times K.one (q t)) e ∙ N.times_comm K.one (q i) ∙ N.times_one (q i)
+
+  -- a list of all but the last coefficient of such a product, and that one
+  pub by_linear-end : (z : F) (xs ys : List F) (b : F) → length xs ≡ length ys → ((k : ℕ) → k < length ys → of_list K xs k ≡ product K (of_list K ys) (linear_factor K z) k) → b ≡ before K (of_list K ys) (length ys)
+      → of_list K (xs ++ b ∷ []) ≡ product K (of_list K ys) (linear_factor K z)
+  by_linear-end z xs ys b len done last = fun_ext (λ k. ⊎_elim
+      (λ (l : k < length ys). get_or_append_left xs (b ∷ []) K.zero k (omega arith) ∙ done k l)
+      (λ (m : length ys ≤ k).
+      ⊎_elim
+      (λ (e : k ≡ length ys).
+      get_or_push xs b K.zero k (len ∙ sym e) ∙ last ∙ ap (before K (of_list K ys)) (sym e)
+      ∙ ring2 K N (λ a z. (a, a ⊖ (z ⊗ nought))) refl (before K (of_list K ys) k) z
+      ∙ ap (λ t. minus K (before K (of_list K ys) k) (K.times z t)) (sym (get_or_past ys k K.zero m))
+      ∙ sym (linear-product (of_list K ys) z k))
+      (λ (ne : k ≢ length ys).
+      get_or_past (xs ++ b ∷ []) k K.zero (omega (arith, length-append xs (b ∷ [])))
+      ∙ sym (far z ys k (omega arith)))
+      (cases_eq k (length ys)))
+      (cases_lt k (length ys)))
+    where
+      far : (z : F) (ys : List F) (k : ℕ) → length ys < k → product K (of_list K ys) (linear_factor K z) k ≡ K.zero
+      far z ys zero l = absurd (omega arith)
+      far z ys (suc k) l =
+          linear-product (of_list K ys) z (suc k)
+          ∙ ap₂ (λ s t. minus K s (K.times z t)) (get_or_past ys k K.zero (omega arith)) (get_or_past ys (suc k) K.zero (omega arith))
+          ∙ ring1 K N (λ z. (nought ⊖ (z ⊗ nought), nought)) refl z
 
   -- Horner's step, past the last coefficient too
   step : (c : List F) (z : F) (i : ℕ) → K.plus (K.times (value_from K c z (i + 1)) z) (of_list K c i) ≡ value_from K c z i

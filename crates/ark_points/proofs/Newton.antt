@@ -1,15 +1,15 @@
 -- The polynomial through given points, a point at a time, and so that there is one.
-use Rattle.std.proofs.Common.{◌≡◌, ◌≢◌, ℕ, zero, suc, ◌+◌, ◌-◌, ◌<◌, ◌≤◌, List, [], ◌∷◌, refl, sym, ◌∙◌, ap, subst, arith, add-one, below_more}
+use Rattle.std.proofs.Common.{◌≡◌, ◌≢◌, ℕ, zero, suc, ◌+◌, ◌<◌, [], ◌∷◌, refl, sym, ◌∙◌, ap, subst, arith, add-one, below_more}
 use Rattle.ark_math.specs.Field.{FieldOn, IsField, minus}
 use Rattle.ark_math.specs.Linear.{linear_factor}
-use Rattle.ark_math.specs.Univariate.{IsBelow, IsValue, added, scaled, nothing, monomial, of_list, product, value_below}
+use Rattle.ark_math.specs.Univariate.{IsBelow, IsValue, added, scaled, nothing, of_list, product, value_below}
 use Rattle.ark_math.proofs.Algebra.Powers.{zero_factor}
 use Rattle.ark_math.proofs.Algebra.Solve.{◌⊗◌, ◌⊕◌, ◌⊖◌, nought, unit}
 use Rattle.ark_math.proofs.Algebra.Ring.{ring1, ring2, ring4}
-use Rattle.ark_math.proofs.Polynomials.Univariate.{IsBelow-more, added-below, monomial-below, scaled-below}
+use Rattle.ark_math.proofs.Polynomials.Univariate.{IsBelow-more, added-below, scaled-below}
 use Rattle.ark_math.proofs.Polynomials.UnivariateLists.{of_list-below}
 use Rattle.ark_math.proofs.Polynomials.UnivariateProducts.{product-below, value-product}
-use Rattle.ark_math.proofs.Polynomials.UnivariateValues.{has_value, one_value, value_is, value-added, value-monomial, value-scaled}
+use Rattle.ark_math.proofs.Polynomials.UnivariateValues.{has_value, one_value, value_is, value-added, value-scaled}
 use Rattle.ark_math.proofs.Callers.Remainders.{constant_value}
 use Rattle.ark_math.proofs.Polynomials.Zeros.{same_from_values}
 use Rattle.ark_points.specs.Points.{AreDifferent, HasValues}

@@ -1,24 +1,135 @@
 //! The polynomial through given points.
 
-ghost use Rattle.std.specs.Prelude.{◌≡◌, ℕ, length, IfOk, Err};
+ghost use Rattle.std.specs.Prelude.{◌≡◌, ◌≢◌, ℕ, ◌<◌, false, length, IfOk, IsOkUnless, Err};
 ghost use Rattle.ark_math.specs.Linear.{constant as constant_of, linear_factor};
 ghost use Rattle.ark_math.specs.Outcome.{IsOkUnlessEither};
 ghost use Rattle.ark_math.specs.Univariate.{IsBelow, of_list};
 ghost use Rattle.ark_points.specs.Points.{AreDifferent, HasRepeated, HasValues, x_of, y_of};
+ghost use Rattle.ark_points.specs.Tree.{IsTreeOver, derived, nodes};
 
 use crate::error::PointsError;
 use crate::pairs::first_parts;
 use crate::repeated::has_repeated;
-use ark_base::{Field, PolyError, Polynomial};
-use ark_poly::DenseUVPolynomial;
+use crate::tree::Products;
+use crate::values::values_by_tree;
+use ark_base::{FftField, Field, PolyError, Polynomial, batch_inversion};
 use ark_poly::univariate::DensePolynomial;
-use std::alloc::Global;
+use ark_poly::{DenseUVPolynomial, EvaluationDomain, GeneralEvaluationDomain};
+use std::alloc::{AllocError, Global};
+
+// Up to so many pairs are taken one by one.
+const FEW: usize = 128;
 
 /// The polynomial through the given pairs of x and y, of a degree below their number: it has the value y at each x, and
 /// no other one has. `RepeatedPoint` where two pairs have one x.
 ///
-/// Newton's way, a pair at a time: some two products for each two pairs, and an inversion for each.
-pub fn from_points<F: Field>(
+/// For many pairs it takes O(n log^2 n) operations, through products over domains of the field: Lagrange's form, summed up
+/// a tree of products of x - z; and memory for the tree. Few pairs, and all where the field has no domain for them, go as
+/// `naive_from_points` does.
+pub fn from_points<F: FftField>(
+    alloc: Global,
+    points: &[(F, F)],
+) -> Result<DensePolynomial<F>, PointsError>
+    ensures below { IfOk result (λ p. IsBelow F.field (length points.now) (of_list F.field p)) }
+    ensures values { IfOk result (λ p. HasValues F.field (length points.now) (x_of F.field points.now)
+        (y_of F.field points.now) (of_list F.field p)) }
+    ensures only { IfOk result (λ p. (a : ℕ → F) → IsBelow F.field (length points.now) a
+        → HasValues F.field (length points.now) (x_of F.field points.now) (y_of F.field points.now) a
+        → a ≡ of_list F.field p) }
+    ensures different { IfOk result (λ p. AreDifferent (length points.now) (x_of F.field points.now)) }
+    ensures repeated { (result ≡ Err PointsError.RepeatedPoint)
+        → HasRepeated (length points.now) (x_of F.field points.now) }
+    ensures errors { IsOkUnlessEither result PointsError.Memory PointsError.RepeatedPoint }
+{
+    if points.len() <= FEW || GeneralEvaluationDomain::<F>::new(points.len()).is_none() {
+        return naive_from_points(alloc, points);
+    }
+    let xs = first_parts(alloc, points)?;
+    let tree = Products::<F, GeneralEvaluationDomain<F>>::new(alloc, &xs)?;
+    let slopes = slopes(alloc, &tree, &xs)?;
+    if has_zero(&slopes) {
+        // Two points are one, as the plain way tells.
+        return naive_from_points(alloc, points);
+    }
+    let weights = weights(alloc, &slopes, points)?;
+    Ok(tree.weighed(alloc, &xs, &weights)?)
+}
+
+// The slope at each point of the product of x - z over all of them.
+fn slopes<F: FftField, D: EvaluationDomain<F>>(
+    alloc: Global,
+    tree: &Products<F, D>,
+    points: &[F],
+) -> Result<Vec<F>, PolyError>
+    requires some { 0 < length points.now }
+    requires tree { IsTreeOver F.field D.domain points.now tree.now }
+    ensures len { IfOk result (λ v. length v.items ≡ length points.now) }
+    ensures slopes { IfOk result (λ v. HasValues F.field (length points.now) (of_list F.field points.now)
+        (of_list F.field v.items) (derived F.field (nodes F.field points.now))) }
+    ensures memory { IsOkUnless result PolyError.Memory }
+{
+    let coeffs = derivative(alloc, tree.product().coeffs())?;
+    let derivative = DensePolynomial::from_coefficients_vec(coeffs);
+    values_by_tree(alloc, tree, &derivative, points)
+}
+
+// The coefficients of the formal derivative.
+fn derivative<F: Field>(alloc: Global, coeffs: &[F]) -> Result<Vec<F>, AllocError>
+    ensures { IfOk result (λ v. of_list F.field v.items ≡ derived F.field (of_list F.field coeffs.now)) }
+{
+    let mut lowered = Vec::with_capacity(alloc, coeffs.len())?;
+    let mut exponent = F::zero();
+    for i in 1..coeffs.len() {
+        exponent = exponent + F::one();
+        lowered.push(exponent * coeffs[i])?;
+    }
+    Ok(lowered)
+}
+
+// Whether an item is zero.
+fn has_zero<F: Field>(items: &[F]) -> bool
+    ensures { (result ≡ false) → (i : ℕ) → i < length items.now → of_list F.field items.now i ≢ F.field.zero }
+{
+    for i in 0..items.len() {
+        if items[i].is_zero() {
+            return true;
+        }
+    }
+    false
+}
+
+// Each y by the slope at its place.
+fn weights<F: Field>(alloc: Global, slopes: &[F], points: &[(F, F)]) -> Result<Vec<F>, PolyError>
+    requires len { length slopes.now ≡ length points.now }
+    requires some { (i : ℕ) → i < length slopes.now → of_list F.field slopes.now i ≢ F.field.zero }
+    ensures len { IfOk result (λ v. length v.items ≡ length points.now) }
+    ensures weights { IfOk result (λ v. (i : ℕ) → i < length points.now → F.field.times
+        (of_list F.field v.items i) (of_list F.field slopes.now i) ≡ y_of F.field points.now i) }
+    ensures memory { IsOkUnless result PolyError.Memory }
+{
+    let mut weights = Vec::from_slice(alloc, slopes)?;
+    batch_inversion(alloc, weights.as_mut_slice())?;
+    multiply_by_values(weights.as_mut_slice(), points);
+    Ok(weights)
+}
+
+// Multiplies each item by the y at its place.
+fn multiply_by_values<F: Field>(items: &mut [F], points: &[(F, F)])
+    requires { length items.old ≡ length points.now }
+    ensures len { length items.new ≡ length items.old }
+    ensures products { (i : ℕ) → i < length points.now → of_list F.field items.new i
+        ≡ F.field.times (of_list F.field items.old i) (y_of F.field points.now i) }
+{
+    for i in 0..points.len() {
+        let point = points[i];
+        items[i] = items[i] * point.1;
+    }
+}
+
+/// The polynomial through the given pairs of x and y, a pair at a time, by Newton's way: what `from_points` answers.
+///
+/// It takes some two products for each two pairs, and an inversion for each.
+pub fn naive_from_points<F: Field>(
     alloc: Global,
     points: &[(F, F)],
 ) -> Result<DensePolynomial<F>, PointsError>

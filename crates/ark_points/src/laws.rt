@@ -9,7 +9,7 @@ use crate::error::PointsError;
 use crate::interpolation::from_points;
 use crate::pairs::{first_parts, paired};
 use crate::values::evaluate_at;
-use ark_base::Field;
+use ark_base::FftField;
 use ark_poly::univariate::DensePolynomial;
 use std::alloc::Global;
 
@@ -17,7 +17,7 @@ use std::alloc::Global;
 /// `RepeatedPoint` where two of the points are one.
 ///
 /// It takes as long as both calls.
-pub fn values_and_back<F: Field>(
+pub fn values_and_back<F: FftField>(
     alloc: Global,
     polynomial: &DensePolynomial<F>,
     points: &[F],
@@ -36,7 +36,7 @@ pub fn values_and_back<F: Field>(
 /// pairs have one x.
 ///
 /// It takes as long as both calls.
-pub fn points_and_back<F: Field>(alloc: Global, points: &[(F, F)]) -> Result<Vec<F>, PointsError>
+pub fn points_and_back<F: FftField>(alloc: Global, points: &[(F, F)]) -> Result<Vec<F>, PointsError>
     ensures same { IfOk result (λ v. v.items ≡ map (λ p. p.1) points.now) }
     ensures repeated { (result ≡ Err PointsError.RepeatedPoint)
         → HasRepeated (length points.now) (x_of F.field points.now) }

@@ -1,17 +1,68 @@
 //! Values at many points.
 
-ghost use Rattle.std.specs.Prelude.{◌≡◌, length, IfOk, IsOkUnless};
+ghost use Rattle.std.specs.Prelude.{◌≡◌, ◌<◌, length, IfOk, IsOkUnless};
 ghost use Rattle.ark_math.specs.Univariate.{of_list};
 ghost use Rattle.ark_points.specs.Points.{HasValues};
+ghost use Rattle.ark_points.specs.Tree.{IsTreeOver};
 
-use ark_base::{Field, PolyError, Polynomial};
+use crate::scaled::scaled_by;
+use crate::tree::Products;
+use ark_base::{FftField, Field, PolyError, Polynomial};
+use ark_coeffs::dense::zeros;
 use ark_poly::univariate::DensePolynomial;
+use ark_poly::{DenseUVPolynomial, EvaluationDomain, GeneralEvaluationDomain};
 use std::alloc::Global;
+
+// Up to so many points or coefficients each value is found for itself.
+const FEW: usize = 256;
 
 /// The values of a polynomial at points, in their order. Points may be repeated.
 ///
+/// For long lists it takes O(n log^2 n) operations, through products over domains of the field: down a tree of products of
+/// x - z, where each part of the points is handed what has the polynomial's values there; and memory for the tree. Short
+/// lists, and all where the field has no domain for them, go as `naive_evaluate_at` does. The only error is `Memory`.
+pub fn evaluate_at<F: FftField>(
+    alloc: Global,
+    polynomial: &DensePolynomial<F>,
+    points: &[F],
+) -> Result<Vec<F>, PolyError>
+    ensures len { IfOk result (λ v. length v.items ≡ length points.now) }
+    ensures values { IfOk result (λ v. HasValues F.field (length points.now) (of_list F.field points.now)
+        (of_list F.field v.items) (of_list F.field polynomial.now)) }
+    ensures memory { IsOkUnless result PolyError.Memory }
+{
+    let is_short = points.len() <= FEW || polynomial.coeffs().len() <= FEW;
+    if is_short || GeneralEvaluationDomain::<F>::new(points.len()).is_none() {
+        return naive_evaluate_at(alloc, polynomial, points);
+    }
+    let tree = Products::<F, GeneralEvaluationDomain<F>>::new(alloc, points)?;
+    values_by_tree(alloc, &tree, polynomial, points)
+}
+
+/// The values at the points of a tree, of which there are some.
+pub fn values_by_tree<F: FftField, D: EvaluationDomain<F>>(
+    alloc: Global,
+    tree: &Products<F, D>,
+    polynomial: &DensePolynomial<F>,
+    points: &[F],
+) -> Result<Vec<F>, PolyError>
+    requires some { 0 < length points.now }
+    requires tree { IsTreeOver F.field D.domain points.now tree.now }
+    ensures len { IfOk result (λ v. length v.items ≡ length points.now) }
+    ensures values { IfOk result (λ v. HasValues F.field (length points.now) (of_list F.field points.now)
+        (of_list F.field v.items) (of_list F.field polynomial.now)) }
+    ensures memory { IsOkUnless result PolyError.Memory }
+{
+    let scaled = scaled_by(alloc, polynomial, tree.product(), points.len())?;
+    let mut values = zeros(alloc, points.len())?;
+    tree.write_values(alloc, points, &scaled, values.as_mut_slice())?;
+    Ok(values)
+}
+
+/// The values of a polynomial at points, in their order, each for itself.
+///
 /// It takes a product for each coefficient at each point, and memory for the values. The only error is `Memory`.
-pub fn evaluate_at<F: Field>(
+pub fn naive_evaluate_at<F: Field>(
     alloc: Global,
     polynomial: &DensePolynomial<F>,
     points: &[F],

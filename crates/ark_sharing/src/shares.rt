@@ -7,7 +7,7 @@ ghost use Rattle.ark_sharing.specs.Sharing.{AreNotZero, AreShares, HasZero, IsSh
 
 use crate::error::SharingError;
 use ark_base::Field;
-use ark_points::{evaluate_at, has_repeated, paired};
+use ark_points::{has_repeated, naive_evaluate_at, paired};
 use ark_poly::DenseUVPolynomial;
 use ark_poly::univariate::DensePolynomial;
 use rand::Rng;
@@ -53,7 +53,7 @@ pub fn share<F: Field, R: Rng>(
         return Err(SharingError::RepeatedPoint);
     }
     let polynomial = hiding(alloc, secret, k, rng)?;
-    let values = evaluate_at(alloc, &polynomial, points)?;
+    let values = naive_evaluate_at(alloc, &polynomial, points)?;
     Ok(paired(alloc, points, &values)?)
 }
 

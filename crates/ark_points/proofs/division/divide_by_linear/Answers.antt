@@ -1,7 +1,6 @@
 use Rattle.std.proofs.Common.{◌≡◌, ◌+◌, length, sym, ap, subst, ◌∙◌, arith, ℕ}
-use mathlib.Core.Path.{fun_ext}
-use Rattle.ark_math.specs.Linear.{constant, linear_factor}
-use Rattle.ark_math.specs.Univariate.{IsValue, added, of_list, product}
+use Rattle.ark_math.specs.Linear.{constant}
+use Rattle.ark_math.specs.Univariate.{IsValue, of_list}
 use Rattle.ark_math.proofs.Callers.Remainders.{one_quotient_at}
 use Rattle.ark_math.proofs.Lists.Lists.{written_back}
 use Rattle.ark_math.proofs.Polynomials.UnivariateLists.{of_list-below}

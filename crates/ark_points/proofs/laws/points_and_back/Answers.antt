@@ -1,6 +1,5 @@
 use Rattle.std.proofs.Common.{◌≡◌, length, map, sym, ap, subst, ◌∙◌, arith}
 use Rattle.std.proofs.lemmas.List.{length-map}
-use Rattle.std.proofs.lemmas.Result.{IfOk-weaker}
 use Rattle.ark_math.specs.Univariate.{of_list, IsValue}
 use Rattle.ark_math.proofs.Polynomials.UnivariateValues.{one_value}
 use Rattle.ark_points.specs.Points.{x_of, y_of}

@@ -1,8 +1,7 @@
-use Rattle.std.proofs.Common.{◌≡◌, ◌+◌, ◌<◌, ◌≤◌, length, sym, ap, ap₂, ◌∙◌, arith, below_more}
+use Rattle.std.proofs.Common.{◌≡◌, ◌<◌, length, sym, ap₂, ◌∙◌, arith, below_more}
 use Rattle.std.proofs.Common.{get_or-set_same, get_or-set_other}
 use Rattle.std.proofs.lemmas.List.{get_or_read, length-set}
 use Rattle.ark_math.specs.Univariate.{of_list}
-use Rattle.ark_points.specs.Steps.{differences}
 use Rattle.ark_points.proofs.weights.multiply_by_differences.Goals as goal
 
 pub loop-i-preserved : goal.loop-i-preserved

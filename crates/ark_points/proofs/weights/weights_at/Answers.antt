@@ -1,5 +1,4 @@
 use Rattle.std.proofs.Common.{◌≡◌, ◌<◌, ℕ, length, sym, ap, subst, ◌∙◌, arith, true≢false}
-use Rattle.ark_math.specs.Points.{IsPlaceQuotient}
 use Rattle.ark_math.specs.Univariate.{of_list}
 use Rattle.ark_math.proofs.Lists.Lists.{written_back}
 use Rattle.ark_points.specs.Points.{AreDifferent, AreWeightsAt}

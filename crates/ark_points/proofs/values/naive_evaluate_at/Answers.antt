@@ -1,8 +1,7 @@
-use Rattle.std.proofs.Common.{◌≡◌, ◌≢◌, ◌+◌, ◌<◌, [], ◌∷◌, length, sym, ap, subst, ◌∙◌, arith, below_more}
+use Rattle.std.proofs.Common.{◌≡◌, ◌+◌, [], ◌∷◌, length, sym, ap, subst, ◌∙◌, arith, below_more}
 use Rattle.std.proofs.lemmas.List.{get_or_read, get_or_push, get_or_append_left, length-append}
 use Rattle.ark_math.specs.Univariate.{of_list, IsValue}
-use Rattle.ark_points.specs.Points.{HasValues}
-use Rattle.ark_points.proofs.values.evaluate_at.Goals as goal
+use Rattle.ark_points.proofs.values.naive_evaluate_at.Goals as goal
 
 pub loop-i-preserved : goal.loop-i-preserved
 loop-i-preserved g c =

@@ -1,0 +1,52 @@
+-- From what stands for a polynomial over points to what does over their halves, and from the halves' values to all.
+use Rattle.std.proofs.Common.{◌≡◌, ℕ, ◌+◌, ◌-◌, ◌<◌, ◌≤◌, List, ◌++◌, length, take, drop, sym, ◌∙◌, ap, subst, subst₂, arith, ⊎_elim}
+use Rattle.std.proofs.lemmas.Bool.{cases_lt}
+use Rattle.std.proofs.lemmas.List.{get_or-append_right, get_or-drop, get_or-take, get_or_append_left, length-drop, length-take-le}
+use Rattle.ark_math.specs.Field.{FieldOn, IsField}
+use Rattle.ark_math.specs.Univariate.{IsBelow, IsValue, of_list, product}
+use Rattle.ark_math.proofs.Polynomials.UnivariateProducts.{product_comm, product-below}
+use Rattle.ark_points.specs.Points.{HasValues}
+use Rattle.ark_points.specs.Tree.{StandsFor, nodes}
+use Rattle.ark_points.proofs.Nodes.{nodes-below, nodes-halves}
+use Rattle.ark_points.proofs.StandIns.{stands_for_factor}
+
+module _ {F : Type 0} (K : FieldOn F) (N : IsField K) (points : List F) (half : ℕ) (some : 0 < half) (less : half < length points) where
+  front : length (take half points) ≡ half
+  front = length-take-le half points (omega arith)
+
+  back : length (drop half points) ≡ length points - half
+  back = length-drop half points
+
+  pub stands_low : (p s t : ℕ → F) → ((j : ℕ) → j < half → product K (nodes K (drop half points)) s (length points - half + j) ≡ t j) → StandsFor K (length points) (nodes K points) p s → StandsFor K (length (take half points)) (nodes K (take half points)) p t
+  stands_low p s t same stands =
+      subst (λ h. StandsFor K h (nodes K (take half points)) p t) (sym front)
+      (stands_for_factor K N (length points) half (nodes K points) (nodes K (take half points)) (nodes K (drop half points)) p s t some (omega arith)
+      (λ i l. nodes-below K N (drop half points) i (omega (arith, l, back))) (sym (nodes-halves K N points half)) same stands)
+
+  pub stands_high : (p s t : ℕ → F) → ((j : ℕ) → j < length points - half → product K (nodes K (take half points)) s (half + j) ≡ t j) → StandsFor K (length points) (nodes K points) p s → StandsFor K (length (drop half points)) (nodes K (drop half points)) p t
+  stands_high p s t same stands =
+      subst (λ h. StandsFor K h (nodes K (drop half points)) p t) (sym back)
+      (stands_for_factor K N (length points) (length points - half) (nodes K points) (nodes K (drop half points)) (nodes K (take half points)) p s t (omega arith) (omega arith)
+      (λ i l. nodes-below K N (take half points) i (omega (arith, l, front)))
+      (sym (nodes-halves K N points half) ∙ product_comm K N (nodes K (take half points)) (nodes K (drop half points)))
+      (λ j l.
+      let place : length points - (length points - half) + j ≡ half + j = omega arith in
+      ap (product K (nodes K (take half points)) s) place ∙ same j l)
+      stands)
+
+  -- a product with a half is short enough for a domain with room for all points
+  pub low_below : (s : ℕ → F) (size : ℕ) → IsBelow K (length points) s → length points ≤ size → IsBelow K (half + size) (product K (nodes K (take half points)) s)
+  low_below s size below room i l = product-below K N (length (take half points) + 1) (length points) (nodes K (take half points)) s (nodes-below K N (take half points)) below i (omega (arith, l, front, room))
+
+  pub high_below : (s : ℕ → F) (size : ℕ) → IsBelow K (length points) s → length points ≤ size → IsBelow K (length points - half + size) (product K (nodes K (drop half points)) s)
+  high_below s size below room i l = product-below K N (length (drop half points) + 1) (length points) (nodes K (drop half points)) s (nodes-below K N (drop half points)) below i (omega (arith, l, back, room))
+
+  pub values-halves : (v w : List F) (p : ℕ → F) → length v ≡ half → HasValues K (length (take half points)) (of_list K (take half points)) (of_list K v) p → HasValues K (length (drop half points)) (of_list K (drop half points)) (of_list K w) p → HasValues K (length points) (of_list K points) (of_list K (v ++ w)) p
+  values-halves v w p len low high k l =
+      ⊎_elim
+      (λ (b : k < half).
+      subst₂ (IsValue K p) (get_or-take half points k K.zero b) (sym (get_or_append_left v w K.zero k (omega arith))) (low k (omega (arith, front))))
+      (λ (b : half ≤ k).
+      let place : half + (k - half) ≡ k = omega arith in
+      subst₂ (IsValue K p) (get_or-drop half points (k - half) K.zero ∙ ap (of_list K points) place) (sym (get_or-append_right v w half k K.zero len b)) (high (k - half) (omega (arith, l, back))))
+      (cases_lt k half)

@@ -1,0 +1,118 @@
+-- The product of x - z over a list: its length, its leading coefficient, its factors and its roots.
+use Rattle.std.proofs.Common.{◌≡◌, ◌≢◌, ℕ, zero, suc, ◌+◌, ◌<◌, List, [], ◌∷◌, ◌++◌, length, get_or, take, drop, refl, sym, ◌∙◌, ap, ap₂, subst, arith}
+use Rattle.std.proofs.lemmas.List.{take-append-drop}
+use Rattle.ark_math.specs.Field.{FieldOn, IsField, minus}
+use Rattle.ark_math.specs.Linear.{linear_factor}
+use Rattle.ark_math.specs.Univariate.{IsBelow, IsValue, of_list, product, monomial}
+use Rattle.ark_math.proofs.Algebra.Solve.{◌⊗◌, ◌⊖◌, nought, unit}
+use Rattle.ark_math.proofs.Algebra.Ring.{ring1}
+use Rattle.ark_math.proofs.Polynomials.Univariate.{monomial-below}
+use Rattle.ark_math.proofs.Polynomials.UnivariateLists.{of_list-below}
+use Rattle.ark_math.proofs.Polynomials.UnivariateProducts.{product_comm, product_assoc, product-below, one-product, value-product}
+use Rattle.ark_math.proofs.Polynomials.UnivariateValues.{has_value}
+use Rattle.ark_math.proofs.Callers.Remainders.{linear_root, divided_root}
+use Rattle.ark_points.proofs.Linear.{before, linear-product}
+use Rattle.ark_points.specs.Tree.{IsMonic, IsTreeOver, nodes, whole}
+use Rattle.ark_points.specs.declared.tree.Tree.{Tree}
+use Rattle.ark_points.specs.declared.tree.Tree.TheVariants.{Few, Halves'}
+use Rattle.ark_poly.specs.Values.{Values}
+use Rattle.ark_math.specs.Domain.{Domain}
+
+take_push : {X : Type 0} (xs : List X) (i : ℕ) (x : X) → i < length xs → get_or xs i x ≡ x → take (suc i) xs ≡ take i xs ++ x ∷ []
+take_push [] i x l h = absurd (omega arith)
+take_push (y ∷ xs) zero x l h = ap (λ t. t ∷ []) h
+take_push (y ∷ xs) (suc i) x l h = ap (λ t. y ∷ t) (take_push xs i x (omega arith) h)
+
+take_suc : {X : Type 0} (xs : List X) (i : ℕ) (d : X) → i < length xs → take (suc i) xs ≡ take i xs ++ get_or xs i d ∷ []
+take_suc [] i d l = absurd (omega arith)
+take_suc (y ∷ xs) zero d l = refl
+take_suc (y ∷ xs) (suc i) d l = ap (λ t. y ∷ t) (take_suc xs i d (omega arith))
+
+pub take_next : {X : Type 0} (xs : List X) (i : ℕ) (d : X) → i < length xs → take (i + 1) xs ≡ take i xs ++ get_or xs i d ∷ []
+take_next xs i d l = let e : i + 1 ≡ suc i = omega arith in ap (λ t. take t xs) e ∙ take_suc xs i d l
+
+pub take-one_more : {X : Type 0} (xs : List X) (i : ℕ) (x : X) → i < length xs → x ≡ get_or xs i x → take (i + 1) xs ≡ take i xs ++ x ∷ []
+take-one_more xs i x l h = let e : i + 1 ≡ suc i = omega arith in ap (λ t. take t xs) e ∙ take_push xs i x l (sym h)
+
+module _ {F : Type 0} (K : FieldOn F) (N : IsField K) where
+  pub nodes-below : (zs : List F) → IsBelow K (length zs + 1) (nodes K zs)
+  nodes-below [] = monomial-below K 0 1 K.one (omega arith)
+  nodes-below (z ∷ zs) = λ i l.
+      product-below K N 2 (length zs + 1) (linear_factor K z) (nodes K zs) (of_list-below K (K.negated z ∷ K.one ∷ [])) (nodes-below zs) i (omega arith)
+
+  nodes_item : (z : F) (a : ℕ → F) (i : ℕ) → product K (linear_factor K z) a i ≡ minus K (before K a i) (K.times z (a i))
+  nodes_item z a i = ap (λ t. t i) (product_comm K N (linear_factor K z) a) ∙ linear-product K N a z i
+
+  pub nodes-leading : (zs : List F) → nodes K zs (length zs) ≡ K.one
+  nodes-leading [] = refl
+  nodes-leading (z ∷ zs) =
+      nodes_item z (nodes K zs) (suc (length zs))
+      ∙ (ap₂ (λ x y. minus K x (K.times z y)) (nodes-leading zs) (nodes-below zs (suc (length zs)) (omega arith))
+      ∙ ring1 K N (λ z. (unit ⊖ (z ⊗ nought), unit)) refl z)
+
+  pub nodes-joined : (xs ys : List F) → nodes K (xs ++ ys) ≡ product K (nodes K xs) (nodes K ys)
+  nodes-joined [] ys = sym (one-product K N (nodes K ys))
+  nodes-joined (x ∷ xs) ys =
+      ap (product K (linear_factor K x)) (nodes-joined xs ys) ∙ sym (product_assoc K N (linear_factor K x) (nodes K xs) (nodes K ys))
+
+  -- what is left without the point at i
+  unfoldable pub cofactor : List F → ℕ → ℕ → F
+  cofactor [] i = monomial K 0 K.one
+  cofactor (z ∷ zs) zero = nodes K zs
+  cofactor (z ∷ zs) (suc i) = product K (linear_factor K z) (cofactor zs i)
+
+  pub cofactor-below : (zs : List F) (i : ℕ) → i < length zs → IsBelow K (length zs) (cofactor zs i)
+  unfolding cofactor
+  cofactor-below [] i l = absurd (omega arith)
+  cofactor-below (z ∷ zs) zero l = λ k b. nodes-below zs k (omega arith)
+  cofactor-below (z ∷ zs) (suc i) l = λ k b.
+      product-below K N 2 (length zs) (linear_factor K z) (cofactor zs i) (of_list-below K (K.negated z ∷ K.one ∷ [])) (cofactor-below zs i (omega arith)) k (omega arith)
+
+  -- times what was left out it is the whole
+  pub cofactor-whole : (zs : List F) (i : ℕ) → i < length zs → nodes K zs ≡ product K (cofactor zs i) (linear_factor K (of_list K zs i))
+  unfolding cofactor
+  cofactor-whole [] i l = absurd (omega arith)
+  cofactor-whole (z ∷ zs) zero l = product_comm K N (linear_factor K z) (nodes K zs)
+  cofactor-whole (z ∷ zs) (suc i) l =
+      ap (product K (linear_factor K z)) (cofactor-whole zs i (omega arith))
+      ∙ sym (product_assoc K N (linear_factor K z) (cofactor zs i) (linear_factor K (of_list K zs i)))
+
+  pub nodes-one : (x : F) → nodes K (x ∷ []) ≡ linear_factor K x
+  nodes-one x = product_comm K N (linear_factor K x) (monomial K 0 K.one) ∙ one-product K N (linear_factor K x)
+
+  -- one more at the end
+  pub nodes-push : (xs : List F) (x : F) → nodes K (xs ++ (x ∷ [])) ≡ product K (nodes K xs) (linear_factor K x)
+  nodes-push xs x = nodes-joined xs (x ∷ []) ∙ ap (product K (nodes K xs)) (nodes-one x)
+
+  -- each of the list is a root
+  pub nodes-zero : (zs : List F) (i : ℕ) → i < length zs → IsValue K (nodes K zs) (of_list K zs i) K.zero
+  nodes-zero zs i l = divided_root K N (nodes K zs) (cofactor zs i) (length zs) (of_list K zs i) (cofactor-below zs i l) (cofactor-whole zs i l)
+
+  -- what is left without one is zero at the others
+  pub cofactor-other : (zs : List F) (i j : ℕ) → i < length zs → j < length zs → i ≢ j → IsValue K (cofactor zs i) (of_list K zs j) K.zero
+  unfolding cofactor
+  cofactor-other [] i j l k ne = absurd (omega arith)
+  cofactor-other (z ∷ zs) zero zero l k ne = absurd (ne refl)
+  cofactor-other (z ∷ zs) zero (suc j) l k ne = nodes-zero zs j (omega arith)
+  cofactor-other (z ∷ zs) (suc i) zero l k ne =
+      let there = has_value K N (length zs) (cofactor zs i) z (cofactor-below zs i (omega arith)) in
+      subst (IsValue K (product K (linear_factor K z) (cofactor zs i)) z)
+      (ring1 K N (λ x. (nought ⊗ x, nought)) refl _)
+      (value-product K N (linear_factor K z) (cofactor zs i) z K.zero _ (linear_root K N z) there)
+  cofactor-other (z ∷ zs) (suc i) (suc j) l k ne =
+      let x : F = of_list K zs j in
+      let line = has_value K N 2 (linear_factor K z) x (of_list-below K (K.negated z ∷ K.one ∷ [])) in
+      subst (IsValue K (product K (linear_factor K z) (cofactor zs i)) x)
+      (ring1 K N (λ x. (x ⊗ nought, nought)) refl _)
+      (value-product K N (linear_factor K z) (cofactor zs i) x _ K.zero line (cofactor-other zs i j (omega arith) (omega arith) (λ e. omega (arith, ne, e))))
+
+  pub nodes_monic : (zs : List F) → IsMonic K (length zs) (nodes K zs)
+  nodes_monic zs = record { leading = nodes-leading zs; below = nodes-below zs }
+
+  pub nodes-halves : (zs : List F) (h : ℕ) → product K (nodes K (take h zs)) (nodes K (drop h zs)) ≡ nodes K zs
+  nodes-halves zs h = sym (nodes-joined (take h zs) (drop h zs)) ∙ ap (nodes K) (take-append-drop h zs)
+
+  -- what a tree over points has for all of them
+  pub tree-whole : {D : Type 0} (domain : D → Domain F) (points : List F) (t : Tree (List F) (Values F D)) → IsTreeOver K domain points t → of_list K (whole t) ≡ nodes K points
+  tree-whole domain points (Few p) h = h
+  tree-whole domain points (Halves' p a low v b high w) h = h.0

@@ -1,0 +1,17 @@
+use Rattle.std.proofs.Common.{◌≡◌, length, ap, subst, ◌∙◌}
+use Rattle.std.proofs.lemmas.Result.{IfOk-weaker}
+use Rattle.ark_math.specs.Univariate.{of_list}
+use Rattle.ark_points.specs.Points.{HasValues}
+use Rattle.ark_points.specs.Tree.{derived, nodes}
+use Rattle.ark_points.proofs.Nodes.{tree-whole}
+use Rattle.ark_points.proofs.interpolation.slopes.Goals as goal
+
+pub returns-clause-slopes : goal.returns-clause-slopes
+returns-clause-slopes g c =
+    let K = g.F.Field.field in
+    let points = c.args.points.now in
+    let is : of_list K c.from_coefficients_vec-derivative.result ≡ derived K (nodes K points) =
+    c.from_coefficients_vec-derivative.ensures.coefficients ∙ c.in_ok-coeffs.ensures
+    ∙ ap (λ t. derived K (of_list K t)) (c.coeffs.ensures.same ∙ c.product.ensures)
+    ∙ ap (derived K) (tree-whole K g.met.F.Field.field_laws g.D.EvaluationDomain.domain points c.args.tree.now c.requires.tree) in
+    IfOk-weaker c.values_by_tree.result _ _ (λ v h. subst (HasValues K (length points) (of_list K points) (of_list K v.items)) is h) c.values_by_tree.ensures.values

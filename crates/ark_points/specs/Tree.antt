@@ -1,0 +1,55 @@
+-- The product of x - z over points and over halves of them, and what stands for a polynomial over each part.
+use Rattle.std.specs.Prelude.{◌≡◌, ℕ, suc, ◌+◌, ◌-◌, ◌/◌, ◌<◌, ◌≤◌, List, [], ◌∷◌, length, take, drop}
+use Rattle.ark_math.specs.Domain.{Domain}
+use Rattle.ark_math.specs.Field.{FieldOn, natural}
+use Rattle.ark_math.specs.Linear.{linear_factor}
+use Rattle.ark_math.specs.Points.{AreValues}
+use Rattle.ark_math.specs.Univariate.{IsBelow, IsValue, added, monomial, nothing, of_list, product, scaled}
+use Rattle.ark_poly.specs.Values.{Values}
+use Rattle.ark_points.specs.declared.tree.Tree.{Tree}
+use Rattle.ark_points.specs.declared.tree.Tree.TheVariants.{Few, Halves'}
+
+-- the product of x - z for each z of a list
+abbrev pub nodes : {F : Type 0} → FieldOn F → List F → ℕ → F
+nodes K [] = monomial K 0 K.one
+nodes K (z ∷ zs) = product K (linear_factor K z) (nodes K zs)
+
+-- what is left of m, which is of degree n, without a root, times s has p's value at that root as its coefficient at n - 1
+abbrev pub StandsFor : {F : Type 0} → FieldOn F → ℕ → (ℕ → F) → (ℕ → F) → (ℕ → F) → Type 0
+StandsFor {F} K n m p s = (c : ℕ → F) (z : F) → IsBelow K n c → m ≡ product K c (linear_factor K z) → IsValue K p z (product K c s (n - 1))
+
+-- the sum of w 0, w 1, .., each times the product of x - z for the others of a list
+abbrev pub weighed : {F : Type 0} → FieldOn F → List F → (ℕ → F) → ℕ → F
+weighed K [] w = nothing K
+weighed K (z ∷ zs) w = added K (scaled K (w 0) (nodes K zs)) (product K (linear_factor K z) (weighed K zs (λ i. w (suc i))))
+
+-- the formal derivative
+abbrev pub derived : {F : Type 0} → FieldOn F → (ℕ → F) → ℕ → F
+derived K a i = K.times (natural K (suc i)) (a (suc i))
+
+-- of degree n, with one as the leading coefficient
+pub record IsMonic {F : Type 0} (K : FieldOn F) (n : ℕ) (a : ℕ → F) : Type 0 where
+  pub leading : a n ≡ K.one
+  pub below : IsBelow K (n + 1) a
+
+-- the values of both halves' products over a domain with room for the points' number
+pub record HaveValues {F : Type 0} (K : FieldOn F) (points : List F) (d e : Domain F) (v w : List F) : Type 0 where
+  pub many : 1 < length points
+  pub one_domain : d ≡ e
+  pub room : length points ≤ d.size
+  pub low : AreValues K d (nodes K (take (length points / 2) points)) v
+  pub high : AreValues K d (nodes K (drop (length points / 2) points)) w
+
+-- what a tree has for all of its points
+abbrev pub whole : {P V : Type 0} → Tree P V → P
+whole (Few p) = p
+whole (Halves' p a low v b high w) = p
+
+-- the products over these points and over the halves of each part
+abbrev pub IsTreeOver : {F D : Type 0} → FieldOn F → (D → Domain F) → List F → Tree (List F) (Values F D) → Type 0
+IsTreeOver K domain points (Few p) = of_list K p ≡ nodes K points
+IsTreeOver K domain points (Halves' p a low v b high w) =
+    (of_list K p ≡ nodes K points)
+    × HaveValues K points (domain v.domain) (domain w.domain) v.evals w.evals
+    × IsTreeOver K domain (take (length points / 2) points) low
+    × IsTreeOver K domain (drop (length points / 2) points) high
