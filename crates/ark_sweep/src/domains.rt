@@ -53,12 +53,15 @@ impl<F: FftField + Numbered, D: EvaluationDomain<F>> Call for OverDomain<F, D> {
     type Answered = Answered<F, D>;
 
     fn given(alloc: Global, words: &[String]) -> Result<Self, PolyError> {
+        let domain = domain_named(words, "domain")?;
+        let part = domain_named(words, "part")?;
+        let (list, other, pairs) = lists_named(alloc, words)?;
         Ok(OverDomain {
-            domain: domain_named(words, "domain")?,
-            part: domain_named(words, "part")?,
-            list: elements(alloc, named(words, "list"))?,
-            other: elements(alloc, named(words, "other"))?,
-            pairs: pairs_of(alloc, named(words, "list"), named(words, "other"))?,
+            domain,
+            part,
+            list,
+            other,
+            pairs,
             point: element_named(words, "point"),
             index: size_named(words, "index"),
         })
@@ -66,22 +69,18 @@ impl<F: FftField + Numbered, D: EvaluationDomain<F>> Call for OverDomain<F, D> {
 
     fn call(&mut self, alloc: Global, name: &str) -> Result<Answered<F, D>, PolyError> {
         match name {
-            "fft" => Ok(Answered::Elements(self.domain.fft(alloc, &self.list)?)),
-            "ifft" => Ok(Answered::Elements(self.domain.ifft(alloc, &self.list)?)),
-            "fft_of_pairs" => Ok(Answered::Pairs(self.domain.fft(alloc, &self.pairs)?)),
-            "ifft_of_pairs" => Ok(Answered::Pairs(self.domain.ifft(alloc, &self.pairs)?)),
+            "fft" => elements_of(self.domain.fft(alloc, &self.list)),
+            "ifft" => elements_of(self.domain.ifft(alloc, &self.list)),
+            "fft_of_pairs" => pairs_answer(self.domain.fft(alloc, &self.pairs)),
+            "ifft_of_pairs" => pairs_answer(self.domain.ifft(alloc, &self.pairs)),
             "evaluate_all_lagrange_coefficients" => {
-                let weights = self
-                    .domain
-                    .evaluate_all_lagrange_coefficients(alloc, self.point)?;
-                Ok(Answered::Elements(weights))
+                elements_of(
+                    self.domain
+                        .evaluate_all_lagrange_coefficients(alloc, self.point),
+                )
             }
-            "vanishing_polynomial" => {
-                Ok(Answered::Sparse(self.domain.vanishing_polynomial(alloc)?))
-            }
-            "filter_polynomial" => {
-                Ok(Answered::Dense(self.domain.filter_polynomial(alloc, &self.part)?))
-            }
+            "vanishing_polynomial" => sparse_of(self.domain.vanishing_polynomial(alloc)),
+            "filter_polynomial" => dense_of(self.domain.filter_polynomial(alloc, &self.part)),
             "mul_polynomials_in_evaluation_domain" => self.products(alloc),
             "fft_of_nothings" => self.of_nothings(alloc),
             "fft_of_listed_nothings" => self.of_listed_nothings(alloc),
@@ -121,10 +120,10 @@ impl<F: FftField + Numbered, D: EvaluationDomain<F>> OverDomain<F, D> {
         if self.list.len() != self.other.len() {
             return Ok(Answered::NoFit);
         }
-        let products = self
-            .domain
-            .mul_polynomials_in_evaluation_domain(alloc, &self.list, &self.other)?;
-        Ok(Answered::Elements(products))
+        elements_of(
+            self.domain
+                .mul_polynomials_in_evaluation_domain(alloc, &self.list, &self.other),
+        )
     }
 
     /// How many values as many items as there can be have, which take no room.
@@ -141,21 +140,21 @@ impl<F: FftField + Numbered, D: EvaluationDomain<F>> OverDomain<F, D> {
     /// Makes a call that changes a list.
     fn transform(&mut self, alloc: Global, name: &str) -> Result<Answered<F, D>, PolyError> {
         match name {
-            "fft_in_place" => self.domain.fft_in_place(alloc, &mut self.list)?,
-            "ifft_in_place" => self.domain.ifft_in_place(alloc, &mut self.list)?,
-            "fft_counted" => self
-                .domain
-                .fft_counted(alloc, &mut self.list, &mut Work::new())?,
-            "ifft_counted" => self
-                .domain
-                .ifft_counted(alloc, &mut self.list, &mut Work::new())?,
+            "fft_in_place" => list_changed(self.domain.fft_in_place(alloc, &mut self.list)),
+            "ifft_in_place" => list_changed(self.domain.ifft_in_place(alloc, &mut self.list)),
+            "fft_counted" => list_changed(
+                self.domain
+                    .fft_counted(alloc, &mut self.list, &mut Work::new()),
+            ),
+            "ifft_counted" => list_changed(
+                self.domain
+                    .ifft_counted(alloc, &mut self.list, &mut Work::new()),
+            ),
             "fft_in_place_of_pairs" => {
-                self.domain.fft_in_place(alloc, &mut self.pairs)?;
-                return Ok(Answered::PairList);
+                pairs_changed(self.domain.fft_in_place(alloc, &mut self.pairs))
             }
-            _ => return Ok(self.without_memory(name)),
+            _ => Ok(self.without_memory(name)),
         }
-        Ok(Answered::List)
     }
 
     /// Makes a call that takes no memory.
@@ -229,6 +228,42 @@ impl<F: FftField + Numbered, D: EvaluationDomain<F>> OverDomain<F, D> {
     }
 }
 
+// ---- outcomes as answers
+
+fn elements_of<F: FftField, D>(
+    made: Result<Vec<F>, PolyError>,
+) -> Result<Answered<F, D>, PolyError> {
+    Ok(Answered::Elements(made?))
+}
+
+fn pairs_answer<F: FftField, D>(
+    made: Result<Vec<Lanes<F>>, PolyError>,
+) -> Result<Answered<F, D>, PolyError> {
+    Ok(Answered::Pairs(made?))
+}
+
+fn sparse_of<F: FftField, D>(
+    made: Result<SparsePolynomial<F>, PolyError>,
+) -> Result<Answered<F, D>, PolyError> {
+    Ok(Answered::Sparse(made?))
+}
+
+fn dense_of<F: FftField, D>(
+    made: Result<DensePolynomial<F>, PolyError>,
+) -> Result<Answered<F, D>, PolyError> {
+    Ok(Answered::Dense(made?))
+}
+
+fn list_changed<F: FftField, D>(done: Result<(), PolyError>) -> Result<Answered<F, D>, PolyError> {
+    done?;
+    Ok(Answered::List)
+}
+
+fn pairs_changed<F: FftField, D>(done: Result<(), PolyError>) -> Result<Answered<F, D>, PolyError> {
+    done?;
+    Ok(Answered::PairList)
+}
+
 /// How many values so many items without size have.
 fn of_items<F: FftField, D: EvaluationDomain<F>, const N: usize>(
     alloc: Global,
@@ -246,6 +281,17 @@ fn of_listed_items<F: FftField, D: EvaluationDomain<F>, const N: usize>(
     let items = Vec::from_array(alloc, [Nothing; N]).map_err(|_| PolyError::Memory)?;
     let items = ManuallyDrop::new(items);
     Ok(domain.fft(alloc, &items)?.len())
+}
+
+/// Both lists, and their items side by side.
+fn lists_named<F: Numbered>(
+    alloc: Global,
+    words: &[String],
+) -> Result<(Vec<F>, Vec<F>, Vec<Lanes<F>>), AllocError> {
+    let list = elements(alloc, named(words, "list"))?;
+    let other = elements(alloc, named(words, "other"))?;
+    let pairs = pairs_of(alloc, named(words, "list"), named(words, "other"))?;
+    Ok((list, other, pairs))
 }
 
 /// The items of both lists side by side.

@@ -1,7 +1,7 @@
 //! Calls that polynomials of every form have.
 
 use crate::given::{element_named, named};
-use crate::kinds::Kind;
+use crate::kinds::{Kind, both_named};
 use crate::swept::Call;
 use ark_base::{Field, PolyError, Polynomial};
 use ark_test_types::numbered::Numbered;
@@ -32,9 +32,10 @@ impl<F: Field + Numbered, P: Kind<F>> Call for OfForm<F, P> {
     type Answered = Answered<F, P>;
 
     fn given(alloc: Global, words: &[String]) -> Result<Self, PolyError> {
+        let (left, right) = both_named(alloc, words, "left", "right")?;
         Ok(OfForm {
-            left: P::of(alloc, named(words, "left"))?,
-            right: P::of(alloc, named(words, "right"))?,
+            left,
+            right,
             factor: element_named(words, "factor"),
             point: P::point_of(alloc, named(words, "point"))?,
         })
@@ -42,15 +43,15 @@ impl<F: Field + Numbered, P: Kind<F>> Call for OfForm<F, P> {
 
     fn call(&mut self, alloc: Global, name: &str) -> Result<Answered<F, P>, PolyError> {
         match name {
-            "clone" => Ok(Answered::Polynomial(self.left.clone()?)),
-            "zero" => Ok(Answered::Polynomial(P::zero(alloc)?)),
-            "neg" => Ok(Answered::Polynomial(self.left.neg(alloc)?)),
+            "clone" => polynomial_of(copied(&self.left)),
+            "zero" => polynomial_of(P::zero(alloc)),
+            "neg" => polynomial_of(self.left.neg(alloc)),
             "evaluate" if self.left.point_fits(&self.point) => {
-                Ok(Answered::Value(self.left.evaluate(alloc, &self.point)?))
+                value_of(self.left.evaluate(alloc, &self.point))
             }
             _ if !self.left.addable(&self.right) => Ok(Answered::NoFit),
-            "add" => Ok(Answered::Polynomial(self.left.add(alloc, &self.right)?)),
-            "sub" => Ok(Answered::Polynomial(self.left.sub(alloc, &self.right)?)),
+            "add" => polynomial_of(self.left.add(alloc, &self.right)),
+            "sub" => polynomial_of(self.left.sub(alloc, &self.right)),
             _ => in_place(alloc, self, name),
         }
     }
@@ -80,14 +81,32 @@ fn in_place<F: Field, P: Polynomial<F>>(
         return Ok(Answered::NoFit);
     }
     match name {
-        "add_assign" => given.left.add_assign(alloc, &given.right)?,
-        "sub_assign" => given.left.sub_assign(alloc, &given.right)?,
+        "add_assign" => done(given.left.add_assign(alloc, &given.right)),
+        "sub_assign" => done(given.left.sub_assign(alloc, &given.right)),
         "add_assign_scaled" => {
-            given
-                .left
-                .add_assign_scaled(alloc, given.factor, &given.right)?
+            done(
+                given
+                    .left
+                    .add_assign_scaled(alloc, given.factor, &given.right),
+            )
         }
-        _ => return Ok(Answered::NoCall),
+        _ => Ok(Answered::NoCall),
     }
+}
+
+fn copied<F: Field, P: Polynomial<F>>(p: &P) -> Result<P, PolyError> {
+    Ok(p.clone()?)
+}
+
+fn polynomial_of<F, P>(made: Result<P, PolyError>) -> Result<Answered<F, P>, PolyError> {
+    Ok(Answered::Polynomial(made?))
+}
+
+fn value_of<F, P>(found: Result<F, PolyError>) -> Result<Answered<F, P>, PolyError> {
+    Ok(Answered::Value(found?))
+}
+
+fn done<F, P>(done: Result<(), PolyError>) -> Result<Answered<F, P>, PolyError> {
+    done?;
     Ok(Answered::InPlace)
 }

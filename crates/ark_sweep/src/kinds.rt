@@ -1,6 +1,6 @@
 //! How polynomials of each form are spelled in words.
 
-use crate::given::pairs_of;
+use crate::given::{named, pairs_of};
 use ark_base::{Field, PolyError, Polynomial};
 use ark_poly::multivariate::{self, SparseTerm, Term};
 use ark_poly::univariate::{DensePolynomial, SparsePolynomial};
@@ -25,6 +25,18 @@ pub trait Kind<F: Field>: Polynomial<F> {
 
     /// What it keeps.
     fn text(&self, alloc: Global) -> Answer;
+}
+
+/// The polynomials that the words of both names spell.
+pub fn both_named<F: Field, P: Kind<F>>(
+    alloc: Global,
+    words: &[String],
+    first: &str,
+    second: &str,
+) -> Result<(P, P), PolyError> {
+    let left = P::of(alloc, named(words, first))?;
+    let right = P::of(alloc, named(words, second))?;
+    Ok((left, right))
 }
 
 /// By the coefficients.

@@ -50,20 +50,65 @@ pub enum Answered<F: Field> {
     NoCall,
 }
 
+/// Powers twice, a term, and terms with coefficients.
+fn terms_named<F: Numbered>(
+    alloc: Global,
+    words: &[String],
+) -> Result<(Vec<Vec<(usize, usize)>>, SparseTerm, Vec<(F, SparseTerm)>), PolyError> {
+    let powers = twice(alloc, named(words, "powers"))?;
+    let term = SparseTerm::new(alloc, pairs_of(alloc, named(words, "term"))?)?;
+    let terms = coefficients_of(alloc, named(words, "terms"))?;
+    Ok((powers, term, terms))
+}
+
+/// One table in both forms.
+fn tables_named<F: Field + Numbered>(
+    alloc: Global,
+    words: &[String],
+) -> Result<(DenseMultilinearExtension<F>, SparseMultilinearExtension<F>), PolyError> {
+    let dense = Kind::of(alloc, named(words, "table"))?;
+    let sparse = Kind::of(alloc, named(words, "table"))?;
+    Ok((dense, sparse))
+}
+
+/// Tables that may be joined, and entries.
+fn parts_named<F: Field + Numbered>(
+    alloc: Global,
+    words: &[String],
+) -> Result<(Vec<DenseMultilinearExtension<F>>, Vec<(usize, F)>), PolyError> {
+    let parts = parts_of(alloc, named(words, "parts"))?;
+    let (_, entries) = table_of(alloc, named(words, "entries"))?;
+    Ok((parts, entries))
+}
+
+/// Values, and a point.
+fn lists_named<F: Numbered>(
+    alloc: Global,
+    words: &[String],
+) -> Result<(Vec<F>, Vec<F>), PolyError> {
+    let values = elements(alloc, named(words, "values"))?;
+    let point = elements(alloc, named(words, "point"))?;
+    Ok((values, point))
+}
+
 impl<F: FftField + Numbered> Call for OfSeveral<F> {
     type Answered = Answered<F>;
 
     fn given(alloc: Global, words: &[String]) -> Result<Self, PolyError> {
+        let (powers, term, terms) = terms_named(alloc, words)?;
+        let (dense, sparse) = tables_named(alloc, words)?;
+        let (parts, entries) = parts_named(alloc, words)?;
+        let (values, point) = lists_named(alloc, words)?;
         Ok(OfSeveral {
-            powers: twice(alloc, named(words, "powers"))?,
-            term: SparseTerm::new(alloc, pairs_of(alloc, named(words, "term"))?)?,
-            terms: coefficients_of(alloc, named(words, "terms"))?,
-            dense: Kind::of(alloc, named(words, "table"))?,
-            parts: parts_of(alloc, named(words, "parts"))?,
-            sparse: Kind::of(alloc, named(words, "table"))?,
-            values: elements(alloc, named(words, "values"))?,
-            entries: table_of(alloc, named(words, "entries"))?.1,
-            point: elements(alloc, named(words, "point"))?,
+            powers,
+            term,
+            terms,
+            dense,
+            parts,
+            sparse,
+            values,
+            entries,
+            point,
             factor: element_named(words, "factor"),
             number: size_named(words, "number"),
             windows: (
@@ -117,12 +162,12 @@ impl<F: FftField + Numbered> OfSeveral<F> {
     fn of_terms(&mut self, alloc: Global, name: &str) -> Result<Answered<F>, PolyError> {
         match name {
             "new" => match self.powers.pop() {
-                Some(powers) => Ok(Answered::Term(SparseTerm::new(alloc, powers)?)),
+                Some(powers) => term_of(SparseTerm::new(alloc, powers)),
                 None => Ok(Answered::NoCall),
             },
-            "clone" => Ok(Answered::Term(self.term.clone()?)),
-            "vars" => Ok(Answered::Numbers(self.term.vars(alloc)?)),
-            "powers" => Ok(Answered::Numbers(self.term.powers(alloc)?)),
+            "clone" => term_of(copied(&self.term)),
+            "vars" => numbers_of(self.term.vars(alloc)),
+            "powers" => numbers_of(self.term.powers(alloc)),
             "evaluate" if self.term.is_within(self.point.len()) => {
                 Ok(Answered::Value(self.term.evaluate(&self.point)))
             }
@@ -134,16 +179,17 @@ impl<F: FftField + Numbered> OfSeveral<F> {
     fn of_polynomials(&self, alloc: Global, name: &str) -> Result<Answered<F>, PolyError> {
         let num_vars = self.number;
         if name == "rand" {
-            let mut rng = Pcg64::new(48, 1);
-            let drawn = SparsePolynomial::<F, SparseTerm>::rand(alloc, 2, num_vars, &mut rng)?;
-            return Ok(Answered::Flag(!drawn.terms().is_empty()));
+            return drawn_polynomial(alloc, num_vars);
         }
         if !self.terms.iter().all(|term| term.1.is_within(num_vars)) {
             return Ok(Answered::NoFit);
         }
         if name == "from_coefficients_slice" {
-            let p = SparsePolynomial::from_coefficients_slice(alloc, num_vars, &self.terms)?;
-            return Ok(Answered::Polynomial(p));
+            return polynomial_of(SparsePolynomial::from_coefficients_slice(
+                alloc,
+                num_vars,
+                &self.terms,
+            ));
         }
         self.of_owned_terms(alloc, name)
     }
@@ -155,29 +201,21 @@ impl<F: FftField + Numbered> OfSeveral<F> {
         if name != "from_coefficients_vec" || !terms.iter().all(|term| term.1.is_within(num_vars)) {
             return Ok(Answered::NoCall);
         }
-        Ok(Answered::Polynomial(SparsePolynomial::from_coefficients_vec(alloc, num_vars, terms)?))
+        polynomial_of(SparsePolynomial::from_coefficients_vec(alloc, num_vars, terms))
     }
 
     /// Makes a call of tables by all values.
     fn of_dense(&mut self, alloc: Global, name: &str) -> Result<Answered<F>, PolyError> {
         match name {
-            "concat" => {
-                Ok(Answered::Dense(DenseMultilinearExtension::concat(alloc, &self.parts)?))
-            }
-            "mul_scalar" => Ok(Answered::Dense(self.dense.mul_scalar(alloc, self.factor)?)),
-            "mul_assign" => {
-                self.dense.mul_assign(alloc, self.factor)?;
-                Ok(Answered::DenseInPlace)
-            }
+            "concat" => dense_of(DenseMultilinearExtension::concat(alloc, &self.parts)),
+            "mul_scalar" => dense_of(self.dense.mul_scalar(alloc, self.factor)),
+            "mul_assign" => in_place(self.dense.mul_assign(alloc, self.factor)),
             "from_evaluations_slice" => self.from_values(alloc),
-            "relabel" => Ok(dense_or_no_fit(relabelled(alloc, &self.dense, self.windows)?)),
+            "relabel" => dense_or_no_fit(relabelled(alloc, &self.dense, self.windows)),
             "relabel_in_place" => Ok(self.relabelled_in_place()),
-            "fix_variables" => Ok(dense_or_no_fit(fixed(alloc, &self.dense, &self.point)?)),
-            "to_evaluations" => Ok(Answered::Elements(self.dense.to_evaluations(alloc)?)),
-            _ => Ok(Answered::Flag(is_drawn::<F, DenseMultilinearExtension<F>>(
-                alloc,
-                self.number,
-            )?)),
+            "fix_variables" => dense_or_no_fit(fixed(alloc, &self.dense, &self.point)),
+            "to_evaluations" => elements_of(self.dense.to_evaluations(alloc)),
+            _ => flag_of(is_drawn::<F, DenseMultilinearExtension<F>>(alloc, self.number)),
         }
     }
 
@@ -186,8 +224,7 @@ impl<F: FftField + Numbered> OfSeveral<F> {
         if num_vars >= 64 || self.values.len() != 1 << num_vars {
             return Ok(Answered::NoFit);
         }
-        let p = DenseMultilinearExtension::from_evaluations_slice(alloc, num_vars, &self.values)?;
-        Ok(Answered::Dense(p))
+        dense_of(DenseMultilinearExtension::from_evaluations_slice(alloc, num_vars, &self.values))
     }
 
     fn relabelled_in_place(&mut self) -> Answered<F> {
@@ -203,15 +240,12 @@ impl<F: FftField + Numbered> OfSeveral<F> {
     fn of_sparse(&self, alloc: Global, name: &str) -> Result<Answered<F>, PolyError> {
         match name {
             "to_dense_multilinear_extension" => {
-                Ok(Answered::Dense(self.sparse.to_dense_multilinear_extension(alloc)?))
+                dense_of(self.sparse.to_dense_multilinear_extension(alloc))
             }
-            "relabel" => Ok(sparse_or_no_fit(relabelled(alloc, &self.sparse, self.windows)?)),
-            "fix_variables" => Ok(sparse_or_no_fit(fixed(alloc, &self.sparse, &self.point)?)),
-            "to_evaluations" => Ok(Answered::Elements(self.sparse.to_evaluations(alloc)?)),
-            "rand" => Ok(Answered::Flag(is_drawn::<F, SparseMultilinearExtension<F>>(
-                alloc,
-                self.number,
-            )?)),
+            "relabel" => sparse_or_no_fit(relabelled(alloc, &self.sparse, self.windows)),
+            "fix_variables" => sparse_or_no_fit(fixed(alloc, &self.sparse, &self.point)),
+            "to_evaluations" => elements_of(self.sparse.to_evaluations(alloc)),
+            "rand" => flag_of(is_drawn::<F, SparseMultilinearExtension<F>>(alloc, self.number)),
             _ => self.from_entries(alloc, name),
         }
     }
@@ -223,22 +257,83 @@ impl<F: FftField + Numbered> OfSeveral<F> {
         }
         let len = 1 << num_vars;
         if name == "rand_with_config" {
-            let mut rng = Pcg64::new(48, 1);
-            let drawn = SparseMultilinearExtension::<F>::rand_with_config(
-                alloc,
-                num_vars,
-                len / 2,
-                &mut rng,
-                1000,
-            )?;
-            return Ok(Answered::Flag(drawn.is_some()));
+            return drawn_with_entries::<F>(alloc, num_vars, len / 2);
         }
         if !self.entries.iter().all(|entry| entry.0 < len) {
             return Ok(Answered::NoFit);
         }
-        let p = SparseMultilinearExtension::from_evaluations(alloc, num_vars, &self.entries)?;
-        Ok(Answered::Sparse(p))
+        sparse_of(SparseMultilinearExtension::from_evaluations(alloc, num_vars, &self.entries))
     }
+}
+
+// ---- outcomes as answers
+
+fn term_of<F: Field>(made: Result<SparseTerm, PolyError>) -> Result<Answered<F>, PolyError> {
+    Ok(Answered::Term(made?))
+}
+
+fn copied(term: &SparseTerm) -> Result<SparseTerm, PolyError> {
+    Ok(term.clone()?)
+}
+
+fn numbers_of<F: Field, E: Into<PolyError>>(
+    made: Result<Vec<usize>, E>,
+) -> Result<Answered<F>, PolyError> {
+    match made {
+        Ok(numbers) => Ok(Answered::Numbers(numbers)),
+        Err(error) => Err(error.into()),
+    }
+}
+
+fn polynomial_of<F: Field>(
+    made: Result<SparsePolynomial<F, SparseTerm>, PolyError>,
+) -> Result<Answered<F>, PolyError> {
+    Ok(Answered::Polynomial(made?))
+}
+
+fn dense_of<F: Field>(
+    made: Result<DenseMultilinearExtension<F>, PolyError>,
+) -> Result<Answered<F>, PolyError> {
+    Ok(Answered::Dense(made?))
+}
+
+fn sparse_of<F: Field>(
+    made: Result<SparseMultilinearExtension<F>, PolyError>,
+) -> Result<Answered<F>, PolyError> {
+    Ok(Answered::Sparse(made?))
+}
+
+fn elements_of<F: Field>(made: Result<Vec<F>, PolyError>) -> Result<Answered<F>, PolyError> {
+    Ok(Answered::Elements(made?))
+}
+
+fn flag_of<F: Field>(found: Result<bool, PolyError>) -> Result<Answered<F>, PolyError> {
+    Ok(Answered::Flag(found?))
+}
+
+fn in_place<F: Field>(done: Result<(), PolyError>) -> Result<Answered<F>, PolyError> {
+    done?;
+    Ok(Answered::DenseInPlace)
+}
+
+/// Draws a polynomial of degree two.
+fn drawn_polynomial<F: Field>(alloc: Global, num_vars: usize) -> Result<Answered<F>, PolyError> {
+    let mut rng = Pcg64::new(48, 1);
+    let drawn = SparsePolynomial::<F, SparseTerm>::rand(alloc, 2, num_vars, &mut rng)?;
+    Ok(Answered::Flag(!drawn.terms().is_empty()))
+}
+
+/// Draws a table of so many entries.
+fn drawn_with_entries<F: Field>(
+    alloc: Global,
+    num_vars: usize,
+    entries: usize,
+) -> Result<Answered<F>, PolyError> {
+    let mut rng = Pcg64::new(48, 1);
+    let drawn = SparseMultilinearExtension::<F>::rand_with_config(
+        alloc, num_vars, entries, &mut rng, 1000,
+    )?;
+    Ok(Answered::Flag(drawn.is_some()))
 }
 
 /// The powers that the word spells, two times.
@@ -250,17 +345,21 @@ fn twice(alloc: Global, word: &str) -> Result<Vec<Vec<(usize, usize)>>, AllocErr
     Ok(both)
 }
 
-fn dense_or_no_fit<F: Field>(p: Option<DenseMultilinearExtension<F>>) -> Answered<F> {
-    match p {
-        Some(p) => Answered::Dense(p),
-        None => Answered::NoFit,
+fn dense_or_no_fit<F: Field>(
+    made: Result<Option<DenseMultilinearExtension<F>>, PolyError>,
+) -> Result<Answered<F>, PolyError> {
+    match made? {
+        Some(p) => Ok(Answered::Dense(p)),
+        None => Ok(Answered::NoFit),
     }
 }
 
-fn sparse_or_no_fit<F: Field>(p: Option<SparseMultilinearExtension<F>>) -> Answered<F> {
-    match p {
-        Some(p) => Answered::Sparse(p),
-        None => Answered::NoFit,
+fn sparse_or_no_fit<F: Field>(
+    made: Result<Option<SparseMultilinearExtension<F>>, PolyError>,
+) -> Result<Answered<F>, PolyError> {
+    match made? {
+        Some(p) => Ok(Answered::Sparse(p)),
+        None => Ok(Answered::NoFit),
     }
 }
 

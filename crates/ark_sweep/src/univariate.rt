@@ -1,7 +1,7 @@
 //! Calls of polynomials in one variable and of values over a domain.
 
 use crate::given::{domain_named, element_named, named, size_named};
-use crate::kinds::Kind;
+use crate::kinds::both_named;
 use crate::swept::Call;
 use ark_base::{FftField, PolyError, batch_inversion};
 use ark_poly::univariate::{DenseOrSparsePolynomial, DensePolynomial, SparsePolynomial};
@@ -59,23 +59,54 @@ fn values_named<F: FftField + Numbered>(
     Ok(Evaluations::from_vec_and_domain(values, domain))
 }
 
+/// The values of both names.
+fn both_values_named<F: FftField + Numbered>(
+    alloc: Global,
+    domain: GeneralEvaluationDomain<F>,
+    words: &[String],
+) -> Result<
+    (
+        Evaluations<F, GeneralEvaluationDomain<F>>,
+        Evaluations<F, GeneralEvaluationDomain<F>>,
+    ),
+    PolyError,
+> {
+    let values = values_named(alloc, domain, named(words, "values"))?;
+    let divisors = values_named(alloc, domain, named(words, "divisors"))?;
+    Ok((values, divisors))
+}
+
+/// The list, and the terms.
+fn lists_named<F: Numbered>(
+    alloc: Global,
+    words: &[String],
+) -> Result<(Vec<F>, Vec<(usize, F)>), PolyError> {
+    let list = elements(alloc, named(words, "list"))?;
+    let terms = terms_of(alloc, named(words, "terms"))?;
+    Ok((list, terms))
+}
+
 impl<F: FftField + Numbered> Call for OfOne<F> {
     type Answered = Answered<F>;
 
     fn given(alloc: Global, words: &[String]) -> Result<Self, PolyError> {
         let domain = domain_named(words, "domain")?;
+        let (left, right) = both_named(alloc, words, "left", "right")?;
+        let (sparse, other) = both_named(alloc, words, "sparse", "other")?;
+        let (list, terms) = lists_named(alloc, words)?;
+        let (values, divisors) = both_values_named(alloc, domain, words)?;
         Ok(OfOne {
-            left: Kind::of(alloc, named(words, "left"))?,
-            right: Kind::of(alloc, named(words, "right"))?,
-            sparse: Kind::of(alloc, named(words, "sparse"))?,
-            other: Kind::of(alloc, named(words, "other"))?,
-            list: elements(alloc, named(words, "list"))?,
-            terms: terms_of(alloc, named(words, "terms"))?,
+            left,
+            right,
+            sparse,
+            other,
+            list,
+            terms,
             factor: element_named(words, "factor"),
             number: size_named(words, "number"),
             domain,
-            values: values_named(alloc, domain, named(words, "values"))?,
-            divisors: values_named(alloc, domain, named(words, "divisors"))?,
+            values,
+            divisors,
         })
     }
 
@@ -85,10 +116,10 @@ impl<F: FftField + Numbered> Call for OfOne<F> {
             Some(("sparse", name)) => self.of_sparse(alloc, name),
             Some(("dense_or_sparse", name)) => self.of_either(alloc, name),
             Some(("values", name)) => self.of_values(alloc, name),
-            _ => {
-                batch_inversion(alloc, &mut self.list)?;
-                Ok(Answered::ListInPlace)
-            }
+            _ => in_place(
+                batch_inversion(alloc, &mut self.list),
+                Answered::ListInPlace,
+            ),
         }
     }
 
@@ -131,138 +162,130 @@ impl<F: FftField + Numbered> OfOne<F> {
     /// Makes a call of dense polynomials.
     fn of_dense(&mut self, alloc: Global, name: &str) -> Result<Answered<F>, PolyError> {
         match name {
-            "add_assign_sparse" => self.left.add_assign_sparse(alloc, &self.sparse)?,
-            "sub_assign_sparse" => self.left.sub_assign_sparse(alloc, &self.sparse)?,
-            "evaluate_over_domain" => {
-                let values = self.left.clone()?.evaluate_over_domain(alloc, self.domain)?;
-                return Ok(Answered::Values(values));
-            }
+            "add_assign_sparse" => in_place(
+                self.left.add_assign_sparse(alloc, &self.sparse),
+                Answered::DenseInPlace,
+            ),
+            "sub_assign_sparse" => in_place(
+                self.left.sub_assign_sparse(alloc, &self.sparse),
+                Answered::DenseInPlace,
+            ),
+            "evaluate_over_domain" => values_of(dense_values(alloc, &self.left, self.domain)),
             "evaluate_over_domain_by_ref" => {
-                let values = self.left.evaluate_over_domain_by_ref(alloc, self.domain)?;
-                return Ok(Answered::Values(values));
+                values_of(self.left.evaluate_over_domain_by_ref(alloc, self.domain))
             }
-            _ => return self.new_dense(alloc, name),
+            _ => self.new_dense(alloc, name),
         }
-        Ok(Answered::DenseInPlace)
     }
 
     /// Makes a call that answers a dense polynomial.
     fn new_dense(&self, alloc: Global, name: &str) -> Result<Answered<F>, PolyError> {
         let (p, q) = (&self.left, &self.right);
-        let polynomial = match name {
-            "from_coefficients_slice" => DensePolynomial::from_coefficients_slice(
+        match name {
+            "from_coefficients_slice" => dense_of(DensePolynomial::from_coefficients_slice(
                 alloc, &self.list,
-            )?,
-            "mul_scalar" => p.mul_scalar(alloc, self.factor)?,
-            "mul" => p.mul(alloc, q)?,
-            "naive_mul" => p.naive_mul(alloc, q)?,
-            "mul_over_domain" => p.mul_over_domain(alloc, q, self.domain)?,
-            "div" => p.div(alloc, q)?,
-            "mul_by_vanishing_poly" => p.mul_by_vanishing_poly(alloc, self.domain)?,
-            "add_sparse" => p.add_sparse(alloc, &self.sparse)?,
-            "sub_sparse" => p.sub_sparse(alloc, &self.sparse)?,
-            "from_sparse" => DensePolynomial::from_sparse(alloc, &self.sparse)?,
-            _ => return self.two_dense(alloc, name),
-        };
-        Ok(Answered::Dense(polynomial))
+            )),
+            "mul_scalar" => dense_of(p.mul_scalar(alloc, self.factor)),
+            "mul" => dense_of(p.mul(alloc, q)),
+            "naive_mul" => dense_of(p.naive_mul(alloc, q)),
+            "mul_over_domain" => dense_of(p.mul_over_domain(alloc, q, self.domain)),
+            "div" => dense_of(p.div(alloc, q)),
+            "mul_by_vanishing_poly" => dense_of(p.mul_by_vanishing_poly(alloc, self.domain)),
+            "add_sparse" => dense_of(p.add_sparse(alloc, &self.sparse)),
+            "sub_sparse" => dense_of(p.sub_sparse(alloc, &self.sparse)),
+            "from_sparse" => dense_of(DensePolynomial::from_sparse(alloc, &self.sparse)),
+            _ => self.two_dense(alloc, name),
+        }
     }
 
     /// Makes a division or a draw.
     fn two_dense(&self, alloc: Global, name: &str) -> Result<Answered<F>, PolyError> {
-        let division = match name {
+        match name {
             "divide_by_vanishing_poly" => {
-                Some(self.left.divide_by_vanishing_poly(alloc, self.domain)?)
+                two_of(self.left.divide_by_vanishing_poly(alloc, self.domain))
             }
-            "divide_by_transforms" => self.left.divide_by_transforms(alloc, &self.right)?,
-            "rand" => {
-                let mut rng = Pcg64::new(48, 1);
-                let drawn = DensePolynomial::<F>::rand(alloc, self.number, &mut rng, 1000)?;
-                return Ok(Answered::Flag(drawn.is_some_and(|p| p.coeffs().len() > self.number)));
-            }
-            _ => return Ok(Answered::NoCall),
-        };
-        Ok(division.map_or(Answered::NoPolynomial, |pair| Answered::Two(pair.0, pair.1)))
+            "divide_by_transforms" => division_of(
+                self.left.divide_by_transforms(alloc, &self.right),
+            ),
+            "rand" => self.drawn(alloc),
+            _ => Ok(Answered::NoCall),
+        }
+    }
+
+    fn drawn(&self, alloc: Global) -> Result<Answered<F>, PolyError> {
+        let mut rng = Pcg64::new(48, 1);
+        let drawn = DensePolynomial::<F>::rand(alloc, self.number, &mut rng, 1000)?;
+        Ok(Answered::Flag(drawn.is_some_and(|p| p.coeffs().len() > self.number)))
     }
 
     /// Makes a call of sparse polynomials.
     fn of_sparse(&self, alloc: Global, name: &str) -> Result<Answered<F>, PolyError> {
-        let polynomial = match name {
-            "from_coefficients_slice" => SparsePolynomial::from_coefficients_slice(
+        match name {
+            "from_coefficients_slice" => sparse_of(SparsePolynomial::from_coefficients_slice(
                 alloc,
                 &self.terms,
-            )?,
-            "from_coefficients_vec" => {
-                SparsePolynomial::from_coefficients_vec(alloc, self.terms.clone()?)?
-            }
-            "mul" => self.sparse.mul(alloc, &self.other)?,
-            "mul_scalar" => self.sparse.mul_scalar(alloc, self.factor)?,
-            "from_dense" => SparsePolynomial::from_dense(alloc, &self.left)?,
-            "evaluate_over_domain" => {
-                let values = self
-                    .sparse
-                    .clone()?
-                    .evaluate_over_domain(alloc, self.domain)?;
-                return Ok(Answered::Values(values));
-            }
+            )),
+            "from_coefficients_vec" => sparse_of(of_own_terms(alloc, &self.terms)),
+            "mul" => sparse_of(self.sparse.mul(alloc, &self.other)),
+            "mul_scalar" => sparse_of(self.sparse.mul_scalar(alloc, self.factor)),
+            "from_dense" => sparse_of(SparsePolynomial::from_dense(alloc, &self.left)),
+            "evaluate_over_domain" => values_of(sparse_values(alloc, &self.sparse, self.domain)),
             "evaluate_over_domain_by_ref" => {
-                let values = self.sparse.evaluate_over_domain_by_ref(alloc, self.domain)?;
-                return Ok(Answered::Values(values));
+                values_of(self.sparse.evaluate_over_domain_by_ref(alloc, self.domain))
             }
-            _ => return Ok(Answered::NoCall),
-        };
-        Ok(Answered::Sparse(polynomial))
+            _ => Ok(Answered::NoCall),
+        }
     }
 
     /// Makes a call of polynomials of either form.
     fn of_either(&self, alloc: Global, name: &str) -> Result<Answered<F>, PolyError> {
-        let dense = DenseOrSparsePolynomial::from(&self.left);
-        let sparse = DenseOrSparsePolynomial::from(&self.sparse);
-        match name {
-            "clone of dense" => Ok(Answered::Dense(dense.clone()?.into_dense(alloc)?)),
-            "clone of sparse" => Ok(Answered::Sparse(sparse.clone()?.into_sparse(alloc)?)),
-            "into_dense of dense" => Ok(Answered::Dense(dense.into_dense(alloc)?)),
-            "into_dense of sparse" => Ok(Answered::Dense(sparse.into_dense(alloc)?)),
-            "into_sparse of dense" => Ok(Answered::Sparse(dense.into_sparse(alloc)?)),
-            "into_sparse of sparse" => Ok(Answered::Sparse(sparse.into_sparse(alloc)?)),
-            "evaluate_over_domain" => {
-                let values = DenseOrSparsePolynomial::evaluate_over_domain(
-                    sparse,
+        match name.split_once(" of dense") {
+            Some((call, _)) => {
+                of_one_form(
                     alloc,
-                    self.domain,
-                )?;
-                Ok(Answered::Values(values))
+                    call,
+                    DenseOrSparsePolynomial::from(&self.left),
+                    &self.right,
+                )
             }
-            _ => self.divided(alloc, name),
+            None => self.of_sparse_form(alloc, name),
         }
     }
 
-    /// Makes a division of polynomials of either form.
-    fn divided(&self, alloc: Global, name: &str) -> Result<Answered<F>, PolyError> {
-        let dividend = DenseOrSparsePolynomial::from(&self.left);
-        let divisor = DenseOrSparsePolynomial::from(&self.right);
-        let sparse = DenseOrSparsePolynomial::from(&self.sparse);
-        let division = match name {
-            "divide_with_q_and_r of dense" => dividend.divide_with_q_and_r(alloc, &divisor)?,
-            "divide_with_q_and_r of sparse" => sparse.divide_with_q_and_r(alloc, &divisor)?,
-            "divide_with_q_and_r by sparse" => dividend.divide_with_q_and_r(alloc, &sparse)?,
-            _ => return Ok(Answered::NoCall),
-        };
-        Ok(division.map_or(Answered::NoPolynomial, |pair| Answered::Two(pair.0, pair.1)))
+    /// Makes a call of a sparse polynomial as one of either form.
+    fn of_sparse_form(&self, alloc: Global, name: &str) -> Result<Answered<F>, PolyError> {
+        let (p, q) = (&self.left, &self.sparse);
+        match name.split_once(" of sparse") {
+            Some((call, _)) => {
+                of_one_form(alloc, call, DenseOrSparsePolynomial::from(q), &self.right)
+            }
+            None => match name {
+                "divide_with_q_and_r by sparse" => divided(
+                    alloc,
+                    &DenseOrSparsePolynomial::from(p),
+                    &DenseOrSparsePolynomial::from(q),
+                ),
+                "evaluate_over_domain" => values_of(DenseOrSparsePolynomial::evaluate_over_domain(
+                    DenseOrSparsePolynomial::from(q),
+                    alloc,
+                    self.domain,
+                )),
+                _ => Ok(Answered::NoCall),
+            },
+        }
     }
 
     /// Makes a call of values over a domain.
     fn of_values(&mut self, alloc: Global, name: &str) -> Result<Answered<F>, PolyError> {
         let (p, q) = (&self.values, &self.divisors);
         match name {
-            "clone" => Ok(Answered::Values(p.clone()?)),
-            "zero" => Ok(Answered::Values(Evaluations::zero(alloc, self.domain)?)),
-            "interpolate" => Ok(Answered::Dense(p.clone()?.interpolate(alloc)?)),
-            "interpolate_by_ref" => Ok(Answered::Dense(p.interpolate_by_ref(alloc)?)),
-            "mul_scalar" => Ok(Answered::Values(p.mul_scalar(alloc, self.factor)?)),
-            _ => match combined(alloc, name, p, q)? {
-                Some(values) => Ok(Answered::Values(values)),
-                None => self.values_in_place(alloc, name),
-            },
+            "clone" => values_of(copied(p)),
+            "zero" => values_of(Evaluations::zero(alloc, self.domain)),
+            "interpolate" => dense_of(interpolated(alloc, p)),
+            "interpolate_by_ref" => dense_of(p.interpolate_by_ref(alloc)),
+            "mul_scalar" => values_of(p.mul_scalar(alloc, self.factor)),
+            "add" | "sub" | "mul" | "div" => combined(alloc, name, p, q),
+            _ => self.values_in_place(alloc, name),
         }
     }
 
@@ -276,24 +299,142 @@ impl<F: FftField + Numbered> OfOne<F> {
     }
 }
 
+// ---- outcomes as answers
+
+fn in_place<F: FftField, E: Into<PolyError>>(
+    done: Result<(), E>,
+    answer: Answered<F>,
+) -> Result<Answered<F>, PolyError> {
+    match done {
+        Ok(()) => Ok(answer),
+        Err(error) => Err(error.into()),
+    }
+}
+
+fn dense_of<F: FftField>(
+    made: Result<DensePolynomial<F>, PolyError>,
+) -> Result<Answered<F>, PolyError> {
+    Ok(Answered::Dense(made?))
+}
+
+fn sparse_of<F: FftField>(
+    made: Result<SparsePolynomial<F>, PolyError>,
+) -> Result<Answered<F>, PolyError> {
+    Ok(Answered::Sparse(made?))
+}
+
+fn values_of<F: FftField>(
+    made: Result<Evaluations<F, GeneralEvaluationDomain<F>>, PolyError>,
+) -> Result<Answered<F>, PolyError> {
+    Ok(Answered::Values(made?))
+}
+
+fn two_of<F: FftField>(
+    made: Result<(DensePolynomial<F>, DensePolynomial<F>), PolyError>,
+) -> Result<Answered<F>, PolyError> {
+    let (quotient, remainder) = made?;
+    Ok(Answered::Two(quotient, remainder))
+}
+
+fn division_of<F: FftField>(
+    made: Result<Option<(DensePolynomial<F>, DensePolynomial<F>)>, PolyError>,
+) -> Result<Answered<F>, PolyError> {
+    match made? {
+        Some((quotient, remainder)) => Ok(Answered::Two(quotient, remainder)),
+        None => Ok(Answered::NoPolynomial),
+    }
+}
+
+// ---- calls that are given their own copies
+
+fn dense_values<F: FftField, D: EvaluationDomain<F>>(
+    alloc: Global,
+    p: &DensePolynomial<F>,
+    domain: D,
+) -> Result<Evaluations<F, D>, PolyError> {
+    p.clone()?.evaluate_over_domain(alloc, domain)
+}
+
+fn sparse_values<F: FftField, D: EvaluationDomain<F>>(
+    alloc: Global,
+    p: &SparsePolynomial<F>,
+    domain: D,
+) -> Result<Evaluations<F, D>, PolyError> {
+    p.clone()?.evaluate_over_domain(alloc, domain)
+}
+
+fn of_own_terms<F: FftField>(
+    alloc: Global,
+    terms: &[(usize, F)],
+) -> Result<SparsePolynomial<F>, PolyError> {
+    SparsePolynomial::from_coefficients_vec(alloc, Vec::from_slice(alloc, terms)?)
+}
+
+fn copied<F: FftField, D: EvaluationDomain<F>>(
+    p: &Evaluations<F, D>,
+) -> Result<Evaluations<F, D>, PolyError> {
+    Ok(p.clone()?)
+}
+
+fn interpolated<F: FftField, D: EvaluationDomain<F>>(
+    alloc: Global,
+    p: &Evaluations<F, D>,
+) -> Result<DensePolynomial<F>, PolyError> {
+    p.clone()?.interpolate(alloc)
+}
+
+/// Makes a call of a polynomial of either form.
+fn of_one_form<F: FftField>(
+    alloc: Global,
+    call: &str,
+    p: DenseOrSparsePolynomial<F>,
+    divisor: &DensePolynomial<F>,
+) -> Result<Answered<F>, PolyError> {
+    match call {
+        "clone" => copy_of_form(alloc, &p),
+        "into_dense" => dense_of(p.into_dense(alloc)),
+        "into_sparse" => sparse_of(p.into_sparse(alloc)),
+        "divide_with_q_and_r" => divided(alloc, &p, &DenseOrSparsePolynomial::from(divisor)),
+        _ => Ok(Answered::NoCall),
+    }
+}
+
+/// A copy, as a polynomial of the form that it has.
+fn copy_of_form<F: FftField>(
+    alloc: Global,
+    p: &DenseOrSparsePolynomial<F>,
+) -> Result<Answered<F>, PolyError> {
+    let copy = p.clone()?;
+    match p {
+        DenseOrSparsePolynomial::DPolynomial(_) => dense_of(copy.into_dense(alloc)),
+        DenseOrSparsePolynomial::SPolynomial(_) => sparse_of(copy.into_sparse(alloc)),
+    }
+}
+
+fn divided<F: FftField>(
+    alloc: Global,
+    dividend: &DenseOrSparsePolynomial<F>,
+    divisor: &DenseOrSparsePolynomial<F>,
+) -> Result<Answered<F>, PolyError> {
+    division_of(dividend.divide_with_q_and_r(alloc, divisor))
+}
+
 /// The values that a call of two lists of them answers, where they are over one domain.
-fn combined<F: FftField, D: EvaluationDomain<F>>(
+fn combined<F: FftField>(
     alloc: Global,
     name: &str,
-    p: &Evaluations<F, D>,
-    q: &Evaluations<F, D>,
-) -> Result<Option<Evaluations<F, D>>, PolyError> {
+    p: &Evaluations<F, GeneralEvaluationDomain<F>>,
+    q: &Evaluations<F, GeneralEvaluationDomain<F>>,
+) -> Result<Answered<F>, PolyError> {
     if p.domain() != q.domain() {
-        return Ok(None);
+        return Ok(Answered::NoCall);
     }
-    let values = match name {
-        "add" => p.add(alloc, q)?,
-        "sub" => p.sub(alloc, q)?,
-        "mul" => p.mul(alloc, q)?,
-        "div" => p.div(alloc, q)?,
-        _ => return Ok(None),
-    };
-    Ok(Some(values))
+    match name {
+        "add" => values_of(p.add(alloc, q)),
+        "sub" => values_of(p.sub(alloc, q)),
+        "mul" => values_of(p.mul(alloc, q)),
+        _ => values_of(p.div(alloc, q)),
+    }
 }
 
 /// Makes a call that changes the first values, where they are over one domain, and tells whether there is one of this name.
