@@ -1,6 +1,6 @@
 //! The polynomial through given points.
 
-ghost use Rattle.std.specs.Prelude.{◌≡◌, ◌≢◌, ℕ, ◌<◌, false, length, IfOk, IsOkUnless, Err};
+ghost use Rattle.std.specs.Prelude.{◌≡◌, ◌≢◌, ℕ, ◌<◌, false, length, map, IfOk, IsOkUnless, Err};
 ghost use Rattle.ark_math.specs.Linear.{constant as constant_of, linear_factor};
 ghost use Rattle.ark_math.specs.Outcome.{IsOkUnlessEither};
 ghost use Rattle.ark_math.specs.Univariate.{IsBelow, of_list};
@@ -46,13 +46,37 @@ pub fn from_points<F: FftField>(
     }
     let xs = first_parts(alloc, points)?;
     let tree = Products::<F, GeneralEvaluationDomain<F>>::new(alloc, &xs)?;
-    let slopes = slopes(alloc, &tree, &xs)?;
+    through_tree(alloc, &tree, &xs, points)
+}
+
+// The polynomial through pairs that have these x.
+fn through_tree<F: FftField, D: EvaluationDomain<F>>(
+    alloc: Global,
+    tree: &Products<F, D>,
+    xs: &[F],
+    points: &[(F, F)],
+) -> Result<DensePolynomial<F>, PointsError>
+    requires some { 0 < length points.now }
+    requires xs { xs.now ≡ map (λ p. p.0) points.now }
+    requires tree { IsTreeOver F.field D.domain xs.now tree.now }
+    ensures below { IfOk result (λ p. IsBelow F.field (length points.now) (of_list F.field p)) }
+    ensures values { IfOk result (λ p. HasValues F.field (length points.now) (x_of F.field points.now)
+        (y_of F.field points.now) (of_list F.field p)) }
+    ensures only { IfOk result (λ p. (a : ℕ → F) → IsBelow F.field (length points.now) a
+        → HasValues F.field (length points.now) (x_of F.field points.now) (y_of F.field points.now) a
+        → a ≡ of_list F.field p) }
+    ensures different { IfOk result (λ p. AreDifferent (length points.now) (x_of F.field points.now)) }
+    ensures repeated { (result ≡ Err PointsError.RepeatedPoint)
+        → HasRepeated (length points.now) (x_of F.field points.now) }
+    ensures errors { IsOkUnlessEither result PointsError.Memory PointsError.RepeatedPoint }
+{
+    let slopes = slopes(alloc, tree, xs)?;
     if has_zero(&slopes) {
         // Two points are one, as the plain way tells.
         return naive_from_points(alloc, points);
     }
     let weights = weights(alloc, &slopes, points)?;
-    Ok(tree.weighed(alloc, &xs, &weights)?)
+    Ok(tree.weighed(alloc, xs, &weights)?)
 }
 
 // The slope at each point of the product of x - z over all of them.

@@ -1,6 +1,6 @@
 //! Points halved over and over, and the product of x - z over the points of each part.
 
-ghost use Rattle.std.specs.Prelude.{◌≡◌, ℕ, ◌+◌, ◌<◌, ◌≤◌, length, IfOk, OnOk, IsOkUnless};
+ghost use Rattle.std.specs.Prelude.{◌≡◌, ℕ, ◌+◌, ◌/◌, ◌<◌, ◌≤◌, List, drop, length, take, IfOk, OnOk, IsOkUnless};
 ghost use Rattle.ark_math.specs.Linear.{linear_factor};
 ghost use Rattle.ark_math.specs.Points.{AreValues};
 ghost use Rattle.ark_math.specs.Univariate.{IsBelow, added, of_list, product};
@@ -30,25 +30,20 @@ pub type Products<F, D> = Tree<DensePolynomial<F>, Evaluations<F, D>>;
 
 impl<F: FftField, D: EvaluationDomain<F>> Products<F, D> {
     /// Over these points, in their order. Parts are halved until they are few or the field has no domain for them.
-    pub fn new(alloc: Global, points: &[F]) -> Result<Self, PolyError>
-        ensures tree { IfOk result (λ t. IsTreeOver F.field D.domain points.now t) }
+    pub fn new(alloc: Global, points: &[F]) -> Result<Box<Self>, PolyError>
+        ensures tree { IfOk result (λ t. IsTreeOver F.field D.domain points.now t.value) }
         ensures memory { IsOkUnless result PolyError.Memory }
     {
         if points.len() <= FEW_POINTS {
-            return Ok(Tree::Few(product_of_few(alloc, points)?));
+            return few(alloc, points);
         }
         let Some(domain) = D::new(points.len()) else {
-            return Ok(Tree::Few(product_of_few(alloc, points)?));
+            return few(alloc, points);
         };
         let half = points.len() / 2;
         let low = Products::<F, D>::new(alloc, &points[..half])?;
         let high = Products::<F, D>::new(alloc, &points[half..])?;
-        let low_values = low.product().evaluate_over_domain_by_ref(alloc, domain)?;
-        let high_values = high.product().evaluate_over_domain_by_ref(alloc, domain)?;
-        let product = product_of_degree(alloc, &low_values, &high_values, points.len())?;
-        let low = Box::new(alloc, low)?;
-        let high = Box::new(alloc, high)?;
-        Ok(Tree::Halves(product, low, low_values, high, high_values))
+        joined(alloc, domain, low, high, points.len())
     }
 
     /// The product of x - z over all points.
@@ -117,6 +112,70 @@ impl<F: FftField, D: EvaluationDomain<F>> Products<F, D> {
             }
         }
     }
+}
+
+// The tree of few points, or of those for which there is no domain.
+fn few<F: FftField, D: EvaluationDomain<F>>(
+    alloc: Global,
+    points: &[F],
+) -> Result<Box<Products<F, D>>, PolyError>
+    ensures tree { IfOk result (λ t. IsTreeOver F.field D.domain points.now t.value) }
+    ensures memory { IsOkUnless result PolyError.Memory }
+{
+    let product = product_of_few(alloc, points)?;
+    Ok(Box::new(alloc, Tree::Few(product))?)
+}
+
+// The tree over both lists of points, one after the other, of which there are `count`.
+fn joined<F: FftField, D: EvaluationDomain<F>>(
+    alloc: Global,
+    domain: D,
+    low: Box<Products<F, D>>,
+    high: Box<Products<F, D>>,
+    count: usize,
+) -> Result<Box<Products<F, D>>, PolyError>
+    requires many { 1 < count }
+    requires room { count ≤ (D.domain domain).size }
+    ensures tree { IfOk result (λ t. (points : List F) → length points ≡ count
+        → IsTreeOver F.field D.domain (take (count / 2) points) low.value
+        → IsTreeOver F.field D.domain (drop (count / 2) points) high.value
+        → IsTreeOver F.field D.domain points t.value) }
+    ensures memory { IsOkUnless result PolyError.Memory }
+{
+    let (product, low_values, high_values) = product_and_values(
+        alloc,
+        domain,
+        low.product(),
+        high.product(),
+        count,
+    )?;
+    Ok(Box::new(
+        alloc,
+        Tree::Halves(product, low, low_values, high, high_values),
+    )?)
+}
+
+// The product of two polynomials whose leading coefficient is one, at `degree`, and the values of both.
+fn product_and_values<F: FftField, D: EvaluationDomain<F>>(
+    alloc: Global,
+    domain: D,
+    left: &DensePolynomial<F>,
+    right: &DensePolynomial<F>,
+    degree: usize,
+) -> Result<(DensePolynomial<F>, Evaluations<F, D>, Evaluations<F, D>), PolyError>
+    requires room { degree ≤ (D.domain domain).size }
+    ensures product { IfOk result (λ p. IsMonic F.field degree
+        (product F.field (of_list F.field left.now) (of_list F.field right.now))
+        → of_list F.field p.0 ≡ product F.field (of_list F.field left.now) (of_list F.field right.now)) }
+    ensures left { IfOk result (λ p. AreValues F.field (D.domain domain) (of_list F.field left.now) p.1.evals) }
+    ensures right { IfOk result (λ p. AreValues F.field (D.domain domain) (of_list F.field right.now) p.2.evals) }
+    ensures domains { IfOk result (λ p. (p.1.domain ≡ domain) × (p.2.domain ≡ domain)) }
+    ensures memory { IsOkUnless result PolyError.Memory }
+{
+    let left = left.evaluate_over_domain_by_ref(alloc, domain)?;
+    let right = right.evaluate_over_domain_by_ref(alloc, domain)?;
+    let product = product_of_degree(alloc, &left, &right, degree)?;
+    Ok((product, left, right))
 }
 
 // The product of polynomials with these values, whose leading coefficient is one, at `degree`.

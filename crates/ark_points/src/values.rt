@@ -14,7 +14,7 @@ use ark_poly::{DenseUVPolynomial, EvaluationDomain, GeneralEvaluationDomain};
 use std::alloc::Global;
 
 // Up to so many points or coefficients each value is found for itself.
-const FEW: usize = 256;
+const FEW: usize = 384;
 
 /// The values of a polynomial at points, in their order. Points may be repeated.
 ///

@@ -284,7 +284,7 @@ impl<F: FftField + Numbered> OfOne<F> {
             "interpolate" => dense_of(interpolated(alloc, p)),
             "interpolate_by_ref" => dense_of(p.interpolate_by_ref(alloc)),
             "mul_scalar" => values_of(p.mul_scalar(alloc, self.factor)),
-            "add" | "sub" | "mul" | "div" => combined(alloc, name, p, q),
+            "add" | "sub" | "mul" | "div" => values_if_any(combined(alloc, name, p, q)),
             _ => self.values_in_place(alloc, name),
         }
     }
@@ -327,6 +327,15 @@ fn values_of<F: FftField>(
     made: Result<Evaluations<F, GeneralEvaluationDomain<F>>, PolyError>,
 ) -> Result<Answered<F>, PolyError> {
     Ok(Answered::Values(made?))
+}
+
+fn values_if_any<F: FftField>(
+    made: Result<Option<Evaluations<F, GeneralEvaluationDomain<F>>>, PolyError>,
+) -> Result<Answered<F>, PolyError> {
+    match made? {
+        Some(values) => Ok(Answered::Values(values)),
+        None => Ok(Answered::NoCall),
+    }
 }
 
 fn two_of<F: FftField>(
@@ -420,21 +429,25 @@ fn divided<F: FftField>(
 }
 
 /// The values that a call of two lists of them answers, where they are over one domain.
-fn combined<F: FftField>(
+fn combined<F: FftField, D: EvaluationDomain<F>>(
     alloc: Global,
     name: &str,
-    p: &Evaluations<F, GeneralEvaluationDomain<F>>,
-    q: &Evaluations<F, GeneralEvaluationDomain<F>>,
-) -> Result<Answered<F>, PolyError> {
+    p: &Evaluations<F, D>,
+    q: &Evaluations<F, D>,
+) -> Result<Option<Evaluations<F, D>>, PolyError> {
     if p.domain() != q.domain() {
-        return Ok(Answered::NoCall);
+        return Ok(None);
     }
     match name {
-        "add" => values_of(p.add(alloc, q)),
-        "sub" => values_of(p.sub(alloc, q)),
-        "mul" => values_of(p.mul(alloc, q)),
-        _ => values_of(p.div(alloc, q)),
+        "add" => some_of(p.add(alloc, q)),
+        "sub" => some_of(p.sub(alloc, q)),
+        "mul" => some_of(p.mul(alloc, q)),
+        _ => some_of(p.div(alloc, q)),
     }
+}
+
+fn some_of<T>(made: Result<T, PolyError>) -> Result<Option<T>, PolyError> {
+    Ok(Some(made?))
 }
 
 /// Makes a call that changes the first values, where they are over one domain, and tells whether there is one of this name.
