@@ -255,10 +255,10 @@ impl<F: FftField + Numbered> OfSeveral<F> {
         if num_vars >= 64 {
             return Ok(Answered::NoFit);
         }
-        let len = 1 << num_vars;
         if name == "rand_with_config" {
-            return drawn_with_entries::<F>(alloc, num_vars, len / 2);
+            return drawn_with_entries::<F>(alloc, num_vars);
         }
+        let len = 1 << num_vars;
         if !self.entries.iter().all(|entry| entry.0 < len) {
             return Ok(Answered::NoFit);
         }
@@ -323,15 +323,19 @@ fn drawn_polynomial<F: Field>(alloc: Global, num_vars: usize) -> Result<Answered
     Ok(Answered::Flag(!drawn.terms().is_empty()))
 }
 
-/// Draws a table of so many entries.
-fn drawn_with_entries<F: Field>(
-    alloc: Global,
-    num_vars: usize,
-    entries: usize,
-) -> Result<Answered<F>, PolyError> {
+/// Draws a table of half as many entries as there are places.
+fn drawn_with_entries<F: Field>(alloc: Global, num_vars: usize) -> Result<Answered<F>, PolyError> {
+    if num_vars >= 64 {
+        return Ok(Answered::NoFit);
+    }
+    let len = 1 << num_vars;
     let mut rng = Pcg64::new(48, 1);
     let drawn = SparseMultilinearExtension::<F>::rand_with_config(
-        alloc, num_vars, entries, &mut rng, 1000,
+        alloc,
+        num_vars,
+        len / 2,
+        &mut rng,
+        1000,
     )?;
     Ok(Answered::Flag(drawn.is_some()))
 }
