@@ -1,5 +1,5 @@
 -- The last two levels of the transform by halves, of lists of four items one after the other.
-use Rattle.std.proofs.Common.{◌≡◌, ◌≢◌, ◌⊎◌, ℕ, suc, zero, ◌+◌, ◌*◌, ◌-◌, ◌/◌, ◌%◌, ◌<◌, ◌≤◌, ◌^◌, ◌++◌, List, length, get_or, set, take, drop, map, length-set, subst, sym, ◌∙◌, ap, ap₂, refl, arith, ⊎_elim}
+use Rattle.std.proofs.Common.{◌≡◌, ◌≢◌, ◌⊎◌, ℕ, suc, zero, ◌+◌, ◌*◌, ◌-◌, ◌/◌, ◌%◌, ◌<◌, ◌≤◌, ◌^◌, ◌++◌, List, length, get_or, set, drop, map, length-set, subst, sym, ◌∙◌, ap, ap₂, refl, arith, ⊎_elim}
 use Rattle.std.proofs.lemmas.List.{drop-drop}
 use Rattle.std.proofs.lemmas.Nat.{pow_pos}
 use Rattle.ark_math.specs.Field.{FieldOn, IsField, power}

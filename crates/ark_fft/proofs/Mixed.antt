@@ -7,11 +7,12 @@ use Rattle.ark_math.specs.Field.{FieldOn, IsField, power, natural}
 use Rattle.ark_math.specs.Module.{ModuleOn, IsModule, item}
 use Rattle.ark_math.specs.Root.{Adicity, HasOrder, Splits, odd_base}
 use Rattle.ark_math.specs.Domain.{Domain, mixed_radix}
-use Rattle.ark_math.specs.Cost.{Counts, GrowsBy, counts, Direction}
+use Rattle.ark_math.specs.Cost.{Counts, GrowsBy, counts, butterfly_counts, Direction}
 use Rattle.ark_math.specs.Transform.{transform, IsInverse}
 use Rattle.ark_math.proofs.Transforms.Places.{dft_at}
 use Rattle.ark_fft.specs.Halves.{reversed, ArePowers, AreLevels}
 use Rattle.ark_fft.proofs.Joining.{levels_of_size}
+use Rattle.ark_fft.proofs.Halving.{no_level}
 use Rattle.ark_fft.specs.Mixed.{IsPowerTable, mixed_counts}
 use Rattle.ark_fft.specs.Scalings.{GrowsByScalings}
 use Rattle.ark_math.proofs.Transforms.Inverses.{is_inverse}
@@ -82,6 +83,17 @@ module _ {F M X : Type 0} {K : FieldOn F} {V : ModuleOn F M} (N : IsField K) (L 
       ∙ (ap (dft_at K V (2 ^ n) v (item V (map m old))) (reversed_twice n p b)
       ∙ ap (λ t. dft_at K V t v (item V (map m old)) p) (sym is)))
 
+  -- one item is its own transform
+  pub one_transformed : (n size : ℕ) (v : F) (xs : List X) → size ≡ 2 ^ n → n ≡ 0 → (p : ℕ) → p < size → item V (map m xs) p ≡ dft_at K V size v (item V (map m xs)) p
+  one_transformed n size v xs is none p l =
+      let b : p < 2 ^ n = omega arith in
+      let c : p < 2 ^ 0 = rw none at b in
+      let z : p ≡ 0 = omega arith in
+      let same : reversed n p ≡ p = ap (λ k. reversed k p) none ∙ sym z in
+      no_level N L n v (item V (map m xs)) none p b
+      ∙ (ap (dft_at K V (2 ^ n) v (item V (map m xs))) same
+      ∙ ap (λ t. dft_at K V t v (item V (map m xs)) p) (sym is))
+
 -- a level's steps, and those of the levels below it
 pub level_steps : (l q o size : ℕ) → 0 < q → 0 < o → size ≡ 2 ^ l * q ^ o → q * ((o - 1) * (size / q / q)) + size / q ≡ o * (size / q)
 level_steps l q zero size pos some e = absurd (omega arith)
@@ -143,6 +155,12 @@ level_joins l q o size pos some e =
     ∙ ap (λ t. l * t / 2) (sym (parts_whole l q o size pos some e))
 
 -- the butterflies of a power of two
+-- a list of one item has no butterflies
+pub no_butterflies : (l size : ℕ) (w : Counts) → l ≡ 0 → GrowsBy (butterfly_counts (l * size / 2)) w w
+no_butterflies l size w none =
+    let z : l * size ≡ 0 = ap (λ k. k * size) none ∙ omega arith in
+    subst (λ k. GrowsBy (butterfly_counts (k / 2)) w w) (sym z) (none_grown w)
+
 pub power_butterflies : (l size : ℕ) → size ≡ 2 ^ l → 2 ^ l / 2 * l ≡ l * size / 2
 power_butterflies zero size e =
     let z : 0 * size ≡ 0 = omega arith in

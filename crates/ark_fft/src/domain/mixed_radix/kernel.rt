@@ -181,7 +181,7 @@ fn deinterleave<T: Copy>(whole: &[T], parts: &mut [T], base: usize, m: usize)
     }
 }
 
-/// The transform of a list of 2 ^ levels items. The tables are those of all levels.
+/// The transform of a list of 2 ^ levels items. The tables are those of all levels, if there is one.
 fn even_transform<F: FftField, T: DomainCoeff<F>>(
     work: &mut Work,
     xs: &mut [T],
@@ -189,19 +189,21 @@ fn even_transform<F: FftField, T: DomainCoeff<F>>(
     levels: u32,
 )
     requires size { length xs.old ≡ 2 ^ levels }
-    requires whole { length tables.now ≡ 2 ^ levels }
-    requires small { length tables.now < 2 ^ 64 }
+    requires whole { 0 < levels → length tables.now ≡ 2 ^ levels }
+    requires small { length xs.old < 2 ^ 64 }
     ensures counted { GrowsBy (butterfly_counts (levels * length xs.old / 2)) work.old work.new }
     ensures transformed { (v : F) → AreLevels F.field v levels tables.now → (i : ℕ) → i < length xs.old
         → item T.group (map T.meaning xs.new) i
         ≡ dft_at F.field T.group (length xs.old) v (item T.group (map T.meaning xs.old)) i }
 {
-    halves(work, xs, tables, levels);
-    bit_reverse(xs, levels);
+    if levels > 0 {
+        halves(work, xs, tables, levels);
+        bit_reverse(xs, levels);
+    }
 }
 
-/// The transform of a list of 2 ^ levels * base ^ odds items, with as many to work in. The tables are those of all levels
-/// of the lists that are left once the list is parted as often as its length has the base.
+/// The transform of a list of 2 ^ levels * base ^ odds items, with as many to work in. The tables are those of all levels,
+/// if there is one, of the lists that are left once the list is parted as often as its length has the base.
 fn mixed<F: FftField, T: DomainCoeff<F>>(
     work: &mut Work,
     xs: &mut [T],
@@ -216,7 +218,7 @@ fn mixed<F: FftField, T: DomainCoeff<F>>(
     requires size { length xs.old ≡ 2 ^ levels * base ^ odds }
     requires scratch_size { length scratch.old ≡ length xs.old }
     requires whole { length xs.old * stride ≡ length table.now }
-    requires even_part { length tables.now ≡ 2 ^ levels }
+    requires even_part { 0 < levels → length tables.now ≡ 2 ^ levels }
     requires small { length table.now < 2 ^ 64 }
     requires stride_not_zero { 0 < stride }
     requires above_one { 1 < base }
@@ -252,14 +254,19 @@ fn mixed<F: FftField, T: DomainCoeff<F>>(
     }
 }
 
-/// The tables of all levels of the lists that are left once a list is parted as often as its length has the odd base.
+/// The tables of all levels of the lists that are left once a list is parted as often as its length has the odd base; none
+/// where these have one item.
 fn even_tables<F: FftField>(alloc: Global, coset: &Coset<F>, root: F) -> Result<Vec<F>, AllocError>
-    ensures len { IfOk result (λ t. length t.items ≡ 2 ^ coset.now.log_size_of_group) }
+    ensures len { IfOk result (λ t. 0 < coset.now.log_size_of_group
+        → length t.items ≡ 2 ^ coset.now.log_size_of_group) }
     ensures levels { HasOrder F.field root coset.now.size → IfOk result (λ t. AreLevels F.field
         (power F.field root (odd_base F.adicity.odd ^ coset.now.odd_exponent))
         coset.now.log_size_of_group t.items) }
 {
     let log_len = coset.log_size_of_group;
+    if log_len == 0 {
+        return Ok(Vec::new(alloc));
+    }
     level_tables(alloc, root.pow(coset.size >> log_len), 1 << log_len)
 }
 

@@ -188,10 +188,9 @@ even_transform-requires-clause-size g t c = even_size c.args.levels c.args.base 
 pub even_transform-requires-clause-small : goal.even_transform-requires-clause-small
 even_transform-requires-clause-small g t c =
     let n = length c.args.xs.now in
-    let is : length c.args.tables.now ≡ n = c.requires.even_part ∙ sym (even_size c.args.levels c.args.base c.args.odds n c.if-odds-gt0.false c.requires.size) in
     let turned : c.args.stride * n ≡ length c.args.table.now = omega (arith, c.requires.whole) in
     let all : n < length c.args.table.now + 1 = within_strides n c.args.stride (length c.args.table.now) c.requires.stride_not_zero turned in
-    omega (arith, is, all, c.requires.small)
+    omega (arith, all, c.requires.small)
 
 pub returns-else-odds-gt0-clause-transformed : goal.returns-else-odds-gt0-clause-transformed
 returns-else-odds-gt0-clause-transformed g t c = λ w table tables i l.

@@ -63,4 +63,4 @@ mixed-requires-clause-above_one g c =
     subst (λ k. 1 < k) (ap odd_base e) (base_above s.odd c.unwrap-base.result g.met.F.FftField.roots_law.base e)
 
 pub mixed-requires-clause-even_part : goal.mixed-requires-clause-even_part
-mixed-requires-clause-even_part g c = ap length c.as_slice-2.ensures.value ∙ c.in_ok-tables.ensures.len
+mixed-requires-clause-even_part g c = λ some. ap length c.as_slice-2.ensures.value ∙ c.in_ok-tables.ensures.len some

@@ -1,4 +1,4 @@
-use Rattle.std.proofs.Common.{rules, arith, ◌≡◌, ◌-◌, ◌^◌, ◌/◌, ◌<◌, ◌∙◌, sym, length, map}
+use Rattle.std.proofs.Common.{rules, arith, ◌≡◌, ◌-◌, ◌^◌, ◌/◌, ◌<◌, ◌∙◌, sym, length}
 use Rattle.ark_fft.proofs.Fours.{level_of_blocks, one_block_of_four}
 use Rattle.ark_fft.proofs.Joining.{front_half, back_half, next_levels, no_count, split_count}
 use Rattle.ark_fft.proofs.Counts.{itself}
