@@ -56,7 +56,7 @@ fn through_tree<F: FftField, D: EvaluationDomain<F>>(
     xs: &[F],
     points: &[(F, F)],
 ) -> Result<DensePolynomial<F>, PointsError>
-    requires some { 0 < length points.now }
+    requires not_empty { 0 < length points.now }
     requires xs { xs.now ≡ map (λ p. p.0) points.now }
     requires tree { IsTreeOver F.field D.domain xs.now tree.now }
     ensures below { IfOk result (λ p. IsBelow F.field (length points.now) (of_list F.field p)) }
@@ -85,7 +85,7 @@ fn slopes<F: FftField, D: EvaluationDomain<F>>(
     tree: &Products<F, D>,
     points: &[F],
 ) -> Result<Vec<F>, PolyError>
-    requires some { 0 < length points.now }
+    requires not_empty { 0 < length points.now }
     requires tree { IsTreeOver F.field D.domain points.now tree.now }
     ensures len { IfOk result (λ v. length v.items ≡ length points.now) }
     ensures slopes { IfOk result (λ v. HasValues F.field (length points.now) (of_list F.field points.now)
@@ -125,7 +125,7 @@ fn has_zero<F: Field>(items: &[F]) -> bool
 // Each y by the slope at its place.
 fn weights<F: Field>(alloc: Global, slopes: &[F], points: &[(F, F)]) -> Result<Vec<F>, PolyError>
     requires len { length slopes.now ≡ length points.now }
-    requires some { (i : ℕ) → i < length slopes.now → of_list F.field slopes.now i ≢ F.field.zero }
+    requires not_zero { (i : ℕ) → i < length slopes.now → of_list F.field slopes.now i ≢ F.field.zero }
     ensures len { IfOk result (λ v. length v.items ≡ length points.now) }
     ensures weights { IfOk result (λ v. (i : ℕ) → i < length points.now → F.field.times
         (of_list F.field v.items i) (of_list F.field slopes.now i) ≡ y_of F.field points.now i) }
@@ -175,7 +175,7 @@ pub fn naive_from_points<F: Field>(
     Ok(through_different(alloc, points)?)
 }
 
-// The same, of pairs with different x.
+// The polynomial through pairs with different x.
 fn through_different<F: Field>(
     alloc: Global,
     points: &[(F, F)],

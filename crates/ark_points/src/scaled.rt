@@ -22,7 +22,7 @@ pub fn scaled_by<F: FftField>(
     product: &DensePolynomial<F>,
     n: usize,
 ) -> Result<DensePolynomial<F>, PolyError>
-    requires some { 0 < n }
+    requires positive { 0 < n }
     requires monic { IsMonic F.field n (of_list F.field product.now) }
     ensures stands { IfOk result (λ s. StandsFor F.field n (of_list F.field product.now)
         (of_list F.field polynomial.now) (of_list F.field s)) }
@@ -42,7 +42,7 @@ fn scaled_by_series<F: FftField>(
     product: &DensePolynomial<F>,
     n: usize,
 ) -> Result<DensePolynomial<F>, PolyError>
-    requires some { 0 < n }
+    requires positive { 0 < n }
     requires monic { IsMonic F.field n (of_list F.field product.now) }
     ensures stands { IfOk result (λ s. StandsFor F.field n (of_list F.field product.now)
         (of_list F.field polynomial.now) (of_list F.field s)) }
@@ -69,7 +69,7 @@ fn scaled_by_division<F: FftField>(
     product: &DensePolynomial<F>,
     n: usize,
 ) -> Result<DensePolynomial<F>, PolyError>
-    requires some { 0 < n }
+    requires positive { 0 < n }
     requires monic { IsMonic F.field n (of_list F.field product.now) }
     ensures stands { IfOk result (λ s. StandsFor F.field n (of_list F.field product.now)
         (of_list F.field polynomial.now) (of_list F.field s)) }

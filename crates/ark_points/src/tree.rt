@@ -64,7 +64,7 @@ impl<F: FftField, D: EvaluationDomain<F>> Products<F, D> {
         scaled: &DensePolynomial<F>,
         values: &mut [F],
     ) -> Result<(), PolyError>
-        requires some { 0 < length points.now }
+        requires not_empty { 0 < length points.now }
         requires tree { IsTreeOver F.field D.domain points.now self.now }
         requires below { IsBelow F.field (length points.now) (of_list F.field scaled.now) }
         requires len { length values.old ≡ length points.now }
@@ -265,7 +265,7 @@ fn write_few_values<F: Field>(
     scaled: &DensePolynomial<F>,
     values: &mut [F],
 ) -> Result<(), PolyError>
-    requires some { 0 < length points.now }
+    requires not_empty { 0 < length points.now }
     requires product { of_list F.field product.now ≡ nodes F.field points.now }
     requires below { IsBelow F.field (length points.now) (of_list F.field scaled.now) }
     requires len { length values.old ≡ length points.now }

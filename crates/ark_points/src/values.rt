@@ -46,7 +46,7 @@ pub fn values_by_tree<F: FftField, D: EvaluationDomain<F>>(
     polynomial: &DensePolynomial<F>,
     points: &[F],
 ) -> Result<Vec<F>, PolyError>
-    requires some { 0 < length points.now }
+    requires not_empty { 0 < length points.now }
     requires tree { IsTreeOver F.field D.domain points.now tree.now }
     ensures len { IfOk result (λ v. length v.items ≡ length points.now) }
     ensures values { IfOk result (λ v. HasValues F.field (length points.now) (of_list F.field points.now)

@@ -47,7 +47,7 @@ impl<F: Field> Prover<F> {
     /// memory.
     pub fn new(num_vars: usize, tables: Vec<Vec<F>>) -> Self
         requires few { num_vars < 64 }
-        requires some { 0 < length tables.items }
+        requires not_empty { 0 < length tables.items }
         requires whole { All (λ t. length t.items ≡ 2 ^ num_vars) tables.items }
         ensures tables { tables_of F.field result ≡ as_tables F.field tables.items }
         ensures variables { variables_of result ≡ num_vars }
@@ -65,7 +65,7 @@ impl<F: Field> Prover<F> {
     /// How many factors there are, one at least: the degree that a round's polynomial may have.
     pub fn degree(&self) -> usize
         ensures factors { result ≡ length (tables_of F.field self.now) }
-        ensures some { 0 < result }
+        ensures positive { 0 < result }
     {
         self.tables.len()
     }
@@ -114,7 +114,7 @@ impl<F: Field> Prover<F> {
 
 /// How many corners there are where the first of the variables has one value.
 fn half(num_vars: usize) -> usize
-    requires some { 0 < num_vars }
+    requires positive { 0 < num_vars }
     requires few { num_vars < 64 }
     ensures power { result ≡ 2 ^ (num_vars - 1) }
     ensures whole { 2 ^ num_vars ≡ 2 * result }

@@ -27,7 +27,7 @@ fn along_lines<F: Field>(row: &mut [F], count: usize, inverse: F, x: F)
 /// The value at `x` of the polynomial with these values at 0, 1 and so on. The list is used up: after n steps each item is
 /// the value at `x` of the polynomial through n + 1 neighbours.
 fn value_in_place<F: Field>(row: &mut [F], x: F) -> Result<F, SumCheckError>
-    requires some { 0 < length row.old }
+    requires not_empty { 0 < length row.old }
     ensures value { IfOk result (λ y. IsValueThrough F.field row.old x y) }
     ensures different { IfOk result (λ y. AreDifferent F.field (length row.old)) }
     ensures error { IfErr result (λ e. e ≡ SumCheckError.SmallCharacteristic) }
@@ -45,7 +45,7 @@ fn value_in_place<F: Field>(row: &mut [F], x: F) -> Result<F, SumCheckError>
 
 /// The value at `x` of the polynomial of degree below the number of values that has these values at 0, 1 and so on.
 pub(crate) fn value_through<F: Field>(alloc: Global, values: &[F], x: F) -> Result<F, SumCheckError>
-    requires some { 0 < length values.now }
+    requires not_empty { 0 < length values.now }
     ensures value { IfOk result (λ y. IsValueThrough F.field values.now x y) }
     ensures different { IfOk result (λ y. AreDifferent F.field (length values.now)) }
     ensures small { result ≡ Err SumCheckError.SmallCharacteristic

@@ -27,7 +27,7 @@ pub fn sum_check_whole<F: Field, C: Challenger<F>>(
     verify(alloc, degree, claim, &rounds)
 }
 
-/// The same of one factor that is given by its entries: the verifier doesn't tell it from one that is given whole.
+/// A sum-check of one factor that is given by its entries: the verifier doesn't tell it from one that is given whole.
 pub fn sum_check_of_entries<F: Field, C: Challenger<F>>(
     alloc: Global,
     prover: SparseProver<F>,

@@ -61,7 +61,7 @@ pub fn attempt<C: Call, R: Print>(
     }
 }
 
-/// The same call made again.
+/// Makes the call again.
 fn again<C: Call>(alloc: Global, mut given: C, name: &str) -> Result<Ended, PolyError> {
     let answer = match given.call(alloc, name) {
         Ok(answered) => given.text(alloc, &answered)?,

@@ -33,7 +33,7 @@ fn agree<M: PrimeModulus>(prime: u64, left: u64, right: u64) -> bool
         && (-x).value() as u128 == (modulus - first) % modulus
 }
 
-// The same of each two of these numbers, and of so many drawn ones.
+// Whether sums, differences and products of each two of these numbers agree, and those of so many drawn ones.
 fn all_agree<M: PrimeModulus>(prime: u64, edges: &[u64], drawn: u64) -> bool
     requires { 0 < prime }
 {

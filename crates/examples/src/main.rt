@@ -1,7 +1,7 @@
 //! Small callers, as a user of the crates writes them: a transform and back, values on a coset, an interpolation, the
 //! convolution of two lists, a combination of two polynomials, an opening, exact costs, the first round of a sum-check,
-//! what chooses a value of a table, values that are lost and restored, a polynomial in a file, fields and a module of one's
-//! own. The program prints what each gives.
+//! what chooses a value of a table, values that are lost and restored, a polynomial in a file, the values of a sparse one,
+//! fields and a module of one's own. The program prints what each gives.
 #![tactic(auto)]
 
 mod combination;
@@ -16,6 +16,7 @@ mod module;
 mod opening;
 mod saving;
 mod selector;
+mod sparse;
 mod sum_check;
 mod there_and_back;
 
@@ -32,12 +33,13 @@ use cost::over_sixteen_and_back;
 use field::{F97, quotient};
 use holders::lost_and_restored;
 use interpolation::interpolated_value;
-use large_field::size_for_a_hundred_million;
+use large_field::{F18446742974197923841, size_for_a_hundred_million};
 use module::{Point, points_of_curve};
 use opening::opening;
 use rs_code::Code;
 use saving::{load, save, saved_and_loaded};
 use selector::selector;
+use sparse::values_of_terms;
 use std::alloc::Global;
 use std::fs::{self, File, Files};
 use std::io::{Print, Write};
@@ -82,7 +84,7 @@ fn main(rt: HostRuntime) -> anyhow::Result<()> {
     let values = held(alloc, &[1, 2, 3].map(F65537::from))?;
     print_list(&rt, alloc, "of eight values, five of them lost", &values)?;
     print_saved(&rt, alloc)?;
-    print_fields(&rt)?;
+    print_fields(&rt, alloc)?;
     let coeffs = [(1, 2), (3, 4), (5, 6)].map(|(x, y)| Point {
         x: F433::from(x),
         y: F433::from(y),
@@ -223,7 +225,19 @@ fn print_saved(rt: &(impl Print + Files), alloc: Global) -> anyhow::Result<()> {
     print_list(rt, alloc, "saved and loaded", loaded.coeffs())
 }
 
-fn print_fields(rt: &impl Print) -> anyhow::Result<()> {
+/// The values of the polynomial with these terms over four elements.
+fn over_four<F: FftField>(alloc: Global, terms: &[(usize, F)]) -> Result<Vec<F>, PolyError> {
+    let domain = Radix2EvaluationDomain::new(4).ok_or(PolyError::NoDomain)?;
+    let values = values_of_terms(alloc, domain, terms)?;
+    Ok(Vec::from_slice(alloc, values.evals())?)
+}
+
+fn print_fields(rt: &impl Print, alloc: Global) -> anyhow::Result<()> {
+    let values = over_four(alloc, &[(0, F97::from(1)), (1001, F97::from(2))])?;
+    print_list(rt, alloc, "1 + 2 x^1001 over four elements", &values)?;
+    let large = [u64::MAX, 1 << 63, 3].map(F18446742974197923841::from);
+    let back = there_and_back(alloc, &large)?;
+    print_list(rt, alloc, "there and back modulo 2^64 - 2^40 + 1", &back)?;
     if let Some(third) = quotient(F97::from(1), F97::from(3)) {
         println!(rt; "a third modulo 97: {}", third.value())?;
     }

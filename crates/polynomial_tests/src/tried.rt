@@ -15,7 +15,7 @@ enum OverField {
     DrawsByTheirTries,
     Sums,
     SumsOfBothForms,
-    /// Those of at most so many coefficients by others.
+    /// Products by polynomials of at most so many coefficients.
     Products(usize),
     ProductsOfTerms,
     LastCoefficients,

@@ -130,7 +130,7 @@ fn values_of_product<F: FftField, D: EvaluationDomain<F>>(
     Ok(values)
 }
 
-// The same, one by one.
+// The product of x - r over few roots, one by one.
 fn with_few_roots<F: Field>(alloc: Global, roots: &[F]) -> Result<DensePolynomial<F>, AllocError>
     ensures { IfOk result (λ p. of_list F.field p ≡ locator F.field roots.now) }
 {

@@ -4,7 +4,7 @@ ghost use Rattle.std.specs.Prelude.{◌≡◌, ◌≤◌, length, IfOk, IsOk};
 ghost use Rattle.shards_format.specs.Files.{AreApart};
 ghost use Rattle.shards_format.specs.Given.{AreOfOneFile, numbers_of};
 
-use crate::output::{create_beside, finish, refuse_present};
+use crate::output::{beside, create_beside, finish, refuse_present};
 use crate::watch::Watched;
 use crate::words::{CheckWords, JoinWords};
 use anyhow::{Context, Result, anyhow, bail};
@@ -12,11 +12,11 @@ use ark_bytes::{IoSink, IoSource, Source};
 use shards_format::{Damage, HEADER, Header, JoinError, Piece, StripeCode, judge, places_of};
 use shards_streams::{StreamError, check_source, join_into};
 use std::alloc::Global;
-use std::fs;
+use std::fs::{self, OpenFile};
 use std::io::{Eprint, Print};
 use std::rt::Files;
 
-/// Says what each piece is, and whether it is whole.
+/// Says what each piece is, and whether it is whole, or why it could not be read.
 pub fn check_files(
     rt: &(impl Files + Print + Eprint + AllocGlobal),
     words: &CheckWords<'_>,
@@ -24,8 +24,8 @@ pub fn check_files(
     let alloc = rt.alloc();
     let mut damaged = 0u64;
     for name in words.pieces {
-        match check_file(rt, alloc, name, words.progress)? {
-            Ok(header) => {
+        match check_file(rt, alloc, name, words.progress) {
+            Ok(Ok(header)) => {
                 let Header {
                     k,
                     n,
@@ -37,9 +37,13 @@ pub fn check_files(
                     "{name}: piece {number} of {n}, any {k} of which give a file of {len} bytes; whole"
                 )?;
             }
-            Err(damage) => {
+            Ok(Err(damage)) => {
                 damaged = damaged.saturating_add(1);
                 println!(rt; "{name}: {damage}")?;
+            }
+            Err(error) => {
+                damaged = damaged.saturating_add(1);
+                println!(rt; "{error:#}")?;
             }
         }
     }
@@ -68,6 +72,7 @@ pub fn join_file<C: StripeCode, R: Files + Eprint + AllocGlobal>(
 ) -> Result<()> {
     let alloc = rt.alloc();
     refuse_present(rt, alloc, words.file, words.force)?;
+    refuse_own_piece(alloc, words)?;
     let (names, pieces) = whole_pieces(rt, alloc, words)?;
     if pieces.is_empty() {
         bail!("no whole piece is given");
@@ -76,8 +81,31 @@ pub fn join_file<C: StripeCode, R: Files + Eprint + AllocGlobal>(
     let places = judged(alloc, &code, &pieces)?;
     let mut output = Vec::new(alloc);
     output.push(String::from_str(alloc, words.file)?)?;
-    let written = write_file(rt, alloc, &code, &pieces, &places, &names, words);
+    let mut sources = open_bodies(rt, alloc, &names[..code.k()])?;
+    let file = create_beside(rt, alloc, words.file, words.force)?;
+    let written = write_file(
+        rt,
+        alloc,
+        &code,
+        &pieces,
+        &places,
+        &names,
+        words,
+        &mut sources,
+        file,
+    );
     finish(rt, alloc, &output, written)
+}
+
+// Refuses where the file would be written over one of its pieces.
+fn refuse_own_piece(alloc: Global, words: &JoinWords<'_>) -> Result<()> {
+    let unfinished = beside(alloc, words.file)?;
+    for name in words.pieces {
+        if *name == words.file || *name == unfinished.as_str() {
+            bail!("{name} is a piece, and would be written over");
+        }
+    }
+    Ok(())
 }
 
 // The pieces that are whole, with their names. Of the others it is said that they are not.
@@ -130,7 +158,7 @@ fn judged<C: StripeCode>(alloc: Global, code: &C, pieces: &[Piece<'_>]) -> Resul
     }
 }
 
-// Writes the file beside its name.
+// Writes the file beside its name, to the end: that a disk is full may come late.
 fn write_file<C: StripeCode, R: Files + Eprint>(
     rt: &R,
     alloc: Global,
@@ -139,27 +167,31 @@ fn write_file<C: StripeCode, R: Files + Eprint>(
     places: &[usize],
     names: &[&str],
     words: &JoinWords<'_>,
+    sources: &mut [IoSource<R::File>],
+    output: R::File,
 ) -> Result<()>
     requires places { places.now ≡ numbers_of pieces.now }
     requires one_file { AreOfOneFile (C.k_of code.now) (C.n_of code.now) pieces.now }
     requires apart { AreApart places.now }
     requires enough { C.k_of code.now ≤ length pieces.now }
-    requires names { length names.now ≡ length pieces.now }
+    requires sources { length sources.old ≡ C.k_of code.now }
 {
     let k = code.k();
     let header = pieces[0].header;
-    let mut sources = open_bodies(rt, alloc, &names[..k])?;
-    let output = create_beside(rt, alloc, words.file)?;
     let mut sink = Watched::new(IoSink::new(output), rt, words.progress, "joined");
     match join_into(
         alloc,
         code,
         &places[..k],
         header.len as usize,
-        sources.as_mut_slice(),
+        sources,
         &mut sink,
     ) {
-        Ok(digest) if digest == header.digest => Ok(()),
+        Ok(digest) if digest == header.digest => {
+            let file = sink.into_inner().into_inner();
+            file.sync_all()
+                .context(format_args!("writing {}", words.file))
+        }
         Ok(_) => bail!("the pieces do not give the file"),
         Err(StreamError::Read(i)) => bail!(
             "reading {} failed",

@@ -2,17 +2,23 @@
 
 use anyhow::{Context, Result, bail};
 use std::alloc::Global;
-use std::fs;
+use std::fs::{self, File};
 use std::io::ErrorKind;
 use std::rt::Files;
 
-/// A file beside this name, to be written.
-pub fn create_beside<R: Files>(rt: &R, alloc: Global, name: &str) -> Result<R::File> {
-    fs::create(rt, &beside(alloc, name)?).context(format_args!("writing {name}"))
+/// A file beside this name, to be written. One that is there is written over where that is asked for, and else refused.
+pub fn create_beside<R: Files>(rt: &R, alloc: Global, name: &str, force: bool) -> Result<R::File> {
+    let unfinished = beside(alloc, name)?;
+    let created = if force {
+        fs::create(rt, &unfinished)
+    } else {
+        File::create_new(rt, &unfinished)
+    };
+    created.context(format_args!("writing {name}"))
 }
 
-// The name beside `name` under which it is written.
-fn beside(alloc: Global, name: &str) -> Result<String> {
+/// The name beside `name` under which it is written.
+pub fn beside(alloc: Global, name: &str) -> Result<String> {
     Ok(format!(in alloc; "{name}.unfinished")?)
 }
 
@@ -24,7 +30,8 @@ pub fn refuse_present(rt: &impl Files, alloc: Global, name: &str, force: bool) -
 
 // Refuses where what is there is no file, or one that may not be written over.
 fn refuse_file(rt: &impl Files, name: &str, force: bool) -> Result<()> {
-    match fs::metadata(rt, name) {
+    // A link is no file here, wherever it leads.
+    match fs::symlink_metadata(rt, name) {
         Ok(there) if !there.is_file() => bail!("{name} is there, and is no file"),
         Ok(_) if !force => bail!("{name} is there already; --force writes over it"),
         Ok(_) => Ok(()),
@@ -53,8 +60,8 @@ fn rename_all(rt: &impl Files, alloc: Global, names: &[String]) -> Result<()> {
     Ok(())
 }
 
-// Removes what was written of these files.
-fn remove_all(rt: &impl Files, alloc: Global, names: &[String]) {
+/// Removes what was written of these files.
+pub fn remove_all(rt: &impl Files, alloc: Global, names: &[String]) {
     for name in names {
         if let Ok(unfinished) = beside(alloc, name) {
             let _ = fs::remove_file(rt, &unfinished);

@@ -3,7 +3,7 @@
 ghost use Rattle.std.specs.Prelude.{◌≡◌, ℕ, ◌<◌, ◌^◌, [], length, get_or, IfOk};
 ghost use Rattle.shards_streams.specs.Writers.{HasHashed};
 
-use crate::output::{create_beside, finish, refuse_present};
+use crate::output::{create_beside, finish, refuse_present, remove_all};
 use crate::watch::Watched;
 use crate::words::SplitWords;
 use anyhow::{Context, Result, anyhow, bail};
@@ -11,10 +11,11 @@ use ark_bytes::{IoSink, IoSource};
 use shards_format::StripeCode;
 use shards_streams::{PieceWriter, StreamError, digest_of, split_into};
 use std::alloc::Global;
-use std::fs;
-use std::io::Eprint;
+use std::fs::{self, OpenFile};
+use std::io::{Eprint, Write};
 use std::path::Path;
 use std::rt::Files;
+use std::time::SystemTime;
 
 /// Writes the pieces of a file.
 pub fn split_file<C: StripeCode, R: Files + Eprint + AllocGlobal>(
@@ -30,10 +31,32 @@ pub fn split_file<C: StripeCode, R: Files + Eprint + AllocGlobal>(
     for name in &names {
         refuse_present(rt, alloc, name, words.force)?;
     }
+    let state = state_of(rt, words.file)?;
     let (len, digest) = digest_of_file(rt, alloc, words)?;
     fs::create_dir_all(rt, words.folder).context(format_args!("making {}", words.folder))?;
-    let written = write_pieces(rt, alloc, &code, len, &digest, words, &names);
+    let writers = new_writers(rt, alloc, &names, words.force)?;
+    let written = write_pieces(rt, alloc, &code, len, &digest, words, &names, writers);
+    let written = match written {
+        Ok(()) => refuse_changed(rt, words.file, state),
+        Err(error) => Err(error),
+    };
     finish(rt, alloc, &names, written)
+}
+
+// How long a file is, and when it was last written.
+fn state_of(rt: &impl Files, file: &str) -> Result<(u64, SystemTime)> {
+    let found = fs::metadata(rt, file).context(format_args!("opening {file}"))?;
+    let modified = found.modified().context(format_args!("opening {file}"))?;
+    Ok((found.len(), modified))
+}
+
+// Refuses where a file isn't as it was: it is read twice, and its pieces would not give it back.
+fn refuse_changed(rt: &impl Files, file: &str, (len, modified): (u64, SystemTime)) -> Result<()> {
+    let now = state_of(rt, file)?;
+    if now.0 != len || now.1 != modified {
+        bail!("{file} was changed while it was split");
+    }
+    Ok(())
 }
 
 // The names of the pieces.
@@ -85,7 +108,7 @@ fn reading_failed(file: &str, error: StreamError) -> anyhow::Error {
     }
 }
 
-// Writes the pieces beside their names.
+// Writes the pieces beside their names, to the end: that a disk is full may come late.
 fn write_pieces<C: StripeCode, R: Files + Eprint>(
     rt: &R,
     alloc: Global,
@@ -94,11 +117,12 @@ fn write_pieces<C: StripeCode, R: Files + Eprint>(
     digest: &[u8; 32],
     words: &SplitWords<'_>,
     names: &[String],
+    mut writers: Vec<PieceWriter<IoSink<R::File>>>,
 ) -> Result<()>
     requires len { len < 2 ^ 62 }
-    requires names { length names.now ≡ C.n_of code.now }
+    requires writers { length writers.items ≡ C.n_of code.now }
+    requires new { (i : ℕ) (d : _) → i < length writers.items → HasHashed (get_or writers.items i d) [] }
 {
-    let mut writers = new_writers(rt, alloc, names)?;
     let mut source = open_watched(rt, words, "split")?;
     match split_into(
         alloc,
@@ -108,26 +132,47 @@ fn write_pieces<C: StripeCode, R: Files + Eprint>(
         &mut source,
         writers.as_mut_slice(),
     ) {
-        Ok(()) => Ok(()),
+        Ok(()) => sync_all(writers, names),
         Err(StreamError::Write(i)) => bail!("writing {} failed", name_at(names, i)),
         Err(error) => Err(reading_failed(words.file, error)),
     }
 }
 
-// A writer of a new piece beside each name.
+// Has the system write what it still holds of the pieces.
+fn sync_all<F: Write + OpenFile + Drop>(
+    mut writers: Vec<PieceWriter<IoSink<F>>>,
+    names: &[String],
+) -> Result<()> {
+    for i in (0..names.len()).rev() {
+        if let Some(writer) = writers.pop() {
+            let name = name_at(names, i);
+            let file = writer.into_sink().into_inner();
+            file.sync_all().context(format_args!("writing {name}"))?;
+        }
+    }
+    Ok(())
+}
+
+// A writer of a new piece beside each name. Where one can't be made, the others are removed again.
 fn new_writers<R: Files>(
     rt: &R,
     alloc: Global,
     names: &[String],
+    force: bool,
 ) -> Result<Vec<PieceWriter<IoSink<R::File>>>>
     ensures len { IfOk result (λ writers. length writers.items ≡ length names.now) }
     ensures new { IfOk result (λ writers. (i : ℕ) (d : _) → i < length writers.items
         → HasHashed (get_or writers.items i d) []) }
 {
     let mut writers = Vec::new(alloc);
-    for name in names {
-        let output = create_beside(rt, alloc, name)?;
-        writers.push(PieceWriter::new(IoSink::new(output)))?;
+    for i in 0..names.len() {
+        match create_beside(rt, alloc, &names[i], force) {
+            Ok(output) => writers.push(PieceWriter::new(IoSink::new(output)))?,
+            Err(error) => {
+                remove_all(rt, alloc, &names[..i]);
+                return Err(error);
+            }
+        }
     }
     Ok(writers)
 }

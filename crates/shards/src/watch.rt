@@ -35,7 +35,7 @@ impl<'a, E: Eprint> Progress<'a, E> {
 }
 
 impl<'a, T, E: Eprint> Watched<'a, T, E> {
-    /// The same, whose progress is shown where that is asked for: so much was read, say.
+    /// Watches a reader or a writer, and shows its progress where that is asked for: so much was read, say.
     pub fn new(inner: T, rt: &'a E, shown: bool, verb: &'a str) -> Self {
         Watched {
             inner,

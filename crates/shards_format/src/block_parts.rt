@@ -11,7 +11,7 @@ use std::alloc::{AllocError, Global};
 
 /// How many stripes so many bytes are, the last one filled with zeros.
 pub fn stripes(k: usize, len: usize) -> usize
-    requires some { 0 < k }
+    requires positive { 0 < k }
     requires few { k ≤ 65536 }
     requires len { len < 2 ^ 63 }
     ensures { result ≡ stripes k len }

@@ -1,6 +1,6 @@
 //! What splitting and joining ask of a code.
 
-ghost use Rattle.std.specs.Prelude.{◌≡◌, ◌≢◌, ℕ, ◌+◌, ◌*◌, ◌<◌, ◌≤◌, ◌^◌, length, get_or, IfSome, OnOk};
+ghost use Rattle.std.specs.Prelude.{◌≡◌, ◌≢◌, ℕ, ◌+◌, ◌*◌, ◌<◌, ◌≤◌, ◌^◌, ◌↔◌, length, get_or, IsSome, IfSome, OnOk};
 
 use std::alloc::{AllocError, Global};
 
@@ -14,15 +14,19 @@ pub trait StripeCode: Drop + Sized {
 
     ghost n_of: { Self → ℕ };
 
-    /// The code for `k` items and `n` places, where there is one.
+    // Whether there is a code for `k` items and `n` places.
+    ghost has: { ℕ → ℕ → Type 0 };
+
+    /// The code for `k` items and `n` places, and `None` exactly where there is none.
     fn new(k: usize, n: usize) -> Option<Self>
+        ensures exists { IsSome result ↔ has k n }
         ensures k { IfSome result (λ c. Self.k_of c ≡ k) }
         ensures n { IfSome result (λ c. Self.n_of c ≡ n) };
 
     /// The number of a stripe's items.
     fn k(&self) -> usize
         ensures k { result ≡ Self.k_of self.now }
-        ensures some { 0 < result }
+        ensures positive { 0 < result }
         ensures few { result ≤ 65536 }
         ensures fits { result ≤ Self.n_of self.now };
 

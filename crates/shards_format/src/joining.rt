@@ -135,6 +135,9 @@ pub fn join<C: StripeCode>(
         → AreOfOneFile (C.k_of code.now) (C.n_of code.now) pieces.now → ⊥ }
     ensures given_twice { result ≡ Err JoinError.GivenTwice → AreApart (numbers_of pieces.now) → ⊥ }
     ensures too_few { result ≡ Err JoinError.TooFew → length pieces.now < C.k_of code.now }
+    ensures wrong_digest { result ≡ Err JoinError.WrongDigest
+        → AreOfOneFile (C.k_of code.now) (C.n_of code.now) pieces.now
+        × AreApart (numbers_of pieces.now) × (C.k_of code.now ≤ length pieces.now) }
 {
     let places = places_of(alloc, pieces)?;
     judge(code, pieces, &places)?;
@@ -207,7 +210,7 @@ pub fn judge<C: StripeCode>(
     ensures one_file { IsOk result → AreOfOneFile (C.k_of code.now) (C.n_of code.now) pieces.now }
     ensures apart { IsOk result → AreApart (numbers_of pieces.now) }
     ensures enough { IsOk result → C.k_of code.now ≤ length pieces.now }
-    ensures some { IsOk result → 0 < length pieces.now }
+    ensures not_empty { IsOk result → 0 < length pieces.now }
     ensures different_files { result ≡ Err JoinError.DifferentFiles
         → AreOfOneFile (C.k_of code.now) (C.n_of code.now) pieces.now → ⊥ }
     ensures given_twice { result ≡ Err JoinError.GivenTwice → AreApart (numbers_of pieces.now) → ⊥ }

@@ -35,7 +35,7 @@ pub struct Piece<'a> {
 
 /// How many blocks so many bytes are, the last one of fewer stripes.
 pub fn blocks(k: usize, len: usize) -> usize
-    requires some { 0 < k }
+    requires positive { 0 < k }
     requires few { k ≤ 65536 }
     requires len { len < 2 ^ 62 }
     ensures { result ≡ blocks k len }
@@ -46,7 +46,7 @@ pub fn blocks(k: usize, len: usize) -> usize
 
 /// How many bytes a piece of so many bytes has, without header and digest.
 pub fn body_size(k: usize, len: usize) -> usize
-    requires some { 0 < k }
+    requires positive { 0 < k }
     requires few { k ≤ 65536 }
     requires len { len < 2 ^ 62 }
     ensures { result ≡ body_size k len }

@@ -5,7 +5,8 @@ use Rattle.std.proofs.Math.Nat.{pow-zero, one-le-pow}
 use Rattle.std.proofs.lemmas.Bool.{cases_lt, leb-true, leb-false}
 use Rattle.ark_math.specs.Field.{FieldOn}
 use Rattle.ark_math.specs.Root.{Adicity, Splits, odd_base}
-use Rattle.ark_math.specs.Domain.{Kind, radix2, mixed_radix, Domain, domain_of, IsDomain, IsSize, IsLeast, IsRadix2}
+use Rattle.ark_math.specs.Domain.{Kind, radix2, mixed_radix, Domain, domain_of, IsDomain, IsSize, IsLeast, IsRadix2, HasNoSize}
+use Rattle.ark_math.proofs.Domains.GeneralSizes.{none_from_no_least}
 use Rattle.ark_math.proofs.Domains.Sizes.{power_lt}
 use Rattle.shards_lib.specs.Numbers.{doubled, domain_size, IsNumberDomain}
 
@@ -98,6 +99,26 @@ radix2_kind s n mixed_radix size h = absurd h
 radix2_least : (s : Adicity) (n : ℕ) (kind : Kind) (size : ℕ) → IsRadix2 s n kind size → IsLeast (IsSize s radix2) n size
 radix2_least s n radix2 size h = h
 radix2_least s n mixed_radix size h = absurd h
+
+-- where a field has the powers of two up to 2^16, each number up to it has a size
+pub has_size : (s : Adicity) (n : ℕ) → 16 ≤ s.two → n ≤ 65536 → HasNoSize (IsRadix2 s) n → ⊥
+has_size s n most few none =
+    let one : odd_base s.odd ^ 0 ≡ 1 = pow-zero (odd_base s.odd) in
+    let whole : 65536 ≡ 2 ^ 16 * 1 = omega arith in
+    let split : Splits s 65536 16 0 = record {
+      product = whole ∙ sym (ap (λ x. 2 ^ 16 * x) one);
+      twos_within = most;
+      odds_within = omega arith;
+      fits = omega arith;
+    } in
+    let below = none_from_no_least (IsSize s radix2) n (λ m least. none radix2 m least) 65536 (16, split) in
+    omega (arith, few, below)
+
+-- and none of its sizes is below it
+pub no_size_below : (s : Adicity) (k n : ℕ) → k ≤ n → (kind : Kind) × (m : ℕ) × IsRadix2 s n kind m × (m < k) → ⊥
+no_size_below s k n fits (kind, (m, (size, below))) =
+    let above = (radix2_least s n kind m size).above in
+    omega (arith, fits, below, above)
 
 module _ {F : Type 0} (K : FieldOn F) (s : Adicity) (root : ℕ → F) (n : ℕ) where
   same_parts : (d e : Domain F) → d.kind ≡ e.kind → d.size ≡ e.size → d.root ≡ e.root → d.offset ≡ e.offset → d ≡ e

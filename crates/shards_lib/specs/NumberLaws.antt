@@ -19,3 +19,6 @@ module _ (M : Type 0) (g : Ghosts M) where
 
   pub to_natural : (P : IsPrime g.MODULUS) (x : PrimeField M g) → natural (prime_field {M = M} {g = g} P) (number x) ≡ x
   to_natural P x = sym (natural_residue P x.value x (same_from_value _ _ (sym (mod-eq_of_lt x.reduced))))
+
+  pub sixteen : g.TWO_ADICITY ≡ 16 → 16 ≤ g.TWO_ADICITY
+  sixteen e = omega (arith, e)

@@ -19,13 +19,16 @@ pub trait NumberField: FftField {
     ghost number_natural: { (n : ℕ) → n ≤ 65536 → number (natural Self.field n) ≡ n };
 
     ghost natural_number: { (x : Self) → natural Self.field (number x) ≡ x };
+
+    // It has domains of all powers of two up to 2^16.
+    ghost has_domains: { 16 ≤ Self.adicity.two };
 }
 
 impl NumberField for F65537 {
     ghost use Rattle.std.proofs.Common.{refl};
     ghost use Rattle.ark_base.specs.Element.{number};
     ghost use Rattle.ark_base.specs.declared.prime_field.Modulus65537.{Modulus65537};
-    ghost use Rattle.shards_lib.specs.NumberLaws.{fits, of_natural, to_natural};
+    ghost use Rattle.shards_lib.specs.NumberLaws.{fits, of_natural, to_natural, sixteen};
 
     ghost number = { number };
 
@@ -36,6 +39,8 @@ impl NumberField for F65537 {
 
     ghost natural_number = { to_natural Modulus65537 ⟦<Modulus65537 as PrimeModulus>⟧
         ⟦<Modulus65537 as PrimeModulus>⟧.modulus.prime };
+
+    ghost has_domains = { sixteen Modulus65537 ⟦<Modulus65537 as PrimeModulus>⟧ refl };
 
     fn to_number(self) -> u32 {
         self.value() as u32

@@ -10,7 +10,7 @@ ghost use Rattle.ark_rows.specs.Row.{lanes};
 ghost use Rattle.rs_code.specs.Codeword.{AgreesElsewhere, IsCodeword, mark_count};
 ghost use Rattle.shards_lib.specs.Numbers.{IsNumberDomain, number_at_place, value_at_place};
 ghost use Rattle.shards_lib.specs.Places.{AreKept};
-ghost use Rattle.shards_lib.specs.Rows.{entry};
+ghost use Rattle.shards_lib.specs.Rows.{HasCode, entry};
 
 use crate::field::NumberField;
 use crate::rows::{message_rows, put_rows, put_stripes, word_rows};
@@ -24,7 +24,9 @@ use std::alloc::{AllocError, Global};
 /// The code of files: over the field of 65537 elements, sixteen stripes at once.
 pub type FileCode = RowCode<F65537, 16>;
 
-/// A code that takes `N` stripes at once.
+/// A code that takes `N` stripes at once, for all `k` and `n` with `0 < k`, `k <= n` and `n <= 2^16`.
+///
+/// Contracts see `k` and `n`.
 #[derive(Drop)]
 pub struct RowCode<F: NumberField, const N: usize> {
     code: DomainCode<F, Radix2EvaluationDomain<F>>,
@@ -51,6 +53,8 @@ impl<F: NumberField, const N: usize> StripeCode for RowCode<F, N> {
     ghost k_of = { λ c. c.code.k };
 
     ghost n_of = { λ c. c.n };
+
+    ghost has = { HasCode N };
 
     ghost number_below = { number_below F.field F.root F.number };
 

@@ -115,7 +115,7 @@ fn with_sparse<F: Field + Numbered>(
     }
 }
 
-/// The same in place.
+/// The sum or difference with a sparse polynomial, in place.
 fn in_place<F: Field + Numbered>(
     alloc: Global,
     name: &str,

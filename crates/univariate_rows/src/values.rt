@@ -223,7 +223,7 @@ fn by_places<F: FftField + Numbered, D: EvaluationDomain<F>>(
     }
 }
 
-/// The same in place.
+/// A call with other values that changes the first ones.
 fn in_place<F: FftField + Numbered, D: EvaluationDomain<F>>(
     alloc: Global,
     name: &str,

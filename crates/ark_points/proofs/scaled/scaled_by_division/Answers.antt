@@ -13,7 +13,7 @@ returns-in-Some-clause-stands g c =
     let division = rw c.in-Some.is at c.in_ok-division.ensures.division in
     let places = c.in_ok-moved.ensures.places in
     quotient_stands K N n m (of_list K c.in_ok-moved.moved) (of_list K c.args.polynomial.now) (of_list K c.in-Some.division.0) (of_list K c.in-Some.division.1) (of_list K c.in_ok-part-in-Some.field-0)
-    c.requires.some c.requires.monic
+    c.requires.positive c.requires.monic
     (λ j. places j ∙ ap (λ t. of_list K t j) c.coeffs.ensures.same)
     (division.quotient some)
     (λ j l.

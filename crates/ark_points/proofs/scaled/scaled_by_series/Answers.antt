@@ -43,7 +43,7 @@ returns-clause-stands g c =
     let scaled = c.in_ok-scaled.ensures.len in
     series_stands K N n len (of_list K c.args.product.now) (of_list K p) (of_list K c.from_coefficients_vec-backwards.result) (of_list K c.in_ok-inverse.inverse)
     (of_list K c.from_coefficients_vec.result) (of_list K c.in_ok-series.series) (of_list K c.from_coefficients_vec-2.result)
-    c.requires.some (omega (arith, c.if-len-eq0.false)) c.requires.monic
+    c.requires.positive (omega (arith, c.if-len-eq0.false)) c.requires.monic
     (subst (λ t. IsBelow K t (of_list K p)) (sym mine) (of_list-below K p))
     (λ i l.
     ap (λ t. t i) c.from_coefficients_vec-backwards.ensures.coefficients

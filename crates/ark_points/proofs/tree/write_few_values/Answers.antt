@@ -38,7 +38,7 @@ returns-clause-values g c =
     let r = of_list K c.in_ok-remainder.remainder in
     λ p stands k l.
     let b : k < n = omega (arith, l) in
-    stands_at_leaf K N n n m p s (cofactor K N points k) (of_list K points k) (of_list K c.loop-i.values k) c.requires.some c.requires.below
+    stands_at_leaf K N n n m p s (cofactor K N points k) (of_list K points k) (of_list K c.loop-i.values k) c.requires.not_empty c.requires.below
     (cofactor-below K N points k b) (cofactor-whole K N points k b) stands
     (subst (λ a. IsValue K a (of_list K points k) (of_list K c.loop-i.values k))
     (past_of_product K N n _ m s r (of_list K c.in-Ok.whole)

@@ -14,7 +14,7 @@ returns-clause-accepted g c =
     let rs = c.variables.rounds.items in
     let none : variables_of left ≡ 0 = omega arith in
     let count : length rs ≡ variables_of p = omega (arith, c.variables.invariant.count) in
-    let some : 0 < length ts = subst (λ n. 0 < n) c.degree-degree.ensures.factors c.degree-degree.ensures.some in
+    let some : 0 < length ts = subst (λ n. 0 < n) c.degree-degree.ensures.factors c.degree-degree.ensures.positive in
     subst (λ n. AreAccepted K (length ts) (cube_sum K n ts) rs (product_value K ts (challenges rs))) count
     (true_accepted K g.met.F.Field.field_laws (length ts) ts rs some (omega arith)
     (AreTrueSoFar-end K (length ts) ts rs (tables_of K left) (variables_of left) none c.variables.invariant.truth))

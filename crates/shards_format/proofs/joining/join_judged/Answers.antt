@@ -27,7 +27,7 @@ returns g c = λ bytes small given.
     let places = c.args.places.now in
     let view : Bor (List ℕ) → List ℕ = λ body. body.now in
     let shown : Piece → List ℕ = λ piece. piece.body.now in
-    let some : 0 < length pieces = omega (arith, c.k-k.ensures.some, c.k-k.ensures.k, c.requires.enough) in
+    let some : 0 < length pieces = omega (arith, c.k-k.ensures.positive, c.k-k.ensures.k, c.requires.enough) in
     c.in_ok-joined.ensures bytes small (sym (given 0 no_piece some).len) (λ a h.
     let inside : a < c.k-k.result = subst (λ m. a < m) (sym c.k-k.ensures.k) h in
     let present : a < length pieces = omega (arith, h, c.requires.enough) in

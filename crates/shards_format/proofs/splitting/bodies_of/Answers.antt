@@ -21,7 +21,7 @@ loop-b-preserved g c =
     let long : length new ≡ c.loop-b.bodies.len = omega (arith, c.append_each.auto.lists, c.as_mut_slice.ensures.len) in
     let whole = take_at new (drop (length new) bodies) c.loop-b.bodies.len long in
     let count : length new ≡ n = omega (arith, c.append_each.auto.lists, ap length c.as_mut_slice.ensures.value, c.loop-b.invariant.len) in
-    let some : 0 < k = subst (λ m. 0 < m) c.k-k.ensures.k c.k-k.ensures.some in
+    let some : 0 < k = subst (λ m. 0 < m) c.k-k.ensures.k c.k-k.ensures.positive in
     let block_is : c.chunk.result.now ≡ chunk (block_size k) b bytes = c.chunk.ensures ∙ ap (λ m. chunk (block_size m) b bytes) c.k-k.ensures.k in
     let below : b < blocks k (length bytes) = subst (λ m. b < m) (c.blocks-b-end.ensures ∙ ap (λ m. blocks m (length bytes)) c.k-k.ensures.k) c.loop-b-test.true in
     let parts_len : length c.deref.result.now ≡ n = ap length c.deref.ensures.value ∙ c.in_ok-parts.ensures.len in
@@ -44,7 +44,7 @@ returns-clause-bodies g c =
     let n = code.n_of c.args.code.now in
     let bytes = c.args.bytes.now in
     let view : Vec ℕ Global → List ℕ = λ body. body.items in
-    let some : 0 < k = subst (λ m. 0 < m) c.k-k.ensures.k c.k-k.ensures.some in
+    let some : 0 < k = subst (λ m. 0 < m) c.k-k.ensures.k c.k-k.ensures.positive in
     let end : c.loop-b.b ≡ c.blocks-b-end.result = omega (arith, c.loop-b-test.false, c.loop-b.auto.b-end) in
     let all : c.loop-b.b ≡ blocks k (length bytes) = end ∙ c.blocks-b-end.ensures ∙ ap (λ m. blocks m (length bytes)) c.k-k.ensures.k in
     λ i h. whole_body code.number k n bytes i some _ (subst (λ b. HaveParts code.number k n bytes i b (get_or (map view c.loop-b.bodies.items) i [])) all (c.loop-b.invariant.bodies i h))

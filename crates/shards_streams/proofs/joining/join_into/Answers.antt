@@ -23,7 +23,7 @@ loop-b-preserved g c =
     let now = c.loop-b.sources in
     let new = c.take_parts.new.sources in
     let numbers = c.in_ok-numbers.numbers.items in
-    let some : 0 < k = subst (λ m. 0 < m) c.k-k.ensures.k c.k-k.ensures.some in
+    let some : 0 < k = subst (λ m. 0 < m) c.k-k.ensures.k c.k-k.ensures.positive in
     let size_is : block_size c.k-k.result ≡ block_size k = ap block_size c.k-k.ensures.k in
     let want_is : want ≡ min (block_size k) (c.args.len - b * block_size k) = c.min-want.ensures ∙ ap (λ m. min m (c.args.len - b * m)) size_is in
     let count_is : count ≡ stripes k want = c.stripes-count.ensures ∙ ap (λ m. stripes m want) c.k-k.ensures.k in
@@ -41,14 +41,14 @@ pub returns-in_err-numbers-clause-beginning : goal.returns-in_err-numbers-clause
 returns-in_err-numbers-clause-beginning g c =
     let code = g.C.StripeCode in
     let k = code.k_of c.args.code.now in
-    let some : 0 < k = subst (λ m. 0 < m) c.k-k.ensures.k c.k-k.ensures.some in
+    let some : 0 < k = subst (λ m. 0 < m) c.k-k.ensures.k c.k-k.ensures.positive in
     err_any _ _ (begun g.R.Source.remaining code.number k (code.n_of c.args.code.now) c.args.places.now c.args.len c.loop-b.b (g.W.Sink.contents c.args.sink.now) (g.W.Sink.contents c.loop-b.sink) c.loop-b.hasher c.args.sources.now c.loop-b.sources some c.loop-b.invariant)
 
 pub returns-in_err-block-clause-beginning : goal.returns-in_err-block-clause-beginning
 returns-in_err-block-clause-beginning g c =
     let code = g.C.StripeCode in
     let k = code.k_of c.args.code.now in
-    let some : 0 < k = subst (λ m. 0 < m) c.k-k.ensures.k c.k-k.ensures.some in
+    let some : 0 < k = subst (λ m. 0 < m) c.k-k.ensures.k c.k-k.ensures.positive in
     err_any _ _ (begun g.R.Source.remaining code.number k (code.n_of c.args.code.now) c.args.places.now c.args.len c.loop-b.b (g.W.Sink.contents c.args.sink.now) (g.W.Sink.contents c.loop-b.sink) c.loop-b.hasher c.args.sources.now c.loop-b.sources some c.loop-b.invariant)
 
 pub returns-in_err-put-clause-beginning : goal.returns-in_err-put-clause-beginning
@@ -63,7 +63,7 @@ returns-in_err-put-clause-beginning g c =
     let now = c.loop-b.sources in
     let new = c.take_parts.new.sources in
     let numbers = c.in_ok-numbers.numbers.items in
-    let some : 0 < k = subst (λ m. 0 < m) c.k-k.ensures.k c.k-k.ensures.some in
+    let some : 0 < k = subst (λ m. 0 < m) c.k-k.ensures.k c.k-k.ensures.positive in
     let size_is : block_size c.k-k.result ≡ block_size k = ap block_size c.k-k.ensures.k in
     let want_is : want ≡ min (block_size k) (c.args.len - b * block_size k) = c.min-want.ensures ∙ ap (λ m. min m (c.args.len - b * m)) size_is in
     let count_is : count ≡ stripes k want = c.stripes-count.ensures ∙ ap (λ m. stripes m want) c.k-k.ensures.k in
@@ -81,7 +81,7 @@ pub returns-clause-file : goal.returns-clause-file
 returns-clause-file g c =
     let code = g.C.StripeCode in
     let k = code.k_of c.args.code.now in
-    let some : 0 < k = subst (λ m. 0 < m) c.k-k.ensures.k c.k-k.ensures.some in
+    let some : 0 < k = subst (λ m. 0 < m) c.k-k.ensures.k c.k-k.ensures.positive in
     let n = code.n_of c.args.code.now in
     let end : c.loop-b.b ≡ c.blocks-b-end.result = omega (arith, c.loop-b-test.false, c.loop-b.auto.b-end) in
     let all : c.loop-b.b ≡ blocks k c.args.len = end ∙ c.blocks-b-end.ensures ∙ ap (λ m. blocks m c.args.len) c.k-k.ensures.k in
@@ -92,7 +92,7 @@ pub returns-clause-digest : goal.returns-clause-digest
 returns-clause-digest g c =
     let code = g.C.StripeCode in
     let k = code.k_of c.args.code.now in
-    let some : 0 < k = subst (λ m. 0 < m) c.k-k.ensures.k c.k-k.ensures.some in
+    let some : 0 < k = subst (λ m. 0 < m) c.k-k.ensures.k c.k-k.ensures.positive in
     let n = code.n_of c.args.code.now in
     let end : c.loop-b.b ≡ c.blocks-b-end.result = omega (arith, c.loop-b-test.false, c.loop-b.auto.b-end) in
     let all : c.loop-b.b ≡ blocks k c.args.len = end ∙ c.blocks-b-end.ensures ∙ ap (λ m. blocks m c.args.len) c.k-k.ensures.k in

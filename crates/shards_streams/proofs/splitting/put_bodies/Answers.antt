@@ -10,7 +10,7 @@ pub loop-b-init : goal.loop-b-init
 loop-b-init g c =
     let code = g.C.StripeCode in
     let state : g.row.R.Denot → SourceState = λ r. source_state g.R.Source.remaining g.R.Source.failures r in
-    let some : 0 < code.k_of c.args.code.now = subst (λ m. 0 < m) c.k-k.ensures.k c.k-k.ensures.some in
+    let some : 0 < code.k_of c.args.code.now = subst (λ m. 0 < m) c.k-k.ensures.k c.k-k.ensures.positive in
     record {
       len = refl;
       took = no_blocks g.W.Sink code.number (code.k_of c.args.code.now) (code.n_of c.args.code.now) some c.args.len (state c.args.source.now) c.args.writers.now;
@@ -23,7 +23,7 @@ loop-b-preserved g c =
     let k = code.k_of c.args.code.now in
     let n = code.n_of c.args.code.now in
     let b = c.loop-b.b in
-    let some : 0 < k = subst (λ m. 0 < m) c.k-k.ensures.k c.k-k.ensures.some in
+    let some : 0 < k = subst (λ m. 0 < m) c.k-k.ensures.k c.k-k.ensures.positive in
     let size_is : block_size c.k-k.result ≡ block_size k = ap block_size c.k-k.ensures.k in
     let want_is : c.min-want.result ≡ min (block_size k) (c.args.len - b * block_size k) = c.min-want.ensures ∙ ap (λ m. min m (c.args.len - b * m)) size_is in
     let block = c.in_ok-block.block.items in
@@ -44,7 +44,7 @@ returns-in_err-block-clause-some g c =
     let k = code.k_of c.args.code.now in
     let n = code.n_of c.args.code.now in
     let b = c.loop-b.b in
-    let some : 0 < k = subst (λ m. 0 < m) c.k-k.ensures.k c.k-k.ensures.some in
+    let some : 0 < k = subst (λ m. 0 < m) c.k-k.ensures.k c.k-k.ensures.positive in
     let below : b < blocks k c.args.len = subst (λ m. b < m) (c.blocks-b-end.ensures ∙ ap (λ m. blocks m c.args.len) c.k-k.ensures.k) c.loop-b-test.true in
     err_any _ _ (blocks_stopped g.W.Sink code.number k n some c.args.len b (state c.args.source.now) (state c.loop-b.source) c.args.writers.now c.loop-b.writers c.loop-b.invariant.took below (g.R.Source.remaining c.take_bytes.new.source) c.in_err-block.ensures.some)
 
@@ -55,7 +55,7 @@ returns-in_err-put_block-clause-some g c =
     let k = code.k_of c.args.code.now in
     let n = code.n_of c.args.code.now in
     let b = c.loop-b.b in
-    let some : 0 < k = subst (λ m. 0 < m) c.k-k.ensures.k c.k-k.ensures.some in
+    let some : 0 < k = subst (λ m. 0 < m) c.k-k.ensures.k c.k-k.ensures.positive in
     let size_is : block_size c.k-k.result ≡ block_size k = ap block_size c.k-k.ensures.k in
     let want_is : c.min-want.result ≡ min (block_size k) (c.args.len - b * block_size k) = c.min-want.ensures ∙ ap (λ m. min m (c.args.len - b * m)) size_is in
     let len_is : length c.in_ok-block.block.items ≡ min (block_size k) (c.args.len - b * block_size k) = c.in_ok-block.ensures.len ∙ want_is in
@@ -70,7 +70,7 @@ returns-clause-took g c =
     let state : g.row.R.Denot → SourceState = λ r. source_state g.R.Source.remaining g.R.Source.failures r in
     let k = code.k_of c.args.code.now in
     let n = code.n_of c.args.code.now in
-    let some : 0 < k = subst (λ m. 0 < m) c.k-k.ensures.k c.k-k.ensures.some in
+    let some : 0 < k = subst (λ m. 0 < m) c.k-k.ensures.k c.k-k.ensures.positive in
     let end : c.loop-b.b ≡ c.blocks-b-end.result = omega (arith, c.loop-b-test.false, c.loop-b.auto.b-end) in
     let all : c.loop-b.b ≡ blocks k c.args.len = end ∙ c.blocks-b-end.ensures ∙ ap (λ m. blocks m c.args.len) c.k-k.ensures.k in
     all_blocks g.W.Sink code.number k n some c.args.len (state c.args.source.now) (state c.loop-b.source) c.args.writers.now c.loop-b.writers

@@ -23,7 +23,7 @@ returns-in_err-put_each-clause-beginnings g c =
     let view : Vec ℕ Global → List ℕ = λ head. head.items in
     let heads = c.in_ok-heads.heads.items in
     let head_at : ℕ → List ℕ = λ i. get_or (map view heads) i [] in
-    let some : 0 < k = subst (λ m. 0 < m) c.k-k.ensures.k c.k-k.ensures.some in
+    let some : 0 < k = subst (λ m. 0 < m) c.k-k.ensures.k c.k-k.ensures.positive in
     let headers : (i : ℕ) → i < n → IsHeader (head_at i) (header_with k n c.args.len c.args.digest.now i) = λ i h.
     subst (λ m. IsHeader (head_at i) (header_with m n c.args.len c.args.digest.now i)) c.k-k.ensures.k
     (subst (λ m. IsHeader (head_at i) (header_with c.k-k.result m c.args.len c.args.digest.now i)) c.n-n.ensures.n (c.in_ok-heads.ensures.heads i (subst (λ m. i < m) (sym c.n-n.ensures.n) h))) in
@@ -42,7 +42,7 @@ returns-in_err-put_bodies-clause-beginnings g c =
     let view : Vec ℕ Global → List ℕ = λ head. head.items in
     let heads = c.in_ok-heads.heads.items in
     let head_at : ℕ → List ℕ = λ i. get_or (map view heads) i [] in
-    let some : 0 < k = subst (λ m. 0 < m) c.k-k.ensures.k c.k-k.ensures.some in
+    let some : 0 < k = subst (λ m. 0 < m) c.k-k.ensures.k c.k-k.ensures.positive in
     let headers : (i : ℕ) → i < n → IsHeader (head_at i) (header_with k n c.args.len c.args.digest.now i) = λ i h.
     subst (λ m. IsHeader (head_at i) (header_with m n c.args.len c.args.digest.now i)) c.k-k.ensures.k
     (subst (λ m. IsHeader (head_at i) (header_with c.k-k.result m c.args.len c.args.digest.now i)) c.n-n.ensures.n (c.in_ok-heads.ensures.heads i (subst (λ m. i < m) (sym c.n-n.ensures.n) h))) in
@@ -61,7 +61,7 @@ returns-clause-pieces g c =
     let view : Vec ℕ Global → List ℕ = λ head. head.items in
     let heads = c.in_ok-heads.heads.items in
     let head_at : ℕ → List ℕ = λ i. get_or (map view heads) i [] in
-    let some : 0 < k = subst (λ m. 0 < m) c.k-k.ensures.k c.k-k.ensures.some in
+    let some : 0 < k = subst (λ m. 0 < m) c.k-k.ensures.k c.k-k.ensures.positive in
     let headers : (i : ℕ) → i < n → IsHeader (head_at i) (header_with k n c.args.len c.args.digest.now i) = λ i h.
     subst (λ m. IsHeader (head_at i) (header_with m n c.args.len c.args.digest.now i)) c.k-k.ensures.k
     (subst (λ m. IsHeader (head_at i) (header_with c.k-k.result m c.args.len c.args.digest.now i)) c.n-n.ensures.n (c.in_ok-heads.ensures.heads i (subst (λ m. i < m) (sym c.n-n.ensures.n) h))) in
@@ -89,7 +89,7 @@ returns-clause-beginnings g c =
     let view : Vec ℕ Global → List ℕ = λ head. head.items in
     let heads = c.in_ok-heads.heads.items in
     let head_at : ℕ → List ℕ = λ i. get_or (map view heads) i [] in
-    let some : 0 < k = subst (λ m. 0 < m) c.k-k.ensures.k c.k-k.ensures.some in
+    let some : 0 < k = subst (λ m. 0 < m) c.k-k.ensures.k c.k-k.ensures.positive in
     let headers : (i : ℕ) → i < n → IsHeader (head_at i) (header_with k n c.args.len c.args.digest.now i) = λ i h.
     subst (λ m. IsHeader (head_at i) (header_with m n c.args.len c.args.digest.now i)) c.k-k.ensures.k
     (subst (λ m. IsHeader (head_at i) (header_with c.k-k.result m c.args.len c.args.digest.now i)) c.n-n.ensures.n (c.in_ok-heads.ensures.heads i (subst (λ m. i < m) (sym c.n-n.ensures.n) h))) in
