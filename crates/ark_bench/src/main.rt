@@ -32,6 +32,7 @@ use draws::Draws;
 use pieces::report_pieces;
 use points::{BoundTable, VARIABLES, ValueAtPoint, polynomial_of_terms};
 use polynomials::{Interpolation, LongDivision, OfTwo, Quotients, SparseProduct, Value, Way};
+use shards_format::StripeCode;
 use shards_lib::FileCode;
 use std::alloc::{AllocGlobal, Global};
 use std::env;
@@ -45,26 +46,39 @@ fn main(rt: HostRuntime) -> anyhow::Result<()> {
         Some(word) => word.as_str() == "time",
         None => false,
     };
+    report_all::<F65537, F433, BabyBear, KoalaBear, Goldilocks, FileCode>(&rt, rt.alloc(), timed)
+}
+
+// Everything, over a field with 2^16 units, one with mixed domains, and three with large domains; and the pieces of files by
+// a code.
+fn report_all<
+    F: FftField + Number,
+    M: FftField + Number,
+    B: FftField + Number,
+    K: FftField + Number,
+    G: FftField + Number,
+    C: StripeCode,
+>(rt: &(impl Print + Clock), alloc: Global, timed: bool) -> anyhow::Result<()> {
     let mut draws = Draws::new();
     let names = ["radix2_fft_in_place", "radix2_ifft_in_place"];
     let sizes = [1 << 10, 1 << 12, 1 << 14, 1 << 16];
-    report_radix2::<F65537>(&rt, rt.alloc(), timed, &mut draws, names, &sizes)?;
-    report_mixed_radix::<F433>(&rt, rt.alloc(), timed, &mut draws)?;
-    report_polynomials::<F65537>(&rt, rt.alloc(), timed, &mut draws)?;
-    report_at_points::<F65537>(&rt, rt.alloc(), timed)?;
-    report_codes::<F65537>(&rt, rt.alloc(), timed)?;
+    report_radix2::<F>(rt, alloc, timed, &mut draws, names, &sizes)?;
+    report_mixed_radix::<M>(rt, alloc, timed, &mut draws)?;
+    report_polynomials::<F>(rt, alloc, timed, &mut draws)?;
+    report_at_points::<F>(rt, alloc, timed)?;
+    report_codes::<F>(rt, alloc, timed)?;
     let names = ["baby_bear_fft_in_place", "baby_bear_ifft_in_place"];
-    report_large_field::<BabyBear>(&rt, rt.alloc(), timed, names)?;
+    report_large_field::<B>(rt, alloc, timed, names)?;
     let names = ["koala_bear_fft_in_place", "koala_bear_ifft_in_place"];
-    report_large_field::<KoalaBear>(&rt, rt.alloc(), timed, names)?;
+    report_large_field::<K>(rt, alloc, timed, names)?;
     let names = ["goldilocks_fft_in_place", "goldilocks_ifft_in_place"];
-    report_large_field::<Goldilocks>(&rt, rt.alloc(), timed, names)?;
+    report_large_field::<G>(rt, alloc, timed, names)?;
     if timed {
-        report_pieces::<FileCode>(&rt, rt.alloc(), timed)?;
+        report_pieces::<C>(rt, alloc, timed)?;
         // How the time grows with the size.
         let names = ["growth_fft_in_place", "growth_ifft_in_place"];
         let sizes = [1 << 16, 1 << 18, 1 << 20, 1 << 22];
-        report_radix2::<BabyBear>(&rt, rt.alloc(), true, &mut draws, names, &sizes)?;
+        report_radix2::<B>(rt, alloc, true, &mut draws, names, &sizes)?;
     }
     Ok(())
 }
