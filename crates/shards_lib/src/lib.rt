@@ -1,4 +1,5 @@
 //! Files in pieces, by the erasure codes of `rs_code`: stripes are messages over a field that has the numbers up to 2^16.
+//! What splits and joins in memory, over any code, is shown again.
 #![tactic(auto)]
 
 mod field;
@@ -6,4 +7,5 @@ mod rows;
 mod stripes;
 
 pub use field::NumberField;
+pub use shards_format::{JoinError, Piece, StripeCode, join, split, split_then_join};
 pub use stripes::{FileCode, RowCode};
