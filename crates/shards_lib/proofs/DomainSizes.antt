@@ -116,7 +116,7 @@ has_size s n most few none =
 
 -- and none of its sizes is below it
 pub no_size_below : (s : Adicity) (k n : ℕ) → k ≤ n → (kind : Kind) × (m : ℕ) × IsRadix2 s n kind m × (m < k) → ⊥
-no_size_below s k n fits (kind, (m, (size, below))) =
+no_size_below s k n fits (kind, m, size, below) =
     let above = (radix2_least s n kind m size).above in
     omega (arith, fits, below, above)
 

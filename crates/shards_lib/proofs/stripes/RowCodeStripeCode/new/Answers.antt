@@ -1,9 +1,9 @@
-use Rattle.std.proofs.Common.{arith, rules}
+use Rattle.std.proofs.Common.{arith, rules, refl, false, inl, inr}
 use Rattle.ark_math.specs.Domain.{IsDomain}
 use Rattle.ark_math.proofs.Domains.Domains.{radix2_is_domain}
 use Rattle.ark_math.proofs.Domains.LawfulDomains.{lawful_domain, elements_differ}
 use Rattle.rs_code.specs.Code.{IsCode}
-use Rattle.shards_lib.proofs.DomainSizes.{same_domain, number_domain, domain_room}
+use Rattle.shards_lib.proofs.DomainSizes.{same_domain, number_domain, domain_room, has_size, no_size_below}
 use Rattle.shards_lib.proofs.stripes.RowCodeStripeCode.new.Goals as goal
 
 pub invariant_of-result : goal.invariant_of-result
@@ -36,3 +36,25 @@ invariant_of-result g c =
       same = same_domain K s root n _ d D L c.in_ok-domain.ensures.chosen chosen c.in_ok-domain.ensures.subgroup offset;
       wide = omega (arith, no_lanes);
     }
+
+-- each n up to 2^16 has a size
+pub returns-in_err-domain-clause-exists : goal.returns-in_err-domain-clause-exists
+returns-in_err-domain-clause-exists g c =
+    let few = c.if-n-gt65536.false in
+    absurd (has_size g.F.FftField.adicity c.args.n g.met.F.NumberField.has_domains (omega (arith, few)) (c.in_err-domain.ensures.none.0 (refl {a = false})))
+
+-- and not one below k
+pub returns-in_err-code-clause-exists : goal.returns-in_err-code-clause-exists
+returns-in_err-code-clause-exists g c =
+    let s = g.F.FftField.adicity in
+    let n = c.args.n in
+    let few = c.if-n-gt65536.false in
+    let no_items = c.if-k-eq0.false in
+    let enough = c.if-n-k.false in
+    absurd (elim (c.in_err-code.ensures.none.0 (refl {a = false})) [
+      | inl zero ↦ omega (arith, zero, no_items)
+      | inr none ↦ elim none [
+        | inl no_size ↦ has_size s n g.met.F.NumberField.has_domains (omega (arith, few)) no_size
+        | inr below ↦ no_size_below s c.args.k n (omega (arith, enough)) below
+      ]
+    ])
