@@ -1,4 +1,4 @@
-use Rattle.std.proofs.Common.{◌≡◌, ◌<◌, ◌≤◌, arith, length, get_or, take, [], sym, subst, ap, ◌∙◌}
+use Rattle.std.proofs.Common.{◌<◌, ◌≤◌, arith, length, get_or, [], sym, subst, ap, ◌∙◌}
 use Rattle.std.proofs.lemmas.List.{get_or-take, length-take}
 use Rattle.shards_format.proofs.GivenPieces.{given_below, no_piece}
 use Rattle.shards.proofs.joining.write_file.Goals as goal
