@@ -164,7 +164,8 @@ fn new_writers<R: Files>(
     ensures new { IfOk result (λ writers. (i : ℕ) (d : _) → i < length writers.items
         → HasHashed (get_or writers.items i d) []) }
 {
-    let mut writers = Vec::new(alloc);
+    // With room for all, so that none is made that is not handed on.
+    let mut writers = Vec::with_capacity(alloc, names.len())?;
     for i in 0..names.len() {
         match create_beside(rt, alloc, &names[i], force) {
             Ok(output) => writers.push(PieceWriter::new(IoSink::new(output)))?,
