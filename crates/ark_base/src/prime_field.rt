@@ -210,7 +210,7 @@ impl<M: PrimeModulus> PrimeField<M> {
     }
 
     /// The residue of `low + 2^64 * high` modulo 2^64 - 2^32 + 1, of which 2^64 leaves 2^32 - 1, and 2^96 minus one.
-    /// Where `rest` isn't zero, `more` is above zero and below the prime, so that one comparison is enough.
+    /// `more` is below the prime, and `low + more` below twice the prime, so that one comparison is enough.
     fn reduce_goldilocks(low: u64, high: u64) -> Self
         requires { M.MODULUS ≡ 18446744069414584321 }
         ensures { result.value ≡ (low + 2 ^ 64 * high) % M.MODULUS }

@@ -127,9 +127,9 @@ module _ {F : Type 0} (K : FieldOn F) (N : IsField K) where
 -- ---- rows of such values
 
 -- the values at x of the polynomials through n of the values each, from every place on
-pub record IsRow {F : Type 0} (K : FieldOn F) (values : List F) (x : F) (n : ℕ) (row : List F) : Type 0 where
-  pub len : length row ≡ length values
-  pub parts : (i : ℕ) → i + n ≤ length values → IsPart K (of_list K values) (n - 1) i x (of_list K row i)
+pub record IsRow {F : Type 0} (K : FieldOn F) (values : List F) (x : F) (n : ℕ) (partials : List F) : Type 0 where
+  pub len : length partials ≡ length values
+  pub parts : (i : ℕ) → i + n ≤ length values → IsPart K (of_list K values) (n - 1) i x (of_list K partials i)
   pub different : AreDifferent K n
 
 -- the next value in place i, by those in places i and i + 1
@@ -137,16 +137,16 @@ abbrev pub neighbours : {F : Type 0} → FieldOn F → F → F → (ℕ → F) �
 neighbours K x c a i = K.plus (a i) (K.times (K.times (minus K x (natural K i)) c) (minus K (a (i + 1)) (a i)))
 
 module _ {F : Type 0} (K : FieldOn F) (N : IsField K) where
-  pub IsRow-begin : (values : List F) (x : F) (row : List F) → row ≡ values → IsRow K values x 1 row
-  IsRow-begin values x row e = record {
+  pub IsRow-begin : (values : List F) (x : F) (partials : List F) → partials ≡ values → IsRow K values x 1 partials
+  IsRow-begin values x partials e = record {
     len = ap length e;
     parts = λ i l. subst (λ r. IsPart K (of_list K values) 0 i x (of_list K r i)) (sym e) (IsPart-one K N (of_list K values) i x);
     different = λ i l m. absurd (omega arith);
   }
 
-  pub IsRow-more : (values : List F) (x : F) (n : ℕ) (row next : List F) (c : F) → 0 < n → n < length values → K.times (natural K n) c ≡ K.one → IsRow K values x n row → length next ≡ length row
-      → ((i : ℕ) → i < length values - n → of_list K next i ≡ neighbours K x c (of_list K row) i) → IsRow K values x (n + 1) next
-  IsRow-more values x n row next c some few inverse h len is = record {
+  pub IsRow-more : (values : List F) (x : F) (n : ℕ) (partials next : List F) (c : F) → 0 < n → n < length values → K.times (natural K n) c ≡ K.one → IsRow K values x n partials → length next ≡ length partials
+      → ((i : ℕ) → i < length values - n → of_list K next i ≡ neighbours K x c (of_list K partials) i) → IsRow K values x (n + 1) next
+  IsRow-more values x n partials next c some few inverse h len is = record {
     len = len ∙ h.len;
     parts = λ i l.
         let k = n - 1 in
@@ -155,9 +155,9 @@ module _ {F : Type 0} (K : FieldOn F) (N : IsField K) where
         let s : i + 1 ≡ suc i = omega arith in
         subst (λ m. IsPart K (of_list K values) m i x (of_list K next i)) f
         (subst (IsPart K (of_list K values) (suc k) i x) (sym (is i (omega arith)))
-        (IsPart-more K N (of_list K values) k i x (of_list K row i) (of_list K row (i + 1)) c (ap (λ m. K.times (natural K m) c) e ∙ inverse)
+        (IsPart-more K N (of_list K values) k i x (of_list K partials i) (of_list K partials (i + 1)) c (ap (λ m. K.times (natural K m) c) e ∙ inverse)
         (h.parts i (omega arith))
-        (subst (λ m. IsPart K (of_list K values) k m x (of_list K row (i + 1))) s (h.parts (i + 1) (omega arith)))));
+        (subst (λ m. IsPart K (of_list K values) k m x (of_list K partials (i + 1))) s (h.parts (i + 1) (omega arith)))));
     different = λ i l m. ⊎_elim
         (λ (e : i ≡ n). λ z. N.one_not_zero
         (sym inverse ∙ ap (λ m. K.times (natural K m) c) (sym e) ∙ ap (λ y. K.times y c) z ∙ ring1 K N (λ c. (nought ⊗ c, nought)) refl c))
@@ -165,6 +165,6 @@ module _ {F : Type 0} (K : FieldOn F) (N : IsField K) where
         (cases_eq i n);
   }
 
-  pub IsRow-end : (values : List F) (x : F) (n : ℕ) (row : List F) (y : F) → 0 < length values → n ≡ length values → y ≡ of_list K row 0 → IsRow K values x n row → IsValueThrough K values x y
-  IsRow-end values x n row y some e is h =
+  pub IsRow-end : (values : List F) (x : F) (n : ℕ) (partials : List F) (y : F) → 0 < length values → n ≡ length values → y ≡ of_list K partials 0 → IsRow K values x n partials → IsValueThrough K values x y
+  IsRow-end values x n partials y some e is h =
       IsPart-all K N values (n - 1) x y (omega arith) (subst (IsPart K (of_list K values) (n - 1) 0 x) (sym is) (h.parts 0 (omega arith)))

@@ -188,7 +188,7 @@ pub trait EvaluationDomain<F: FftField>: Copy
     /// coefficients `n/2 * log2(d)`, where `d` is the least power of two at or above their number. Over `n = 2^a * q^b`
     /// elements of a mixed radix domain it takes `a * n/2` butterflies and `b * n/q` steps. A butterfly is one product,
     /// a step `q^2 - 1`, and at most `n` products more shift to a coset. Beside the values there is memory for `n/2`
-    /// field elements while it runs; in a mixed radix domain for `n`, and for `n` values more.
+    /// field elements while it runs; in a mixed radix domain for at most `n + 2^a`, and for `n` values more.
     final fn fft<T: DomainCoeff<F>>(&self, alloc: Global, coeffs: &[T]) -> Result<Vec<T>, PolyError>
         ensures transform { IfOk result (λ values. map T.meaning values.items
             ≡ transform F.field T.group (domain self.now) (map T.meaning coeffs.now)) }

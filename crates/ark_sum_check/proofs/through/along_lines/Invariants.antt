@@ -7,4 +7,4 @@ use Rattle.ark_sum_check.proofs.through.along_lines.Given as goal
 abbrev pub invariant-loop-i : goal.invariant-loop-i
 invariant-loop-i g l =
     let K = g.F.Field.field in
-    of_list K l.row ≡ zipped (λ _ y. y) l.i (of_list K l.initial.row) (neighbours K l.x l.inverse (of_list K l.initial.row))
+    of_list K l.partials ≡ zipped (λ _ y. y) l.i (of_list K l.initial.partials) (neighbours K l.x l.inverse (of_list K l.initial.partials))
