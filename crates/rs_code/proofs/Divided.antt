@@ -10,8 +10,8 @@ use Rattle.ark_math.proofs.Algebra.Sums.{sum_below-powers}
 use Rattle.ark_math.proofs.Algebra.Solve.{◌⊞◌, ◌•◌, negative}
 use Rattle.ark_math.proofs.Algebra.Ring.{module1_2}
 use Rattle.ark_math.proofs.Domains.Elements.{elements_differ, minus_not_zero}
-use Rattle.rs_code.specs.Locator.{lost_from}
-use Rattle.rs_code.proofs.Locators.{value, value-same, IsShort, by_factor, by_factors, by_factor-value}
+use Rattle.rs_code.specs.Locator.{lost_from, by_factor, by_factors}
+use Rattle.rs_code.proofs.Locators.{value, value-same, IsShort, by_factor-value}
 
 module _ {F M : Type 0} {K : FieldOn F} {V : ModuleOn F M} (N : IsField K) (L : IsModule K V) where
   -- a factor that isn't zero, on both sides

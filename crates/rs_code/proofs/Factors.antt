@@ -12,9 +12,9 @@ use Rattle.ark_math.proofs.Algebra.Ring.{ring1, ring2, ring3}
 use Rattle.ark_math.proofs.Polynomials.Univariate.{monomial-below, IsBelow-more}
 use Rattle.ark_math.proofs.Polynomials.UnivariateProducts.{product_comm, product_assoc, difference-product, monomial-product_past, monomial-product_before, one-product}
 use Rattle.ark_math.proofs.Polynomials.UnivariateValues.{value_below-monomial, value_below-past}
-use Rattle.rs_code.specs.Locator.{linear, locator, located, slope, derived}
+use Rattle.rs_code.specs.Locator.{linear, locator, located, slope, derived, by_factor, by_factors}
 use Rattle.rs_code.proofs.Places.{halves}
-use Rattle.rs_code.proofs.Locators.{value, IsShort, by_factor, by_factors, by_factors-short, by_factors-value, derived-value, derived-short}
+use Rattle.rs_code.proofs.Locators.{value, IsShort, by_factors-short, by_factors-value, derived-value, derived-short}
 
 -- the coefficient before
 abbrev pub before : {F : Type 0} → FieldOn F → (ℕ → F) → ℕ → F

@@ -7,6 +7,7 @@ pub mod Lost
 pub mod Messages
 pub mod Monic
 pub mod PairedValues
+pub mod Parts
 pub mod Places
 pub mod Restored
 pub mod Sizes

@@ -2,7 +2,7 @@
 use Rattle.std.proofs.Common.{◌≡◌, ℕ, zero, suc, ◌+◌, ◌<◌, ◌≤◌, List, [], ◌∷◌, length, sym, ◌∙◌, ap, ap₂, refl, arith}
 use Rattle.ark_math.specs.Field.{FieldOn, IsField, power, natural, minus}
 use Rattle.ark_math.specs.Module.{ModuleOn, IsModule, sum_below}
-use Rattle.rs_code.specs.Locator.{located, slope, derived}
+use Rattle.rs_code.specs.Locator.{located, slope, derived, by_factor, by_factors}
 use Rattle.ark_math.proofs.Algebra.Groups.{scale_zero}
 use Rattle.ark_math.proofs.Algebra.Sums.{sum_below-same, sum_below-plus}
 use Rattle.ark_math.proofs.Algebra.Solve.{Scalar, Vector, scalar_at, vector_at, vector, solve_vector, ◌⊕◌, ◌⊖◌, ◌⊗◌, ◌⊞◌, ◌•◌, negative, unit, nought, origin}
@@ -15,16 +15,6 @@ value K V n a x = sum_below V n (λ i. V.scale (power K x i) (a i))
 -- zero from n on
 abbrev pub IsShort : {F M : Type 0} → ModuleOn F M → ℕ → (ℕ → M) → Type 0
 IsShort V n a = (i : ℕ) → n ≤ i → a i ≡ V.zero
-
--- the product with x - r
-abbrev pub by_factor : {F M : Type 0} → FieldOn F → ModuleOn F M → F → (ℕ → M) → ℕ → M
-by_factor K V r a zero = V.scale (K.negated r) (a zero)
-by_factor K V r a (suc i) = V.plus (a i) (V.scale (K.negated r) (a (suc i)))
-
--- the product with x - r for each r of a list
-abbrev pub by_factors : {F M : Type 0} → FieldOn F → ModuleOn F M → List F → (ℕ → M) → ℕ → M
-by_factors K V [] a = a
-by_factors K V (r ∷ rs) a = by_factor K V r (by_factors K V rs a)
 
 module _ {F M : Type 0} {K : FieldOn F} {V : ModuleOn F M} (N : IsField K) (L : IsModule K V) where
   module3_2 : (same : Scalar → Scalar → Scalar → Vector → Vector → VectorSides) → IsVectorSolved (same (scalar_at 0) (scalar_at 1) (scalar_at 2) (vector_at 0) (vector_at 1)) → (a b c : F) (x y : M) → vector K V (a ∷ b ∷ c ∷ []) (x ∷ y ∷ []) (same (scalar_at 0) (scalar_at 1) (scalar_at 2) (vector_at 0) (vector_at 1)).0 ≡ vector K V (a ∷ b ∷ c ∷ []) (x ∷ y ∷ []) (same (scalar_at 0) (scalar_at 1) (scalar_at 2) (vector_at 0) (vector_at 1)).1

@@ -1,5 +1,5 @@
 -- The message of a codeword, as the beginning of what a transform back gives.
-use Rattle.std.proofs.Common.{◌≡◌, ℕ, ◌<◌, ◌≤◌, List, length, take, sym, ◌∙◌, ap, refl, arith, ⊎_elim, subst}
+use Rattle.std.proofs.Common.{◌≡◌, ℕ, ◌<◌, ◌≤◌, List, length, take, sym, ◌∙◌, ap, arith, ⊎_elim, subst}
 use Rattle.std.proofs.lemmas.Bool.{cases_lt}
 use Rattle.std.proofs.lemmas.List.{ext_get_or, get_or_past, get_or-take, length-take}
 use Rattle.ark_math.specs.Field.{FieldOn, IsField}
@@ -7,8 +7,7 @@ use Rattle.ark_math.specs.Module.{ModuleOn, IsModule, item}
 use Rattle.ark_math.specs.Domain.{Domain, element}
 use Rattle.ark_math.specs.Transform.{transform, fit, IsInverse, IsOnlyInverse}
 use Rattle.ark_math.proofs.Lists.Tabulated.{length-tabulate, item-tabulate}
-use Rattle.ark_math.proofs.Callers.Transforms.{fit-same, inverse_of_transform}
-use Rattle.rs_code.specs.Codeword.{IsCodeword}
+use Rattle.ark_math.proofs.Callers.Transforms.{inverse_of_transform, transform-length}
 use Rattle.rs_code.proofs.Locators.{value-same}
 use Rattle.rs_code.proofs.Restored.{list-short, transform-item, transform-from}
 
@@ -17,29 +16,7 @@ module _ {F M : Type 0} {K : FieldOn F} {V : ModuleOn F M} (N : IsField K) (L : 
   inverse_is : (c u m : List M) → IsOnlyInverse K V d c u → c ≡ transform K V d m → fit V m d.size ≡ u
   inverse_is c u m only is = only (fit V m d.size) (subst (λ t. IsInverse K V d t (fit V m d.size)) (sym is) (inverse_of_transform K V d m))
 
-  -- a codeword's inverse has zeros from k on
-  codeword_rest : (k : ℕ) (c u : List M) → IsOnlyInverse K V d c u → IsCodeword K V d k c → (i : ℕ) → k ≤ i → item V u i ≡ V.zero
-  codeword_rest k c u only h i l =
-      ap (λ t. item V t i) (sym (inverse_is c u h.0 only h.2))
-      ∙ ⊎_elim
-      (λ (b : i < d.size). item-tabulate V d.size (item V h.0) i b ∙ list-short N L d h.0 k h.1 i l)
-      (λ (b : d.size ≤ i). get_or_past (fit V h.0 d.size) i V.zero (omega (arith, length-tabulate d.size (item V h.0))))
-      (cases_lt i d.size)
-
-  -- so its first k items are a message of it
-  pub first-is_message : (k : ℕ) (c u : List M) → length c ≡ d.size → IsInverse K V d c u → IsOnlyInverse K V d c u → IsCodeword K V d k c → transform K V d (take k u) ≡ c
-  first-is_message k c u e h only codeword =
-      sym (transform-from N L d (take k u) c e
-      (λ i l.
-      ap (λ t. item V t i) (sym (h.values ∙ fit-same V c d.size e))
-      ∙ transform-item N L d u i l
-      ∙ value-same N L d.size (item V u) (item V (take k u)) (element K d i)
-      (λ j _. ⊎_elim
-      (λ (b : j < k). sym (get_or-take k u j V.zero b))
-      (λ (b : k ≤ j). codeword_rest k c u only codeword j b ∙ sym (get_or_past (take k u) j V.zero (omega (arith, length-take k u))))
-      (cases_lt j k))))
-
-  -- and each other message of it, filled with zeros, has the same items
+  -- so its first k items are the message, filled with zeros
   pub message-is_first : (k : ℕ) (c u m : List M) → k ≤ d.size → length u ≡ d.size → IsOnlyInverse K V d c u → transform K V d m ≡ c → fit V m k ≡ take k u
   message-is_first k c u m few size only is =
       let same : fit V m d.size ≡ u = inverse_is c u m only (sym is) in
@@ -48,3 +25,15 @@ module _ {F M : Type 0} {K : FieldOn F} {V : ModuleOn F M} (N : IsField K) (L : 
       let l : i < k = omega (arith, h, length-tabulate k (item V m)) in
       item-tabulate V k (item V m) i l
       ∙ sym (get_or-take k u i V.zero l ∙ ap (λ t. item V t i) (sym same) ∙ item-tabulate V d.size (item V m) i (omega arith)))
+
+  -- a message filled with zeros has the same codeword
+  pub transform-fitted : (k : ℕ) (m : List M) → length m ≤ k → transform K V d (fit V m k) ≡ transform K V d m
+  transform-fitted k m short =
+      transform-from N L d m (transform K V d (fit V m k)) (transform-length K V d (fit V m k))
+      (λ i l.
+      transform-item N L d (fit V m k) i l
+      ∙ value-same N L d.size (item V (fit V m k)) (item V m) (element K d i)
+      (λ j _. ⊎_elim
+      (λ (b : j < k). item-tabulate V k (item V m) j b)
+      (λ (b : k ≤ j). get_or_past (fit V m k) j V.zero (omega (arith, length-tabulate k (item V m))) ∙ sym (list-short N L d m k short j b))
+      (cases_lt j k)))

@@ -13,8 +13,8 @@ use Rattle.ark_math.proofs.Algebra.Sums.{sum_below-same}
 use Rattle.ark_math.proofs.Lists.Tabulated.{length-tabulate, item-tabulate, is_tabulated}
 use Rattle.ark_math.proofs.Callers.Transforms.{fit-same, transform-length}
 use Rattle.rs_code.specs.Codeword.{IsCodeword, AgreesElsewhere, mark_count}
-use Rattle.rs_code.specs.Locator.{lost, located, slope, derived, IsFactor, AreFactors, weighed, filled}
-use Rattle.rs_code.proofs.Locators.{value, value-same, IsShort, by_factors, by_factors-short, by_factors-value, derived-value}
+use Rattle.rs_code.specs.Locator.{lost, located, slope, derived, by_factors, IsFactor, AreFactors, weighed, filled}
+use Rattle.rs_code.proofs.Locators.{value, value-same, IsShort, by_factors-short, by_factors-value, derived-value}
 use Rattle.rs_code.proofs.Lost.{located-lost, located-kept, lost-length}
 use Rattle.rs_code.proofs.Divided.{divided, scale_cancel}
 use Rattle.rs_code.proofs.Places.{unmarked_within}
@@ -83,6 +83,15 @@ module _ {F M : Type 0} {K : FieldOn F} {V : ModuleOn F M} (N : IsField K) (L : 
               ∙ sym (fit-same V v n v_size);
         })
 
+    -- item by item
+    pub interpolated-items : (w : List F) (y v u : List M) → AreFactors K d marks w →
+        length v ≡ d.size → ((i : ℕ) → i < d.size → item V v i ≡ weighed V (get_or marks i true) (of_list K w i) (item V y i)) → IsOnlyInverse K V d v u →
+        (m : List M) → length m ≤ k → AgreesElsewhere V marks y (transform K V d m) → (i : ℕ) → item V u i ≡ by_factors K V (lost K d marks) (item V m) i
+    interpolated-items w y v u factors v_size v_is only m short agrees i =
+        ap (λ x. item V x i) (sym (interpolated w y v u factors v_size v_is only m short agrees))
+        ∙ tabulate-item d.size (by_factors K V (lost K d marks) (item V m))
+        (by_factors-short N L k d.size (lost K d marks) (item V m) (list-short m k short) (omega (arith, lost-length K d marks, few))) i
+
     -- and it has no items from k and the number of marked places on
     pub interpolated-rest : (w : List F) (y v u : List M) → AreFactors K d marks w →
         length v ≡ d.size → ((i : ℕ) → i < d.size → item V v i ≡ weighed V (get_or marks i true) (of_list K w i) (item V y i)) → IsOnlyInverse K V d v u →
@@ -136,47 +145,49 @@ module _ {F M : Type 0} {K : FieldOn F} {V : ModuleOn F M} (N : IsField K) (L : 
               ∙ ap (λ f. V.scale f (item V y i)) (subst (λ p. IsFactor K rs x p (of_list K w i)) e (factors.each i l))),
         )
 
-    -- what the steps make of a word is each codeword that the word agrees with
-    pub restored : (w : List F) (y v u s c : List M) → AreFactors K d marks w →
-        length v ≡ d.size → ((i : ℕ) → i < d.size → item V v i ≡ weighed V (get_or marks i true) (of_list K w i) (item V y i)) →
-        IsOnlyInverse K V d v u → ((i : ℕ) → i < d.size → item V s i ≡ derived K V (item V u) i) →
-        length c ≡ d.size → ((i : ℕ) → i < d.size → item V c i ≡ filled V (get_or marks i true) (of_list K w i) (item V y i) (item V (transform K V d s) i)) →
-        (other : List M) → IsCodeword K V d k other → AgreesElsewhere V marks y other → other ≡ c
-    restored w y v u s c factors v_size v_is only s_is c_size c_is other (m, short, is) agrees =
+    -- the derivative's value at a marked place
+    pub lost-value : (u s m : List M) → length m ≤ k → ((i : ℕ) → item V u i ≡ by_factors K V (lost K d marks) (item V m) i) → ((i : ℕ) → i < d.size → item V s i ≡ derived K V (item V u) i)
+        → (i : ℕ) → i < d.size → get_or marks i true ≡ true → value K V d.size (item V s) (element K d i) ≡ V.scale (slope K (lost K d marks) (element K d i)) (item V (transform K V d m) i)
+    lost-value u s m short u_is s_is i l e =
         let n = d.size in
         let rs = lost K d marks in
         let a = item V m in
-        let b = by_factors K V rs a in
-        let t = tabulate n b in
-        let below : IsShort V k a = list-short m k short in
+        let x = element K d i in
         let room : k + length rs ≤ n = omega (arith, lost-length K d marks) in
-        let b_short : IsShort V n b = by_factors-short N L k n rs a below room in
-        let there : (i : ℕ) → i < n → item V other i ≡ value K V n a (element K d i) = λ i l.
-        ap (λ x. item V x i) is ∙ transform-item m i l in
-        let same : t ≡ u = interpolated w y v u factors v_size v_is only m short (subst (AgreesElsewhere V marks y) is agrees) in
-        let slopes : (i : ℕ) → i < n → get_or marks i true ≡ true → item V (transform K V d s) i ≡ V.scale (slope K rs (element K d i)) (item V other i) = λ i l e.
-        transform-item s i l
-        ∙ value-same N L n (item V s) (derived K V b) (element K d i)
-        (λ j h. s_is j h ∙ ap (λ x. derived K V (item V x) j) (sym same) ∙ ap (V.scale (natural K (suc j))) (tabulate-item n b b_short (suc j)))
-        ∙ derived-value N L k n rs (element K d i) a below room
-        ∙ ap₂ (λ x z. V.plus (V.scale (slope K rs (element K d i)) x) (V.scale z (value K V n (derived K V a) (element K d i)))) (sym (there i l)) (located-lost K N d o off marks i (omega arith) e)
-        ∙ ap (V.plus (V.scale (slope K rs (element K d i)) (item V other i))) (zero_scale N L (value K V n (derived K V a) (element K d i)))
-        ∙ L.plus_zero (V.scale (slope K rs (element K d i)) (item V other i)) in
-        let other_size : length other ≡ n = ap length is ∙ transform-length K V d m in
-        ext_get_or V.zero other c (other_size ∙ sym c_size)
-        (λ i h.
-        let l : i < n = omega arith in
+        value-same N L n (item V s) (derived K V (by_factors K V rs a)) x (λ j h. s_is j h ∙ ap (V.scale (natural K (suc j))) (u_is (suc j)))
+        ∙ derived-value N L k n rs x a (list-short m k short) room
+        ∙ ap₂ (λ y z. V.plus (V.scale (slope K rs x) y) (V.scale z (value K V n (derived K V a) x))) (sym (transform-item m i l)) (located-lost K N d o off marks i (omega arith) e)
+        ∙ ap (V.plus (V.scale (slope K rs x) (item V (transform K V d m) i))) (zero_scale N L (value K V n (derived K V a) x))
+        ∙ L.plus_zero (V.scale (slope K rs x) (item V (transform K V d m) i))
+
+    -- what is filled in from it is the codeword's value
+    pub filled-place : (w : List F) (y m : List M) → AreFactors K d marks w → AgreesElsewhere V marks y (transform K V d m) → (i : ℕ) (z : M) → i < d.size
+        → (get_or marks i true ≡ true → z ≡ V.scale (slope K (lost K d marks) (element K d i)) (item V (transform K V d m) i))
+        → filled V (get_or marks i true) (of_list K w i) (item V y i) z ≡ item V (transform K V d m) i
+    filled-place w y m factors agrees i z l is =
+        let rs = lost K d marks in
+        let x = element K d i in
         let f = of_list K w i in
-        let z = item V (transform K V d s) i in
-        elim (get_or marks i true) as (λ p. get_or marks i true ≡ p → item V other i ≡ item V c i) [
+        let other = item V (transform K V d m) i in
+        elim (get_or marks i true) as (λ p. get_or marks i true ≡ p → filled V (get_or marks i true) f (item V y i) z ≡ other) [
           | true ↦ λ e.
-              let one : K.times f (slope K rs (element K d i)) ≡ K.one = subst (λ x. IsFactor K rs (element K d i) x f) e (factors.each i l) in
-              sym (c_is i l
-              ∙ ap (λ x. filled V x f (item V y i) z) e
-              ∙ ap (V.scale f) (slopes i l e)
-              ∙ sym (L.times_scale f (slope K rs (element K d i)) (item V other i))
-              ∙ ap (λ x. V.scale x (item V other i)) one
-              ∙ L.one_scale (item V other i))
+              let one : K.times f (slope K rs x) ≡ K.one = subst (λ p. IsFactor K rs x p f) e (factors.each i l) in
+              ap (λ p. filled V p f (item V y i) z) e
+              ∙ ap (V.scale f) (is e)
+              ∙ sym (L.times_scale f (slope K rs x) other)
+              ∙ ap (λ t. V.scale t other) one
+              ∙ L.one_scale other
           | false ↦ λ e.
-              agrees i e ∙ sym (c_is i l ∙ ap (λ x. filled V x f (item V y i) z) e)
-        ] refl)
+              ap (λ p. filled V p f (item V y i) z) e ∙ sym (agrees i e)
+        ] refl
+
+    -- so the steps make of a word the codeword of each message whose codeword it agrees with
+    pub restored : (w : List F) (y u s c m : List M) → AreFactors K d marks w → length m ≤ k → AgreesElsewhere V marks y (transform K V d m) →
+        ((i : ℕ) → item V u i ≡ by_factors K V (lost K d marks) (item V m) i) → ((i : ℕ) → i < d.size → item V s i ≡ derived K V (item V u) i) →
+        length c ≡ d.size → ((i : ℕ) → i < d.size → item V c i ≡ filled V (get_or marks i true) (of_list K w i) (item V y i) (item V (transform K V d s) i)) →
+        transform K V d m ≡ c
+    restored w y u s c m factors short agrees u_is s_is c_size c_is =
+        ext_get_or V.zero (transform K V d m) c (transform-length K V d m ∙ sym c_size)
+        (λ i h.
+        let l : i < d.size = omega (arith, h, transform-length K V d m) in
+        sym (c_is i l ∙ filled-place w y m factors agrees i (item V (transform K V d s) i) l (λ e. transform-item s i l ∙ lost-value u s m short u_is s_is i l e)))

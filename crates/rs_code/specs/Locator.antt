@@ -1,5 +1,5 @@
 -- Words of the private steps: the polynomial that is zero at the erased places, and its derivative.
-use Rattle.std.specs.Prelude.{◌≡◌, ℕ, suc, ◌≤◌, ◌<◌, Bool, true, false, List, [], ◌∷◌, length, get_or}
+use Rattle.std.specs.Prelude.{◌≡◌, ℕ, zero, suc, ◌≤◌, ◌<◌, Bool, true, false, List, [], ◌∷◌, length, get_or}
 use Rattle.ark_math.specs.Field.{FieldOn, natural, minus}
 use Rattle.ark_math.specs.Module.{ModuleOn}
 use Rattle.ark_math.specs.Root.{Adicity}
@@ -24,6 +24,16 @@ located K (r ∷ rs) x = K.times (minus K x r) (located K rs x)
 abbrev pub slope : {F : Type 0} → FieldOn F → List F → F → F
 slope K [] x = K.zero
 slope K (r ∷ rs) x = K.plus (located K rs x) (K.times (minus K x r) (slope K rs x))
+
+-- the coefficients of a polynomial over a module times x - r
+abbrev pub by_factor : {F M : Type 0} → FieldOn F → ModuleOn F M → F → (ℕ → M) → ℕ → M
+by_factor K V r a zero = V.scale (K.negated r) (a zero)
+by_factor K V r a (suc i) = V.plus (a i) (V.scale (K.negated r) (a (suc i)))
+
+-- times x - r for each r of a list
+abbrev pub by_factors : {F M : Type 0} → FieldOn F → ModuleOn F M → List F → (ℕ → M) → ℕ → M
+by_factors K V [] a = a
+by_factors K V (r ∷ rs) a = by_factor K V r (by_factors K V rs a)
 
 -- the formal derivative of a polynomial by its coefficients
 abbrev pub derived : {F M : Type 0} → FieldOn F → ModuleOn F M → (ℕ → M) → ℕ → M

@@ -9,6 +9,7 @@ ghost use Rattle.rs_code.specs.Codeword.{AgreesWith, IsCodeword, erasure_count, 
 use crate::decoder::DomainDecoder;
 use crate::error::RsError;
 use crate::locator::factors;
+use crate::part::spaced_part;
 use ark_base::{DomainCoeff, FftField, Work};
 use ark_poly::{EvaluationDomain, GeneralEvaluationDomain};
 use std::alloc::Global;
@@ -121,11 +122,14 @@ impl<F: FftField, D: EvaluationDomain<F>> DomainCode<F, D> {
         }
         let factors = factors(alloc, self.domain, erased)?;
         let erased = Vec::from_slice(alloc, erased)?;
+        let (part, stride) = spaced_part(self.domain, self.k);
         Ok(DomainDecoder {
             domain: self.domain,
             k: self.k,
             erased,
             factors,
+            part,
+            stride,
         })
     }
 

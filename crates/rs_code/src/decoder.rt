@@ -5,6 +5,8 @@ ghost use Rattle.ark_math.specs.Transform.{fit, transform};
 ghost use Rattle.rs_code.specs.Codeword.{AgreesElsewhere, IsCodeword, mark_count};
 
 use crate::error::RsError;
+use crate::part::{fill_spaced, fold};
+use crate::restore::derive;
 use ark_base::{DomainCoeff, FftField, Work};
 use ark_poly::{EvaluationDomain, GeneralEvaluationDomain};
 use std::alloc::Global;
@@ -22,6 +24,9 @@ pub struct DomainDecoder<F: FftField, D: EvaluationDomain<F>> {
     pub(crate) k: usize,
     pub(crate) erased: Vec<bool>,
     pub(crate) factors: Vec<F>,
+    // Evenly spaced elements of the domain, at least one for each item of a message, and how far apart they are.
+    pub(crate) part: D,
+    pub(crate) stride: usize,
 }
 
 impl<F: FftField, D: EvaluationDomain<F>> Model for DomainDecoder<F, D> {
@@ -37,7 +42,7 @@ impl<F: FftField, D: EvaluationDomain<F>> Model for DomainDecoder<F, D> {
     ghost invariant = { λ d. IsDecoder F.field F.adicity F.root (record {
       code = record { domain = D.domain d.domain; k = d.k };
       erased = d.erased.items;
-    }) d.factors.items };
+    }) d.factors.items (D.domain d.part) d.stride };
 }
 
 impl<F: FftField, D: EvaluationDomain<F>> DomainDecoder<F, D> {
@@ -67,7 +72,10 @@ impl<F: FftField, D: EvaluationDomain<F>> DomainDecoder<F, D> {
     }
 
     /// The `k` items of the message whose codeword `restore` gives, of a shorter message with zeros behind it. There is
-    /// at most one such message. It refuses as `restore` does, and takes one transform more.
+    /// at most one such message. It refuses as `restore` does.
+    ///
+    /// It takes one transform of the word, and two over the elements of the least domain for `k` items, where those are
+    /// among the code's.
     ///
     /// ```
     /// let message = decoder.message(alloc, &word)?; // code.encode(alloc, &message)? agrees with the word
@@ -89,9 +97,20 @@ impl<F: FftField, D: EvaluationDomain<F>> DomainDecoder<F, D> {
         ensures always { self.now.code.k + mark_count self.now.erased ≡ self.now.code.domain.size
             → result ≢ Err RsError.NoCodeword }
     {
-        let mut message = self.restore(alloc, word)?;
-        self.domain.ifft_in_place(alloc, &mut message)?;
-        message.truncate(self.k);
-        Ok(message)
+        let mut items = self.interpolated(alloc, word, &mut Work::new())?;
+        derive(items.as_mut_slice(), &mut Work::new());
+        fold(items.as_mut_slice(), self.part.size());
+        items.truncate(self.part.size());
+        self.part.fft_in_place(alloc, &mut items)?;
+        fill_spaced(
+            items.as_mut_slice(),
+            word,
+            &self.erased,
+            &self.factors,
+            self.stride,
+        );
+        self.part.ifft_in_place(alloc, &mut items)?;
+        items.truncate(self.k);
+        Ok(items)
     }
 }

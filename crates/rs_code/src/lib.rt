@@ -6,6 +6,7 @@ mod code;
 mod decoder;
 mod error;
 mod locator;
+mod part;
 mod restore;
 
 pub use code::{Code, DomainCode};

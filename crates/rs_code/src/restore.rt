@@ -4,10 +4,11 @@
 ghost use Rattle.std.specs.Prelude.{◌≡◌, ◌≢◌, ◌↔◌, ℕ, ◌+◌, ◌-◌, ◌*◌, ◌<◌, ◌≤◌, true, List, get_or};
 ghost use Rattle.std.specs.Prelude.{length, map, is_none, unwrap_or, IsTrue, IfOk, Err, IsOkUnless};
 ghost use Rattle.ark_math.specs.Module.{item};
+ghost use Rattle.ark_math.specs.Transform.{transform};
 ghost use Rattle.ark_math.specs.Univariate.{of_list};
 ghost use Rattle.rs_code.specs.Codeword.{AgreesElsewhere, AgreesWith, IsCodeword, erasure_count, mark_count};
 ghost use Rattle.rs_code.specs.Cost.{GrowsWithin};
-ghost use Rattle.rs_code.specs.Locator.{derived, filled, weighed};
+ghost use Rattle.rs_code.specs.Locator.{by_factors, derived, filled, lost, weighed};
 
 use crate::code::DomainCode;
 use crate::decoder::DomainDecoder;
@@ -84,6 +85,47 @@ impl<F: FftField, D: EvaluationDomain<F>> DomainDecoder<F, D> {
         ensures cost { GrowsWithin F.adicity self.now.code.domain 3 (5 * self.now.code.domain.size)
             work.old work.new }
     {
+        let mut values = self.interpolated(alloc, word, work)?;
+        derive(values.as_mut_slice(), work);
+        self.domain.fft_counted(alloc, &mut values, work)?;
+        fill(
+            values.as_mut_slice(),
+            word,
+            &self.erased,
+            &self.factors,
+            work,
+        );
+        Ok(values)
+    }
+
+    // The coefficients of a message's polynomial, times the one that is zero at the erased places, for any message whose
+    // codeword agrees with the word. It refuses as `restore` does.
+    pub(crate) fn interpolated<T: DomainCoeff<F>>(
+        &self,
+        alloc: Global,
+        word: &[T],
+        work: &mut Work,
+    ) -> Result<Vec<T>, RsError>
+        ensures message { IfOk result (λ u. (m : List T.Meaning) × (length m ≤ self.now.code.k)
+            × AgreesElsewhere T.group self.now.erased (map T.meaning word.now)
+            (transform F.field T.group self.now.code.domain m)) }
+        ensures product { IfOk result (λ u. (m : List T.Meaning) → length m ≤ self.now.code.k
+            → AgreesElsewhere T.group self.now.erased (map T.meaning word.now)
+            (transform F.field T.group self.now.code.domain m)
+            → (i : ℕ) → item T.group (map T.meaning u.items) i ≡ by_factors F.field T.group
+            (lost F.field self.now.code.domain self.now.erased) (item T.group m) i) }
+        ensures len { IfOk result (λ u. length u.items ≡ self.now.code.domain.size) }
+        ensures wrong_length { (result ≡ Err RsError.WrongLength)
+            ↔ (length word.now ≢ self.now.code.domain.size) }
+        ensures too_many_erased { result ≢ Err RsError.TooManyErased }
+        ensures no_codeword { (result ≡ Err RsError.NoCodeword) → (other : List T.Meaning)
+            → IsCodeword F.field T.group self.now.code.domain self.now.code.k other
+            → AgreesElsewhere T.group self.now.erased (map T.meaning word.now) other → ⊥ }
+        ensures always { self.now.code.k + mark_count self.now.erased ≡ self.now.code.domain.size
+            → result ≢ Err RsError.NoCodeword }
+        ensures cost { GrowsWithin F.adicity self.now.code.domain 1 (2 * self.now.code.domain.size)
+            work.old work.new }
+    {
         if word.len() != self.domain.size() {
             return Err(RsError::WrongLength);
         }
@@ -94,15 +136,6 @@ impl<F: FftField, D: EvaluationDomain<F>> DomainDecoder<F, D> {
         if !are_zeros(&values[self.product_len()..]) {
             return Err(RsError::NoCodeword);
         }
-        derive(values.as_mut_slice(), work);
-        domain.fft_counted(alloc, &mut values, work)?;
-        fill(
-            values.as_mut_slice(),
-            word,
-            &self.erased,
-            &self.factors,
-            work,
-        );
         Ok(values)
     }
 
@@ -165,7 +198,7 @@ fn weigh<F: Field, T: DomainCoeff<F>>(
 }
 
 // The coefficients of the formal derivative. At most a product for each.
-fn derive<F: Field, T: DomainCoeff<F>>(coeffs: &mut [T], work: &mut Work)
+pub(crate) fn derive<F: Field, T: DomainCoeff<F>>(coeffs: &mut [T], work: &mut Work)
     ensures derivative { (i : ℕ) → i < length coeffs.old → item T.group (map T.meaning coeffs.new) i
         ≡ derived F.field T.group (item T.group (map T.meaning coeffs.old)) i }
     ensures products { work.new.products ≤ work.old.products + length coeffs.old }

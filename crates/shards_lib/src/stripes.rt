@@ -1,13 +1,10 @@
 //! The code for stripes: the items of a stripe are the coefficients of a polynomial, and its numbers are the values of this
 //! at the first `n` elements of a domain.
 
-ghost use Rattle.std.specs.Prelude.{◌≡◌, ◌≢◌, ℕ, ◌+◌, ◌*◌, ◌^◌, ◌<◌, ◌≤◌, true, false, List, get_or, length, map, IfOk, OnOk};
+ghost use Rattle.std.specs.Prelude.{◌≡◌, ◌≢◌, ℕ, ◌+◌, ◌*◌, ◌^◌, ◌<◌, ◌≤◌, true, false, List, get_or, length, IfOk, OnOk};
 ghost use Rattle.ark_math.specs.Domain.{element};
-ghost use Rattle.ark_math.specs.Module.{itself};
 ghost use Rattle.ark_poly.specs.Domains.{radix2_domain};
-ghost use Rattle.ark_rows.specs.Lanewise.{lanewise};
-ghost use Rattle.ark_rows.specs.Row.{lanes};
-ghost use Rattle.rs_code.specs.Codeword.{AgreesElsewhere, IsCodeword, mark_count};
+ghost use Rattle.rs_code.specs.Codeword.{mark_count};
 ghost use Rattle.shards_lib.specs.Numbers.{IsNumberDomain, number_at_place, value_at_place};
 ghost use Rattle.shards_lib.specs.Places.{AreKept};
 ghost use Rattle.shards_lib.specs.Rows.{HasCode, entry};
@@ -212,11 +209,12 @@ impl<F: NumberField, const N: usize> RowCode<F, N> {
         let size = self.code.n();
         let word = word_rows::<F, N>(alloc, size, places, numbers, stripes, first, count)?;
         let message = self.message(alloc, decoder, &word)?;
-        put_stripes(&message[..k], k, first, count, items);
+        put_stripes(&message, k, first, count, items);
         Ok(())
     }
 
-    // The messages of which words have the values at the kept places.
+    // The messages of which words have the values at the kept places. As many places as a message has items are kept, so
+    // there is one, and memory alone may be lacking.
     fn message(
         &self,
         alloc: Global,
@@ -227,42 +225,14 @@ impl<F: NumberField, const N: usize> RowCode<F, N> {
         requires kept { (places : List ℕ) × AreKept decoder.now.erased places × (length places ≡ self.now.code.k)
             × ((a : ℕ) → a < length places → get_or places a 0 < self.now.code.domain.size) }
         requires len { length word.now ≡ self.now.code.domain.size }
-        ensures len { IfOk result (λ m. length m.items ≡ self.now.code.domain.size) }
+        ensures len { IfOk result (λ m. length m.items ≡ self.now.code.k) }
         ensures only { IfOk result (λ m. (t : ℕ) (items : ℕ → F)
             → ((i : ℕ) → get_or decoder.now.erased i true ≡ false → entry F.field word.now i t
             ≡ value_at_place F.field F.root self.now.code.k self.now.n items i)
             → (j : ℕ) → j < self.now.code.k → entry F.field m.items j t ≡ items j) }
     {
-        let codeword = self.restored(alloc, decoder, word)?;
-        match self.domain.ifft(alloc, &codeword) {
+        match decoder.message(alloc, word) {
             Ok(message) => Ok(message),
-            Err(_) => Err(AllocError),
-        }
-    }
-
-    // The only codeword with the word's values at the kept places. As many places as a message has items are kept, so
-    // there is one, and memory alone may be lacking.
-    fn restored(
-        &self,
-        alloc: Global,
-        decoder: &DomainDecoder<F, Radix2EvaluationDomain<F>>,
-        word: &[Row<F, N>],
-    ) -> Result<Vec<Row<F, N>>, AllocError>
-        requires code { decoder.now.code ≡ self.now.code }
-        requires kept { (places : List ℕ) × AreKept decoder.now.erased places × (length places ≡ self.now.code.k)
-            × ((a : ℕ) → a < length places → get_or places a 0 < self.now.code.domain.size) }
-        requires len { length word.now ≡ self.now.code.domain.size }
-        ensures codeword { IfOk result (λ c. IsCodeword F.field (lanewise (itself F.field)) self.now.code.domain
-            self.now.code.k (map (lanes F.field) c.items)) }
-        ensures agrees { IfOk result (λ c. AgreesElsewhere (lanewise (itself F.field)) decoder.now.erased
-            (map (lanes F.field) word.now) (map (lanes F.field) c.items)) }
-        ensures only { IfOk result (λ c. (other : List (ℕ → F))
-            → IsCodeword F.field (lanewise (itself F.field)) self.now.code.domain self.now.code.k other
-            → AgreesElsewhere (lanewise (itself F.field)) decoder.now.erased (map (lanes F.field) word.now) other
-            → other ≡ map (lanes F.field) c.items) }
-    {
-        match decoder.restore(alloc, word) {
-            Ok(codeword) => Ok(codeword),
             Err(error) => Err(refused(error)),
         }
     }

@@ -1,8 +1,8 @@
-use Rattle.std.proofs.Common.{◌≡◌, ◌+◌, ◌-◌, ◌/◌, length, take, drop, refl, subst, ap, ap₂, sym, ◌∙◌, arith}
+use Rattle.std.proofs.Common.{◌+◌, length, refl, subst, ap₂, sym, ◌∙◌, arith}
 use Rattle.ark_math.specs.Univariate.{product}
 use Rattle.ark_math.proofs.Domains.GeneralSizes.{general_sizes}
 use Rattle.ark_math.proofs.Outcomes.Results.{IfOk_more}
-use Rattle.rs_code.specs.Locator.{IsMonic, locator}
+use Rattle.rs_code.specs.Locator.{IsMonic}
 use Rattle.rs_code.proofs.Factors.{locator-quarters}
 use Rattle.rs_code.proofs.Monic.{locator_monic}
 use Rattle.rs_code.proofs.Sizes.{general_size_for, size_fits, size_for_less}

@@ -5,7 +5,7 @@ use Rattle.std.proofs.lemmas.List.{get_or_read, length-set}
 use Rattle.ark_math.specs.Field.{minus}
 use Rattle.ark_math.specs.Module.{itself}
 use Rattle.ark_math.specs.Univariate.{of_list}
-use Rattle.rs_code.proofs.Locators.{by_factor}
+use Rattle.rs_code.specs.Locator.{by_factor}
 use Rattle.rs_code.proofs.Factors.{before, by_factor-step, by_linear-end}
 use Rattle.rs_code.proofs.locator.multiply_by_linear.Goals as goal
 

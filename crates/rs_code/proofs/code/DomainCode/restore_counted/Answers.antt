@@ -1,4 +1,4 @@
-use Rattle.std.proofs.Common.{◌≡◌, ◌+◌, ◌*◌, map, unwrap_or, subst, subst₂, sym, ap, ap₂, ◌∙◌, arith}
+use Rattle.std.proofs.Common.{◌≡◌, ◌+◌, ◌*◌, map, unwrap_or, subst, subst₂, sym, ap, ap₂, ◌∙◌}
 use Rattle.std.specs.Prelude.{is_none}
 use Rattle.ark_math.proofs.Outcomes.Results.{IfOk_more}
 use Rattle.rs_code.specs.Codeword.{IsCodeword, AgreesElsewhere, mark_count}

@@ -1,9 +1,7 @@
-use Rattle.std.proofs.Common.{◌≡◌, ℕ, ◌+◌, ◌*◌, ◌<◌, ◌%◌, true, false, length, take, get_or, arith, rules, sym, ◌∙◌, ap, subst, mod-eq_of_lt}
+use Rattle.std.proofs.Common.{◌≡◌, ℕ, ◌+◌, ◌*◌, ◌<◌, ◌%◌, true, false, length, get_or, arith, rules, sym, ◌∙◌, ap, subst, mod-eq_of_lt}
 use Rattle.ark_math.specs.Field.{natural}
 use Rattle.shards_lib.specs.Numbers.{value_at_place}
 use Rattle.shards_lib.specs.Rows.{entry}
-use Rattle.std.proofs.lemmas.List.{length-take-le}
-use Rattle.shards_lib.proofs.Values.{entry-take}
 use Rattle.shards_lib.proofs.Windows.{below_rows}
 use Rattle.shards_lib.proofs.Room.{last_part}
 use Rattle.shards_lib.proofs.stripes.RowCode.restore_group.Goals as goal
@@ -49,8 +47,6 @@ message-requires g c = (
 
 pub put_stripes-requires : goal.put_stripes-requires
 put_stripes-requires g c =
-    let fits = c.args.self.now.fits in
-    let room = c.args.self.now.room in
     let e = c.k-k.ensures in
     let len = ap length c.deref-2.ensures.value ∙ c.in_ok-message.ensures.len in
     let below = below_rows (c.args.first + c.args.count) c.args.stripes c.k-k.result c.requires.stripes in
@@ -61,7 +57,7 @@ put_stripes-requires g c =
       (
         c.requires.count,
         (
-          length-take-le c.k-k.result c.deref-2.result.now (omega (arith, fits, room, e, len)),
+          len ∙ sym e,
           (
             omega (arith, end, whole),
             omega (arith, below, all),
@@ -90,8 +86,8 @@ returns-clause-written g c = λ t stripe b small numbered j l.
     subst (λ i. entry K c.deref.result.now i t ≡ value_at_place K root k n (λ j. natural K (stripe j)) i) h.2
     (ap (λ xs. entry K xs (get_or places h.0 0) t) c.deref.ensures.value ∙ c.in_ok-word.ensures.entries h.0 t h.1 b
     ∙ ap (natural K) (numbered h.0 less) ∙ g.met.F.NumberField.natural_number _) in
-    let item_is : entry K (take q rows) j t ≡ natural K (stripe j) =
-    entry-take K q rows j t inside ∙ ap (λ xs. entry K xs j t) c.deref-2.ensures.value ∙ c.in_ok-message.ensures.only t (λ j. natural K (stripe j)) given j l in
+    let item_is : entry K rows j t ≡ natural K (stripe j) =
+    ap (λ xs. entry K xs j t) c.deref-2.ensures.value ∙ c.in_ok-message.ensures.only t (λ j. natural K (stripe j)) given j l in
     let few = small j l in
     subst (λ x. get_or c.put_stripes.new.items ((first + t) * x + j) 0 ≡ stripe j) e
     (c.put_stripes.ensures.written t j b inside ∙ ap (λ x. number x % 65536) item_is
