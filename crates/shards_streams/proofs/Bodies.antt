@@ -1,6 +1,5 @@
 -- The bodies of pieces, a block at a time.
-use Rattle.std.proofs.Common.{◌≡◌, ℕ, ◌+◌, ◌-◌, ◌*◌, ◌/◌, ◌<◌, ◌≤◌, min, List, [], ◌++◌, length, get_or, arith, sym, ◌∙◌, ap, subst, length-append, Option, refl, ◌⊎◌, inl, inr, append_assoc}
-use Rattle.std.specs.Io.KnownBytes.{Consumes}
+use Rattle.std.proofs.Common.{◌≡◌, ℕ, ◌+◌, ◌-◌, ◌*◌, ◌<◌, ◌≤◌, min, List, [], ◌++◌, length, get_or, arith, sym, ◌∙◌, ap, subst, length-append, Option, ◌⊎◌, inl, inr}
 use Rattle.std.proofs.KnownBytes.{Consumes-trans}
 use Rattle.ark_bytes.specs.declared.sink.Sink.{Ghosts}
 use Rattle.ark_bytes.specs.Reading.{SourceState, Takes}
@@ -11,10 +10,9 @@ use Rattle.shards_format.specs.Pieces.{IsBody, block_size, blocks, body_size, ch
 use Rattle.shards_format.specs.Files.{HaveParts}
 use Rattle.shards_format.proofs.FileLists.{rounded_more, rounded_few, rounded_one, rounded_room, below_rounded, chunk_before, chunk_next, no_parts, parts_more, whole_body}
 use Rattle.shards_streams.specs.declared.writer.PieceWriter.{PieceWriter}
-use Rattle.shards_streams.specs.Writers.{Took, TookSome}
 use Rattle.shards_streams.specs.Streams.{GaveSome}
-use Rattle.shards_streams.specs.Splitting.{TookPart, TookPartSome, TookParts, TookPartsSome, TookBody, TookBodySome, TookBodies, TookBodiesSome}
-use Rattle.shards_streams.proofs.Writers.{took_nothing, took_both, some_after, some_of_all, some_of_none}
+use Rattle.shards_streams.specs.Splitting.{TookParts, TookPartsSome, TookBody, TookBodies, TookBodiesSome}
+use Rattle.shards_streams.proofs.Writers.{took_nothing, took_both, some_after, some_of_all}
 
 least_sum : (x size len m : ℕ) → x < len → m ≡ min size (len - x) → min (x + size) len ≡ x + m
 least_sum x size len m h e = omega arith

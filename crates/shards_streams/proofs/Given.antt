@@ -1,5 +1,5 @@
 -- What sources gave.
-use Rattle.std.proofs.Common.{◌≡◌, ℕ, ◌+◌, ◌<◌, ◌^◌, List, [], ◌++◌, length, length-append, append-nil, append_assoc, ap₂, sym, ◌∙◌, subst, refl, arith, Result, Err, Option}
+use Rattle.std.proofs.Common.{◌≡◌, ℕ, ◌+◌, ◌<◌, ◌≤◌, ◌^◌, List, [], ◌++◌, length, length-append, append-nil, append_assoc, ap₂, sym, ◌∙◌, subst, refl, arith, Err, Option}
 use Rattle.std.specs.Io.KnownBytes.{Consumes, IsAtEnd}
 use Rattle.std.proofs.KnownBytes.{Consumes-nil, Consumes-trans}
 use Rattle.sha2.specs.Sha256.{sha256}
@@ -10,10 +10,10 @@ use Rattle.ark_bytes.specs.declared.error.SerializationError.TheVariants.{IoErro
 use Rattle.ark_bytes.specs.Reading.{SourceState, Fills, Takes, TakesFewer}
 use Rattle.ark_bytes.proofs.Reading.{Takes-nil, Takes-trans}
 use Rattle.shards_format.specs.Headers.{IsHeader}
-use Rattle.shards_format.specs.Pieces.{IsLawful, IsWhole, body_size}
+use Rattle.shards_format.specs.Pieces.{IsLawful, body_size}
 use Rattle.shards_format.specs.declared.header.Header.{Header}
 use Rattle.shards_streams.specs.Streams.{GaveSome}
-use Rattle.shards_streams.specs.Checking.{GaveFile, GavePiece, GaveText}
+use Rattle.shards_streams.specs.Checking.{GaveFile, GaveLong, GavePiece, GaveText}
 
 -- a buffer that was not filled
 pub some_given : (bytes : List ℕ) (s t : SourceState) (e : SerializationError) → Fills {A = Unit {0}} bytes s t (Err e) → GaveSome s.remaining t.remaining
@@ -46,25 +46,25 @@ text_more m n h i j s t u p q = record {
 }
 
 -- so many bytes of a source, which a hasher holds
-pub record GaveSoFar (count : ℕ) (hasher : Sha256) (old new : Option (List ℕ)) : Type 0 where
+pub record GaveSoFar (count : ℕ) (hasher : Sha256) (old new : SourceState) : Type 0 where
   pub bytes : List ℕ
   pub len_is : length bytes ≡ count
-  pub consumes : Consumes old new bytes
+  pub takes : Takes old new bytes
   pub held : Holds256 hasher bytes
 
-pub none_so_far : (hasher : Sha256) (s : Option (List ℕ)) → Holds256 hasher [] → GaveSoFar 0 hasher s s
-none_so_far hasher s fresh = record { bytes = []; len_is = refl; consumes = Consumes-nil s; held = fresh }
+pub none_so_far : (hasher : Sha256) (s : SourceState) → Holds256 hasher [] → GaveSoFar 0 hasher s s
+none_so_far hasher s fresh = record { bytes = []; len_is = refl; takes = Takes-nil s; held = fresh }
 
-pub more_so_far : (m n : ℕ) (h i : Sha256) (s : Option (List ℕ)) (t u : SourceState) → GaveSoFar m h s t.remaining → GaveText n h i t u → GaveSoFar (m + n) i s u.remaining
+pub more_so_far : (m n : ℕ) (h i : Sha256) (s t u : SourceState) → GaveSoFar m h s t → GaveText n h i t u → GaveSoFar (m + n) i s u
 more_so_far m n h i s t u p q = record {
   bytes = p.bytes ++ q.bytes;
   len_is = length-append p.bytes q.bytes ∙ ap₂ (λ x y. x + y) p.len_is q.len_is;
-  consumes = Consumes-trans s t.remaining u.remaining p.bytes q.bytes p.consumes q.takes.consumes;
+  takes = Takes-trans s t u p.bytes q.bytes p.takes q.takes;
   held = q.holds p.bytes p.held;
 }
 
-pub whole_file : (len count : ℕ) (digest : List ℕ) (h i : Sha256) (s : Option (List ℕ)) (t u : SourceState) → len < 2 ^ 62 → GaveSoFar len h s t.remaining → GaveText count h i t u → count ≡ 0 → IsAtEnd u.remaining
-    → ((text : List ℕ) → Holds256 i text → digest ≡ sha256 text) → GaveFile len digest s u.remaining
+pub whole_file : (len count : ℕ) (digest : List ℕ) (h i : Sha256) (s t u : SourceState) → len < 2 ^ 62 → GaveSoFar len h s t → GaveText count h i t u → count ≡ 0 → IsAtEnd u.remaining
+    → ((text : List ℕ) → Holds256 i text → digest ≡ sha256 text) → GaveFile len digest s.remaining u.remaining
 whole_file len count digest h i s t u few p q none end finished =
     let all = more_so_far len count h i s t u p q in
     record {
@@ -72,9 +72,12 @@ whole_file len count digest h i s t u few p q none end finished =
       len_is = all.len_is ∙ (let e : len + count ≡ len = omega (arith, none) in e);
       few = few;
       digest_is = finished all.bytes all.held;
-      consumes = all.consumes;
+      consumes = all.takes.consumes;
       end = end;
     }
+
+pub long_file : (len : ℕ) (h : Sha256) (s t : SourceState) → 2 ^ 62 ≤ len → GaveSoFar len h s t → GaveLong s t
+long_file len h s t many p = record { bytes = p.bytes; many = omega (arith, many, p.len_is); takes = p.takes }
 
 -- a header, a body and the digest of both
 pub whole_piece : (header : Header) (head digest : List ℕ) (size : ℕ) (h i : Sha256) (r s t u : SourceState) (v : Option (List ℕ)) → IsHeader head header → IsLawful header

@@ -1,10 +1,9 @@
 -- Where a source has no whole piece left.
-use Rattle.std.proofs.Common.{◌≡◌, ◌≢◌, ℕ, ◌+◌, ◌-◌, ◌<◌, ◌≤◌, List, [], ◌++◌, length, take, drop, length-append, append-nil, append_assoc, ap, sym, ◌∙◌, subst, refl, arith, Option, None, Some, inl, inr}
+use Rattle.std.proofs.Common.{◌≡◌, ℕ, ◌+◌, ◌<◌, ◌≤◌, List, [], ◌++◌, length, take, drop, length-append, append-nil, append_assoc, ap, sym, ◌∙◌, subst, refl, arith, Option, None, Some, inl, inr}
 use Rattle.std.proofs.lemmas.List.{take_at, drop_at}
 use Rattle.std.specs.Io.KnownBytes.{Consumes, IsAtEnd}
 use Rattle.std.proofs.KnownBytes.{Consumes-trans}
 use Rattle.sha2.specs.Sha256.{sha256}
-use Rattle.sha2.specs.Hashers.{Holds256}
 use Rattle.sha2.specs.declared.Sha256.{Sha256}
 use Rattle.sha2.proofs.Facts256.{length-sha256}
 use Rattle.ark_bytes.specs.Reading.{SourceState, Takes, TakesFewer}
@@ -24,10 +23,13 @@ fewer_more a b c x n p q = record {
   stopped = stopped_later a b c p.failures q.stopped;
 }
 
+-- fewer than so many are fewer than more
+pub fewer_within : (a c : SourceState) (n size : ℕ) → n ≤ size → TakesFewer a c n → TakesFewer a c size
+fewer_within a c n size within q = record { taken = q.taken; fewer = omega (arith, q.fewer, within); consumes = q.consumes; stopped = q.stopped }
+
 pub text_fewer : (m n size : ℕ) (h i : Sha256) (a b c : SourceState) → GaveText m h i a b → TakesFewer b c n → m + n ≤ size → TakesFewer a c size
 text_fewer m n size h i a b c p q within =
-    let both = fewer_more a b c p.bytes n p.takes q in
-    record { taken = both.taken; fewer = omega (arith, both.fewer, p.len_is, within); consumes = both.consumes; stopped = both.stopped }
+    fewer_within a c (length p.bytes + n) size (omega (arith, p.len_is, within)) (fewer_more a b c p.bytes n p.takes q)
 
 -- what is left of known bytes
 abbrev Leaves : List ℕ → List ℕ → Option (List ℕ) → Type 0

@@ -1,11 +1,11 @@
 -- The parts that sources give, and the blocks that they tell.
-use Rattle.std.proofs.Common.{◌≡◌, ℕ, ◌+◌, ◌-◌, ◌*◌, ◌/◌, ◌<◌, ◌≤◌, min, List, [], ◌∷◌, ◌++◌, length, take, drop, get_or, arith, sym, ◌∙◌, ap, ap₂, subst, length-append, length-drop, Option, None, Some, refl}
+use Rattle.std.proofs.Common.{◌≡◌, ℕ, ◌+◌, ◌*◌, ◌<◌, ◌≤◌, List, [], ◌∷◌, ◌++◌, length, take, drop, get_or, arith, sym, ◌∙◌, ap, subst, length-append, length-drop, Option, None, Some, refl}
 use borrow.Rule.Slice.PartMut.{put_mid, post_of}
 use Rattle.std.proofs.lemmas.List.{length-take-le, get_or_append_left, get_or-append-add, get_or-take, take_at, drop_at, take_all, take-take, take-append-le, drop-append-le, drop-drop, length-take}
 use Rattle.std.proofs.lemmas.List.FromFn.{get_or-map-range_with_len, length-map-range_with_len}
 use Rattle.std.specs.Io.KnownBytes.{Consumes}
 use Rattle.shards_format.specs.Stripes.{Numbering, stripe, stripes, numbers_at}
-use Rattle.shards_format.specs.Parts.{IsPart, number_in}
+use Rattle.shards_format.specs.Parts.{number_in}
 use Rattle.shards_format.specs.Pieces.{IsBody, block_size, blocks, chunk, part_size}
 use Rattle.shards_format.proofs.FileLists.{part_len, rounded_few, rounded_more}
 use Rattle.shards_format.proofs.JoinLists.{number_in-part}
@@ -45,6 +45,14 @@ same_chunk size part rest xs tail same len few =
     let first : take (length part) (xs ++ rest) ≡ part = ap (take (length part)) same ∙ take_at part tail (length part) refl in
     let own : take (length part) xs ≡ part = sym (take-append-le (length part) xs rest room) ∙ first in
     sym (take_all (length part) (take size xs) (omega (arith, len))) ∙ take-take (length part) size xs few ∙ own
+
+-- a body has room for its next part
+pub part_room : (number : Numbering) (k n : ℕ) (bytes : List ℕ) (i b count : ℕ) (body rest : List ℕ) → IsBody number k n bytes i body → b < blocks k (length bytes)
+    → count ≡ stripes k (length (chunk (block_size k) b bytes)) → 4 + 2 * count ≤ length (drop (b * part_size) (body ++ rest))
+part_room number k n bytes i b count body rest is below count_is =
+    let own : length (chunk part_size b body) ≡ 4 + 2 * count =
+    part_len number k n (chunk (block_size k) b bytes) i (chunk part_size b body) (is.parts b below) ∙ ap (λ m. 4 + 2 * m) (sym count_is) in
+    omega (arith, own, length-take part_size (drop (b * part_size) body), length-drop (b * part_size) body, length-drop (b * part_size) (body ++ rest), length-append body rest)
 
 module _ (number : Numbering) (k n : ℕ) (bytes : List ℕ) (i b count : ℕ) (body rest part tail : List ℕ) (is : IsBody number k n bytes i body) (below : b < blocks k (length bytes))
     (count_is : count ≡ stripes k (length (chunk (block_size k) b bytes))) (few : count ≤ 1024) (len : length part ≡ 4 + 2 * count)

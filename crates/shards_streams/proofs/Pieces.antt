@@ -5,7 +5,7 @@ use Rattle.std.proofs.KnownBytes.{Appends-trans, Consumes-nil}
 use Rattle.sha2.specs.Sha256.{sha256}
 use Rattle.ark_bytes.specs.declared.sink.Sink.{Ghosts}
 use Rattle.ark_bytes.specs.Transfer.{AppendsBeginning}
-use Rattle.ark_bytes.specs.Reading.{SourceState, Takes}
+use Rattle.ark_bytes.specs.Reading.{SourceState}
 use Rattle.ark_bytes.proofs.Transfer.{AppendsBeginning-more, AppendsBeginning-after}
 use Rattle.shards_format.specs.Stripes.{Numbering}
 use Rattle.shards_format.specs.Headers.{IsHeader}

@@ -1,5 +1,5 @@
 -- What sources gave: a file, or a whole piece.
-use Rattle.std.specs.Prelude.{◌≡◌, ℕ, ◌<◌, ◌^◌, List, ◌++◌, length, Option, Some}
+use Rattle.std.specs.Prelude.{◌≡◌, ℕ, ◌<◌, ◌≤◌, ◌^◌, List, ◌++◌, length, Option, Some}
 use Rattle.std.specs.Io.KnownBytes.{Consumes, IsAtEnd}
 use Rattle.sha2.specs.Sha256.{sha256}
 use Rattle.sha2.specs.Hashers.{Holds256}
@@ -16,6 +16,12 @@ pub record GaveFile (len : ℕ) (digest : List ℕ) (old new : Option (List ℕ)
   pub digest_is : digest ≡ sha256 bytes
   pub consumes : Consumes old new bytes
   pub end : IsAtEnd new
+
+-- a source gave too many bytes for a file
+pub record GaveLong (old new : SourceState) : Type 0 where
+  pub bytes : List ℕ
+  pub many : 2 ^ 62 ≤ length bytes
+  pub takes : Takes old new bytes
 
 -- a source gave a whole piece, all that it had
 pub record GavePiece (header : Header) (old new : Option (List ℕ)) : Type 0 where

@@ -1,7 +1,8 @@
 -- What sources have of pieces, and what a sink took of their file.
 use Rattle.std.specs.Prelude.{◌≡◌, ℕ, ◌<◌, ◌+◌, ◌*◌, List, length, get_or, Option}
-use Rattle.std.specs.Io.KnownBytes.{Appends, Consumes}
+use Rattle.std.specs.Io.KnownBytes.{Appends}
 use Rattle.sha2.specs.Sha256.{sha256}
+use Rattle.ark_bytes.specs.Reading.{SourceState, Takes}
 use Rattle.shards_format.specs.Stripes.{Numbering}
 use Rattle.shards_format.specs.Parts.{number_in}
 use Rattle.shards_streams.specs.Streams.{HasBody}
@@ -18,8 +19,8 @@ pub record TookFile (len : ℕ) (digest : List ℕ) (old new : Option (List ℕ)
   pub digest_is : digest ≡ sha256 bytes
 
 -- a source gave a part, whose numbers are row a of these
-pub record GavePart (count : ℕ) (numbers : List ℕ) (a : ℕ) (old new : Option (List ℕ)) : Type 0 where
+pub record GavePart (count : ℕ) (numbers : List ℕ) (a : ℕ) (old new : SourceState) : Type 0 where
   pub part : List ℕ
   pub len : length part ≡ 4 + 2 * count
-  pub consumes : Consumes old new part
+  pub takes : Takes old new part
   pub row : (s : ℕ) → s < count → get_or numbers (a * count + s) 0 ≡ number_in part s

@@ -1,5 +1,5 @@
 -- What the writers of all pieces took.
-use Rattle.std.specs.Prelude.{◌≡◌, ℕ, ◌<◌, ◌≤◌, List, ◌++◌, length, get_or, Option}
+use Rattle.std.specs.Prelude.{◌≡◌, ℕ, ◌<◌, List, ◌++◌, length, get_or, Option}
 use Rattle.std.specs.Io.KnownBytes.{Consumes}
 use Rattle.ark_bytes.specs.declared.sink.Sink.{Ghosts}
 use Rattle.ark_bytes.specs.Reading.{SourceState, Takes}

@@ -1,11 +1,9 @@
 -- What sources gave and sinks took of a file and its pieces.
-use Rattle.std.specs.Prelude.{◌≡◌, ℕ, ◌<◌, ◌≤◌, List, [], ◌++◌, length, get_or, Option, Some, ◌⊎◌}
+use Rattle.std.specs.Prelude.{◌≡◌, ℕ, List, ◌++◌, length, Option, Some}
 use Rattle.std.specs.Io.KnownBytes.{Appends, Consumes}
 use Rattle.sha2.specs.Sha256.{sha256}
 use Rattle.ark_bytes.specs.Transfer.{AppendsBeginning}
-use Rattle.ark_bytes.specs.Reading.{SourceState, Takes}
-use Rattle.shards_format.specs.Stripes.{Numbering, numbers_at}
-use Rattle.shards_format.specs.Parts.{IsPart}
+use Rattle.shards_format.specs.Stripes.{Numbering}
 use Rattle.shards_format.specs.Headers.{IsHeader}
 use Rattle.shards_format.specs.Pieces.{IsBody, IsWhole}
 use Rattle.shards_format.specs.declared.header.Header.{Header}

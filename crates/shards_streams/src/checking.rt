@@ -8,7 +8,7 @@ ghost use Rattle.ark_bytes.specs.Reading.{source_state, Takes, TakesFewer};
 ghost use Rattle.shards_format.specs.Headers.{IsHeader};
 ghost use Rattle.shards_format.specs.Pieces.{IsLawful};
 ghost use Rattle.shards_format.specs.declared.header.Header.{Header};
-ghost use Rattle.shards_streams.specs.Checking.{GaveFile, GavePiece, GaveText, LacksPiece};
+ghost use Rattle.shards_streams.specs.Checking.{GaveFile, GaveLong, GavePiece, GaveText, LacksPiece};
 
 use crate::error::StreamError;
 use crate::reading::take_bytes;
@@ -23,6 +23,9 @@ const CHUNK: usize = 65536;
 /// How many bytes a source has left, and their SHA-256. `TooLong` comes at 2^62 bytes, and `Read` where the source fails.
 pub fn digest_of<R: Source>(alloc: Global, source: &mut R) -> Result<(usize, [u8; 32]), StreamError>
     ensures file { IfOk result (λ found. GaveFile found.0 found.1 (R.remaining source.old) (R.remaining source.new)) }
+    ensures read { result ≡ Err (StreamError.Read 0) → R.failures source.old < R.failures source.new }
+    ensures too_long { result ≡ Err StreamError.TooLong → GaveLong (source_state R.remaining R.failures source.old)
+        (source_state R.remaining R.failures source.new) }
     ensures errors { IfErr result (λ e. (e ≡ StreamError.Memory)
         ⊎ ((e ≡ StreamError.Read 0) ⊎ (e ≡ StreamError.TooLong))) }
 {
@@ -43,6 +46,9 @@ fn zeros(alloc: Global, len: usize) -> Result<Vec<u8>, StreamError>
 fn digest_by<R: Source>(source: &mut R, buffer: &mut [u8]) -> Result<(usize, [u8; 32]), StreamError>
     requires { 0 < length buffer.old }
     ensures file { IfOk result (λ found. GaveFile found.0 found.1 (R.remaining source.old) (R.remaining source.new)) }
+    ensures read { result ≡ Err (StreamError.Read 0) → R.failures source.old < R.failures source.new }
+    ensures too_long { result ≡ Err StreamError.TooLong → GaveLong (source_state R.remaining R.failures source.old)
+        (source_state R.remaining R.failures source.new) }
     ensures errors { IfErr result (λ e. (e ≡ StreamError.Read 0) ⊎ (e ≡ StreamError.TooLong)) }
 {
     let mut hasher = Sha256::new();
@@ -68,6 +74,7 @@ fn take_some<R: Source>(
         (source_state R.remaining R.failures source.old) (source_state R.remaining R.failures source.new)) }
     ensures few { IfOk result (λ count. count ≤ length buffer.old) }
     ensures end { IfOk result (λ count. count ≡ 0 → IsAtEnd (R.remaining source.new)) }
+    ensures failed { OnErr result (R.failures source.old < R.failures source.new) }
     ensures errors { IsOkUnless result (StreamError.Read 0) }
 {
     match source.take(buffer) {

@@ -1,10 +1,10 @@
 //! Joining what sources have.
 
-ghost use Rattle.std.specs.Prelude.{◌≡◌, ◌≢◌, ◌⊎◌, ℕ, ◌+◌, ◌*◌, ◌<◌, ◌≤◌, ◌^◌, List, ◌++◌, length, get_or, IfOk, IfErr, OnOk, OnErr, IsOkUnless};
+ghost use Rattle.std.specs.Prelude.{◌≡◌, ◌≢◌, ◌⊎◌, ℕ, ◌+◌, ◌*◌, ◌<◌, ◌≤◌, ◌^◌, List, ◌++◌, length, get_or, Err, IfOk, IfErr, OnOk, OnErr, IsOkUnless};
 ghost use Rattle.std.specs.Io.KnownBytes.{Appends};
 ghost use Rattle.sha2.specs.Hashers.{Holds256};
 ghost use Rattle.ark_bytes.specs.Transfer.{AppendsBeginning};
-ghost use Rattle.ark_bytes.specs.Reading.{source_state};
+ghost use Rattle.ark_bytes.specs.Reading.{source_state, TakesFewer};
 ghost use Rattle.shards_format.specs.Files.{AreApart};
 ghost use Rattle.shards_format.specs.Parts.{number_in};
 ghost use Rattle.shards_streams.specs.Joining.{HaveBodies, TookFile, GavePart};
@@ -42,6 +42,12 @@ pub fn join_into<C: StripeCode, R: Source, W: Sink>(
         → AppendsBeginning (W.contents sink.old) (W.contents sink.new) bytes) }
     ensures errors { IfErr result (λ e. (e ≡ StreamError.Memory) ⊎ ((e ≡ StreamError.Write 0)
         ⊎ ((a : ℕ) × (a < length sources.old) × (e ≡ StreamError.Read a)))) }
+
+    // Of a source with its body a call failed, where it is the one that `Read` tells.
+    ensures read { (bytes : List ℕ) (a : ℕ) (d : R) → a < C.k_of code.now → result ≡ Err (StreamError.Read a)
+        → ((i : ℕ) → get_or bytes i 0 < 256) → length bytes ≡ len
+        → HaveBodies R.remaining C.number (C.k_of code.now) (C.n_of code.now) bytes places.now sources.old
+        → R.failures (get_or sources.old a d) < R.failures (get_or sources.new a d) }
 
     // Whatever the sources gave, the digest is that of what was written.
     ensures digest { IfOk result (λ digest. TookFile len digest (W.contents sink.old) (W.contents sink.new)) }
@@ -84,7 +90,11 @@ fn take_parts<R: Source>(
     ensures len { IfOk result (λ numbers. length numbers.items ≡ length sources.old * count) }
     ensures kept { length sources.new ≡ length sources.old }
     ensures parts { IfOk result (λ numbers. (a : ℕ) (d : R) → a < length sources.old
-        → GavePart count numbers.items a (R.remaining (get_or sources.old a d)) (R.remaining (get_or sources.new a d))) }
+        → GavePart count numbers.items a (source_state R.remaining R.failures (get_or sources.old a d))
+        (source_state R.remaining R.failures (get_or sources.new a d))) }
+    ensures fewer { (a : ℕ) (d : R) → result ≡ Err (StreamError.Read a)
+        → TakesFewer (source_state R.remaining R.failures (get_or sources.old a d))
+        (source_state R.remaining R.failures (get_or sources.new a d)) (4 + 2 * count) }
     ensures errors { IfErr result (λ e. (e ≡ StreamError.Memory)
         ⊎ ((a : ℕ) × (a < length sources.old) × (e ≡ StreamError.Read a))) }
 {
@@ -105,7 +115,11 @@ fn take_rows<R: Source>(
     requires len { length numbers.old ≡ length sources.old * count }
     ensures kept { length sources.new ≡ length sources.old }
     ensures parts { OnOk result ((a : ℕ) (d : R) → a < length sources.old
-        → GavePart count numbers.new a (R.remaining (get_or sources.old a d)) (R.remaining (get_or sources.new a d))) }
+        → GavePart count numbers.new a (source_state R.remaining R.failures (get_or sources.old a d))
+        (source_state R.remaining R.failures (get_or sources.new a d))) }
+    ensures fewer { (a : ℕ) (d : R) → result ≡ Err (StreamError.Read a)
+        → TakesFewer (source_state R.remaining R.failures (get_or sources.old a d))
+        (source_state R.remaining R.failures (get_or sources.new a d)) (4 + 2 * count) }
     ensures errors { IfErr result (λ e. (e ≡ StreamError.Memory)
         ⊎ ((a : ℕ) × (a < length sources.old) × (e ≡ StreamError.Read a))) }
 {

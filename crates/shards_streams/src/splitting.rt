@@ -1,9 +1,9 @@
 //! Splitting the bytes of a source.
 
-ghost use Rattle.std.specs.Prelude.{◌≡◌, ℕ, ◌+◌, ◌*◌, ◌<◌, ◌≤◌, ◌^◌, ◌⊎◌, List, [], ◌++◌, get_or, length, map, IfOk, IfErr, OnOk, OnErr};
+ghost use Rattle.std.specs.Prelude.{◌≡◌, ℕ, ◌+◌, ◌*◌, ◌<◌, ◌≤◌, ◌^◌, ◌⊎◌, List, [], ◌++◌, get_or, length, map, Err, IfOk, IfErr, OnOk, OnErr};
 ghost use Rattle.std.specs.Io.KnownBytes.{Appends};
 ghost use Rattle.sha2.specs.Sha256.{sha256};
-ghost use Rattle.ark_bytes.specs.Reading.{source_state};
+ghost use Rattle.ark_bytes.specs.Reading.{source_state, TakesFewer};
 ghost use Rattle.shards_format.specs.Stripes.{numbers_at};
 ghost use Rattle.shards_format.specs.Headers.{IsHeader};
 ghost use Rattle.shards_format.specs.Pieces.{block_size};
@@ -39,6 +39,8 @@ pub fn split_into<C: StripeCode, R: Source, W: Sink + Drop>(
         writers.old writers.new) }
     ensures beginnings { OnErr result ((writers.new ≡ writers.old) ⊎ HasBegun W.Sink C.number (C.k_of code.now)
         (C.n_of code.now) len digest.now (R.remaining source.old) (R.remaining source.new) writers.old writers.new) }
+    ensures read { result ≡ Err (StreamError.Read 0) → TakesFewer (source_state R.remaining R.failures source.old)
+        (source_state R.remaining R.failures source.new) len }
     ensures errors { IfErr result (λ e. (e ≡ StreamError.Memory) ⊎ ((e ≡ StreamError.Read 0)
         ⊎ ((i : ℕ) × (i < length writers.old) × (e ≡ StreamError.Write i)))) }
 {
@@ -156,6 +158,8 @@ fn put_bodies<C: StripeCode, R: Source, W: Sink + Drop>(
         writers.old writers.new) }
     ensures some { OnErr result (TookBodiesSome W.Sink C.number (C.k_of code.now) (C.n_of code.now)
         (R.remaining source.old) (R.remaining source.new) writers.old writers.new) }
+    ensures read { result ≡ Err (StreamError.Read 0) → TakesFewer (source_state R.remaining R.failures source.old)
+        (source_state R.remaining R.failures source.new) len }
     ensures errors { IfErr result (λ e. (e ≡ StreamError.Memory) ⊎ ((e ≡ StreamError.Read 0)
         ⊎ ((i : ℕ) × (i < length writers.old) × (e ≡ StreamError.Write i)))) }
 {

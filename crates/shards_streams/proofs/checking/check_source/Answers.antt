@@ -1,4 +1,4 @@
-use Rattle.std.proofs.Common.{◌≡◌, Err, ap, inl, inr}
+use Rattle.std.proofs.Common.{Err, ap, inl, inr}
 use Rattle.shards_streams.proofs.checking.check_source.Goals as goal
 
 pub returns-in-Err-Read-clause-damage : goal.returns-in-Err-Read-clause-damage

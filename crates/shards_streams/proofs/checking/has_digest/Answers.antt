@@ -1,4 +1,4 @@
-use Rattle.std.proofs.Common.{◌≡◌, ◌∙◌, sym}
+use Rattle.std.proofs.Common.{◌∙◌, sym}
 use Rattle.shards_streams.proofs.checking.has_digest.Goals as goal
 
 pub returns : goal.returns

@@ -1,4 +1,4 @@
-use Rattle.std.proofs.Common.{◌≡◌, ℕ, ◌+◌, ◌-◌, ◌≤◌, arith, rules, sym, subst}
+use Rattle.std.proofs.Common.{◌≡◌, ◌+◌, ◌-◌, ◌≤◌, arith, rules, subst}
 use Rattle.ark_bytes.specs.Reading.{source_state, SourceState}
 use Rattle.shards_streams.specs.Checking.{GaveText}
 use Rattle.shards_streams.proofs.Given.{no_text, text_more}

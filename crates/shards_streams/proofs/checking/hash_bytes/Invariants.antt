@@ -1,4 +1,4 @@
-use Rattle.std.proofs.Common.{◌≡◌, ◌-◌, ◌≤◌}
+use Rattle.std.proofs.Common.{◌-◌, ◌≤◌}
 use Rattle.ark_bytes.specs.Reading.{source_state}
 use Rattle.shards_streams.specs.Checking.{GaveText}
 use Rattle.shards_streams.proofs.checking.hash_bytes.Given as goal

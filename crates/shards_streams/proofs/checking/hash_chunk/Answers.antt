@@ -1,4 +1,4 @@
-use Rattle.std.proofs.Common.{◌++◌, List, ℕ, ap, subst}
+use Rattle.std.proofs.Common.{◌++◌, List, ℕ, subst}
 use Rattle.sha2.specs.Hashers.{Holds256}
 use Rattle.shards_streams.proofs.checking.hash_chunk.Goals as goal
 

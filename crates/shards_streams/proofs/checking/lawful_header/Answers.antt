@@ -1,4 +1,4 @@
-use Rattle.std.proofs.Common.{◌≡◌, rules, sym, subst}
+use Rattle.std.proofs.Common.{◌≡◌, rules, subst}
 use Rattle.shards_format.specs.Pieces.{IsLawful}
 use Rattle.shards_format.proofs.HeaderLists.{one_header}
 use Rattle.shards_streams.proofs.checking.lawful_header.Goals as goal

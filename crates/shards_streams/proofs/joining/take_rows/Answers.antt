@@ -1,7 +1,8 @@
-use Rattle.std.proofs.Common.{◌≡◌, ℕ, ◌<◌, ◌≤◌, ◌+◌, ◌*◌, arith, length, get_or, List, ap, sym, subst, ◌∙◌}
+use Rattle.std.proofs.Common.{ℕ, ◌<◌, ◌≤◌, ◌+◌, ◌*◌, arith, length, get_or, ap, sym, subst, ◌∙◌}
 use Rattle.std.proofs.lemmas.List.{length-set}
 use Rattle.shards_format.proofs.BlockLists.{row_end, row_place}
 use Rattle.shards_format.specs.Parts.{number_in}
+use Rattle.ark_bytes.specs.Reading.{source_state, SourceState}
 use Rattle.shards_streams.specs.Joining.{GavePart}
 use Rattle.shards_streams.proofs.EachItem.{items_more, rest_after}
 use Rattle.shards_streams.proofs.joining.take_rows.Goals as goal
@@ -13,19 +14,19 @@ read_row-requires-clause-row g c =
 
 pub loop-a-preserved : goal.loop-a-preserved
 loop-a-preserved g c =
-    let remaining = g.R.Source.remaining in
+    let state : g.row.R.Denot → SourceState = λ r. source_state g.R.Source.remaining g.R.Source.failures r in
     let count = c.args.count in
     let a = c.loop-a.a in
     let sources = c.loop-a.sources in
     let old = c.args.sources.now in
     let new = c.take_bytes.new.source in
     let numbers = c.read_row.new.numbers in
-    let P : ℕ → g.row.R.Denot → g.row.R.Denot → Type 0 = λ j x y. GavePart count numbers j (remaining x) (remaining y) in
+    let P : ℕ → g.row.R.Denot → g.row.R.Denot → Type 0 = λ j x y. GavePart count numbers j (state x) (state y) in
     let inside : a < length sources = omega (arith, c.loop-a-test.true, c.loop-a.auto.sources) in
     let this : P a (get_or sources a c.index-sources-a.result) new = record {
       part = c.in_ok-part.part.items;
       len = c.in_ok-part.ensures.len;
-      consumes = c.in_ok-part.ensures.takes.consumes;
+      takes = c.in_ok-part.ensures.takes;
       row = λ s h. c.read_row.ensures.row s h ∙ ap (λ xs. number_in xs s) c.deref.ensures.value;
     } in
     let before : (j : ℕ) (d : g.row.R.Denot) → j < a → P j (get_or old j d) (get_or sources j d) = λ j d h.
@@ -33,7 +34,7 @@ loop-a-preserved g c =
     record {
       part = gave.part;
       len = gave.len;
-      consumes = gave.consumes;
+      takes = gave.takes;
       row = λ s l. c.read_row.ensures.before (j * count + s) (row_place j s a count h l) ∙ gave.row s l;
     } in
     record {

@@ -1,9 +1,7 @@
-use Rattle.std.proofs.Common.{◌≡◌, ℕ, ◌<◌, ◌⊎◌, inl, inr, length, get_or, List, [], map, sym, subst, ap, ◌∙◌, Vec, Global}
-use Rattle.shards_format.specs.Stripes.{numbers_at}
-use Rattle.shards_format.specs.Parts.{IsPart}
+use Rattle.std.proofs.Common.{◌≡◌, ℕ, ◌<◌, ◌⊎◌, inr, length, get_or, List, [], map, sym, subst, ap, ◌∙◌, Vec, Global}
 use Rattle.shards_streams.specs.declared.writer.PieceWriter.{PieceWriter}
 use Rattle.shards_streams.specs.Writers.{Took, TookSome}
-use Rattle.shards_streams.specs.Splitting.{TookPart, TookPartSome, TookParts, TookPartsSome}
+use Rattle.shards_streams.specs.Splitting.{TookParts, TookPartsSome}
 use Rattle.shards_streams.proofs.Results.{ok_map, err_map}
 use Rattle.shards_streams.proofs.splitting.put_block.Goals as goal
 

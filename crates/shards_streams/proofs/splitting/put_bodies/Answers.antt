@@ -1,8 +1,9 @@
-use Rattle.std.proofs.Common.{◌≡◌, ℕ, ◌<◌, ◌*◌, ◌-◌, min, arith, length, List, sym, subst, ap, ap₂, ◌∙◌, refl}
+use Rattle.std.proofs.Common.{◌≡◌, ℕ, ◌<◌, ◌+◌, ◌*◌, ◌-◌, min, arith, rules, length, List, sym, subst, ap, ◌∙◌, refl}
 use Rattle.ark_bytes.specs.Reading.{source_state, SourceState, Takes}
 use Rattle.shards_format.specs.Pieces.{block_size, blocks}
 use Rattle.shards_streams.specs.Splitting.{TookParts}
-use Rattle.shards_streams.proofs.Results.{err_any, ok_any}
+use Rattle.shards_streams.proofs.Lacking.{fewer_more, fewer_within}
+use Rattle.shards_streams.proofs.Results.{err_any}
 use Rattle.shards_streams.proofs.Bodies.{TookBlocks, no_blocks, all_blocks, blocks_more, blocks_stopped, block_stopped}
 use Rattle.shards_streams.proofs.splitting.put_bodies.Goals as goal
 
@@ -47,6 +48,18 @@ returns-in_err-block-clause-some g c =
     let some : 0 < k = subst (λ m. 0 < m) c.k-k.ensures.k c.k-k.ensures.positive in
     let below : b < blocks k c.args.len = subst (λ m. b < m) (c.blocks-b-end.ensures ∙ ap (λ m. blocks m c.args.len) c.k-k.ensures.k) c.loop-b-test.true in
     err_any _ _ (blocks_stopped g.W.Sink code.number k n some c.args.len b (state c.args.source.now) (state c.loop-b.source) c.args.writers.now c.loop-b.writers c.loop-b.invariant.took below (g.R.Source.remaining c.take_bytes.new.source) c.in_err-block.ensures.some)
+
+pub returns-in_err-block-clause-read : goal.returns-in_err-block-clause-read
+returns-in_err-block-clause-read g c = λ same.
+    let code = g.C.StripeCode in
+    let state : g.row.R.Denot → SourceState = λ r. source_state g.R.Source.remaining g.R.Source.failures r in
+    let k = code.k_of c.args.code.now in
+    let b = c.loop-b.b in
+    let took = c.loop-b.invariant.took in
+    let size_is : block_size c.k-k.result ≡ block_size k = ap block_size c.k-k.ensures.k in
+    let want_is : c.min-want.result ≡ min (block_size k) (c.args.len - b * block_size k) = c.min-want.ensures ∙ ap (λ m. min m (c.args.len - b * m)) size_is in
+    fewer_within (state c.args.source.now) (state c.take_bytes.new.source) (length took.bytes + c.min-want.result) c.args.len (omega (arith, took.len_is, want_is))
+    (fewer_more (state c.args.source.now) (state c.loop-b.source) (state c.take_bytes.new.source) took.bytes c.min-want.result took.takes (c.take_bytes.ensures.fewer (search rules)))
 
 pub returns-in_err-put_block-clause-some : goal.returns-in_err-put_block-clause-some
 returns-in_err-put_block-clause-some g c =

@@ -1,4 +1,4 @@
-use Rattle.std.proofs.Common.{◌≡◌, ℕ, ◌<◌, ◌+◌, arith, length, get_or, List, [], map, sym, ap, ◌∙◌, subst, Vec, Global}
+use Rattle.std.proofs.Common.{◌≡◌, ℕ, ◌<◌, arith, length, get_or, List, [], map, sym, ◌∙◌, subst, Vec, Global}
 use Rattle.std.proofs.lemmas.List.{length-set}
 use Rattle.shards_format.proofs.BlockLists.{view_at}
 use Rattle.shards_streams.specs.declared.writer.PieceWriter.{PieceWriter}

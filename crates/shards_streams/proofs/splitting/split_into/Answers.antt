@@ -1,4 +1,4 @@
-use Rattle.std.proofs.Common.{◌≡◌, ℕ, ◌<◌, ◌≤◌, arith, ◌⊎◌, inl, inr, length, get_or, List, [], map, sym, subst, ap, ◌∙◌, refl, Vec, Global}
+use Rattle.std.proofs.Common.{◌≡◌, ℕ, ◌<◌, ◌≤◌, ◌⊎◌, inl, inr, length, get_or, List, [], map, sym, subst, ap, ◌∙◌, refl, Vec, Global}
 use Rattle.ark_bytes.specs.Reading.{source_state, SourceState}
 use Rattle.shards_format.specs.Headers.{IsHeader}
 use Rattle.shards_streams.specs.declared.writer.PieceWriter.{PieceWriter}
