@@ -29,14 +29,14 @@ use ark_poly::{
 use combination::combination;
 use convolution::convolution;
 use coset::values_on_coset;
-use cost::over_sixteen_and_back;
+use cost::{over_sixteen_and_back, restored_of_eighteen};
 use field::{F97, quotient};
 use holders::lost_and_restored;
 use interpolation::interpolated_value;
 use large_field::{F18446742974197923841, size_for_a_hundred_million};
 use module::{Point, points_of_curve};
 use opening::opening;
-use rs_code::Code;
+use rs_code::{Code, RsError};
 use saving::{load, save, saved_and_loaded};
 use selector::selector;
 use sparse::values_of_terms;
@@ -63,6 +63,8 @@ fn main(rt: HostRuntime) -> anyhow::Result<()> {
     print_polynomials(&rt, alloc)?;
     let items = over_sixteen(alloc, [1, 2, 3, 4].map(F65537::from))?;
     print_list(&rt, alloc, "over sixteen elements and back", &items)?;
+    let word = three_of_eighteen(alloc, [1, 137, 150].map(F433::from))?;
+    print_list(&rt, alloc, "eighteen values from three of them", &word)?;
     let checked = round(
         alloc,
         [1, 2, 3, 4].map(F65537::from),
@@ -138,6 +140,16 @@ fn over_sixteen<F: FftField>(alloc: Global, items: [F; 4]) -> Result<Vec<F>, Pol
     }
     over_sixteen_and_back(alloc, &domain, &mut items, &mut Work::new())?;
     Ok(items)
+}
+
+/// The codeword over 433 whose first three values are given.
+fn three_of_eighteen(alloc: Global, given: [F433; 3]) -> Result<Vec<F433>, RsError> {
+    let mut word = [None; 18];
+    let [first, second, third] = given;
+    word[0] = Some(first);
+    word[1] = Some(second);
+    word[2] = Some(third);
+    restored_of_eighteen(alloc, &word, &mut Work::new())
 }
 
 /// Of a table of two variables, the two numbers of the first round, the next claim, and the value at the drawn point.
