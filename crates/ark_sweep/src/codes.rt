@@ -34,7 +34,7 @@ pub enum Answered<F: FftField> {
     NoCall,
 }
 
-impl<F: FftField + Numbered> Call for OfCode<F> {
+impl<F: Numbered> Call for OfCode<F> {
     type Answered = Answered<F>;
 
     fn given(alloc: Global, words: &[String]) -> Result<Self, PolyError> {
@@ -78,7 +78,7 @@ impl<F: FftField + Numbered> Call for OfCode<F> {
     }
 }
 
-impl<F: FftField + Numbered> Call for OfDecoder<F> {
+impl<F: Numbered> Call for OfDecoder<F> {
     type Answered = Answered<F>;
 
     fn given(alloc: Global, words: &[String]) -> Result<Self, PolyError> {
@@ -161,7 +161,7 @@ fn refused<F: FftField>(error: RsError) -> Result<Answered<F>, PolyError> {
     }
 }
 
-fn text_of_answer<F: FftField + Numbered>(alloc: Global, answer: &Answered<F>) -> Answer {
+fn text_of_answer<F: Numbered>(alloc: Global, answer: &Answered<F>) -> Answer {
     match answer {
         Answered::Values(values) => text_of(alloc, values),
         Answered::Decoder(_) => told(alloc, "made"),

@@ -49,7 +49,7 @@ pub enum Answered<F: FftField, D> {
     NoCall,
 }
 
-impl<F: FftField + Numbered, D: EvaluationDomain<F>> Call for OverDomain<F, D> {
+impl<F: Numbered, D: EvaluationDomain<F>> Call for OverDomain<F, D> {
     type Answered = Answered<F, D>;
 
     fn given(alloc: Global, words: &[String]) -> Result<Self, PolyError> {
@@ -114,7 +114,7 @@ impl<F: FftField + Numbered, D: EvaluationDomain<F>> Call for OverDomain<F, D> {
     }
 }
 
-impl<F: FftField + Numbered, D: EvaluationDomain<F>> OverDomain<F, D> {
+impl<F: Numbered, D: EvaluationDomain<F>> OverDomain<F, D> {
     /// The products by places.
     fn products(&self, alloc: Global) -> Result<Answered<F, D>, PolyError> {
         if self.list.len() != self.other.len() {
@@ -319,10 +319,7 @@ fn text_of_pairs<F: Numbered>(alloc: Global, pairs: &[Lanes<F>]) -> Answer {
 }
 
 /// The size and the offset.
-fn text_of_domain<F: FftField + Numbered, D: EvaluationDomain<F>>(
-    alloc: Global,
-    domain: Option<D>,
-) -> Answer {
+fn text_of_domain<F: Numbered, D: EvaluationDomain<F>>(alloc: Global, domain: Option<D>) -> Answer {
     match domain {
         Some(domain) => {
             text_of_numbers(

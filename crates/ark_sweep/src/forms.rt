@@ -28,7 +28,7 @@ pub enum Answered<F, P> {
     NoCall,
 }
 
-impl<F: Field + Numbered, P: Kind<F>> Call for OfForm<F, P> {
+impl<F: Numbered, P: Kind<F>> Call for OfForm<F, P> {
     type Answered = Answered<F, P>;
 
     fn given(alloc: Global, words: &[String]) -> Result<Self, PolyError> {

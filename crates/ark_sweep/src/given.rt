@@ -1,6 +1,6 @@
 //! What the words of a call name.
 
-use ark_base::{FftField, PolyError};
+use ark_base::PolyError;
 use ark_poly::EvaluationDomain;
 use ark_test_types::numbered::Numbered;
 use row_words::words::{element, size};
@@ -29,7 +29,7 @@ pub fn element_named<F: Numbered>(words: &[String], name: &str) -> F {
 }
 
 /// The domain of this name: a size, a stroke and an offset. Without a word it has one element.
-pub fn domain_named<F: FftField + Numbered, D: EvaluationDomain<F>>(
+pub fn domain_named<F: Numbered, D: EvaluationDomain<F>>(
     words: &[String],
     name: &str,
 ) -> Result<D, PolyError> {

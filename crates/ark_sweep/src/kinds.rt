@@ -40,7 +40,7 @@ pub fn both_named<F: Field, P: Kind<F>>(
 }
 
 /// By the coefficients.
-impl<F: Field + Numbered> Kind<F> for DensePolynomial<F> {
+impl<F: Numbered> Kind<F> for DensePolynomial<F> {
     fn of(alloc: Global, word: &str) -> Result<Self, PolyError> {
         Ok(DensePolynomial::from_coefficients_vec(elements(alloc, word)?))
     }
@@ -55,7 +55,7 @@ impl<F: Field + Numbered> Kind<F> for DensePolynomial<F> {
 }
 
 /// By the terms.
-impl<F: Field + Numbered> Kind<F> for SparsePolynomial<F> {
+impl<F: Numbered> Kind<F> for SparsePolynomial<F> {
     fn of(alloc: Global, word: &str) -> Result<Self, PolyError> {
         SparsePolynomial::from_coefficients_vec(alloc, terms_of(alloc, word)?)
     }
@@ -70,7 +70,7 @@ impl<F: Field + Numbered> Kind<F> for SparsePolynomial<F> {
 }
 
 /// By the number of variables, a stroke, and terms with commas between them, each a coefficient, a colon and powers.
-impl<F: Field + Numbered> Kind<F> for multivariate::SparsePolynomial<F, SparseTerm> {
+impl<F: Numbered> Kind<F> for multivariate::SparsePolynomial<F, SparseTerm> {
     fn of(alloc: Global, word: &str) -> Result<Self, PolyError> {
         let (num_vars, list) = word.split_once('/').unwrap_or(("", ""));
         let (num_vars, terms) = (size(num_vars), coefficients_of::<F>(alloc, list)?);
@@ -121,7 +121,7 @@ pub fn push_term(text: &mut String, term: &SparseTerm) -> Result<(), AllocError>
 }
 
 /// By all values.
-impl<F: Field + Numbered> Kind<F> for DenseMultilinearExtension<F> {
+impl<F: Numbered> Kind<F> for DenseMultilinearExtension<F> {
     fn of(alloc: Global, word: &str) -> Result<Self, PolyError> {
         let p: SparseMultilinearExtension<F> = Kind::of(alloc, word)?;
         p.to_dense_multilinear_extension(alloc)
@@ -137,7 +137,7 @@ impl<F: Field + Numbered> Kind<F> for DenseMultilinearExtension<F> {
 }
 
 /// By the number of variables, a stroke and the entries, or by all values.
-impl<F: Field + Numbered> Kind<F> for SparseMultilinearExtension<F> {
+impl<F: Numbered> Kind<F> for SparseMultilinearExtension<F> {
     fn of(alloc: Global, word: &str) -> Result<Self, PolyError> {
         let (num_vars, entries) = table_of::<F>(alloc, word)?;
         if num_vars >= 64 {

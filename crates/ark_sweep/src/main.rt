@@ -26,7 +26,7 @@ use crate::programs::OfProgram;
 use crate::several::OfSeveral;
 use crate::swept::{Ended, attempt};
 use crate::univariate::OfOne;
-use ark_base::{FftField, PolyError};
+use ark_base::PolyError;
 use ark_poly::multivariate::{self, SparseTerm};
 use ark_poly::univariate::{DensePolynomial, SparsePolynomial};
 use ark_poly::{
@@ -64,15 +64,15 @@ fn ended<R: Print>(
     };
     let (form, name) = (form.as_str(), name.as_str());
     match field.as_str() {
-        "5" => over_field::<ark_base::F5, R>(alloc, watched, form, name, given),
-        "433" => over_field::<ark_base::F433, R>(alloc, watched, form, name, given),
-        "65537" => over_field::<ark_base::F65537, R>(alloc, watched, form, name, given),
+        "5" => over_any::<ark_base::F5, R>(alloc, watched, form, name, given),
+        "433" => over_mixed::<ark_base::F433, R>(alloc, watched, form, name, given),
+        "65537" => over_general::<ark_base::F65537, R>(alloc, watched, form, name, given),
         _ => attempt::<OfProgram, R>(alloc, watched, name, given),
     }
 }
 
-/// How a call over a field ends.
-fn over_field<F: FftField + Numbered, R: Print>(
+/// How a call of any form ends.
+fn over_any<F: Numbered, R: Print>(
     alloc: Global,
     watched: Option<&R>,
     form: &str,
@@ -82,29 +82,9 @@ fn over_field<F: FftField + Numbered, R: Print>(
     match form {
         "dense" => attempt::<OfForm<F, DensePolynomial<F>>, R>(alloc, watched, name, given),
         "sparse" => attempt::<OfForm<F, SparsePolynomial<F>>, R>(alloc, watched, name, given),
-        "one_variable" => attempt::<OfOne<F>, R>(alloc, watched, name, given),
         "radix2" => {
             attempt::<OverDomain<F, Radix2EvaluationDomain<F>>, R>(alloc, watched, name, given)
         }
-        "mixed" => {
-            attempt::<OverDomain<F, MixedRadixEvaluationDomain<F>>, R>(alloc, watched, name, given)
-        }
-        "general" => {
-            attempt::<OverDomain<F, GeneralEvaluationDomain<F>>, R>(alloc, watched, name, given)
-        }
-        _ => of_several::<F, R>(alloc, watched, form, name, given),
-    }
-}
-
-/// How a call of forms in several variables, or one of bytes, ends.
-fn of_several<F: FftField + Numbered, R: Print>(
-    alloc: Global,
-    watched: Option<&R>,
-    form: &str,
-    name: &str,
-    given: &[String],
-) -> Result<Ended, PolyError> {
-    match form {
         "multivariate" => {
             attempt::<OfForm<F, multivariate::SparsePolynomial<F, SparseTerm>>, R>(
                 alloc, watched, name, given,
@@ -117,9 +97,43 @@ fn of_several<F: FftField + Numbered, R: Print>(
             attempt::<OfForm<F, SparseMultilinearExtension<F>>, R>(alloc, watched, name, given)
         }
         "several_variables" => attempt::<OfSeveral<F>, R>(alloc, watched, name, given),
-        "code" => attempt::<OfCode<F>, R>(alloc, watched, name, given),
         "decoder" => attempt::<OfDecoder<F>, R>(alloc, watched, name, given),
+        _ => over_mixed::<F, R>(alloc, watched, form, name, given),
+    }
+}
+
+/// How a call ends that is made over a field with a small subgroup too.
+fn over_mixed<F: Numbered, R: Print>(
+    alloc: Global,
+    watched: Option<&R>,
+    form: &str,
+    name: &str,
+    given: &[String],
+) -> Result<Ended, PolyError> {
+    match form {
+        "mixed" => {
+            attempt::<OverDomain<F, MixedRadixEvaluationDomain<F>>, R>(alloc, watched, name, given)
+        }
+        "code" => attempt::<OfCode<F>, R>(alloc, watched, name, given),
+        "general" | "one_variable" => over_general::<F, R>(alloc, watched, form, name, given),
         _ => answer_of_bytes::<F, R>(alloc, watched, form, name, given),
+    }
+}
+
+/// How a call ends that is made over a field with large subgroups too.
+fn over_general<F: Numbered, R: Print>(
+    alloc: Global,
+    watched: Option<&R>,
+    form: &str,
+    name: &str,
+    given: &[String],
+) -> Result<Ended, PolyError> {
+    match form {
+        "general" => {
+            attempt::<OverDomain<F, GeneralEvaluationDomain<F>>, R>(alloc, watched, name, given)
+        }
+        "one_variable" => attempt::<OfOne<F>, R>(alloc, watched, name, given),
+        _ => Ended::none(alloc),
     }
 }
 

@@ -3,7 +3,7 @@
 use crate::given::{element_named, named, pairs_of, size_named};
 use crate::kinds::{Kind, coefficients_of, push_term};
 use crate::swept::Call;
-use ark_base::{FftField, Field, PolyError};
+use ark_base::{Field, PolyError};
 use ark_poly::multivariate::{SparsePolynomial, SparseTerm, Term};
 use ark_poly::{
     DenseMVPolynomial, DenseMultilinearExtension, MultilinearExtension, SparseMultilinearExtension,
@@ -62,7 +62,7 @@ fn terms_named<F: Numbered>(
 }
 
 /// One table in both forms.
-fn tables_named<F: Field + Numbered>(
+fn tables_named<F: Numbered>(
     alloc: Global,
     words: &[String],
 ) -> Result<(DenseMultilinearExtension<F>, SparseMultilinearExtension<F>), PolyError> {
@@ -72,7 +72,7 @@ fn tables_named<F: Field + Numbered>(
 }
 
 /// Tables that may be joined, and entries.
-fn parts_named<F: Field + Numbered>(
+fn parts_named<F: Numbered>(
     alloc: Global,
     words: &[String],
 ) -> Result<(Vec<DenseMultilinearExtension<F>>, Vec<(usize, F)>), PolyError> {
@@ -91,7 +91,7 @@ fn lists_named<F: Numbered>(
     Ok((values, point))
 }
 
-impl<F: FftField + Numbered> Call for OfSeveral<F> {
+impl<F: Numbered> Call for OfSeveral<F> {
     type Answered = Answered<F>;
 
     fn given(alloc: Global, words: &[String]) -> Result<Self, PolyError> {
@@ -157,7 +157,7 @@ impl<F: FftField + Numbered> Call for OfSeveral<F> {
     }
 }
 
-impl<F: FftField + Numbered> OfSeveral<F> {
+impl<F: Numbered> OfSeveral<F> {
     /// Makes a call of terms.
     fn of_terms(&mut self, alloc: Global, name: &str) -> Result<Answered<F>, PolyError> {
         match name {
@@ -368,7 +368,7 @@ fn sparse_or_no_fit<F: Field>(
 }
 
 /// The tables between bars.
-fn parts_of<F: Field + Numbered>(
+fn parts_of<F: Numbered>(
     alloc: Global,
     word: &str,
 ) -> Result<Vec<DenseMultilinearExtension<F>>, PolyError> {

@@ -47,7 +47,7 @@ pub enum Answered<F: FftField> {
 }
 
 /// The values of this name over the domain: zeros without a word.
-fn values_named<F: FftField + Numbered>(
+fn values_named<F: Numbered>(
     alloc: Global,
     domain: GeneralEvaluationDomain<F>,
     word: &str,
@@ -60,7 +60,7 @@ fn values_named<F: FftField + Numbered>(
 }
 
 /// The values of both names.
-fn both_values_named<F: FftField + Numbered>(
+fn both_values_named<F: Numbered>(
     alloc: Global,
     domain: GeneralEvaluationDomain<F>,
     words: &[String],
@@ -86,7 +86,7 @@ fn lists_named<F: Numbered>(
     Ok((list, terms))
 }
 
-impl<F: FftField + Numbered> Call for OfOne<F> {
+impl<F: Numbered> Call for OfOne<F> {
     type Answered = Answered<F>;
 
     fn given(alloc: Global, words: &[String]) -> Result<Self, PolyError> {
@@ -158,7 +158,7 @@ impl<F: FftField + Numbered> Call for OfOne<F> {
     }
 }
 
-impl<F: FftField + Numbered> OfOne<F> {
+impl<F: Numbered> OfOne<F> {
     /// Makes a call of dense polynomials.
     fn of_dense(&mut self, alloc: Global, name: &str) -> Result<Answered<F>, PolyError> {
         match name {

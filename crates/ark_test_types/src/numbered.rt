@@ -1,10 +1,10 @@
 //! Fields whose elements have numbers, by which rows name them.
 
 use crate::four::Four;
-use ark_base::{Field, PrimeField, PrimeModulus};
+use ark_base::{FftField, PrimeField, PrimeModulus};
 
 /// A field whose elements have numbers.
-pub trait Numbered: Field {
+pub trait Numbered: FftField {
     /// The element's number.
     fn number(self) -> u64;
 

@@ -3,7 +3,7 @@
 //! Only `over_field` names concrete fields, since what names one is dear to check.
 
 use crate::numbered::Numbered;
-use ark_base::{BabyBear, F5, F433, F65537, FftField, Field, Goldilocks, KoalaBear, PolyError};
+use ark_base::{BabyBear, F5, F433, F65537, Field, Goldilocks, KoalaBear, PolyError};
 use rand::Rng;
 use std::alloc::{AllocError, Global};
 
@@ -21,7 +21,7 @@ pub enum Prime {
 /// What is tried over any field.
 pub trait FieldTrial {
     /// Whether it holds.
-    fn holds_in<F: FftField + Numbered>(&self, alloc: Global) -> Result<bool, PolyError>;
+    fn holds_in<F: Numbered>(&self, alloc: Global) -> Result<bool, PolyError>;
 }
 
 /// Whether it holds in the field of this prime.

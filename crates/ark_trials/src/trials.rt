@@ -1,6 +1,6 @@
 //! What is tried over several kinds of domains: written once for all of them, and run over each here.
 
-use ark_base::{FftField, PolyError};
+use ark_base::PolyError;
 use ark_test_types::numbered::Numbered;
 use ark_test_types::trials::{FieldTrial, Prime, over_field};
 use ark_univariate::{
@@ -19,10 +19,7 @@ pub enum Kind {
 /// What is tried over a domain of any field and kind.
 pub trait Trial {
     /// Whether it holds.
-    fn holds<F: FftField + Numbered, D: EvaluationDomain<F>>(
-        &self,
-        alloc: Global,
-    ) -> Result<bool, PolyError>;
+    fn holds<F: Numbered, D: EvaluationDomain<F>>(&self, alloc: Global) -> Result<bool, PolyError>;
 }
 
 /// Whether it holds over domains of this kind in the field of this prime.
@@ -43,7 +40,7 @@ struct OfKind<'a, T> {
 }
 
 impl<T: Trial> FieldTrial for OfKind<'_, T> {
-    fn holds_in<F: FftField + Numbered>(&self, alloc: Global) -> Result<bool, PolyError> {
+    fn holds_in<F: Numbered>(&self, alloc: Global) -> Result<bool, PolyError> {
         match self.kind {
             Kind::Radix2 => self.trial.holds::<F, Radix2EvaluationDomain<F>>(alloc),
             Kind::Mixed => self.trial.holds::<F, MixedRadixEvaluationDomain<F>>(alloc),

@@ -33,7 +33,7 @@ impl Rows for ByteRows {
 }
 
 impl FieldRows for ByteRows {
-    fn answer_over<F: FftField + Numbered>(alloc: Global, words: &[String]) -> Answer {
+    fn answer_over<F: Numbered>(alloc: Global, words: &[String]) -> Answer {
         let [kind, modes, word] = words else {
             return no_row(alloc);
         };

@@ -10,7 +10,7 @@ use rs_code::{Code, RsError};
 use std::alloc::{AllocError, Global};
 
 /// The answer to an operation and its arguments; `None` where there is no such code.
-pub fn answer<F: FftField + Numbered>(alloc: Global, words: &[String]) -> Answer {
+pub fn answer<F: Numbered>(alloc: Global, words: &[String]) -> Answer {
     let [operation, k, n, arguments @ ..] = words else {
         return no_row(alloc);
     };
@@ -29,7 +29,7 @@ pub fn answer<F: FftField + Numbered>(alloc: Global, words: &[String]) -> Answer
 }
 
 /// The codeword of a message.
-fn encoded<F: FftField + Numbered>(alloc: Global, code: &Code<F>, arguments: &[String]) -> Answer {
+fn encoded<F: Numbered>(alloc: Global, code: &Code<F>, arguments: &[String]) -> Answer {
     let [message] = arguments else {
         return no_row(alloc);
     };
@@ -38,7 +38,7 @@ fn encoded<F: FftField + Numbered>(alloc: Global, code: &Code<F>, arguments: &[S
 }
 
 /// The codeword that a word comes from, by the code and by a decoder.
-fn restored<F: FftField + Numbered>(alloc: Global, code: &Code<F>, arguments: &[String]) -> Answer {
+fn restored<F: Numbered>(alloc: Global, code: &Code<F>, arguments: &[String]) -> Answer {
     let [word] = arguments else {
         return no_row(alloc);
     };

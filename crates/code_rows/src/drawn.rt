@@ -25,11 +25,7 @@ impl Draws {
 }
 
 /// Whether so many trials went well, or the first one that did not, each after the draws of the one before it.
-pub fn answer_of_drawn<F: FftField + Numbered>(
-    alloc: Global,
-    code: &Code<F>,
-    arguments: &[String],
-) -> Answer {
+pub fn answer_of_drawn<F: Numbered>(alloc: Global, code: &Code<F>, arguments: &[String]) -> Answer {
     let [trials] = arguments else {
         return no_row(alloc);
     };
@@ -43,7 +39,7 @@ pub fn answer_of_drawn<F: FftField + Numbered>(
 }
 
 /// Whether a drawn message's codeword comes back, for each number of erased places, and another is refused.
-fn is_well<F: FftField + Numbered>(
+fn is_well<F: Numbered>(
     alloc: Global,
     code: &Code<F>,
     draws: &mut Draws,

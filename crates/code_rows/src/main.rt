@@ -8,7 +8,6 @@ mod codes;
 mod drawn;
 mod pairs;
 
-use ark_base::FftField;
 use ark_test_types::numbered::Numbered;
 use row_words::rows::{Answer, FieldRows, Rows, over_field, write_answers};
 use std::alloc::Global;
@@ -23,7 +22,7 @@ impl Rows for CodeRows {
 }
 
 impl FieldRows for CodeRows {
-    fn answer_over<F: FftField + Numbered>(alloc: Global, words: &[String]) -> Answer {
+    fn answer_over<F: Numbered>(alloc: Global, words: &[String]) -> Answer {
         codes::answer::<F>(alloc, words)
     }
 }

@@ -1,7 +1,7 @@
 //! Rows of codes whose values are pairs of elements, each with a colon between both.
 
 use crate::codes::{by_decoder, text_of_refusal};
-use ark_base::{FftField, Lanes};
+use ark_base::Lanes;
 use ark_test_types::numbered::Numbered;
 use row_words::rows::Answer;
 use row_words::words::{element, no_row, told};
@@ -9,11 +9,7 @@ use rs_code::{Code, RsError};
 use std::alloc::{AllocError, Global};
 
 /// The codeword of a message of pairs.
-pub fn encoded_pairs<F: FftField + Numbered>(
-    alloc: Global,
-    code: &Code<F>,
-    arguments: &[String],
-) -> Answer {
+pub fn encoded_pairs<F: Numbered>(alloc: Global, code: &Code<F>, arguments: &[String]) -> Answer {
     let [message] = arguments else {
         return no_row(alloc);
     };
@@ -27,11 +23,7 @@ pub fn encoded_pairs<F: FftField + Numbered>(
 }
 
 /// The codeword that a word of pairs comes from, by the code and by a decoder.
-pub fn restored_pairs<F: FftField + Numbered>(
-    alloc: Global,
-    code: &Code<F>,
-    arguments: &[String],
-) -> Answer {
+pub fn restored_pairs<F: Numbered>(alloc: Global, code: &Code<F>, arguments: &[String]) -> Answer {
     let [word] = arguments else {
         return no_row(alloc);
     };
@@ -46,10 +38,7 @@ pub fn restored_pairs<F: FftField + Numbered>(
 }
 
 /// The pairs, and none for each erased place.
-fn places_of<F: FftField + Numbered>(
-    alloc: Global,
-    text: &str,
-) -> Result<Vec<Option<Lanes<F>>>, AllocError> {
+fn places_of<F: Numbered>(alloc: Global, text: &str) -> Result<Vec<Option<Lanes<F>>>, AllocError> {
     let mut places = Vec::new(alloc);
     if !text.is_empty() {
         for piece in text.split(',') {
@@ -61,17 +50,14 @@ fn places_of<F: FftField + Numbered>(
 }
 
 /// The pairs, or the refusal.
-fn text_of_result<F: FftField + Numbered>(
-    alloc: Global,
-    outcome: Result<Vec<Lanes<F>>, RsError>,
-) -> Answer {
+fn text_of_result<F: Numbered>(alloc: Global, outcome: Result<Vec<Lanes<F>>, RsError>) -> Answer {
     match outcome {
         Ok(pairs) => text_of_pairs(alloc, &pairs),
         Err(error) => text_of_refusal(alloc, error),
     }
 }
 
-fn text_of_pairs<F: FftField + Numbered>(alloc: Global, pairs: &[Lanes<F>]) -> Answer {
+fn text_of_pairs<F: Numbered>(alloc: Global, pairs: &[Lanes<F>]) -> Answer {
     let mut text = String::new(alloc);
     for (i, pair) in pairs.iter().enumerate() {
         let comma = if i > 0 { "," } else { "" };

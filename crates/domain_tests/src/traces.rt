@@ -1,6 +1,6 @@
 //! How many distinct products are behind the answers of the kernels, seen from outside.
 
-use ark_base::{FftField, PolyError, Work};
+use ark_base::{PolyError, Work};
 use ark_fft::domain::radix2::plain::fft_plain;
 use ark_test_types::numbered::Numbered;
 use ark_test_types::traced::{Products, Traced};
@@ -38,7 +38,7 @@ fn has_at_most<F: Numbered>(most: usize, answers: Result<Vec<Traced<F>>, PolyErr
 }
 
 /// Whether that is so, over cosets of this size, of the values of so many items and of the coefficients of as many values.
-pub fn are_few<F: FftField + Numbered, D: EvaluationDomain<F>>(
+pub fn are_few<F: Numbered, D: EvaluationDomain<F>>(
     alloc: Global,
     size: usize,
     count: u64,
@@ -63,7 +63,7 @@ pub fn are_few<F: FftField + Numbered, D: EvaluationDomain<F>>(
 
 /// Whether plain sums over as many elements give the transform's values by more products than a set can hold: so many do
 /// not go unseen.
-pub fn plain_sums_are_seen<F: FftField + Numbered, D: EvaluationDomain<F>>(
+pub fn plain_sums_are_seen<F: Numbered, D: EvaluationDomain<F>>(
     alloc: Global,
     size: usize,
 ) -> Result<bool, PolyError> {

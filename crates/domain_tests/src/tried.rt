@@ -1,7 +1,7 @@
 //! What is tried, over which fields and kinds of domains.
 
 use crate::{draws, traces, transforms};
-use ark_base::{FftField, PolyError};
+use ark_base::PolyError;
 use ark_test_types::numbered::Numbered;
 use ark_test_types::trials::Prime;
 use ark_trials::trials::{Kind, Trial, over};
@@ -31,10 +31,7 @@ enum Tried<'a> {
 }
 
 impl Trial for Tried<'_> {
-    fn holds<F: FftField + Numbered, D: EvaluationDomain<F>>(
-        &self,
-        alloc: Global,
-    ) -> Result<bool, PolyError> {
+    fn holds<F: Numbered, D: EvaluationDomain<F>>(&self, alloc: Global) -> Result<bool, PolyError> {
         match *self {
             Tried::PlainSums(sizes) => Ok(transforms::plain_sums::<F, D>(alloc, sizes)),
             Tried::PlainPasses(sizes) => Ok(transforms::plain_passes::<F, D>(alloc, sizes)),

@@ -1,7 +1,7 @@
 //! What is tried, and over which fields.
 
 use crate::{bound, drawn, exchanged, joined, sums, written};
-use ark_base::{FftField, PolyError};
+use ark_base::PolyError;
 use ark_test_types::numbered::Numbered;
 use ark_test_types::trials::{FieldTrial, Prime, over_field};
 use std::alloc::Global;
@@ -24,7 +24,7 @@ enum Tried {
 }
 
 impl FieldTrial for Tried {
-    fn holds_in<F: FftField + Numbered>(&self, alloc: Global) -> Result<bool, PolyError> {
+    fn holds_in<F: Numbered>(&self, alloc: Global) -> Result<bool, PolyError> {
         Ok(match *self {
             Tried::BoundAtOnceAndOneAtATime => bound::at_once::<F>(alloc),
             Tried::BothFormsOfDraws => bound::both_forms::<F>(alloc),

@@ -1,6 +1,6 @@
 //! Rows of multilinear extensions, spelled by their tables.
 
-use ark_base::{Field, PolyError, Polynomial};
+use ark_base::{PolyError, Polynomial};
 use ark_laws::{
     only_multilinear, value_at_corner, values_with_bound_variables, values_with_exchanged_variables,
 };
@@ -11,7 +11,7 @@ use row_words::words::{elements, no_fit, no_row, one, size, table_of, text_of_nu
 use std::alloc::Global;
 
 /// The answer on a table by all its values.
-pub fn answer_by_values<F: Field + Numbered>(alloc: Global, words: &[String]) -> Answer {
+pub fn answer_by_values<F: Numbered>(alloc: Global, words: &[String]) -> Answer {
     let [name, table, arguments @ ..] = words else {
         return no_row(alloc);
     };
@@ -20,7 +20,7 @@ pub fn answer_by_values<F: Field + Numbered>(alloc: Global, words: &[String]) ->
 }
 
 /// The answer on a table by its entries.
-pub fn answer_by_entries<F: Field + Numbered>(alloc: Global, words: &[String]) -> Answer {
+pub fn answer_by_entries<F: Numbered>(alloc: Global, words: &[String]) -> Answer {
     let [name, table, arguments @ ..] = words else {
         return no_row(alloc);
     };
@@ -28,7 +28,7 @@ pub fn answer_by_entries<F: Field + Numbered>(alloc: Global, words: &[String]) -
     answer(alloc, name.as_str(), &p, arguments)
 }
 
-fn extension<F: Field + Numbered>(
+fn extension<F: Numbered>(
     alloc: Global,
     word: &str,
 ) -> Result<SparseMultilinearExtension<F>, PolyError> {
@@ -43,7 +43,7 @@ fn extension<F: Field + Numbered>(
     SparseMultilinearExtension::from_evaluations(alloc, num_vars, &entries)
 }
 
-fn answer<F: Field + Numbered, E: MultilinearExtension<F>>(
+fn answer<F: Numbered, E: MultilinearExtension<F>>(
     alloc: Global,
     name: &str,
     p: &E,
@@ -61,7 +61,7 @@ fn answer<F: Field + Numbered, E: MultilinearExtension<F>>(
     }
 }
 
-fn at_corner<F: Field + Numbered, E: MultilinearExtension<F>>(
+fn at_corner<F: Numbered, E: MultilinearExtension<F>>(
     alloc: Global,
     p: &E,
     index: usize,
@@ -73,11 +73,7 @@ fn at_corner<F: Field + Numbered, E: MultilinearExtension<F>>(
 }
 
 /// The value of the only multilinear polynomial with this table.
-fn only<F: Field + Numbered, E: MultilinearExtension<F>>(
-    alloc: Global,
-    p: &E,
-    point: &str,
-) -> Answer {
+fn only<F: Numbered, E: MultilinearExtension<F>>(alloc: Global, p: &E, point: &str) -> Answer {
     let point = elements(alloc, point)?;
     if point.len() != p.num_vars() {
         return no_fit(alloc);
@@ -86,7 +82,7 @@ fn only<F: Field + Numbered, E: MultilinearExtension<F>>(
 }
 
 /// The value at the whole point, and that with the first variables bound.
-fn bound<F: Field + Numbered, E: MultilinearExtension<F>>(
+fn bound<F: Numbered, E: MultilinearExtension<F>>(
     alloc: Global,
     p: &E,
     first: &str,
@@ -102,7 +98,7 @@ fn bound<F: Field + Numbered, E: MultilinearExtension<F>>(
 }
 
 /// The value at the exchanged point, and that of the exchanged table.
-fn exchanged<F: Field + Numbered, E: MultilinearExtension<F>>(
+fn exchanged<F: Numbered, E: MultilinearExtension<F>>(
     alloc: Global,
     p: &E,
     (a, b, k): (usize, usize, usize),

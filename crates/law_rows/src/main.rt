@@ -6,7 +6,6 @@
 mod extensions;
 mod univariate;
 
-use ark_base::FftField;
 use ark_test_types::numbered::Numbered;
 use row_words::rows::{Answer, FieldRows, Rows, over_field, write_answers};
 use row_words::words::no_row;
@@ -22,7 +21,7 @@ impl Rows for LawRows {
 }
 
 impl FieldRows for LawRows {
-    fn answer_over<F: FftField + Numbered>(alloc: Global, words: &[String]) -> Answer {
+    fn answer_over<F: Numbered>(alloc: Global, words: &[String]) -> Answer {
         let [subject, words @ ..] = words else {
             return no_row(alloc);
         };

@@ -1,6 +1,6 @@
 //! Rows of divisions by x - z, and of values by the weights at a point.
 
-use ark_base::{FftField, Field, PolyError};
+use ark_base::PolyError;
 use ark_laws::{division_at_point, weighted_sum, without_root};
 use ark_test_types::numbered::Numbered;
 use ark_univariate::univariate::DensePolynomial;
@@ -10,7 +10,7 @@ use row_words::words::{element, elements, joined, no_row, one, size, text_of, to
 use std::alloc::Global;
 
 /// The answer on a dense polynomial and a point.
-pub fn answer_of_dense<F: Field + Numbered>(alloc: Global, words: &[String]) -> Answer {
+pub fn answer_of_dense<F: Numbered>(alloc: Global, words: &[String]) -> Answer {
     let [name, coeffs, point] = words else {
         return no_row(alloc);
     };
@@ -23,7 +23,7 @@ pub fn answer_of_dense<F: Field + Numbered>(alloc: Global, words: &[String]) -> 
 }
 
 /// The quotient, the remainder and the value, with semicolons between them.
-fn divided_at<F: Field + Numbered>(alloc: Global, p: &DensePolynomial<F>, point: F) -> Answer {
+fn divided_at<F: Numbered>(alloc: Global, p: &DensePolynomial<F>, point: F) -> Answer {
     let (quotient, remainder, value) = division_at_point(alloc, p, point)?;
     let rest = joined(
         alloc,
@@ -34,11 +34,7 @@ fn divided_at<F: Field + Numbered>(alloc: Global, p: &DensePolynomial<F>, point:
     joined(alloc, text_of(alloc, quotient.coeffs()), ";", rest)
 }
 
-fn quotient_at_root<F: Field + Numbered>(
-    alloc: Global,
-    p: &DensePolynomial<F>,
-    point: F,
-) -> Answer {
+fn quotient_at_root<F: Numbered>(alloc: Global, p: &DensePolynomial<F>, point: F) -> Answer {
     match without_root(alloc, p, point)? {
         Some(quotient) => text_of(alloc, quotient.coeffs()),
         None => told(alloc, "none"),
@@ -46,7 +42,7 @@ fn quotient_at_root<F: Field + Numbered>(
 }
 
 /// The answer on values over a general domain, after whose size and offset for `new_coset` they stand.
-pub fn answer_of_values<F: FftField + Numbered>(alloc: Global, words: &[String]) -> Answer {
+pub fn answer_of_values<F: Numbered>(alloc: Global, words: &[String]) -> Answer {
     match words {
         [num_coeffs, offset, name, values, point] if name.as_str() == "weighted_sum" => {
             let domain = GeneralEvaluationDomain::<F>::new_coset(
@@ -60,7 +56,7 @@ pub fn answer_of_values<F: FftField + Numbered>(alloc: Global, words: &[String])
     }
 }
 
-fn weighted<F: FftField + Numbered, D: EvaluationDomain<F>>(
+fn weighted<F: Numbered, D: EvaluationDomain<F>>(
     alloc: Global,
     domain: D,
     word: &str,

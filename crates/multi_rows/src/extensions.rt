@@ -12,7 +12,7 @@ use row_words::words::{
 use std::alloc::Global;
 
 /// The answer to an operation on tables by all their values.
-pub fn answer_by_values<F: Field + Numbered>(alloc: Global, words: &[String]) -> Answer {
+pub fn answer_by_values<F: Numbered>(alloc: Global, words: &[String]) -> Answer {
     let [name, tables @ ..] = words else {
         return no_row(alloc);
     };
@@ -26,7 +26,7 @@ pub fn answer_by_values<F: Field + Numbered>(alloc: Global, words: &[String]) ->
 }
 
 /// The tables one after the other.
-fn concat<F: Field + Numbered>(alloc: Global, tables: &[String]) -> Answer {
+fn concat<F: Numbered>(alloc: Global, tables: &[String]) -> Answer {
     let mut parts: Vec<DenseMultilinearExtension<F>> = Vec::new(alloc);
     for table in tables {
         parts.push(ByValues.of(alloc, table.as_str())?)?;
@@ -34,7 +34,7 @@ fn concat<F: Field + Numbered>(alloc: Global, tables: &[String]) -> Answer {
     shown(alloc, DenseMultilinearExtension::concat(alloc, &parts))
 }
 
-fn answer_of_table<F: Field + Numbered>(
+fn answer_of_table<F: Numbered>(
     alloc: Global,
     name: &str,
     table: &str,
@@ -54,7 +54,7 @@ fn answer_of_table<F: Field + Numbered>(
 }
 
 /// The answer of what this form alone has with one word, and else of what both have.
-fn answer_with_word<F: Field + Numbered>(
+fn answer_with_word<F: Numbered>(
     alloc: Global,
     name: &str,
     p: &DenseMultilinearExtension<F>,
@@ -70,25 +70,21 @@ fn answer_with_word<F: Field + Numbered>(
 }
 
 /// The table that a call gave.
-fn shown<F: Field + Numbered>(
+fn shown<F: Numbered>(
     alloc: Global,
     given: Result<DenseMultilinearExtension<F>, PolyError>,
 ) -> Answer {
     ByValues.text(alloc, &given?)
 }
 
-fn value_at<F: Field + Numbered>(
-    alloc: Global,
-    p: &DenseMultilinearExtension<F>,
-    index: usize,
-) -> Answer {
+fn value_at<F: Numbered>(alloc: Global, p: &DenseMultilinearExtension<F>, index: usize) -> Answer {
     if p.num_vars() >= 64 || index >= 1 << p.num_vars() {
         return no_fit(alloc);
     }
     one(alloc, p[index])
 }
 
-fn replaced<F: Field + Numbered>(
+fn replaced<F: Numbered>(
     alloc: Global,
     mut p: DenseMultilinearExtension<F>,
     index: usize,
@@ -100,7 +96,7 @@ fn replaced<F: Field + Numbered>(
     ByValues.text(alloc, &p)
 }
 
-fn relabelled_in_place<F: Field + Numbered>(
+fn relabelled_in_place<F: Numbered>(
     alloc: Global,
     mut p: DenseMultilinearExtension<F>,
     (a, b, k): Windows,
@@ -111,7 +107,7 @@ fn relabelled_in_place<F: Field + Numbered>(
     ByValues.text(alloc, &p)
 }
 
-fn scaled_in_place<F: Field + Numbered>(
+fn scaled_in_place<F: Numbered>(
     alloc: Global,
     p: &DenseMultilinearExtension<F>,
     factor: F,
@@ -122,7 +118,7 @@ fn scaled_in_place<F: Field + Numbered>(
 }
 
 /// The answer to an operation on tables by their entries.
-pub fn answer_by_entries<F: Field + Numbered>(alloc: Global, words: &[String]) -> Answer {
+pub fn answer_by_entries<F: Numbered>(alloc: Global, words: &[String]) -> Answer {
     let [name, table, arguments @ ..] = words else {
         return no_row(alloc);
     };
@@ -143,7 +139,7 @@ fn windows(a: &str, b: &str, k: &str) -> Windows {
 }
 
 /// The answer of what both forms have, and else of what all polynomials have.
-fn answer<F: Field + Numbered, E: MultilinearExtension<F>, S: Form<F, E>>(
+fn answer<F: Numbered, E: MultilinearExtension<F>, S: Form<F, E>>(
     alloc: Global,
     form: &S,
     name: &str,
@@ -167,11 +163,11 @@ fn answer<F: Field + Numbered, E: MultilinearExtension<F>, S: Form<F, E>>(
     }
 }
 
-fn values<F: Field + Numbered, E: MultilinearExtension<F>>(alloc: Global, p: &E) -> Answer {
+fn values<F: Numbered, E: MultilinearExtension<F>>(alloc: Global, p: &E) -> Answer {
     text_of(alloc, &p.to_evaluations(alloc)?)
 }
 
-fn fixed<F: Field + Numbered, E: MultilinearExtension<F>, S: Form<F, E>>(
+fn fixed<F: Numbered, E: MultilinearExtension<F>, S: Form<F, E>>(
     alloc: Global,
     form: &S,
     p: &E,

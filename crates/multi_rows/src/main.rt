@@ -8,7 +8,6 @@ mod polynomials;
 mod tables;
 mod terms;
 
-use ark_base::FftField;
 use ark_test_types::numbered::Numbered;
 use row_words::rows::{Answer, FieldRows, Rows, over_field, write_answers};
 use row_words::words::no_row;
@@ -24,7 +23,7 @@ impl Rows for MultiRows {
 }
 
 impl FieldRows for MultiRows {
-    fn answer_over<F: FftField + Numbered>(alloc: Global, words: &[String]) -> Answer {
+    fn answer_over<F: Numbered>(alloc: Global, words: &[String]) -> Answer {
         let [subject, words @ ..] = words else {
             return no_row(alloc);
         };

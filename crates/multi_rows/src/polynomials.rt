@@ -14,7 +14,7 @@ use std::alloc::Global;
 /// Polynomials by their terms.
 struct ByTerms;
 
-impl<F: Field + Numbered> Form<F, SparsePolynomial<F, SparseTerm>> for ByTerms {
+impl<F: Numbered> Form<F, SparsePolynomial<F, SparseTerm>> for ByTerms {
     fn of(&self, alloc: Global, word: &str) -> Result<SparsePolynomial<F, SparseTerm>, PolyError> {
         let (num_vars, list) = word.split_once('/').unwrap_or(("", ""));
         from_terms(alloc, size(num_vars), terms_of(alloc, list)?)
@@ -59,7 +59,7 @@ fn from_terms<F: Field>(
 }
 
 /// The answer to an operation on a polynomial.
-pub fn answer<F: Field + Numbered>(alloc: Global, words: &[String]) -> Answer {
+pub fn answer<F: Numbered>(alloc: Global, words: &[String]) -> Answer {
     let [name, word, arguments @ ..] = words else {
         return no_row(alloc);
     };
@@ -71,7 +71,7 @@ pub fn answer<F: Field + Numbered>(alloc: Global, words: &[String]) -> Answer {
 }
 
 /// The polynomial that copies of its terms make.
-fn copied<F: Field + Numbered>(alloc: Global, p: &SparsePolynomial<F, SparseTerm>) -> Answer {
+fn copied<F: Numbered>(alloc: Global, p: &SparsePolynomial<F, SparseTerm>) -> Answer {
     let (num_vars, terms) = (p.num_vars(), p.terms());
     if !terms.iter().all(|term| term.1.is_within(num_vars)) {
         return no_fit(alloc);

@@ -1,7 +1,7 @@
 //! Tables in words: all their values between commas, or the number of variables, a stroke and entries, each an index, a
 //! colon and a number.
 
-use ark_base::{Field, PolyError, Polynomial};
+use ark_base::{PolyError, Polynomial};
 use ark_multi::{DenseMultilinearExtension, MultilinearExtension, SparseMultilinearExtension};
 use ark_test_types::numbered::Numbered;
 use row_words::forms::Form;
@@ -12,7 +12,7 @@ use std::alloc::Global;
 /// Extensions by all their values.
 pub struct ByValues;
 
-impl<F: Field + Numbered> Form<F, DenseMultilinearExtension<F>> for ByValues {
+impl<F: Numbered> Form<F, DenseMultilinearExtension<F>> for ByValues {
     fn of(&self, alloc: Global, word: &str) -> Result<DenseMultilinearExtension<F>, PolyError> {
         if word.contains('/') {
             let p: SparseMultilinearExtension<F> = ByEntries.of(alloc, word)?;
@@ -42,7 +42,7 @@ impl<F: Field + Numbered> Form<F, DenseMultilinearExtension<F>> for ByValues {
 /// Extensions by their entries.
 pub struct ByEntries;
 
-impl<F: Field + Numbered> Form<F, SparseMultilinearExtension<F>> for ByEntries {
+impl<F: Numbered> Form<F, SparseMultilinearExtension<F>> for ByEntries {
     fn of(&self, alloc: Global, word: &str) -> Result<SparseMultilinearExtension<F>, PolyError> {
         let (num_vars, entries) = table_of::<F>(alloc, word)?;
         if num_vars >= 64 {

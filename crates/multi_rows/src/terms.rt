@@ -1,6 +1,6 @@
 //! Rows of terms, spelled by their powers with points between them, each a variable, a caret and a power.
 
-use ark_base::{Field, PolyError};
+use ark_base::PolyError;
 use ark_multi::multivariate::{SparseTerm, Term};
 use ark_test_types::numbered::Numbered;
 use row_words::forms::hash_of;
@@ -11,7 +11,7 @@ use row_words::words::{
 use std::alloc::{AllocError, Global};
 
 /// The answer to an operation on a term.
-pub fn answer<F: Field + Numbered>(alloc: Global, words: &[String]) -> Answer {
+pub fn answer<F: Numbered>(alloc: Global, words: &[String]) -> Answer {
     let [name, word, arguments @ ..] = words else {
         return no_row(alloc);
     };
@@ -88,7 +88,7 @@ fn text_of_sizes(alloc: Global, given: Result<Vec<usize>, PolyError>) -> Answer 
     text_of_numbers(alloc, &numbers)
 }
 
-fn value<F: Field + Numbered>(alloc: Global, term: &SparseTerm, point: &str) -> Answer {
+fn value<F: Numbered>(alloc: Global, term: &SparseTerm, point: &str) -> Answer {
     let point = elements::<F>(alloc, point)?;
     if !term.is_within(point.len()) {
         return no_fit(alloc);

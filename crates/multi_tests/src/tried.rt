@@ -1,7 +1,7 @@
 //! What is tried, and over which fields.
 
 use crate::{drawn, orders};
-use ark_base::{FftField, PolyError};
+use ark_base::PolyError;
 use ark_test_types::numbered::Numbered;
 use ark_test_types::trials::{FieldTrial, Prime, over_field};
 use std::alloc::Global;
@@ -17,7 +17,7 @@ enum Tried {
 }
 
 impl FieldTrial for Tried {
-    fn holds_in<F: FftField + Numbered>(&self, alloc: Global) -> Result<bool, PolyError> {
+    fn holds_in<F: Numbered>(&self, alloc: Global) -> Result<bool, PolyError> {
         match *self {
             Tried::SumsOfDraws => Ok(drawn::sums::<F>(alloc)),
             Tried::DrawsByThePolynomial => Ok(drawn::by_the_polynomial::<F>(alloc)),

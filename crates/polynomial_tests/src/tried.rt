@@ -1,7 +1,7 @@
 //! What is tried, over which fields, and over which kinds of domains.
 
 use crate::{division, draws, mixed, points, products, sums, values};
-use ark_base::{FftField, PolyError};
+use ark_base::PolyError;
 use ark_test_types::numbered::Numbered;
 use ark_test_types::trials::{FieldTrial, Prime, over_field};
 use ark_trials::trials::{Kind, Trial, over};
@@ -24,7 +24,7 @@ enum OverField {
 }
 
 impl FieldTrial for OverField {
-    fn holds_in<F: FftField + Numbered>(&self, alloc: Global) -> Result<bool, PolyError> {
+    fn holds_in<F: Numbered>(&self, alloc: Global) -> Result<bool, PolyError> {
         Ok(match *self {
             OverField::DrawsByTheirTries => draws::by_their_tries::<F>(alloc),
             OverField::Sums => sums::draws::<F>(alloc),
@@ -94,10 +94,7 @@ enum OverDomain<'a> {
 }
 
 impl Trial for OverDomain<'_> {
-    fn holds<F: FftField + Numbered, D: EvaluationDomain<F>>(
-        &self,
-        alloc: Global,
-    ) -> Result<bool, PolyError> {
+    fn holds<F: Numbered, D: EvaluationDomain<F>>(&self, alloc: Global) -> Result<bool, PolyError> {
         Ok(match *self {
             OverDomain::Points(elements, sizes) => points::of_sizes::<F, D>(alloc, elements, sizes),
             OverDomain::Values(cosets, lens) => values::of_lengths::<F, D>(alloc, cosets, lens),

@@ -29,7 +29,7 @@ pub fn kept<F: Field, P: Polynomial<F>, S: Form<F, P>>(
 }
 
 /// The answer to an operation that all forms have.
-pub fn answer<F: Field + Numbered, P: Polynomial<F>, S: Form<F, P>>(
+pub fn answer<F: Numbered, P: Polynomial<F>, S: Form<F, P>>(
     alloc: Global,
     form: &S,
     name: &str,
@@ -71,7 +71,7 @@ fn shape<F: Field, P: Polynomial<F>>(alloc: Global, p: &P) -> Answer {
     joined(alloc, degree, ",", text_of_flags(alloc, &[p.is_zero()]))
 }
 
-fn value<F: Field + Numbered, P: Polynomial<F>, S: Form<F, P>>(
+fn value<F: Numbered, P: Polynomial<F>, S: Form<F, P>>(
     alloc: Global,
     form: &S,
     p: &P,

@@ -1,7 +1,7 @@
 //! The answers to the lines of the input.
 
 use crate::words::{no_row, words_of};
-use ark_base::{FftField, Modulus5, Modulus433, Modulus65537, PolyError, PrimeField, PrimeModulus};
+use ark_base::{Modulus5, Modulus433, Modulus65537, PolyError, PrimeField, PrimeModulus};
 use ark_test_types::four::Four;
 use ark_test_types::numbered::Numbered;
 use std::alloc::{AllocError, Global};
@@ -19,7 +19,7 @@ pub trait Rows {
 /// What answers rows over any field.
 pub trait FieldRows {
     /// The answer to the words after the field's.
-    fn answer_over<F: FftField + Numbered>(alloc: Global, words: &[String]) -> Answer;
+    fn answer_over<F: Numbered>(alloc: Global, words: &[String]) -> Answer;
 }
 
 /// The answer over the field whose order is the first word.

@@ -14,19 +14,19 @@ use row_words::words::{
 };
 use std::alloc::{AllocError, Global};
 
-pub fn over_radix2<F: FftField + Numbered>(alloc: Global, words: &[String]) -> Answer {
+pub fn over_radix2<F: Numbered>(alloc: Global, words: &[String]) -> Answer {
     over::<F, Radix2EvaluationDomain<F>>(alloc, words)
 }
 
-pub fn over_mixed<F: FftField + Numbered>(alloc: Global, words: &[String]) -> Answer {
+pub fn over_mixed<F: Numbered>(alloc: Global, words: &[String]) -> Answer {
     over::<F, MixedRadixEvaluationDomain<F>>(alloc, words)
 }
 
-pub fn over_general<F: FftField + Numbered>(alloc: Global, words: &[String]) -> Answer {
+pub fn over_general<F: Numbered>(alloc: Global, words: &[String]) -> Answer {
     over::<F, GeneralEvaluationDomain<F>>(alloc, words)
 }
 
-fn over<F: FftField + Numbered, D: EvaluationDomain<F>>(alloc: Global, words: &[String]) -> Answer {
+fn over<F: Numbered, D: EvaluationDomain<F>>(alloc: Global, words: &[String]) -> Answer {
     let [num_coeffs, offset, name, arguments @ ..] = words else {
         return no_row(alloc);
     };
@@ -44,7 +44,7 @@ fn over<F: FftField + Numbered, D: EvaluationDomain<F>>(alloc: Global, words: &[
 }
 
 /// The domain that `new_coset` gives.
-pub fn coset<F: FftField + Numbered, D: EvaluationDomain<F>>(
+pub fn coset<F: Numbered, D: EvaluationDomain<F>>(
     num_coeffs: &str,
     offset: &str,
 ) -> Result<D, PolyError> {
@@ -52,7 +52,7 @@ pub fn coset<F: FftField + Numbered, D: EvaluationDomain<F>>(
 }
 
 /// The answer to an operation on the domain alone.
-fn answer_of_all<F: FftField + Numbered, D: EvaluationDomain<F>>(
+fn answer_of_all<F: Numbered, D: EvaluationDomain<F>>(
     alloc: Global,
     domain: D,
     name: &str,
@@ -68,7 +68,7 @@ fn answer_of_all<F: FftField + Numbered, D: EvaluationDomain<F>>(
 }
 
 /// The answer to an operation with an index, a point or a list.
-fn answer_with_word<F: FftField + Numbered, D: EvaluationDomain<F>>(
+fn answer_with_word<F: Numbered, D: EvaluationDomain<F>>(
     alloc: Global,
     domain: D,
     name: &str,
@@ -90,7 +90,7 @@ fn answer_with_word<F: FftField + Numbered, D: EvaluationDomain<F>>(
 }
 
 /// The answer to an operation with another domain of the kind.
-fn answer_of_part<F: FftField + Numbered, D: EvaluationDomain<F>>(
+fn answer_of_part<F: Numbered, D: EvaluationDomain<F>>(
     alloc: Global,
     domain: D,
     name: &str,
@@ -104,7 +104,7 @@ fn answer_of_part<F: FftField + Numbered, D: EvaluationDomain<F>>(
     }
 }
 
-fn answer_of_both<F: FftField + Numbered, D: EvaluationDomain<F>>(
+fn answer_of_both<F: Numbered, D: EvaluationDomain<F>>(
     alloc: Global,
     domain: D,
     name: &str,
@@ -118,7 +118,7 @@ fn answer_of_both<F: FftField + Numbered, D: EvaluationDomain<F>>(
     }
 }
 
-fn filter_at<F: FftField + Numbered, D: EvaluationDomain<F>>(
+fn filter_at<F: Numbered, D: EvaluationDomain<F>>(
     alloc: Global,
     domain: D,
     part: D,
@@ -129,7 +129,7 @@ fn filter_at<F: FftField + Numbered, D: EvaluationDomain<F>>(
 
 /// What a domain keeps, in this order: the size, the exponent of two in it, the size as an element and its inverse, the
 /// root and its inverse, the offset, its inverse and its power.
-fn fields<F: FftField + Numbered, D: EvaluationDomain<F>>(alloc: Global, domain: D) -> Answer {
+fn fields<F: Numbered, D: EvaluationDomain<F>>(alloc: Global, domain: D) -> Answer {
     text_of_numbers(
         alloc,
         &[
@@ -146,10 +146,7 @@ fn fields<F: FftField + Numbered, D: EvaluationDomain<F>>(alloc: Global, domain:
     )
 }
 
-fn all_elements<F: FftField + Numbered, D: EvaluationDomain<F>>(
-    alloc: Global,
-    domain: D,
-) -> Answer {
+fn all_elements<F: Numbered, D: EvaluationDomain<F>>(alloc: Global, domain: D) -> Answer {
     let mut all = Vec::new(alloc);
     for element in domain.elements() {
         all.push(element)?;
@@ -162,26 +159,18 @@ fn shown<F: Numbered>(alloc: Global, given: Result<Vec<F>, PolyError>) -> Answer
     text_of(alloc, &given?)
 }
 
-fn fft<F: FftField + Numbered, D: EvaluationDomain<F>>(
-    alloc: Global,
-    domain: D,
-    word: &str,
-) -> Answer {
+fn fft<F: Numbered, D: EvaluationDomain<F>>(alloc: Global, domain: D, word: &str) -> Answer {
     let coeffs = elements::<F>(alloc, word)?;
     shown(alloc, domain.fft(alloc, &coeffs))
 }
 
-fn ifft<F: FftField + Numbered, D: EvaluationDomain<F>>(
-    alloc: Global,
-    domain: D,
-    word: &str,
-) -> Answer {
+fn ifft<F: Numbered, D: EvaluationDomain<F>>(alloc: Global, domain: D, word: &str) -> Answer {
     let values = elements::<F>(alloc, word)?;
     shown(alloc, domain.ifft(alloc, &values))
 }
 
 /// The transform of pairs, of which one list has the first parts and the other the second ones.
-fn lanes<F: FftField + Numbered, D: EvaluationDomain<F>>(
+fn lanes<F: Numbered, D: EvaluationDomain<F>>(
     alloc: Global,
     domain: D,
     first: &str,
@@ -192,7 +181,7 @@ fn lanes<F: FftField + Numbered, D: EvaluationDomain<F>>(
     text_of_pairs(alloc, &values)
 }
 
-fn side_by_side<F: FftField + Numbered>(
+fn side_by_side<F: Numbered>(
     alloc: Global,
     first: &str,
     second: &str,
@@ -205,7 +194,7 @@ fn side_by_side<F: FftField + Numbered>(
 }
 
 /// The first parts of pairs, and the second ones.
-fn text_of_pairs<F: FftField + Numbered>(alloc: Global, pairs: &[Lanes<F>]) -> Answer {
+fn text_of_pairs<F: Numbered>(alloc: Global, pairs: &[Lanes<F>]) -> Answer {
     let mut first = Vec::new(alloc);
     let mut second = Vec::new(alloc);
     for pair in pairs {

@@ -10,7 +10,7 @@ use row_words::rows::Answer;
 use row_words::words::{element, joined, no_row, one, text_of_flags, text_of_numbers};
 use std::alloc::Global;
 
-pub fn answer<F: Field + Numbered>(alloc: Global, words: &[String]) -> Answer {
+pub fn answer<F: Numbered>(alloc: Global, words: &[String]) -> Answer {
     let [name, word, arguments @ ..] = words else {
         return no_row(alloc);
     };
@@ -25,7 +25,7 @@ pub fn answer<F: Field + Numbered>(alloc: Global, words: &[String]) -> Answer {
 }
 
 /// The polynomial that it holds.
-pub fn held<'a, F: Field + Numbered>(
+pub fn held<'a, F: Numbered>(
     alloc: Global,
     word: &str,
 ) -> Result<DenseOrSparsePolynomial<'a, F>, PolyError> {
@@ -42,29 +42,29 @@ pub fn held<'a, F: Field + Numbered>(
 }
 
 /// The answer of one that is held.
-fn answer_of_held<F: Field + Numbered>(alloc: Global, name: &str, word: &str) -> Answer {
+fn answer_of_held<F: Numbered>(alloc: Global, name: &str, word: &str) -> Answer {
     answer_of_one(alloc, name, &held::<F>(alloc, word)?)
 }
 
 /// The answer of one that is lent.
-fn answer_of_lent<F: Field + Numbered>(alloc: Global, name: &str, word: &str) -> Answer {
+fn answer_of_lent<F: Numbered>(alloc: Global, name: &str, word: &str) -> Answer {
     match word.strip_prefix('s') {
         Some(terms) => lent_sparse::<F>(alloc, name, terms),
         None => lent_dense::<F>(alloc, name, word.trim_start_matches('d')),
     }
 }
 
-fn lent_sparse<F: Field + Numbered>(alloc: Global, name: &str, word: &str) -> Answer {
+fn lent_sparse<F: Numbered>(alloc: Global, name: &str, word: &str) -> Answer {
     let p: SparsePolynomial<F> = Sparse.of(alloc, word)?;
     answer_of_one(alloc, name, &DenseOrSparsePolynomial::from(&p))
 }
 
-fn lent_dense<F: Field + Numbered>(alloc: Global, name: &str, word: &str) -> Answer {
+fn lent_dense<F: Numbered>(alloc: Global, name: &str, word: &str) -> Answer {
     let p: DensePolynomial<F> = Dense.of(alloc, word)?;
     answer_of_one(alloc, name, &DenseOrSparsePolynomial::from(&p))
 }
 
-fn answer_of_one<F: Field + Numbered>(
+fn answer_of_one<F: Numbered>(
     alloc: Global,
     name: &str,
     p: &DenseOrSparsePolynomial<'_, F>,
@@ -77,11 +77,11 @@ fn answer_of_one<F: Field + Numbered>(
     }
 }
 
-fn into_dense<F: Field + Numbered>(alloc: Global, p: &DenseOrSparsePolynomial<'_, F>) -> Answer {
+fn into_dense<F: Numbered>(alloc: Global, p: &DenseOrSparsePolynomial<'_, F>) -> Answer {
     shown_dense(alloc, p.clone()?.into_dense(alloc))
 }
 
-fn into_sparse<F: Field + Numbered>(alloc: Global, p: &DenseOrSparsePolynomial<'_, F>) -> Answer {
+fn into_sparse<F: Numbered>(alloc: Global, p: &DenseOrSparsePolynomial<'_, F>) -> Answer {
     shown_sparse(alloc, p.clone()?.into_sparse(alloc))
 }
 
@@ -92,12 +92,7 @@ fn shape<F: Field>(alloc: Global, p: &DenseOrSparsePolynomial<'_, F>) -> Answer 
 }
 
 /// The quotient and the remainder by another polynomial, or the value at a point.
-fn answer_with_word<F: Field + Numbered>(
-    alloc: Global,
-    name: &str,
-    word: &str,
-    other: &str,
-) -> Answer {
+fn answer_with_word<F: Numbered>(alloc: Global, name: &str, word: &str, other: &str) -> Answer {
     let p = held::<F>(alloc, word)?;
     match name {
         "divide" => divided(alloc, &p, other),
@@ -106,19 +101,11 @@ fn answer_with_word<F: Field + Numbered>(
     }
 }
 
-fn divided<F: Field + Numbered>(
-    alloc: Global,
-    p: &DenseOrSparsePolynomial<'_, F>,
-    word: &str,
-) -> Answer {
+fn divided<F: Numbered>(alloc: Global, p: &DenseOrSparsePolynomial<'_, F>, word: &str) -> Answer {
     let divisor = held::<F>(alloc, word)?;
     shown_division(alloc, p.divide_with_q_and_r(alloc, &divisor))
 }
 
-fn value<F: Field + Numbered>(
-    alloc: Global,
-    p: &DenseOrSparsePolynomial<'_, F>,
-    point: F,
-) -> Answer {
+fn value<F: Numbered>(alloc: Global, p: &DenseOrSparsePolynomial<'_, F>, point: F) -> Answer {
     one(alloc, p.evaluate(&point))
 }

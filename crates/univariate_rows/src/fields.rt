@@ -9,7 +9,7 @@ use row_words::words::{
 };
 use std::alloc::Global;
 
-pub fn answer<F: FftField + Numbered>(alloc: Global, words: &[String]) -> Answer {
+pub fn answer<F: Numbered>(alloc: Global, words: &[String]) -> Answer {
     match words {
         [name] if name.as_str() == "constants" => constants::<F>(alloc),
         [name, word] => answer_of_one::<F>(alloc, name.as_str(), word.as_str()),
@@ -21,7 +21,7 @@ pub fn answer<F: FftField + Numbered>(alloc: Global, words: &[String]) -> Answer
 }
 
 /// The answer to an operation on one word.
-fn answer_of_one<F: FftField + Numbered>(alloc: Global, name: &str, word: &str) -> Answer {
+fn answer_of_one<F: Numbered>(alloc: Global, name: &str, word: &str) -> Answer {
     match name {
         "of" => one(alloc, element::<F>(word)),
         "root" => option(alloc, F::get_root_of_unity(number(word))),
@@ -33,12 +33,7 @@ fn answer_of_one<F: FftField + Numbered>(alloc: Global, name: &str, word: &str) 
 }
 
 /// The answer to an operation on two words.
-fn answer_of_two<F: FftField + Numbered>(
-    alloc: Global,
-    name: &str,
-    first: &str,
-    second: &str,
-) -> Answer {
+fn answer_of_two<F: Numbered>(alloc: Global, name: &str, first: &str, second: &str) -> Answer {
     match name {
         "power" => one(alloc, element::<F>(first).pow(number(second))),
         "operators" => operators::<F>(alloc, element(first), element(second)),
@@ -78,7 +73,7 @@ fn text<F: FftField>(alloc: Global, x: F, y: F) -> Answer {
 
 /// Zero, the default and one; then the generator, the exponent of two and the root for it; and then the odd base, its
 /// exponent and the root for both, where there is one.
-fn constants<F: FftField + Numbered>(alloc: Global) -> Answer {
+fn constants<F: Numbered>(alloc: Global) -> Answer {
     let units = [F::zero().number(), F::default().number(), F::one().number()];
     let units = text_of_numbers(alloc, &units);
     let even = even_constants::<F>(alloc);
@@ -96,7 +91,7 @@ fn constants<F: FftField + Numbered>(alloc: Global) -> Answer {
     }
 }
 
-fn even_constants<F: FftField + Numbered>(alloc: Global) -> Answer {
+fn even_constants<F: Numbered>(alloc: Global) -> Answer {
     text_of_numbers(
         alloc,
         &[
@@ -108,7 +103,7 @@ fn even_constants<F: FftField + Numbered>(alloc: Global) -> Answer {
 }
 
 /// The sum, the difference and the product, each by value and in place, the square, and the opposite of the first.
-fn operators<F: FftField + Numbered>(alloc: Global, x: F, y: F) -> Answer {
+fn operators<F: Numbered>(alloc: Global, x: F, y: F) -> Answer {
     let mut sum = x;
     sum += y;
     let mut difference = x;
@@ -132,7 +127,7 @@ fn operators<F: FftField + Numbered>(alloc: Global, x: F, y: F) -> Answer {
     )
 }
 
-fn inverses<F: FftField + Numbered>(alloc: Global, word: &str) -> Answer {
+fn inverses<F: Numbered>(alloc: Global, word: &str) -> Answer {
     let mut list = elements::<F>(alloc, word)?;
     batch_inversion(alloc, &mut list)?;
     text_of(alloc, &list)

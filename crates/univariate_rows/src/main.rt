@@ -9,7 +9,6 @@ mod fields;
 mod polynomials;
 mod values;
 
-use ark_base::FftField;
 use ark_test_types::numbered::Numbered;
 use row_words::rows::{Answer, FieldRows, Rows, over_field, write_answers};
 use row_words::words::no_row;
@@ -25,7 +24,7 @@ impl Rows for UnivariateRows {
 }
 
 impl FieldRows for UnivariateRows {
-    fn answer_over<F: FftField + Numbered>(alloc: Global, words: &[String]) -> Answer {
+    fn answer_over<F: Numbered>(alloc: Global, words: &[String]) -> Answer {
         let [subject, words @ ..] = words else {
             return no_row(alloc);
         };

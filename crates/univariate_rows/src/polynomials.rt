@@ -1,6 +1,6 @@
 //! Rows of polynomials in one variable: the dense ones spelled by their coefficients, the sparse ones by their terms.
 
-use ark_base::{FftField, Field, PolyError};
+use ark_base::PolyError;
 use ark_test_types::numbered::Numbered;
 use ark_univariate::univariate::{DensePolynomial, SparsePolynomial};
 use ark_univariate::{DenseUVPolynomial, Polynomial};
@@ -12,7 +12,7 @@ use std::alloc::Global;
 /// Dense polynomials by their coefficients.
 pub struct Dense;
 
-impl<F: Field + Numbered> Form<F, DensePolynomial<F>> for Dense {
+impl<F: Numbered> Form<F, DensePolynomial<F>> for Dense {
     fn of(&self, alloc: Global, word: &str) -> Result<DensePolynomial<F>, PolyError> {
         Ok(DensePolynomial::from_coefficients_vec(elements(alloc, word)?))
     }
@@ -29,7 +29,7 @@ impl<F: Field + Numbered> Form<F, DensePolynomial<F>> for Dense {
 /// Sparse polynomials by their terms.
 pub struct Sparse;
 
-impl<F: Field + Numbered> Form<F, SparsePolynomial<F>> for Sparse {
+impl<F: Numbered> Form<F, SparsePolynomial<F>> for Sparse {
     fn of(&self, alloc: Global, word: &str) -> Result<SparsePolynomial<F>, PolyError> {
         SparsePolynomial::from_coefficients_vec(alloc, terms_of(alloc, word)?)
     }
@@ -44,7 +44,7 @@ impl<F: Field + Numbered> Form<F, SparsePolynomial<F>> for Sparse {
 }
 
 /// The answer to an operation on a dense polynomial.
-pub fn answer_of_dense<F: FftField + Numbered>(alloc: Global, words: &[String]) -> Answer {
+pub fn answer_of_dense<F: Numbered>(alloc: Global, words: &[String]) -> Answer {
     let [name, word, arguments @ ..] = words else {
         return no_row(alloc);
     };
@@ -60,7 +60,7 @@ pub fn answer_of_dense<F: FftField + Numbered>(alloc: Global, words: &[String]) 
     }
 }
 
-fn dense_from_slice<F: Field + Numbered>(alloc: Global, word: &str) -> Answer {
+fn dense_from_slice<F: Numbered>(alloc: Global, word: &str) -> Answer {
     let coeffs = elements::<F>(alloc, word)?;
     shown_dense(
         alloc,
@@ -69,7 +69,7 @@ fn dense_from_slice<F: Field + Numbered>(alloc: Global, word: &str) -> Answer {
 }
 
 /// The answer to an operation with one word.
-fn dense_with_word<F: FftField + Numbered>(
+fn dense_with_word<F: Numbered>(
     alloc: Global,
     name: &str,
     p: &DensePolynomial<F>,
@@ -86,7 +86,7 @@ fn dense_with_word<F: FftField + Numbered>(
 }
 
 /// The product or quotient with a dense polynomial.
-fn with_dense<F: FftField + Numbered>(
+fn with_dense<F: Numbered>(
     alloc: Global,
     name: &str,
     p: &DensePolynomial<F>,
@@ -102,7 +102,7 @@ fn with_dense<F: FftField + Numbered>(
 }
 
 /// The sum or difference with a sparse polynomial.
-fn with_sparse<F: Field + Numbered>(
+fn with_sparse<F: Numbered>(
     alloc: Global,
     name: &str,
     p: &DensePolynomial<F>,
@@ -116,12 +116,7 @@ fn with_sparse<F: Field + Numbered>(
 }
 
 /// The sum or difference with a sparse polynomial, in place.
-fn in_place<F: Field + Numbered>(
-    alloc: Global,
-    name: &str,
-    p: &DensePolynomial<F>,
-    word: &str,
-) -> Answer {
+fn in_place<F: Numbered>(alloc: Global, name: &str, p: &DensePolynomial<F>, word: &str) -> Answer {
     let q = Sparse.of(alloc, word)?;
     let mut p = p.clone()?;
     match name {
@@ -132,7 +127,7 @@ fn in_place<F: Field + Numbered>(
 }
 
 /// The dense polynomial that a call gave.
-pub fn shown_dense<F: Field + Numbered>(
+pub fn shown_dense<F: Numbered>(
     alloc: Global,
     given: Result<DensePolynomial<F>, PolyError>,
 ) -> Answer {
@@ -140,7 +135,7 @@ pub fn shown_dense<F: Field + Numbered>(
 }
 
 /// The sparse polynomial that a call gave.
-pub fn shown_sparse<F: Field + Numbered>(
+pub fn shown_sparse<F: Numbered>(
     alloc: Global,
     given: Result<SparsePolynomial<F>, PolyError>,
 ) -> Answer {
@@ -148,7 +143,7 @@ pub fn shown_sparse<F: Field + Numbered>(
 }
 
 /// The quotient and the remainder that a call gave, or `none`.
-pub fn shown_division<F: Field + Numbered>(
+pub fn shown_division<F: Numbered>(
     alloc: Global,
     given: Result<Option<(DensePolynomial<F>, DensePolynomial<F>)>, PolyError>,
 ) -> Answer {
@@ -159,7 +154,7 @@ pub fn shown_division<F: Field + Numbered>(
 }
 
 /// A quotient and a remainder, with a semicolon between them.
-pub fn text_of_both<F: Field + Numbered>(
+pub fn text_of_both<F: Numbered>(
     alloc: Global,
     quotient: &DensePolynomial<F>,
     remainder: &DensePolynomial<F>,
@@ -169,7 +164,7 @@ pub fn text_of_both<F: Field + Numbered>(
 }
 
 /// The answer to an operation on a sparse polynomial.
-pub fn answer_of_sparse<F: Field + Numbered>(alloc: Global, words: &[String]) -> Answer {
+pub fn answer_of_sparse<F: Numbered>(alloc: Global, words: &[String]) -> Answer {
     let [name, word, arguments @ ..] = words else {
         return no_row(alloc);
     };
@@ -188,7 +183,7 @@ pub fn answer_of_sparse<F: Field + Numbered>(alloc: Global, words: &[String]) ->
     }
 }
 
-fn sparse_from_slice<F: Field + Numbered>(alloc: Global, word: &str) -> Answer {
+fn sparse_from_slice<F: Numbered>(alloc: Global, word: &str) -> Answer {
     let terms = terms_of::<F>(alloc, word)?;
     shown_sparse(
         alloc,
@@ -196,11 +191,7 @@ fn sparse_from_slice<F: Field + Numbered>(alloc: Global, word: &str) -> Answer {
     )
 }
 
-fn product_of_sparse<F: Field + Numbered>(
-    alloc: Global,
-    p: &SparsePolynomial<F>,
-    word: &str,
-) -> Answer {
+fn product_of_sparse<F: Numbered>(alloc: Global, p: &SparsePolynomial<F>, word: &str) -> Answer {
     let q = Sparse.of(alloc, word)?;
     shown_sparse(alloc, p.mul(alloc, &q))
 }

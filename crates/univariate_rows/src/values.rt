@@ -6,7 +6,7 @@ ghost use Rattle.std.specs.Prelude.{◌≡◌, IfOk};
 use crate::domains::coset;
 use crate::either::held;
 use crate::polynomials::{Dense, Sparse, shown_dense, text_of_both};
-use ark_base::{FftField, PolyError};
+use ark_base::PolyError;
 use ark_test_types::numbered::Numbered;
 use ark_univariate::univariate::{DenseOrSparsePolynomial, DensePolynomial, SparsePolynomial};
 use ark_univariate::{EvaluationDomain, Evaluations, GeneralEvaluationDomain};
@@ -16,11 +16,11 @@ use row_words::words::{debug, element, elements, no_row, one, size, text_of, tex
 use std::alloc::Global;
 
 /// The answer over a general domain.
-pub fn answer<F: FftField + Numbered>(alloc: Global, words: &[String]) -> Answer {
+pub fn answer<F: Numbered>(alloc: Global, words: &[String]) -> Answer {
     over::<F, GeneralEvaluationDomain<F>>(alloc, words)
 }
 
-fn over<F: FftField + Numbered, D: EvaluationDomain<F>>(alloc: Global, words: &[String]) -> Answer {
+fn over<F: Numbered, D: EvaluationDomain<F>>(alloc: Global, words: &[String]) -> Answer {
     let [num_coeffs, offset, name, word, arguments @ ..] = words else {
         return no_row(alloc);
     };
@@ -47,7 +47,7 @@ fn over<F: FftField + Numbered, D: EvaluationDomain<F>>(alloc: Global, words: &[
 }
 
 /// The answer to an operation on one polynomial, or on values alone.
-fn answer_of_one<F: FftField + Numbered, D: EvaluationDomain<F>>(
+fn answer_of_one<F: Numbered, D: EvaluationDomain<F>>(
     alloc: Global,
     domain: D,
     name: &str,
@@ -64,7 +64,7 @@ fn answer_of_one<F: FftField + Numbered, D: EvaluationDomain<F>>(
 }
 
 /// The values that a call gave.
-fn shown<F: FftField + Numbered, D: EvaluationDomain<F>>(
+fn shown<F: Numbered, D: EvaluationDomain<F>>(
     alloc: Global,
     given: Result<Evaluations<F, D>, PolyError>,
 ) -> Answer {
@@ -72,7 +72,7 @@ fn shown<F: FftField + Numbered, D: EvaluationDomain<F>>(
 }
 
 /// The values, of which the domain has as many elements.
-fn values_over<F: FftField + Numbered, D: EvaluationDomain<F>>(
+fn values_over<F: Numbered, D: EvaluationDomain<F>>(
     alloc: Global,
     domain: D,
     word: &str,
@@ -86,7 +86,7 @@ fn values_over<F: FftField + Numbered, D: EvaluationDomain<F>>(
     Ok(Evaluations::from_vec_and_domain(evals, domain))
 }
 
-fn of_dense<F: FftField + Numbered, D: EvaluationDomain<F>>(
+fn of_dense<F: Numbered, D: EvaluationDomain<F>>(
     alloc: Global,
     domain: D,
     name: &str,
@@ -99,7 +99,7 @@ fn of_dense<F: FftField + Numbered, D: EvaluationDomain<F>>(
     }
 }
 
-fn of_sparse<F: FftField + Numbered, D: EvaluationDomain<F>>(
+fn of_sparse<F: Numbered, D: EvaluationDomain<F>>(
     alloc: Global,
     domain: D,
     name: &str,
@@ -112,11 +112,7 @@ fn of_sparse<F: FftField + Numbered, D: EvaluationDomain<F>>(
     }
 }
 
-fn of_either<F: FftField + Numbered, D: EvaluationDomain<F>>(
-    alloc: Global,
-    domain: D,
-    word: &str,
-) -> Answer {
+fn of_either<F: Numbered, D: EvaluationDomain<F>>(alloc: Global, domain: D, word: &str) -> Answer {
     let p = held(alloc, word)?;
     shown(
         alloc,
@@ -125,7 +121,7 @@ fn of_either<F: FftField + Numbered, D: EvaluationDomain<F>>(
 }
 
 /// The product with the vanishing polynomial, or the quotient and the remainder by it.
-fn by_vanishing<F: FftField + Numbered, D: EvaluationDomain<F>>(
+fn by_vanishing<F: Numbered, D: EvaluationDomain<F>>(
     alloc: Global,
     domain: D,
     name: &str,
@@ -138,7 +134,7 @@ fn by_vanishing<F: FftField + Numbered, D: EvaluationDomain<F>>(
     }
 }
 
-fn divided_by_vanishing<F: FftField + Numbered, D: EvaluationDomain<F>>(
+fn divided_by_vanishing<F: Numbered, D: EvaluationDomain<F>>(
     alloc: Global,
     domain: D,
     p: &DensePolynomial<F>,
@@ -148,7 +144,7 @@ fn divided_by_vanishing<F: FftField + Numbered, D: EvaluationDomain<F>>(
 }
 
 /// The answer to an operation on values alone.
-fn of_values<F: FftField + Numbered, D: EvaluationDomain<F>>(
+fn of_values<F: Numbered, D: EvaluationDomain<F>>(
     alloc: Global,
     name: &str,
     values: Evaluations<F, D>,
@@ -163,7 +159,7 @@ fn of_values<F: FftField + Numbered, D: EvaluationDomain<F>>(
 }
 
 /// The answer to an operation on values with an index, a factor or other values.
-fn answer_with_word<F: FftField + Numbered, D: EvaluationDomain<F>>(
+fn answer_with_word<F: Numbered, D: EvaluationDomain<F>>(
     alloc: Global,
     domain: D,
     name: &str,
@@ -181,7 +177,7 @@ fn answer_with_word<F: FftField + Numbered, D: EvaluationDomain<F>>(
     }
 }
 
-fn value_at<F: FftField + Numbered, D: EvaluationDomain<F>>(
+fn value_at<F: Numbered, D: EvaluationDomain<F>>(
     alloc: Global,
     values: &Evaluations<F, D>,
     index: usize,
@@ -192,7 +188,7 @@ fn value_at<F: FftField + Numbered, D: EvaluationDomain<F>>(
     one(alloc, values[index])
 }
 
-fn replaced<F: FftField + Numbered, D: EvaluationDomain<F>>(
+fn replaced<F: Numbered, D: EvaluationDomain<F>>(
     alloc: Global,
     domain: D,
     word: &str,
@@ -207,7 +203,7 @@ fn replaced<F: FftField + Numbered, D: EvaluationDomain<F>>(
 }
 
 /// What an operation makes of two values at each place.
-fn by_places<F: FftField + Numbered, D: EvaluationDomain<F>>(
+fn by_places<F: Numbered, D: EvaluationDomain<F>>(
     alloc: Global,
     name: &str,
     values: &Evaluations<F, D>,
@@ -224,7 +220,7 @@ fn by_places<F: FftField + Numbered, D: EvaluationDomain<F>>(
 }
 
 /// A call with other values that changes the first ones.
-fn in_place<F: FftField + Numbered, D: EvaluationDomain<F>>(
+fn in_place<F: Numbered, D: EvaluationDomain<F>>(
     alloc: Global,
     name: &str,
     mut values: Evaluations<F, D>,
@@ -243,7 +239,7 @@ fn in_place<F: FftField + Numbered, D: EvaluationDomain<F>>(
 }
 
 /// Whether the values are equal to those over another domain, and whether their hashes are.
-fn compared<F: FftField + Numbered, D: EvaluationDomain<F>>(
+fn compared<F: Numbered, D: EvaluationDomain<F>>(
     alloc: Global,
     domain: D,
     word: &str,
