@@ -10,7 +10,7 @@ use Rattle.ark_math.proofs.Lists.Tabulated.{length-tabulate, get_or-tabulate}
 use Rattle.ark_math.proofs.Polynomials.UnivariateValues.{value_is}
 use Rattle.ark_rows.specs.Lanewise.{lanewise}
 use Rattle.rs_code.specs.Codeword.{IsCodeword, AgreesElsewhere}
-use Rattle.shards_lib.specs.Numbers.{IsNumberDomain}
+use Rattle.shards_lib.specs.Numbers.{IsNumberDomain, value_at_place}
 use Rattle.shards_lib.specs.Places.{AreKept}
 use Rattle.shards_lib.proofs.Values.{element_is, same_value, values_of_rows}
 use Rattle.shards_lib.proofs.Interpolation.{has_polynomial}
@@ -34,15 +34,21 @@ module _ {F : Type 0} (K : FieldOn F) (N : IsField K) (root : ℕ → F) (k n : 
   item_is : (t j : ℕ) → j < k → get_or message j (λ j. K.zero) t ≡ (polynomial t).0 j
   item_is t j l = ap (λ (f : ℕ → F). f t) (get_or-tabulate k (λ j t. (polynomial t).0 j) j (λ j. K.zero) l)
 
-  reached : (a t : ℕ) → a < length places → get_or (transform K (lanewise (itself K)) d message) (get_or places a 0) (λ j. K.zero) t ≡ get_or word (get_or places a 0) (λ j. K.zero) t
-  reached a t l =
+  -- its value at a place is the word's
+  pub polynomial_value : (a t : ℕ) → a < length places → value_at_place K root k n (polynomial t).0 (get_or places a 0) ≡ get_or word (get_or places a 0) (λ j. K.zero) t
+  polynomial_value a t l =
       let i = get_or places a 0 in
       let p = polynomial t in
       let short : IsBelow K k p.0 = subst (λ m. IsBelow K m p.0) as_many p.1 in
-      values_of_rows K root k n N d over fits message (transform K (lanewise (itself K)) d message) refl message_len i t (below a l)
-      ∙ same_value K root k n _ p.0 i (λ j b. item_is t j b)
-      ∙ ap (value_below K k p.0) (sym (element_is K root k n N d over fits i))
+      ap (value_below K k p.0) (sym (element_is K root k n N d over fits i))
       ∙ sym (value_is K N k p.0 (element K d i) (get_or word i (λ j. K.zero) t) short (p.2 a l))
+
+  reached : (a t : ℕ) → a < length places → get_or (transform K (lanewise (itself K)) d message) (get_or places a 0) (λ j. K.zero) t ≡ get_or word (get_or places a 0) (λ j. K.zero) t
+  reached a t l =
+      let i = get_or places a 0 in
+      values_of_rows K root k n N d over fits message (transform K (lanewise (itself K)) d message) refl message_len i t (below a l)
+      ∙ same_value K root k n _ (polynomial t).0 i (λ j b. item_is t j b)
+      ∙ polynomial_value a t l
 
   agrees_at : (i : ℕ) → get_or marks i true ≡ false → (t : ℕ) → get_or (transform K (lanewise (itself K)) d message) i (λ j. K.zero) t ≡ get_or word i (λ j. K.zero) t
   agrees_at i e t =

@@ -8,3 +8,4 @@ pub mod Interpolation
 pub mod Codewords
 pub mod OnlyMemory
 pub mod Room
+pub mod ItemWeights

@@ -1,5 +1,6 @@
 -- The values of rows, lane by lane.
-use Rattle.std.proofs.Common.{◌≡◌, ◌≢◌, ℕ, zero, suc, ◌+◌, ◌<◌, ◌≤◌, List, [], ◌∷◌, length, map, take, set, get_or, sym, ◌∙◌, ap, ap₂, refl, subst, arith, below_more, get_or-set_same, get_or-set_other}
+use Rattle.std.proofs.Common.{◌≡◌, ◌≢◌, ℕ, zero, suc, ◌+◌, ◌==◌, ◌<◌, ◌≤◌, cond, inl, inr, List, [], ◌∷◌, length, map, take, set, get_or, sym, ◌∙◌, ap, ap₂, refl, subst, arith, below_more, get_or-set_same, get_or-set_other}
+use Rattle.std.proofs.lemmas.Bool.{cases_eq, eq-eqb, ne_eqb}
 use Rattle.std.proofs.lemmas.List.{length-map, take-map, get_or-take}
 use Rattle.ark_math.specs.Field.{FieldOn, IsField, power}
 use Rattle.ark_math.specs.Module.{itself}
@@ -57,6 +58,17 @@ module _ {F : Type 0} {N : ℕ} (K : FieldOn F) where
   lanes_written P old now t x is inside before here i b = below_more (λ i. lanes K now i ≡ P i) t
       (λ i c. ap (λ xs. get_or xs i K.zero) is ∙ get_or-set_other old.items t i x K.zero (omega (arith, c)) ∙ before i c)
       (ap (λ xs. get_or xs t K.zero) is ∙ get_or-set_same old.items t x K.zero (subst (λ n. t < n) (sym old.whole) inside) ∙ here) i b
+
+  -- one in a lane of a row of zeros
+  pub unit_lanes : (old now : Row F N) (a : ℕ) → a < N → now.items ≡ set old.items a K.one → lanes K old ≡ (λ i. K.zero) → (t : ℕ) → lanes K now t ≡ cond (t == a) K.one K.zero
+  unit_lanes old now a inside is zeros t = elim (cases_eq t a) [
+    | inl same ↦
+        ap (lanes K now) same ∙ ap (λ xs. get_or xs a K.zero) is ∙ get_or-set_same old.items a K.one K.zero (subst (λ n. a < n) (sym old.whole) inside)
+        ∙ sym (ap (λ b. cond b K.one K.zero) (eq-eqb t a same))
+    | inr ne ↦
+        ap (λ xs. get_or xs t K.zero) is ∙ get_or-set_other old.items a t K.one K.zero ne ∙ ap (λ f. f t) zeros
+        ∙ sym (ap (λ b. cond b K.one K.zero) (ne_eqb t a ne))
+  ]
 
 -- ---- values
 

@@ -3,3 +3,4 @@ pub mod Numbers
 pub mod NumberLaws
 pub mod Rows
 pub mod Places
+pub mod Weights

@@ -5,6 +5,7 @@
 mod field;
 mod rows;
 mod stripes;
+mod weights;
 
 pub use field::NumberField;
 pub use shards_format::{JoinError, Piece, StripeCode, join, split, split_then_join};

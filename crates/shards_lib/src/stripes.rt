@@ -8,9 +8,11 @@ ghost use Rattle.rs_code.specs.Codeword.{mark_count};
 ghost use Rattle.shards_lib.specs.Numbers.{IsNumberDomain, number_at_place, value_at_place};
 ghost use Rattle.shards_lib.specs.Places.{AreKept};
 ghost use Rattle.shards_lib.specs.Rows.{HasCode, entry};
+ghost use Rattle.shards_lib.specs.Weights.{AreWeights, Restores};
 
 use crate::field::NumberField;
 use crate::rows::{message_rows, put_rows, put_stripes, word_rows};
+use crate::weights::{combined, unit_rows};
 use ark_base::{F65537, Zero};
 use ark_poly::{EvaluationDomain, Radix2EvaluationDomain};
 use ark_rows::Row;
@@ -103,14 +105,8 @@ impl<F: NumberField, const N: usize> StripeCode for RowCode<F, N> {
         items: &mut [u16],
     ) -> Result<(), AllocError> {
         let decoder = self.decoder(alloc, places)?;
-        for group in 0..groups(stripes, N) {
-            let first = group * N;
-            let count = N.min(stripes - first);
-            self.restore_group(
-                alloc, &decoder, places, numbers, stripes, first, count, items,
-            )?;
-        }
-        Ok(())
+        let weights = self.weights(alloc, &decoder, places)?;
+        self.restore_groups(alloc, &decoder, &weights, places, numbers, stripes, items)
     }
 }
 
@@ -176,11 +172,42 @@ impl<F: NumberField, const N: usize> RowCode<F, N> {
         }
     }
 
+    // The items of all stripes, a group at a time.
+    fn restore_groups(
+        &self,
+        alloc: Global,
+        decoder: &DomainDecoder<F, Radix2EvaluationDomain<F>>,
+        weights: &[Row<F, N>],
+        places: &[usize],
+        numbers: &[u32],
+        stripes: usize,
+        items: &mut [u16],
+    ) -> Result<(), AllocError>
+        requires way { Restores F.field F.root self.now.code self.now.n decoder.now places.now weights.now }
+        requires numbers { length numbers.now ≡ self.now.code.k * stripes }
+        requires items { length items.old ≡ stripes * self.now.code.k }
+        ensures { OnOk result ((s : ℕ) (stripe : ℕ → ℕ) → s < stripes
+            → ((j : ℕ) → j < self.now.code.k → stripe j < 2 ^ 16)
+            → ((a : ℕ) → a < self.now.code.k → get_or numbers.now (a * stripes + s) 0
+            ≡ number_at_place F.field F.root F.number self.now.code.k self.now.n stripe (get_or places.now a 0))
+            → (j : ℕ) → j < self.now.code.k → get_or items.new (s * self.now.code.k + j) 0 ≡ stripe j) }
+    {
+        for group in 0..groups(stripes, N) {
+            let first = group * N;
+            let count = N.min(stripes - first);
+            self.restore_group(
+                alloc, decoder, weights, places, numbers, stripes, first, count, items,
+            )?;
+        }
+        Ok(())
+    }
+
     // The items of so many stripes from `first` on.
     fn restore_group(
         &self,
         alloc: Global,
         decoder: &DomainDecoder<F, Radix2EvaluationDomain<F>>,
+        weights: &[Row<F, N>],
         places: &[usize],
         numbers: &[u32],
         stripes: usize,
@@ -188,10 +215,7 @@ impl<F: NumberField, const N: usize> RowCode<F, N> {
         count: usize,
         items: &mut [u16],
     ) -> Result<(), AllocError>
-        requires code { decoder.now.code ≡ self.now.code }
-        requires kept { AreKept decoder.now.erased places.now }
-        requires places { length places.now ≡ self.now.code.k }
-        requires below { (a : ℕ) → a < length places.now → get_or places.now a 0 < self.now.n }
+        requires way { Restores F.field F.root self.now.code self.now.n decoder.now places.now weights.now }
         requires numbers { length numbers.now ≡ self.now.code.k * stripes }
         requires count { count ≤ N }
         requires stripes { first + count ≤ stripes }
@@ -208,9 +232,56 @@ impl<F: NumberField, const N: usize> RowCode<F, N> {
         let k = self.code.k();
         let size = self.code.n();
         let word = word_rows::<F, N>(alloc, size, places, numbers, stripes, first, count)?;
-        let message = self.message(alloc, decoder, &word)?;
+        let message = self.messages(alloc, decoder, weights, places, &word)?;
         put_stripes(&message, k, first, count, items);
         Ok(())
+    }
+
+    // What each value at a kept place counts in the items of a message, where these are few; else nothing.
+    fn weights(
+        &self,
+        alloc: Global,
+        decoder: &DomainDecoder<F, Radix2EvaluationDomain<F>>,
+        places: &[usize],
+    ) -> Result<Vec<Row<F, N>>, AllocError>
+        requires code { decoder.now.code ≡ self.now.code }
+        requires kept { AreKept decoder.now.erased places.now }
+        requires places { length places.now ≡ self.now.code.k }
+        requires below { (a : ℕ) → a < length places.now → get_or places.now a 0 < self.now.n }
+        ensures { IfOk result (λ weights. 0 < length weights.items
+            → AreWeights F.field F.root self.now.code.k self.now.n places.now weights.items) }
+    {
+        let k = self.code.k();
+        let size = self.code.n();
+        // A message by weights takes k products an item, one through transforms more with the domain's size alone.
+        if N < k || size / k < k / 4 {
+            return Ok(Vec::new(alloc));
+        }
+        let units = unit_rows::<F, N>(alloc, size, places)?;
+        self.message(alloc, decoder, &units)
+    }
+
+    // The messages of which words have the values at the kept places: by the weights, where there are some.
+    fn messages(
+        &self,
+        alloc: Global,
+        decoder: &DomainDecoder<F, Radix2EvaluationDomain<F>>,
+        weights: &[Row<F, N>],
+        places: &[usize],
+        word: &[Row<F, N>],
+    ) -> Result<Vec<Row<F, N>>, AllocError>
+        requires way { Restores F.field F.root self.now.code self.now.n decoder.now places.now weights.now }
+        requires len { length word.now ≡ self.now.code.domain.size }
+        ensures len { IfOk result (λ m. length m.items ≡ self.now.code.k) }
+        ensures only { IfOk result (λ m. (t : ℕ) (items : ℕ → F) → t < N
+            → ((a : ℕ) → a < self.now.code.k → entry F.field word.now (get_or places.now a 0) t
+            ≡ value_at_place F.field F.root self.now.code.k self.now.n items (get_or places.now a 0))
+            → (j : ℕ) → j < self.now.code.k → entry F.field m.items j t ≡ items j) }
+    {
+        if weights.is_empty() {
+            return self.message(alloc, decoder, word);
+        }
+        combined(alloc, weights, word, places)
     }
 
     // The messages of which words have the values at the kept places. As many places as a message has items are kept, so

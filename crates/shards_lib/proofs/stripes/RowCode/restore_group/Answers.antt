@@ -1,4 +1,4 @@
-use Rattle.std.proofs.Common.{◌≡◌, ℕ, ◌+◌, ◌*◌, ◌<◌, ◌%◌, true, false, length, get_or, arith, rules, sym, ◌∙◌, ap, subst, mod-eq_of_lt}
+use Rattle.std.proofs.Common.{◌≡◌, ℕ, ◌+◌, ◌*◌, ◌<◌, ◌%◌, length, get_or, arith, rules, sym, ◌∙◌, ap, subst, mod-eq_of_lt}
 use Rattle.ark_math.specs.Field.{natural}
 use Rattle.shards_lib.specs.Numbers.{value_at_place}
 use Rattle.shards_lib.specs.Rows.{entry}
@@ -15,32 +15,24 @@ word_rows-requires g c = (
       c.requires.stripes,
       (
         (λ a l. subst (λ m. get_or c.args.places.now a 0 < m) (sym c.n-size.ensures)
-            (let below = c.requires.below a l in let room = c.args.self.now.room in omega (arith, below, room))),
+            (let below = c.requires.way.below a l in let room = c.args.self.now.room in omega (arith, below, room))),
         (
-          c.requires.kept.apart,
-          c.requires.numbers ∙ ap (λ m. m * c.args.stripes) (sym c.requires.places),
+          c.requires.way.kept.apart,
+          c.requires.numbers ∙ ap (λ m. m * c.args.stripes) (sym c.requires.way.as_many),
         ),
       ),
     ),
   ),
 )
 
-pub message-requires : goal.message-requires
-message-requires g c = (
+pub messages-requires : goal.messages-requires
+messages-requires g c = (
   search rules,
   (
     search (rules, last_part),
     (
-      c.requires.code,
-      (
-        (
-          c.args.places.now,
-          c.requires.kept,
-          c.requires.places,
-          (λ a l. let below = c.requires.below a l in let room = c.args.self.now.room in omega (arith, below, room)),
-        ),
-        ap length c.deref.ensures.value ∙ c.in_ok-word.ensures.len ∙ c.n-size.ensures,
-      ),
+      c.requires.way,
+      ap length c.deref.ensures.value ∙ c.in_ok-word.ensures.len ∙ c.n-size.ensures,
     ),
   ),
 )
@@ -80,14 +72,13 @@ returns-clause-written g c = λ t stripe b small numbered j l.
     let places = c.args.places.now in
     let inside : j < q = subst (λ x. j < x) (sym e) l in
     let rows = c.deref-2.result.now in
-    let given : (i : ℕ) → get_or c.args.decoder.now.erased i true ≡ false → entry K c.deref.result.now i t ≡ value_at_place K root k n (λ j. natural K (stripe j)) i = λ i u.
-    let h = c.requires.kept.kept i u in
-    let less : h.0 < k = subst (λ x. h.0 < x) c.requires.places h.1 in
-    subst (λ i. entry K c.deref.result.now i t ≡ value_at_place K root k n (λ j. natural K (stripe j)) i) h.2
-    (ap (λ xs. entry K xs (get_or places h.0 0) t) c.deref.ensures.value ∙ c.in_ok-word.ensures.entries h.0 t h.1 b
-    ∙ ap (natural K) (numbered h.0 less) ∙ g.met.F.NumberField.natural_number _) in
+    let count = c.requires.count in
+    let given : (a : ℕ) → a < k → entry K c.deref.result.now (get_or places a 0) t ≡ value_at_place K root k n (λ j. natural K (stripe j)) (get_or places a 0) = λ a less.
+    ap (λ xs. entry K xs (get_or places a 0) t) c.deref.ensures.value
+    ∙ c.in_ok-word.ensures.entries a t (subst (λ x. a < x) (sym c.requires.way.as_many) less) b
+    ∙ ap (natural K) (numbered a less) ∙ g.met.F.NumberField.natural_number _ in
     let item_is : entry K rows j t ≡ natural K (stripe j) =
-    ap (λ xs. entry K xs j t) c.deref-2.ensures.value ∙ c.in_ok-message.ensures.only t (λ j. natural K (stripe j)) given j l in
+    ap (λ xs. entry K xs j t) c.deref-2.ensures.value ∙ c.in_ok-message.ensures.only t (λ j. natural K (stripe j)) (omega (arith, b, count)) given j l in
     let few = small j l in
     subst (λ x. get_or c.put_stripes.new.items ((first + t) * x + j) 0 ≡ stripe j) e
     (c.put_stripes.ensures.written t j b inside ∙ ap (λ x. number x % 65536) item_is

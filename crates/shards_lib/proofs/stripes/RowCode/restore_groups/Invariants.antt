@@ -1,6 +1,6 @@
 use Rattle.std.proofs.Common.{◌≡◌, ℕ, ◌<◌, ◌*◌, ◌+◌, ◌^◌, get_or}
 use Rattle.shards_lib.specs.Numbers.{number_at_place}
-use Rattle.shards_lib.proofs.stripes.RowCodeStripeCode.restore.Given as goal
+use Rattle.shards_lib.proofs.stripes.RowCode.restore_groups.Given as goal
 
 abbrev pub invariant-loop-group : goal.invariant-loop-group
 invariant-loop-group g l =
