@@ -237,7 +237,7 @@ impl<F: NumberField, const N: usize> RowCode<F, N> {
         Ok(())
     }
 
-    // What each value at a kept place counts in the items of a message, where these are few; else nothing.
+    // What each value at a kept place counts in the items of a message, where these are no more than the lanes; else nothing.
     fn weights(
         &self,
         alloc: Global,
@@ -253,8 +253,8 @@ impl<F: NumberField, const N: usize> RowCode<F, N> {
     {
         let k = self.code.k();
         let size = self.code.n();
-        // A message by weights takes k products an item, one through transforms more with the domain's size alone.
-        if N < k || size / k < k / 4 {
+        // More items than lanes are got quicker through transforms.
+        if N < k {
             return Ok(Vec::new(alloc));
         }
         let units = unit_rows::<F, N>(alloc, size, places)?;
