@@ -237,7 +237,8 @@ impl<F: NumberField, const N: usize> RowCode<F, N> {
         Ok(())
     }
 
-    // What each value at a kept place counts in the items of a message, where these are no more than the lanes; else nothing.
+    // What each value at a kept place counts in the items of a message, where these are no more than the lanes; else
+    // nothing.
     fn weights(
         &self,
         alloc: Global,
