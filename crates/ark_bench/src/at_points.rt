@@ -1,8 +1,8 @@
 //! Polynomials at many points of a caller's own, and shares of secrets.
 
-use crate::batches::{Benchmark, Number, mixed, report};
+use crate::batches::{Benchmark, Counted, Number, mixed, report};
 use crate::draws::Draws;
-use ark_base::{FftField, Field, PolyError, Polynomial};
+use ark_base::{Field, PolyError, Polynomial};
 use ark_points::{evaluate_at, from_points};
 use ark_poly::univariate::DensePolynomial;
 use ark_sharing::share;
@@ -18,7 +18,7 @@ pub struct ValuesAtPoints<F: Field> {
     pub points: Vec<F>,
 }
 
-impl<F: FftField + Number> Benchmark for ValuesAtPoints<F> {
+impl<F: Counted> Benchmark for ValuesAtPoints<F> {
     fn call(&mut self, alloc: Global) -> Result<(), PolyError> {
         let values = evaluate_at(alloc, &self.polynomial, &self.points)?;
         if let (Some(first), Some(value)) = (self.points.first_mut(), values.last()) {
@@ -38,7 +38,7 @@ pub struct ThroughPoints<F: Field> {
     pub points: Vec<(F, F)>,
 }
 
-impl<F: FftField + Number> Benchmark for ThroughPoints<F> {
+impl<F: Counted> Benchmark for ThroughPoints<F> {
     fn call(&mut self, alloc: Global) -> Result<(), PolyError> {
         // No two of the points are one.
         let polynomial = from_points(alloc, &self.points).map_err(|_| PolyError::Memory)?;
@@ -95,7 +95,7 @@ impl<F: Field + Number> Benchmark for Shares<F> {
 }
 
 /// Values at as many points as a polynomial has coefficients, the polynomial through as many, and shares at five points.
-pub fn report_at_points<F: FftField + Number>(
+pub fn report_at_points<F: Counted>(
     rt: &(impl Print + Clock),
     alloc: Global,
     timed: bool,

@@ -1,6 +1,6 @@
 //! Calls in batches of some 20 milliseconds, of which the least counts.
 
-use ark_base::{Field, Lanes, PolyError, PrimeField, PrimeModulus};
+use ark_base::{FftField, Field, Lanes, PolyError, PrimeField, PrimeModulus};
 use ark_rows::Row;
 use std::alloc::Global;
 use std::io::Print;
@@ -19,6 +19,11 @@ pub trait Benchmark {
 pub trait Number {
     fn number(&self) -> u64;
 }
+
+/// A field whose elements count in checksums.
+pub trait Counted: FftField + Number {}
+
+impl<M: PrimeModulus> Counted for PrimeField<M> {}
 
 impl<M: PrimeModulus> Number for PrimeField<M> {
     fn number(&self) -> u64 {

@@ -1,6 +1,6 @@
 //! Calls of erasure codes, and transforms of rows.
 
-use crate::batches::{Benchmark, Number, mixed, report};
+use crate::batches::{Benchmark, Counted, Number, mixed, report};
 use crate::draws::Draws;
 use ark_base::{DomainCoeff, F65537, FftField, PolyError, Zero};
 use ark_poly::{EvaluationDomain, Radix2EvaluationDomain};
@@ -77,7 +77,7 @@ impl Benchmark for RowsInPlace {
 }
 
 /// Codes of half as many items as places, over elements and over pairs of them; and transforms of rows of eight.
-pub fn report_codes<F: FftField + Number>(
+pub fn report_codes<F: Counted>(
     rt: &(impl Print + Clock),
     alloc: Global,
     timed: bool,
@@ -93,7 +93,7 @@ pub fn report_codes<F: FftField + Number>(
 }
 
 // A message's codeword, and the codeword with a quarter and with half of its places erased.
-fn report_code<F: FftField + Number, T: DomainCoeff<F> + Number>(
+fn report_code<F: Counted, T: DomainCoeff<F> + Number>(
     rt: &(impl Print + Clock),
     alloc: Global,
     timed: bool,
@@ -119,7 +119,7 @@ fn report_code<F: FftField + Number, T: DomainCoeff<F> + Number>(
 }
 
 // One place of so many is erased.
-fn report_restoring<F: FftField + Number, T: DomainCoeff<F> + Number>(
+fn report_restoring<F: Counted, T: DomainCoeff<F> + Number>(
     rt: &(impl Print + Clock),
     alloc: Global,
     timed: bool,

@@ -16,8 +16,7 @@ mod sums;
 mod transforms;
 
 use ark_base::{
-    BabyBear, CanonicalSerialize, Compress, F433, F65537, FftField, Field, Goldilocks, KoalaBear,
-    Polynomial,
+    BabyBear, CanonicalSerialize, Compress, F433, F65537, Field, Goldilocks, KoalaBear, Polynomial,
 };
 use ark_poly::univariate::{DensePolynomial, SparsePolynomial};
 use ark_poly::{
@@ -25,7 +24,7 @@ use ark_poly::{
     MultilinearExtension, Radix2EvaluationDomain, SparseMultilinearExtension,
 };
 use at_points::report_at_points;
-use batches::{Number, report};
+use batches::{Counted, Number, report};
 use bytes::{ReadBack, Written};
 use codes::report_codes;
 use draws::Draws;
@@ -51,14 +50,11 @@ fn main(rt: HostRuntime) -> anyhow::Result<()> {
 
 // Everything, over a field with 2^16 units, one with mixed domains, and three with large domains; and the pieces of files by
 // a code.
-fn report_all<
-    F: FftField + Number,
-    M: FftField + Number,
-    B: FftField + Number,
-    K: FftField + Number,
-    G: FftField + Number,
-    C: StripeCode,
->(rt: &(impl Print + Clock), alloc: Global, timed: bool) -> anyhow::Result<()> {
+fn report_all<F: Counted, M: Counted, B: Counted, K: Counted, G: Counted, C: StripeCode>(
+    rt: &(impl Print + Clock),
+    alloc: Global,
+    timed: bool,
+) -> anyhow::Result<()> {
     let mut draws = Draws::new();
     let names = ["radix2_fft_in_place", "radix2_ifft_in_place"];
     let sizes = [1 << 10, 1 << 12, 1 << 14, 1 << 16];
@@ -83,7 +79,7 @@ fn report_all<
     Ok(())
 }
 
-fn report_radix2<F: FftField + Number>(
+fn report_radix2<F: Counted>(
     rt: &(impl Print + Clock),
     alloc: Global,
     timed: bool,
@@ -100,7 +96,7 @@ fn report_radix2<F: FftField + Number>(
 }
 
 // A field with large domains, on draws of its own.
-fn report_large_field<F: FftField + Number>(
+fn report_large_field<F: Counted>(
     rt: &(impl Print + Clock),
     alloc: Global,
     timed: bool,
@@ -110,7 +106,7 @@ fn report_large_field<F: FftField + Number>(
     report_radix2::<F>(rt, alloc, timed, &mut draws, names, &[1 << 16, 1 << 20])
 }
 
-fn report_mixed_radix<F: FftField + Number>(
+fn report_mixed_radix<F: Counted>(
     rt: &(impl Print + Clock),
     alloc: Global,
     timed: bool,
@@ -126,7 +122,7 @@ fn report_mixed_radix<F: FftField + Number>(
 }
 
 // A transform and an inverse one, under these names.
-fn report_both_ways<F: FftField + Number, D: EvaluationDomain<F>>(
+fn report_both_ways<F: Counted, D: EvaluationDomain<F>>(
     rt: &(impl Print + Clock),
     alloc: Global,
     timed: bool,
@@ -141,7 +137,7 @@ fn report_both_ways<F: FftField + Number, D: EvaluationDomain<F>>(
     Ok(())
 }
 
-fn report_in_place<F: FftField + Number, D: EvaluationDomain<F>>(
+fn report_in_place<F: Counted, D: EvaluationDomain<F>>(
     rt: &(impl Print + Clock),
     alloc: Global,
     timed: bool,
@@ -160,7 +156,7 @@ fn report_in_place<F: FftField + Number, D: EvaluationDomain<F>>(
     report(rt, alloc, timed, name, domain.size(), &mut transforms)
 }
 
-fn report_polynomials<F: FftField + Number>(
+fn report_polynomials<F: Counted>(
     rt: &(impl Print + Clock),
     alloc: Global,
     timed: bool,
@@ -181,7 +177,7 @@ fn report_polynomials<F: FftField + Number>(
     report_bytes::<F>(rt, alloc, timed)
 }
 
-fn report_over_domain<F: FftField + Number, D: EvaluationDomain<F>>(
+fn report_over_domain<F: Counted, D: EvaluationDomain<F>>(
     rt: &(impl Print + Clock),
     alloc: Global,
     timed: bool,
@@ -211,7 +207,7 @@ fn report_over_domain<F: FftField + Number, D: EvaluationDomain<F>>(
 }
 
 // What is made of two dense polynomials of these lengths.
-fn report_of_two<F: FftField + Number>(
+fn report_of_two<F: Counted>(
     rt: &(impl Print + Clock),
     alloc: Global,
     timed: bool,
@@ -228,7 +224,7 @@ fn report_of_two<F: FftField + Number>(
     report(rt, alloc, timed, name, left, &mut of_two)
 }
 
-fn report_dense<F: FftField + Number>(
+fn report_dense<F: Counted>(
     rt: &(impl Print + Clock),
     alloc: Global,
     timed: bool,
@@ -248,7 +244,7 @@ fn report_dense<F: FftField + Number>(
     report(rt, alloc, timed, "dense_evaluate", 1 << 16, &mut value)
 }
 
-fn report_values<F: FftField + Number, D: EvaluationDomain<F>>(
+fn report_values<F: Counted, D: EvaluationDomain<F>>(
     rt: &(impl Print + Clock),
     alloc: Global,
     timed: bool,
@@ -283,7 +279,7 @@ fn report_values<F: FftField + Number, D: EvaluationDomain<F>>(
     )
 }
 
-fn report_sparse<F: FftField + Number>(
+fn report_sparse<F: Counted>(
     rt: &(impl Print + Clock),
     alloc: Global,
     timed: bool,
@@ -298,7 +294,7 @@ fn report_sparse<F: FftField + Number>(
 }
 
 // A dividend of twice the divisor's length, through transforms.
-fn report_division<F: FftField + Number>(
+fn report_division<F: Counted>(
     rt: &(impl Print + Clock),
     alloc: Global,
     timed: bool,
@@ -309,7 +305,7 @@ fn report_division<F: FftField + Number>(
 }
 
 // Such a division without transforms.
-fn report_by_passes<F: FftField + Number>(
+fn report_by_passes<F: Counted>(
     rt: &(impl Print + Clock),
     alloc: Global,
     timed: bool,
@@ -325,7 +321,7 @@ fn report_by_passes<F: FftField + Number>(
 }
 
 // By a sparse divisor, of a degree between 9 * 1,024 and 10 * 1,024.
-fn report_by_terms<F: FftField + Number>(
+fn report_by_terms<F: Counted>(
     rt: &(impl Print + Clock),
     alloc: Global,
     timed: bool,

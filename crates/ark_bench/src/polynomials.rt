@@ -1,6 +1,6 @@
 //! Dense and sparse polynomials, and values over a domain.
 
-use crate::batches::{Benchmark, Number, mixed};
+use crate::batches::{Benchmark, Counted, Number, mixed};
 use ark_base::{FftField, Field, PolyError};
 use ark_poly::univariate::{DenseOrSparsePolynomial, DensePolynomial, SparsePolynomial};
 use ark_poly::{DenseUVPolynomial, EvaluationDomain, Evaluations, Polynomial};
@@ -13,7 +13,7 @@ pub struct Value<F: FftField> {
     pub point: F,
 }
 
-impl<F: FftField + Number> Benchmark for Value<F> {
+impl<F: Counted> Benchmark for Value<F> {
     fn call(&mut self, alloc: Global) -> Result<(), PolyError> {
         self.point = self.polynomial.evaluate(alloc, &self.point)?;
         Ok(())
@@ -44,7 +44,7 @@ pub struct OfTwo<F: FftField> {
     pub answer: DensePolynomial<F>,
 }
 
-impl<F: FftField + Number> Benchmark for OfTwo<F> {
+impl<F: Counted> Benchmark for OfTwo<F> {
     fn call(&mut self, alloc: Global) -> Result<(), PolyError> {
         match self.way {
             Way::Naive => self.answer = self.left.naive_mul(alloc, &self.right)?,
@@ -115,7 +115,7 @@ pub struct Interpolation<F: FftField, D: EvaluationDomain<F>> {
     pub polynomial: DensePolynomial<F>,
 }
 
-impl<F: FftField + Number, D: EvaluationDomain<F>> Benchmark for Interpolation<F, D> {
+impl<F: Counted, D: EvaluationDomain<F>> Benchmark for Interpolation<F, D> {
     fn call(&mut self, alloc: Global) -> Result<(), PolyError> {
         self.polynomial = self.values.interpolate_by_ref(alloc)?;
         Ok(())
@@ -133,7 +133,7 @@ pub struct Quotients<F: FftField, D: EvaluationDomain<F>> {
     pub divisors: Evaluations<F, D>,
 }
 
-impl<F: FftField + Number, D: EvaluationDomain<F>> Benchmark for Quotients<F, D> {
+impl<F: Counted, D: EvaluationDomain<F>> Benchmark for Quotients<F, D> {
     fn call(&mut self, alloc: Global) -> Result<(), PolyError> {
         // Never so, and quick to see: values over two domains have no quotients.
         if self.quotients.domain() != self.divisors.domain() {

@@ -1,6 +1,6 @@
 //! Calls of domains.
 
-use crate::batches::{Benchmark, Number, mixed};
+use crate::batches::{Benchmark, Counted, mixed};
 use ark_base::{FftField, PolyError};
 use ark_poly::EvaluationDomain;
 use std::alloc::Global;
@@ -31,7 +31,7 @@ pub struct OverDomain<F: FftField, D: EvaluationDomain<F>> {
     pub values: Vec<F>,
 }
 
-impl<F: FftField + Number, D: EvaluationDomain<F>> Benchmark for OverDomain<F, D> {
+impl<F: Counted, D: EvaluationDomain<F>> Benchmark for OverDomain<F, D> {
     fn call(&mut self, alloc: Global) -> Result<(), PolyError> {
         match self.call {
             Call::Forward => self.domain.fft_in_place(alloc, &mut self.values)?,

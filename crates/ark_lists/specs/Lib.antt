@@ -1,3 +1,4 @@
 -- Words of the lists behind polynomials of several variables.
+pub mod Entries
 pub mod Graded
 pub mod Held

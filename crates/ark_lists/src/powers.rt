@@ -54,6 +54,13 @@ pub fn is_term(pairs: &[(usize, usize)]) -> bool
     is_rising(pairs) && has_no_zero(pairs) && total_fits(pairs)
 }
 
+/// Whether all variables are below this number.
+pub fn is_within(pairs: &[(usize, usize)], num_vars: usize) -> bool
+    ensures { IsTrue result ↔ IsWithin num_vars pairs.now }
+{
+    pairs.iter().all(|pair| pair.0 < num_vars)
+}
+
 /// Adds the power of a variable above the others, unless it's 0.
 fn push_power(
     powers: &mut Vec<(usize, usize)>,

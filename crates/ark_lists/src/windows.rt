@@ -1,17 +1,18 @@
 //! Tables by their entries, which are pairs of index and value: what is left when the first variables are bound, a few
 //! at a time.
 
-ghost use Rattle.std.specs.Prelude.{◌≡◌, ◌⊎◌, ℕ, ◌+◌, ◌*◌, ◌<◌, ◌≤◌, ◌^◌, List, length, map};
-ghost use Rattle.std.specs.Prelude.{All, IfOk, OnOk, IsOkUnless};
+ghost use Rattle.std.specs.Prelude.{◌≡◌, ◌⊎◌, ◌↔◌, ℕ, ◌+◌, ◌*◌, ◌<◌, ◌≤◌, ◌^◌, List, length, map};
+ghost use Rattle.std.specs.Prelude.{All, IfOk, OnOk, IsOkUnless, IsTrue};
 ghost use Rattle.ark_math.specs.Field.{minus};
 ghost use Rattle.ark_math.specs.Multilinear.{AreWindows, exchanged, extension, fixed, weight, written};
 ghost use Rattle.ark_math.specs.Univariate.{IsSparse, of_list, of_pairs, added, monomial};
 ghost use Rattle.ark_math.proofs.Polynomials.Exchanged.{exchanged_index};
+ghost use Rattle.ark_lists.specs.Entries.{AreEntries};
 ghost use Rattle.ark_lists.specs.Held.{held};
 
 use crate::tables::exchanged_bits;
 use ark_coeffs::dense::zeros;
-use ark_coeffs::sparse::gathered_terms;
+use ark_coeffs::sparse::{gathered_terms, is_sparse};
 use ark_traits::{Field, PolyError, log2};
 use std::alloc::Global;
 use std::collections::HashMap;
@@ -229,4 +230,18 @@ pub fn values_of_entries<F: Field>(
         values[entry.0] = entry.1;
     }
     Ok(values)
+}
+
+/// Whether all indices are below the length of a table.
+fn are_below<F>(entries: &[(usize, F)], len: usize) -> bool
+    ensures { IsTrue result ↔ All (λ e. e.0 < len) entries.now }
+{
+    entries.iter().all(|entry| entry.0 < len)
+}
+
+/// Whether these are the entries of a table, its number of variables, and zero.
+pub fn are_entries<F: Field>(entries: &[(usize, F)], num_vars: usize, zero: F) -> bool
+    ensures { IsTrue result ↔ AreEntries F.field (entries.now, (num_vars, zero)) }
+{
+    num_vars < 64 && zero.is_zero() && is_sparse(entries) && are_below(entries, 1 << num_vars)
 }

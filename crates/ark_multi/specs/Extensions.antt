@@ -1,9 +1,9 @@
 -- Multilinear extensions as contracts see them: by their tables.
-use Rattle.std.specs.Prelude.{◌≡◌, ℕ, ◌^◌, ◌<◌, List, All, map}
+use Rattle.std.specs.Prelude.{ℕ, ◌^◌, List, map}
 use Rattle.ark_math.specs.Field.{FieldOn}
 use Rattle.ark_math.specs.Module.{tabulate}
 use Rattle.ark_math.specs.Multilinear.{Table}
-use Rattle.ark_math.specs.Univariate.{IsSparse, of_list, of_pairs}
+use Rattle.ark_math.specs.Univariate.{of_list, of_pairs}
 use Rattle.ark_multi.specs.declared.multilinear.dense.DenseMultilinearExtension.{DenseMultilinearExtension}
 use Rattle.ark_multi.specs.declared.multilinear.sparse.SparseMultilinearExtension.{SparseMultilinearExtension}
 
@@ -15,13 +15,6 @@ dense_table K p = record { variables = p.num_vars; value = of_list K p.evaluatio
 -- unnamed arguments, is no part of it
 abbrev pub sparse_table : {F : Type 0} {a b c d e f g h i j k l m n o p q r : _} → FieldOn F → SparseMultilinearExtension F a b c d e f g h i j k l m n o p q r → Table F
 sparse_table K s = record { variables = s.num_vars; value = of_pairs K s.evaluations.items }
-
--- entries, a number of variables and a value as a sparse extension has them
-pub record AreEntries {F : Type 0} (K : FieldOn F) (p : List (ℕ × F) × (ℕ × F)) : Type 0 where
-  pub sparse : IsSparse K p.0
-  pub within : All (λ e. e.0 < 2 ^ p.1.0) p.0
-  pub few : p.1.0 < 64
-  pub nothing : p.1.1 ≡ K.zero
 
 -- the values of a table at all its corners, in order
 abbrev pub values_of : {F : Type 0} → Table F → List F

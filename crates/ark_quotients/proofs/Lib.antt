@@ -2,4 +2,3 @@
 pub mod Backwards
 pub mod Divisors
 pub mod PowerSeries
-pub mod Pushed

@@ -9,8 +9,8 @@ use ark_base::{
 use ark_poly::multivariate::{self, SparseTerm};
 use ark_poly::univariate::{DensePolynomial, SparsePolynomial};
 use ark_poly::{
-    DenseMultilinearExtension, Evaluations, GeneralEvaluationDomain, MixedRadixEvaluationDomain,
-    Radix2EvaluationDomain, SparseMultilinearExtension,
+    DenseMultilinearExtension, EvaluationDomain, Evaluations, GeneralEvaluationDomain,
+    MixedRadixEvaluationDomain, Radix2EvaluationDomain, SparseMultilinearExtension,
 };
 use row_words::hex::{bytes_of, text_of};
 use row_words::rows::Answer;
@@ -196,19 +196,35 @@ fn of_domains<F: FftField, R: Print>(
 ) -> Result<Ended, PolyError> {
     match kind {
         "bytes radix2" => {
-            attempt::<OfBytes<Radix2EvaluationDomain<F>>, R>(alloc, watched, name, given)
+            of_domain::<F, Radix2EvaluationDomain<F>, R>(alloc, watched, name, given)
         }
         "bytes mixed" => {
-            attempt::<OfBytes<MixedRadixEvaluationDomain<F>>, R>(alloc, watched, name, given)
+            of_domain::<F, MixedRadixEvaluationDomain<F>, R>(alloc, watched, name, given)
         }
         "bytes general" => {
-            attempt::<OfBytes<GeneralEvaluationDomain<F>>, R>(alloc, watched, name, given)
+            of_domain::<F, GeneralEvaluationDomain<F>, R>(alloc, watched, name, given)
         }
         "bytes values" => {
-            attempt::<OfBytes<Evaluations<F, GeneralEvaluationDomain<F>>>, R>(
-                alloc, watched, name, given,
-            )
+            of_values::<F, GeneralEvaluationDomain<F>, R>(alloc, watched, name, given)
         }
         _ => Ended::none(alloc),
     }
+}
+
+fn of_domain<F: FftField, D: EvaluationDomain<F>, R: Print>(
+    alloc: Global,
+    watched: Option<&R>,
+    name: &str,
+    given: &[String],
+) -> Result<Ended, PolyError> {
+    attempt::<OfBytes<D>, R>(alloc, watched, name, given)
+}
+
+fn of_values<F: FftField, D: EvaluationDomain<F>, R: Print>(
+    alloc: Global,
+    watched: Option<&R>,
+    name: &str,
+    given: &[String],
+) -> Result<Ended, PolyError> {
+    attempt::<OfBytes<Evaluations<F, D>>, R>(alloc, watched, name, given)
 }

@@ -1,17 +1,14 @@
-//! Calls of domains.
+//! Calls of domains that change a list, that take no memory, or that no row makes.
 
 use crate::given::{domain_named, element_named, named, size_named};
 use crate::swept::Call;
 use ark_base::{FftField, Lanes, PolyError, Work};
-use ark_poly::univariate::{DensePolynomial, SparsePolynomial};
-use ark_poly::{DenseUVPolynomial, EvaluationDomain};
+use ark_poly::EvaluationDomain;
 use ark_test_types::nothing::Nothing;
 use ark_test_types::numbered::Numbered;
 use rand_pcg::Pcg64;
 use row_words::rows::Answer;
-use row_words::words::{
-    elements, no_fit, no_row, text_of, text_of_flags, text_of_numbers, text_of_terms, told,
-};
+use row_words::words::{elements, no_fit, no_row, text_of, text_of_flags, text_of_numbers, told};
 use std::alloc::{AllocError, Global};
 use std::mem::ManuallyDrop;
 
@@ -39,8 +36,6 @@ pub enum Answered<F: FftField, D> {
     Pairs(Vec<Lanes<F>>),
     List,
     PairList,
-    Dense(DensePolynomial<F>),
-    Sparse(SparsePolynomial<F>),
     Domain(Option<D>),
     Element(Option<F>),
     Number(usize),
@@ -69,18 +64,7 @@ impl<F: Numbered, D: EvaluationDomain<F>> Call for OverDomain<F, D> {
 
     fn call(&mut self, alloc: Global, name: &str) -> Result<Answered<F, D>, PolyError> {
         match name {
-            "fft" => elements_of(self.domain.fft(alloc, &self.list)),
-            "ifft" => elements_of(self.domain.ifft(alloc, &self.list)),
-            "fft_of_pairs" => pairs_answer(self.domain.fft(alloc, &self.pairs)),
             "ifft_of_pairs" => pairs_answer(self.domain.ifft(alloc, &self.pairs)),
-            "evaluate_all_lagrange_coefficients" => {
-                elements_of(
-                    self.domain
-                        .evaluate_all_lagrange_coefficients(alloc, self.point),
-                )
-            }
-            "vanishing_polynomial" => sparse_of(self.domain.vanishing_polynomial(alloc)),
-            "filter_polynomial" => dense_of(self.domain.filter_polynomial(alloc, &self.part)),
             "mul_polynomials_in_evaluation_domain" => self.products(alloc),
             "fft_of_nothings" => self.of_nothings(alloc),
             "fft_of_listed_nothings" => self.of_listed_nothings(alloc),
@@ -102,8 +86,6 @@ impl<F: Numbered, D: EvaluationDomain<F>> Call for OverDomain<F, D> {
             Answered::Pairs(pairs) => text_of_pairs(alloc, pairs),
             Answered::List => text_of(alloc, &self.list),
             Answered::PairList => text_of_pairs(alloc, &self.pairs),
-            Answered::Dense(p) => text_of(alloc, p.coeffs()),
-            Answered::Sparse(p) => text_of_terms(alloc, p.coeffs()),
             Answered::Domain(domain) => text_of_domain(alloc, *domain),
             Answered::Element(element) => text_of_option(alloc, *element),
             Answered::Number(number) => text_of_numbers(alloc, &[*number as u64]),
@@ -240,18 +222,6 @@ fn pairs_answer<F: FftField, D>(
     made: Result<Vec<Lanes<F>>, PolyError>,
 ) -> Result<Answered<F, D>, PolyError> {
     Ok(Answered::Pairs(made?))
-}
-
-fn sparse_of<F: FftField, D>(
-    made: Result<SparsePolynomial<F>, PolyError>,
-) -> Result<Answered<F, D>, PolyError> {
-    Ok(Answered::Sparse(made?))
-}
-
-fn dense_of<F: FftField, D>(
-    made: Result<DensePolynomial<F>, PolyError>,
-) -> Result<Answered<F, D>, PolyError> {
-    Ok(Answered::Dense(made?))
 }
 
 fn list_changed<F: FftField, D>(done: Result<(), PolyError>) -> Result<Answered<F, D>, PolyError> {

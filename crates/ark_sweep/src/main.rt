@@ -132,7 +132,9 @@ fn over_general<F: Numbered, R: Print>(
         "general" => {
             attempt::<OverDomain<F, GeneralEvaluationDomain<F>>, R>(alloc, watched, name, given)
         }
-        "one_variable" => attempt::<OfOne<F>, R>(alloc, watched, name, given),
+        "one_variable" => {
+            attempt::<OfOne<F, GeneralEvaluationDomain<F>>, R>(alloc, watched, name, given)
+        }
         _ => Ended::none(alloc),
     }
 }

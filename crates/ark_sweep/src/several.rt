@@ -1,7 +1,8 @@
-//! Calls of terms, of polynomials in several variables and of multilinear extensions.
+//! Calls of terms, of polynomials in several variables and of multilinear extensions that change what they are given, or
+//! that no row makes.
 
 use crate::given::{element_named, named, pairs_of, size_named};
-use crate::kinds::{Kind, coefficients_of, push_term};
+use crate::kinds::{Kind, push_term};
 use crate::swept::Call;
 use ark_base::{Field, PolyError};
 use ark_poly::multivariate::{SparsePolynomial, SparseTerm, Term};
@@ -11,23 +12,15 @@ use ark_poly::{
 use ark_test_types::numbered::Numbered;
 use rand_pcg::Pcg64;
 use row_words::rows::Answer;
-use row_words::words::{
-    elements, no_fit, no_row, one, table_of, text_of, text_of_flags, text_of_numbers, told,
-};
-use std::alloc::{AllocError, Global};
+use row_words::words::{elements, no_fit, no_row, one, text_of_flags};
+use std::alloc::Global;
 
-/// Powers, once for each time that they are passed by value, a term, terms with coefficients, a table in both forms, tables
-/// that may be joined, values, entries, a point, a factor, a number of variables, and the windows of variables.
+/// A term, a table, values, a point, a factor, a number of variables, and the windows of variables.
 #[derive(Drop)]
 pub struct OfSeveral<F: Field> {
-    powers: Vec<Vec<(usize, usize)>>,
     term: SparseTerm,
-    terms: Vec<(F, SparseTerm)>,
     dense: DenseMultilinearExtension<F>,
-    parts: Vec<DenseMultilinearExtension<F>>,
-    sparse: SparseMultilinearExtension<F>,
     values: Vec<F>,
-    entries: Vec<(usize, F)>,
     point: Vec<F>,
     factor: F,
     number: usize,
@@ -38,47 +31,22 @@ pub struct OfSeveral<F: Field> {
 #[derive(Drop)]
 pub enum Answered<F: Field> {
     Term(SparseTerm),
-    Numbers(Vec<usize>),
-    Polynomial(SparsePolynomial<F, SparseTerm>),
     Dense(DenseMultilinearExtension<F>),
     DenseInPlace,
-    Sparse(SparseMultilinearExtension<F>),
-    Elements(Vec<F>),
     Value(F),
     Flag(bool),
     NoFit,
     NoCall,
 }
 
-/// Powers twice, a term, and terms with coefficients.
-fn terms_named<F: Numbered>(
+/// A term and a table.
+fn forms_named<F: Numbered>(
     alloc: Global,
     words: &[String],
-) -> Result<(Vec<Vec<(usize, usize)>>, SparseTerm, Vec<(F, SparseTerm)>), PolyError> {
-    let powers = twice(alloc, named(words, "powers"))?;
+) -> Result<(SparseTerm, DenseMultilinearExtension<F>), PolyError> {
     let term = SparseTerm::new(alloc, pairs_of(alloc, named(words, "term"))?)?;
-    let terms = coefficients_of(alloc, named(words, "terms"))?;
-    Ok((powers, term, terms))
-}
-
-/// One table in both forms.
-fn tables_named<F: Numbered>(
-    alloc: Global,
-    words: &[String],
-) -> Result<(DenseMultilinearExtension<F>, SparseMultilinearExtension<F>), PolyError> {
     let dense = Kind::of(alloc, named(words, "table"))?;
-    let sparse = Kind::of(alloc, named(words, "table"))?;
-    Ok((dense, sparse))
-}
-
-/// Tables that may be joined, and entries.
-fn parts_named<F: Numbered>(
-    alloc: Global,
-    words: &[String],
-) -> Result<(Vec<DenseMultilinearExtension<F>>, Vec<(usize, F)>), PolyError> {
-    let parts = parts_of(alloc, named(words, "parts"))?;
-    let (_, entries) = table_of(alloc, named(words, "entries"))?;
-    Ok((parts, entries))
+    Ok((term, dense))
 }
 
 /// Values, and a point.
@@ -95,19 +63,12 @@ impl<F: Numbered> Call for OfSeveral<F> {
     type Answered = Answered<F>;
 
     fn given(alloc: Global, words: &[String]) -> Result<Self, PolyError> {
-        let (powers, term, terms) = terms_named(alloc, words)?;
-        let (dense, sparse) = tables_named(alloc, words)?;
-        let (parts, entries) = parts_named(alloc, words)?;
+        let (term, dense) = forms_named(alloc, words)?;
         let (values, point) = lists_named(alloc, words)?;
         Ok(OfSeveral {
-            powers,
             term,
-            terms,
             dense,
-            parts,
-            sparse,
             values,
-            entries,
             point,
             factor: element_named(words, "factor"),
             number: size_named(words, "number"),
@@ -121,8 +82,8 @@ impl<F: Numbered> Call for OfSeveral<F> {
 
     fn call(&mut self, alloc: Global, name: &str) -> Result<Answered<F>, PolyError> {
         match name.split_once(' ') {
-            Some(("term", name)) => self.of_terms(alloc, name),
-            Some(("multivariate", name)) => self.of_polynomials(alloc, name),
+            Some(("term", name)) => self.of_terms(name),
+            Some(("multivariate", _)) => drawn_polynomial(alloc, self.number),
             Some(("dense_extension", name)) => self.of_dense(alloc, name),
             Some(("sparse_extension", name)) => self.of_sparse(alloc, name),
             _ => Ok(Answered::NoCall),
@@ -131,24 +92,16 @@ impl<F: Numbered> Call for OfSeveral<F> {
 
     fn is_same(&self, other: &Self) -> bool {
         self.term == other.term
-            && self.terms == other.terms
             && self.dense == other.dense
-            && self.parts == other.parts
-            && self.sparse == other.sparse
             && self.values == other.values
-            && self.entries == other.entries
             && self.point == other.point
     }
 
     fn text(&self, alloc: Global, answered: &Answered<F>) -> Answer {
         match answered {
             Answered::Term(term) => text_of_term(alloc, term),
-            Answered::Numbers(numbers) => text_of_sizes(alloc, numbers),
-            Answered::Polynomial(p) => p.text(alloc),
             Answered::Dense(p) => p.text(alloc),
             Answered::DenseInPlace => self.dense.text(alloc),
-            Answered::Sparse(p) => p.text(alloc),
-            Answered::Elements(elements) => text_of(alloc, elements),
             Answered::Value(value) => one(alloc, *value),
             Answered::Flag(flag) => text_of_flags(alloc, &[*flag]),
             Answered::NoFit => no_fit(alloc),
@@ -159,15 +112,9 @@ impl<F: Numbered> Call for OfSeveral<F> {
 
 impl<F: Numbered> OfSeveral<F> {
     /// Makes a call of terms.
-    fn of_terms(&mut self, alloc: Global, name: &str) -> Result<Answered<F>, PolyError> {
+    fn of_terms(&self, name: &str) -> Result<Answered<F>, PolyError> {
         match name {
-            "new" => match self.powers.pop() {
-                Some(powers) => term_of(SparseTerm::new(alloc, powers)),
-                None => Ok(Answered::NoCall),
-            },
             "clone" => term_of(copied(&self.term)),
-            "vars" => numbers_of(self.term.vars(alloc)),
-            "powers" => numbers_of(self.term.powers(alloc)),
             "evaluate" if self.term.is_within(self.point.len()) => {
                 Ok(Answered::Value(self.term.evaluate(&self.point)))
             }
@@ -175,46 +122,12 @@ impl<F: Numbered> OfSeveral<F> {
         }
     }
 
-    /// Makes a call of polynomials in several variables.
-    fn of_polynomials(&self, alloc: Global, name: &str) -> Result<Answered<F>, PolyError> {
-        let num_vars = self.number;
-        if name == "rand" {
-            return drawn_polynomial(alloc, num_vars);
-        }
-        if !self.terms.iter().all(|term| term.1.is_within(num_vars)) {
-            return Ok(Answered::NoFit);
-        }
-        if name == "from_coefficients_slice" {
-            return polynomial_of(SparsePolynomial::from_coefficients_slice(
-                alloc,
-                num_vars,
-                &self.terms,
-            ));
-        }
-        self.of_owned_terms(alloc, name)
-    }
-
-    /// Makes the call that is given its own terms.
-    fn of_owned_terms(&self, alloc: Global, name: &str) -> Result<Answered<F>, PolyError> {
-        let num_vars = self.number;
-        let terms = self.terms.clone()?;
-        if name != "from_coefficients_vec" || !terms.iter().all(|term| term.1.is_within(num_vars)) {
-            return Ok(Answered::NoCall);
-        }
-        polynomial_of(SparsePolynomial::from_coefficients_vec(alloc, num_vars, terms))
-    }
-
     /// Makes a call of tables by all values.
     fn of_dense(&mut self, alloc: Global, name: &str) -> Result<Answered<F>, PolyError> {
         match name {
-            "concat" => dense_of(DenseMultilinearExtension::concat(alloc, &self.parts)),
-            "mul_scalar" => dense_of(self.dense.mul_scalar(alloc, self.factor)),
             "mul_assign" => in_place(self.dense.mul_assign(alloc, self.factor)),
             "from_evaluations_slice" => self.from_values(alloc),
-            "relabel" => dense_or_no_fit(relabelled(alloc, &self.dense, self.windows)),
             "relabel_in_place" => Ok(self.relabelled_in_place()),
-            "fix_variables" => dense_or_no_fit(fixed(alloc, &self.dense, &self.point)),
-            "to_evaluations" => elements_of(self.dense.to_evaluations(alloc)),
             _ => flag_of(is_drawn::<F, DenseMultilinearExtension<F>>(alloc, self.number)),
         }
     }
@@ -236,33 +149,12 @@ impl<F: Numbered> OfSeveral<F> {
         Answered::DenseInPlace
     }
 
-    /// Makes a call of tables by their entries.
+    /// Draws a table by its entries.
     fn of_sparse(&self, alloc: Global, name: &str) -> Result<Answered<F>, PolyError> {
         match name {
-            "to_dense_multilinear_extension" => {
-                dense_of(self.sparse.to_dense_multilinear_extension(alloc))
-            }
-            "relabel" => sparse_or_no_fit(relabelled(alloc, &self.sparse, self.windows)),
-            "fix_variables" => sparse_or_no_fit(fixed(alloc, &self.sparse, &self.point)),
-            "to_evaluations" => elements_of(self.sparse.to_evaluations(alloc)),
             "rand" => flag_of(is_drawn::<F, SparseMultilinearExtension<F>>(alloc, self.number)),
-            _ => self.from_entries(alloc, name),
+            _ => drawn_with_entries(alloc, self.number),
         }
-    }
-
-    fn from_entries(&self, alloc: Global, name: &str) -> Result<Answered<F>, PolyError> {
-        let num_vars = self.number;
-        if num_vars >= 64 {
-            return Ok(Answered::NoFit);
-        }
-        if name == "rand_with_config" {
-            return drawn_with_entries::<F>(alloc, num_vars);
-        }
-        let len = 1 << num_vars;
-        if !self.entries.iter().all(|entry| entry.0 < len) {
-            return Ok(Answered::NoFit);
-        }
-        sparse_of(SparseMultilinearExtension::from_evaluations(alloc, num_vars, &self.entries))
     }
 }
 
@@ -276,35 +168,10 @@ fn copied(term: &SparseTerm) -> Result<SparseTerm, PolyError> {
     Ok(term.clone()?)
 }
 
-fn numbers_of<F: Field, E: Into<PolyError>>(
-    made: Result<Vec<usize>, E>,
-) -> Result<Answered<F>, PolyError> {
-    match made {
-        Ok(numbers) => Ok(Answered::Numbers(numbers)),
-        Err(error) => Err(error.into()),
-    }
-}
-
-fn polynomial_of<F: Field>(
-    made: Result<SparsePolynomial<F, SparseTerm>, PolyError>,
-) -> Result<Answered<F>, PolyError> {
-    Ok(Answered::Polynomial(made?))
-}
-
 fn dense_of<F: Field>(
     made: Result<DenseMultilinearExtension<F>, PolyError>,
 ) -> Result<Answered<F>, PolyError> {
     Ok(Answered::Dense(made?))
-}
-
-fn sparse_of<F: Field>(
-    made: Result<SparseMultilinearExtension<F>, PolyError>,
-) -> Result<Answered<F>, PolyError> {
-    Ok(Answered::Sparse(made?))
-}
-
-fn elements_of<F: Field>(made: Result<Vec<F>, PolyError>) -> Result<Answered<F>, PolyError> {
-    Ok(Answered::Elements(made?))
 }
 
 fn flag_of<F: Field>(found: Result<bool, PolyError>) -> Result<Answered<F>, PolyError> {
@@ -340,71 +207,6 @@ fn drawn_with_entries<F: Field>(alloc: Global, num_vars: usize) -> Result<Answer
     Ok(Answered::Flag(drawn.is_some()))
 }
 
-/// The powers that the word spells, two times.
-fn twice(alloc: Global, word: &str) -> Result<Vec<Vec<(usize, usize)>>, AllocError> {
-    let mut both = Vec::new(alloc);
-    for _ in 0..2 {
-        both.push(pairs_of(alloc, word)?)?;
-    }
-    Ok(both)
-}
-
-fn dense_or_no_fit<F: Field>(
-    made: Result<Option<DenseMultilinearExtension<F>>, PolyError>,
-) -> Result<Answered<F>, PolyError> {
-    match made? {
-        Some(p) => Ok(Answered::Dense(p)),
-        None => Ok(Answered::NoFit),
-    }
-}
-
-fn sparse_or_no_fit<F: Field>(
-    made: Result<Option<SparseMultilinearExtension<F>>, PolyError>,
-) -> Result<Answered<F>, PolyError> {
-    match made? {
-        Some(p) => Ok(Answered::Sparse(p)),
-        None => Ok(Answered::NoFit),
-    }
-}
-
-/// The tables between bars.
-fn parts_of<F: Numbered>(
-    alloc: Global,
-    word: &str,
-) -> Result<Vec<DenseMultilinearExtension<F>>, PolyError> {
-    let mut parts = Vec::new(alloc);
-    if !word.is_empty() {
-        for piece in word.split('|') {
-            parts.push(Kind::of(alloc, piece)?)?;
-        }
-    }
-    Ok(parts)
-}
-
-/// The extension with windows of variables exchanged, where they fit.
-fn relabelled<F: Field, E: MultilinearExtension<F>>(
-    alloc: Global,
-    p: &E,
-    (a, b, k): (usize, usize, usize),
-) -> Result<Option<E>, PolyError> {
-    if !p.relabel_fits(a, b, k) {
-        return Ok(None);
-    }
-    Ok(Some(p.relabel(alloc, a, b, k)?))
-}
-
-/// What is left when the first variables are bound, where there are so many.
-fn fixed<F: Field, E: MultilinearExtension<F>>(
-    alloc: Global,
-    p: &E,
-    point: &[F],
-) -> Result<Option<E>, PolyError> {
-    if point.len() > p.num_vars() {
-        return Ok(None);
-    }
-    Ok(Some(p.fix_variables(alloc, point)?))
-}
-
 /// Whether one of so many variables is drawn.
 fn is_drawn<F: Field, E: MultilinearExtension<F>>(
     alloc: Global,
@@ -422,12 +224,4 @@ fn text_of_term(alloc: Global, term: &SparseTerm) -> Answer {
     let mut text = String::new(alloc);
     push_term(&mut text, term)?;
     Ok(text)
-}
-
-fn text_of_sizes(alloc: Global, sizes: &[usize]) -> Answer {
-    let mut numbers = Vec::new(alloc);
-    for size in sizes {
-        numbers.push(*size as u64)?;
-    }
-    text_of_numbers(alloc, &numbers)
 }

@@ -16,13 +16,14 @@ use ark_multi::{DenseMultilinearExtension, SparseMultilinearExtension};
 use ark_test_types::numbered::Numbered;
 use ark_univariate::univariate::{DensePolynomial, SparsePolynomial};
 use ark_univariate::{
-    Evaluations, GeneralEvaluationDomain, MixedRadixEvaluationDomain, Radix2EvaluationDomain,
+    EvaluationDomain, Evaluations, GeneralEvaluationDomain, MixedRadixEvaluationDomain,
+    Radix2EvaluationDomain,
 };
 use row_words::hex::bytes_of;
-use row_words::rows::{Answer, FieldRows, Rows, over_field, write_answers};
+use row_words::rows::{Answer, FieldRows, Rows, answer_lines, over_field};
 use row_words::words::no_row;
 use std::alloc::Global;
-use std::io;
+use std::process::ExitCode;
 
 struct ByteRows;
 
@@ -59,19 +60,31 @@ fn of_polynomials<F: FftField>(alloc: Global, kind: &str, modes: &str, bytes: &[
 
 fn of_domains<F: FftField>(alloc: Global, kind: &str, modes: &str, bytes: &[u8]) -> Answer {
     match kind {
-        "radix2" => answer_of::<Radix2EvaluationDomain<F>>(alloc, bytes, modes),
-        "mixed" => answer_of::<MixedRadixEvaluationDomain<F>>(alloc, bytes, modes),
-        "general" => answer_of::<GeneralEvaluationDomain<F>>(alloc, bytes, modes),
-        "evaluations" => {
-            answer_of::<Evaluations<F, Radix2EvaluationDomain<F>>>(alloc, bytes, modes)
-        }
-        "general_evaluations" => {
-            answer_of::<Evaluations<F, GeneralEvaluationDomain<F>>>(alloc, bytes, modes)
-        }
+        "radix2" => of_domain::<F, Radix2EvaluationDomain<F>>(alloc, modes, bytes),
+        "mixed" => of_domain::<F, MixedRadixEvaluationDomain<F>>(alloc, modes, bytes),
+        "general" => of_domain::<F, GeneralEvaluationDomain<F>>(alloc, modes, bytes),
+        "evaluations" => of_values::<F, Radix2EvaluationDomain<F>>(alloc, modes, bytes),
+        "general_evaluations" => of_values::<F, GeneralEvaluationDomain<F>>(alloc, modes, bytes),
         _ => no_row(alloc),
     }
 }
 
-fn main(rt: HostRuntime) -> io::Result<()> {
-    write_answers::<ByteRows, HostRuntime>(&rt)
+fn of_domain<F: FftField, D: EvaluationDomain<F>>(
+    alloc: Global,
+    modes: &str,
+    bytes: &[u8],
+) -> Answer {
+    answer_of::<D>(alloc, bytes, modes)
+}
+
+fn of_values<F: FftField, D: EvaluationDomain<F>>(
+    alloc: Global,
+    modes: &str,
+    bytes: &[u8],
+) -> Answer {
+    answer_of::<Evaluations<F, D>>(alloc, bytes, modes)
+}
+
+fn main(rt: HostRuntime) -> ExitCode {
+    answer_lines::<ByteRows, HostRuntime>(&rt)
 }

@@ -9,9 +9,9 @@ mod drawn;
 mod pairs;
 
 use ark_test_types::numbered::Numbered;
-use row_words::rows::{Answer, FieldRows, Rows, over_field, write_answers};
+use row_words::rows::{Answer, FieldRows, Rows, answer_lines, over_field};
 use std::alloc::Global;
-use std::io;
+use std::process::ExitCode;
 
 struct CodeRows;
 
@@ -27,6 +27,6 @@ impl FieldRows for CodeRows {
     }
 }
 
-fn main(rt: HostRuntime) -> io::Result<()> {
-    write_answers::<CodeRows, HostRuntime>(&rt)
+fn main(rt: HostRuntime) -> ExitCode {
+    answer_lines::<CodeRows, HostRuntime>(&rt)
 }

@@ -3,11 +3,11 @@
 
 use ark_base::IoSink;
 use polyrun_lib::{check, run};
-use row_words::rows::{Answer, Rows, write_answers};
+use row_words::rows::{Answer, Rows, answer_lines};
 use row_words::stopping::StopWriter;
 use row_words::words::{number, told, words_of};
 use std::alloc::{AllocError, Global};
-use std::io;
+use std::process::ExitCode;
 
 /// After how many bytes at most a writer fails.
 const MOST: usize = 200;
@@ -85,6 +85,6 @@ fn written(alloc: Global, bytes: &[u8], status: u8) -> Answer {
     Ok(format!(in alloc; "{text} ({status})")?)
 }
 
-fn main(rt: HostRuntime) -> io::Result<()> {
-    write_answers::<CommandRows, HostRuntime>(&rt)
+fn main(rt: HostRuntime) -> ExitCode {
+    answer_lines::<CommandRows, HostRuntime>(&rt)
 }

@@ -7,10 +7,10 @@ mod extensions;
 mod univariate;
 
 use ark_test_types::numbered::Numbered;
-use row_words::rows::{Answer, FieldRows, Rows, over_field, write_answers};
+use row_words::rows::{Answer, FieldRows, Rows, answer_lines, over_field};
 use row_words::words::no_row;
 use std::alloc::Global;
-use std::io;
+use std::process::ExitCode;
 
 struct LawRows;
 
@@ -35,6 +35,6 @@ impl FieldRows for LawRows {
     }
 }
 
-fn main(rt: HostRuntime) -> io::Result<()> {
-    write_answers::<LawRows, HostRuntime>(&rt)
+fn main(rt: HostRuntime) -> ExitCode {
+    answer_lines::<LawRows, HostRuntime>(&rt)
 }

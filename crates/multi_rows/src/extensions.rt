@@ -123,11 +123,19 @@ pub fn answer_by_entries<F: Numbered>(alloc: Global, words: &[String]) -> Answer
         return no_row(alloc);
     };
     let p: SparseMultilinearExtension<F> = ByEntries.of(alloc, table.as_str())?;
-    let name = name.as_str();
+    answer_about_entries(alloc, name.as_str(), &p, arguments)
+}
+
+fn answer_about_entries<F: Numbered>(
+    alloc: Global,
+    name: &str,
+    p: &SparseMultilinearExtension<F>,
+    arguments: &[String],
+) -> Answer {
     match arguments {
         [] if name == "to_dense" => { shown(alloc, p.to_dense_multilinear_extension(alloc)) }
         [index] if name == "at" => one(alloc, p[size(index.as_str())]),
-        _ => answer(alloc, &ByEntries, name, &p, arguments),
+        _ => answer(alloc, &ByEntries, name, p, arguments),
     }
 }
 

@@ -9,10 +9,10 @@ mod tables;
 mod terms;
 
 use ark_test_types::numbered::Numbered;
-use row_words::rows::{Answer, FieldRows, Rows, over_field, write_answers};
+use row_words::rows::{Answer, FieldRows, Rows, answer_lines, over_field};
 use row_words::words::no_row;
 use std::alloc::Global;
-use std::io;
+use std::process::ExitCode;
 
 struct MultiRows;
 
@@ -37,6 +37,6 @@ impl FieldRows for MultiRows {
     }
 }
 
-fn main(rt: HostRuntime) -> io::Result<()> {
-    write_answers::<MultiRows, HostRuntime>(&rt)
+fn main(rt: HostRuntime) -> ExitCode {
+    answer_lines::<MultiRows, HostRuntime>(&rt)
 }

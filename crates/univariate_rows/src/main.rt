@@ -10,10 +10,10 @@ mod polynomials;
 mod values;
 
 use ark_test_types::numbered::Numbered;
-use row_words::rows::{Answer, FieldRows, Rows, over_field, write_answers};
+use row_words::rows::{Answer, FieldRows, Rows, answer_lines, over_field};
 use row_words::words::no_row;
 use std::alloc::Global;
-use std::io;
+use std::process::ExitCode;
 
 struct UnivariateRows;
 
@@ -42,6 +42,6 @@ impl FieldRows for UnivariateRows {
     }
 }
 
-fn main(rt: HostRuntime) -> io::Result<()> {
-    write_answers::<UnivariateRows, HostRuntime>(&rt)
+fn main(rt: HostRuntime) -> ExitCode {
+    answer_lines::<UnivariateRows, HostRuntime>(&rt)
 }

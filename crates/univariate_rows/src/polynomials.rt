@@ -52,11 +52,19 @@ pub fn answer_of_dense<F: Numbered>(alloc: Global, words: &[String]) -> Answer {
         return dense_from_slice::<F>(alloc, word.as_str());
     }
     let p: DensePolynomial<F> = Dense.of(alloc, word.as_str())?;
-    let name = name.as_str();
+    answer_about_dense(alloc, name.as_str(), &p, arguments)
+}
+
+fn answer_about_dense<F: Numbered>(
+    alloc: Global,
+    name: &str,
+    p: &DensePolynomial<F>,
+    arguments: &[String],
+) -> Answer {
     match arguments {
-        [] if name == "to_sparse" => shown_sparse(alloc, SparsePolynomial::from_dense(alloc, &p)),
-        [word] => dense_with_word(alloc, name, &p, word.as_str(), arguments),
-        _ => forms::answer(alloc, &Dense, name, &p, arguments),
+        [] if name == "to_sparse" => shown_sparse(alloc, SparsePolynomial::from_dense(alloc, p)),
+        [word] => dense_with_word(alloc, name, p, word.as_str(), arguments),
+        _ => forms::answer(alloc, &Dense, name, p, arguments),
     }
 }
 
@@ -119,11 +127,20 @@ fn with_sparse<F: Numbered>(
 fn in_place<F: Numbered>(alloc: Global, name: &str, p: &DensePolynomial<F>, word: &str) -> Answer {
     let q = Sparse.of(alloc, word)?;
     let mut p = p.clone()?;
-    match name {
-        "add_assign_sparse" => p.add_assign_sparse(alloc, &q)?,
-        _ => p.sub_assign_sparse(alloc, &q)?,
-    }
+    change(alloc, name, &mut p, &q)?;
     Dense.text(alloc, &p)
+}
+
+fn change<F: Numbered>(
+    alloc: Global,
+    name: &str,
+    p: &mut DensePolynomial<F>,
+    q: &SparsePolynomial<F>,
+) -> Result<(), PolyError> {
+    match name {
+        "add_assign_sparse" => p.add_assign_sparse(alloc, q),
+        _ => p.sub_assign_sparse(alloc, q),
+    }
 }
 
 /// The dense polynomial that a call gave.
@@ -172,14 +189,22 @@ pub fn answer_of_sparse<F: Numbered>(alloc: Global, words: &[String]) -> Answer 
         return sparse_from_slice::<F>(alloc, word.as_str());
     }
     let p: SparsePolynomial<F> = Sparse.of(alloc, word.as_str())?;
-    let name = name.as_str();
+    answer_about_sparse(alloc, name.as_str(), &p, arguments)
+}
+
+fn answer_about_sparse<F: Numbered>(
+    alloc: Global,
+    name: &str,
+    p: &SparsePolynomial<F>,
+    arguments: &[String],
+) -> Answer {
     match arguments {
-        [] if name == "to_dense" => shown_dense(alloc, DensePolynomial::from_sparse(alloc, &p)),
+        [] if name == "to_dense" => shown_dense(alloc, DensePolynomial::from_sparse(alloc, p)),
         [factor] if name == "mul_scalar" => {
             shown_sparse(alloc, p.mul_scalar(alloc, element(factor.as_str())))
         }
-        [other] if name == "mul" => product_of_sparse(alloc, &p, other.as_str()),
-        _ => forms::answer(alloc, &Sparse, name, &p, arguments),
+        [other] if name == "mul" => product_of_sparse(alloc, p, other.as_str()),
+        _ => forms::answer(alloc, &Sparse, name, p, arguments),
     }
 }
 

@@ -59,7 +59,7 @@ fn answer_of_one<F: Numbered, D: EvaluationDomain<F>>(
         "either" => of_either(alloc, domain, word),
         "times_vanishing" | "by_vanishing" => by_vanishing(alloc, domain, name, word),
         "zero" => shown(alloc, Evaluations::zero(alloc, domain)),
-        _ => of_values(alloc, name, values_over(alloc, domain, word)?),
+        _ => of_values(alloc, name, &values_over(alloc, domain, word)?),
     }
 }
 
@@ -147,12 +147,12 @@ fn divided_by_vanishing<F: Numbered, D: EvaluationDomain<F>>(
 fn of_values<F: Numbered, D: EvaluationDomain<F>>(
     alloc: Global,
     name: &str,
-    values: Evaluations<F, D>,
+    values: &Evaluations<F, D>,
 ) -> Answer {
     match name {
         "clone" => text_of(alloc, values.clone()?.evals()),
-        "debug" => debug(alloc, &values),
-        "interpolate" => shown_dense(alloc, values.interpolate(alloc)),
+        "debug" => debug(alloc, values),
+        "interpolate" => shown_dense(alloc, values.clone()?.interpolate(alloc)),
         "interpolate_by_ref" => shown_dense(alloc, values.interpolate_by_ref(alloc)),
         _ => no_row(alloc),
     }
@@ -170,10 +170,24 @@ fn answer_with_word<F: Numbered, D: EvaluationDomain<F>>(
     match name {
         "at" => value_at(alloc, &values, size(other)),
         "mul_scalar" => shown(alloc, values.mul_scalar(alloc, element(other))),
-        "add" | "sub" | "mul" | "div" => {
-            by_places(alloc, name, &values, &values_over(alloc, domain, other)?)
-        }
-        _ => in_place(alloc, name, values, &values_over(alloc, domain, other)?),
+        _ => with_values(alloc, name, values, &values_over(alloc, domain, other)?),
+    }
+}
+
+/// The answer to an operation on two values at each place.
+fn with_values<F: Numbered, D: EvaluationDomain<F>>(
+    alloc: Global,
+    name: &str,
+    mut values: Evaluations<F, D>,
+    others: &Evaluations<F, D>,
+) -> Answer
+    requires { D.domain values.domain ≡ D.domain others.now.domain }
+{
+    if name.ends_with("_assign") {
+        change(alloc, name, &mut values, others)?;
+        text_of(alloc, values.evals())
+    } else {
+        by_places(alloc, name, &values, others)
     }
 }
 
@@ -215,27 +229,27 @@ fn by_places<F: Numbered, D: EvaluationDomain<F>>(
         "add" => shown(alloc, values.add(alloc, others)),
         "sub" => shown(alloc, values.sub(alloc, others)),
         "mul" => shown(alloc, values.mul(alloc, others)),
-        _ => shown(alloc, values.div(alloc, others)),
+        "div" => shown(alloc, values.div(alloc, others)),
+        _ => no_row(alloc),
     }
 }
 
-/// A call with other values that changes the first ones.
-fn in_place<F: Numbered, D: EvaluationDomain<F>>(
+/// Makes a call with other values that changes the first ones.
+fn change<F: Numbered, D: EvaluationDomain<F>>(
     alloc: Global,
     name: &str,
-    mut values: Evaluations<F, D>,
+    values: &mut Evaluations<F, D>,
     others: &Evaluations<F, D>,
-) -> Answer
-    requires { D.domain values.domain ≡ D.domain others.now.domain }
+) -> Result<(), PolyError>
+    requires { D.domain values.old.domain ≡ D.domain others.now.domain }
 {
     match name {
         "add_assign" => values.add_assign(others),
         "sub_assign" => values.sub_assign(others),
         "mul_assign" => values.mul_assign(others),
-        "div_assign" => values.div_assign(alloc, others)?,
-        _ => return no_row(alloc),
+        _ => return values.div_assign(alloc, others),
     }
-    text_of(alloc, values.evals())
+    Ok(())
 }
 
 /// Whether the values are equal to those over another domain, and whether their hashes are.

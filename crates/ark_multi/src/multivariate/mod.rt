@@ -10,6 +10,7 @@ mod merging;
 mod sparse;
 mod sparse_term;
 
+use ark_lists::powers::is_within;
 use ark_traits::{CanonicalDeserialize, CanonicalSerialize, Field, PolyError};
 pub use sparse::SparsePolynomial;
 pub use sparse_term::SparseTerm;
@@ -62,7 +63,7 @@ pub trait Term: Clone + Ord + Hash + Debug + Drop + CanonicalSerialize + Canonic
     final fn is_within(&self, num_vars: usize) -> bool
         ensures { IsTrue result ↔ IsWithin num_vars (listed self.now) }
     {
-        self.pairs().iter().all(|pair| pair.0 < num_vars)
+        is_within(self.pairs(), num_vars)
     }
 
     /// The product of the point's items to the powers of their variables. The point has an item for each variable.

@@ -1,10 +1,7 @@
 //! Multilinear extensions in bytes, by their entries: these, the number of variables, and an element zero.
 
-ghost use Rattle.std.specs.Prelude.{◌≡◌, ◌↔◌, ◌<◌, All, IsTrue};
-ghost use Rattle.ark_multi.specs.Extensions.{AreEntries};
-
 use crate::multilinear::SparseMultilinearExtension;
-use ark_coeffs::sparse::is_sparse;
+use ark_lists::windows::are_entries;
 use ark_traits::{
     CanonicalDeserialize, CanonicalSerialize, Compress, Field, SerializationError, Sink, Source,
     Spelled, Valid, list_size, read_list, write_list,
@@ -72,18 +69,4 @@ impl<F: Field> CanonicalDeserialize for SparseMultilinearExtension<F> {
             Err(SerializationError::InvalidData)
         }
     }
-}
-
-/// Whether all indices are below the length of a table.
-fn are_below<F>(entries: &[(usize, F)], len: usize) -> bool
-    ensures { IsTrue result ↔ All (λ e. e.0 < len) entries.now }
-{
-    entries.iter().all(|entry| entry.0 < len)
-}
-
-/// Whether these are an extension's entries, number of variables and zero.
-fn are_entries<F: Field>(entries: &[(usize, F)], num_vars: usize, zero: F) -> bool
-    ensures { IsTrue result ↔ AreEntries F.field (entries.now, (num_vars, zero)) }
-{
-    num_vars < 64 && zero.is_zero() && is_sparse(entries) && are_below(entries, 1 << num_vars)
 }

@@ -1,6 +1,6 @@
 use Rattle.std.proofs.Common.{◌≡◌, ℕ, ◌+◌, ◌-◌, ◌<◌, ◌≤◌, ◌∷◌, [], ◌++◌, length, get_or, sym, ap, subst, ◌∙◌, arith}
 use Rattle.ark_math.specs.Univariate.{of_list, opposite}
-use Rattle.ark_quotients.proofs.Pushed.{pushed_more}
+use Rattle.ark_coeffs.proofs.Pushed.{pushed_more}
 use Rattle.ark_quotients.proofs.series.corrected.Goals.{then-i-known, else-i-known}
 use Rattle.ark_quotients.proofs.series.corrected.Goals as goal
 

@@ -1,6 +1,6 @@
 use Rattle.std.proofs.Common.{◌≡◌, ℕ, ◌+◌, ◌-◌, ◌<◌, ◌∷◌, [], ◌++◌, get_or, sym, subst, arith}
 use Rattle.ark_math.specs.Univariate.{of_list}
-use Rattle.ark_quotients.proofs.Pushed.{pushed_more}
+use Rattle.ark_coeffs.proofs.Pushed.{pushed_more}
 use Rattle.ark_quotients.proofs.series.reversed.Goals as goal
 
 pub loop-i-preserved : goal.loop-i-preserved

@@ -1,0 +1,2 @@
+-- What the proofs of functions that make lists share.
+pub mod Pushed
