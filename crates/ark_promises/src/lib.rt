@@ -1,5 +1,5 @@
-//! What erasure codes, points, shares and sum-checks promise, said once more by a caller: each function here is one call,
-//! and has that call's clauses as its own contract.
+//! What domains, erasure codes, points, shares and sum-checks promise, said once more by a caller: each function here is
+//! one call, and has that call's clauses as its own contract.
 //!
 //! A body in the place of the call that means something else has to be refused: `must-fail` has such bodies. What refuses
 //! one here says that the call's own clauses would not hold of it either, since all that is promised here follows from
@@ -7,6 +7,7 @@
 #![tactic(auto)]
 
 pub mod codes;
+pub mod domains;
 pub mod points;
 pub mod rounds;
 pub mod shares;
