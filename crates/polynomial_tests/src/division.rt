@@ -1,7 +1,7 @@
 //! Quotients and remainders of drawn polynomials, in either form and through transforms.
 
 use crate::forms::{gave, some};
-use ark_base::{FftField, Field};
+use ark_base::{FftField, Field, PolyError};
 use ark_laws::divisions_of_all_forms;
 use ark_univariate::Polynomial;
 use ark_univariate::univariate::{DenseOrSparsePolynomial, DensePolynomial, SparsePolynomial};
@@ -11,6 +11,14 @@ use std::alloc::Global;
 // The quotient and the remainder, where there are any.
 type Pair<F> = Option<(DensePolynomial<F>, DensePolynomial<F>)>;
 
+// The answer, where both are the same.
+fn agreed<F: Field>(answers: Result<(Pair<F>, Pair<F>), PolyError>) -> Option<Pair<F>> {
+    match answers {
+        Ok((left, right)) => if left == right { Some(left) } else { None },
+        Err(_) => None,
+    }
+}
+
 // What dense by dense and sparse by sparse give, where they give the same.
 fn divided<F: Field>(
     alloc: Global,
@@ -19,15 +27,13 @@ fn divided<F: Field>(
 ) -> Option<Pair<F>> {
     let sparse_p = SparsePolynomial::from_dense(alloc, p).ok()?;
     let sparse_d = SparsePolynomial::from_dense(alloc, d).ok()?;
-    let (left, right) = divisions_of_all_forms(
+    agreed(divisions_of_all_forms(
         alloc,
         &DenseOrSparsePolynomial::from(p),
         &DenseOrSparsePolynomial::from(d),
         &DenseOrSparsePolynomial::from(&sparse_p),
         &DenseOrSparsePolynomial::from(&sparse_d),
-    )
-    .ok()?;
-    if left == right { Some(left) } else { None }
+    ))
 }
 
 // What dense by sparse and sparse by dense give, where they give the same.
@@ -38,15 +44,13 @@ fn divided_by_the_other<F: Field>(
 ) -> Option<Pair<F>> {
     let sparse_p = SparsePolynomial::from_dense(alloc, p).ok()?;
     let sparse_d = SparsePolynomial::from_dense(alloc, d).ok()?;
-    let (left, right) = divisions_of_all_forms(
+    agreed(divisions_of_all_forms(
         alloc,
         &DenseOrSparsePolynomial::from(p),
         &DenseOrSparsePolynomial::from(&sparse_d),
         &DenseOrSparsePolynomial::from(&sparse_p),
         &DenseOrSparsePolynomial::from(d),
-    )
-    .ok()?;
-    if left == right { Some(left) } else { None }
+    ))
 }
 
 // Whether there is an answer, and the product of quotient and divisor with the remainder added is the dividend, and the
