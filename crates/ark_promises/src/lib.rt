@@ -1,5 +1,5 @@
 //! What domains, erasure codes, points, shares and sum-checks promise, said once more by a caller: each function here is
-//! one call, and has that call's clauses as its own contract.
+//! one call, and has as its own contract those clauses of the call that a wrong body would break.
 //!
 //! A body in the place of the call that means something else has to be refused: `must-fail` has such bodies. What refuses
 //! one here says that the call's own clauses would not hold of it either, since all that is promised here follows from

@@ -1,9 +1,9 @@
 //! Calls of a sum-check's prover and verifier.
 
-ghost use Rattle.std.specs.Prelude.{◌≡◌, ℕ, ◌+◌, ◌-◌, ◌<◌, IfOk, OnErr, true, false};
+ghost use Rattle.std.specs.Prelude.{◌≡◌, ◌<◌, IfOk, true};
 ghost use Rattle.ark_sum_check.specs.Cube.{bound_to};
 ghost use Rattle.ark_sum_check.specs.Provers.{tables_of, variables_of};
-ghost use Rattle.ark_sum_check.specs.Rounds.{AddsUp, IsRound};
+ghost use Rattle.ark_sum_check.specs.Rounds.{IsRound};
 
 use ark_base::Field;
 use ark_sum_check::{Prover, Round, SumCheckError, Verifier};
@@ -17,10 +17,6 @@ pub fn taken<F: Field>(
 ) -> Result<bool, SumCheckError>
     ensures accepted { IfOk result (λ fits. fits ≡ true
         → IsRound F.field verifier.old.degree verifier.old.claim round.now verifier.new.claim) }
-    ensures refused { IfOk result (λ fits. fits ≡ false
-        → AddsUp F.field verifier.old.degree verifier.old.claim round.now.values.items → ⊥) }
-    ensures degree { verifier.new.degree ≡ verifier.old.degree }
-    ensures unchanged { OnErr result (verifier.new ≡ verifier.old) }
 {
     verifier.take(alloc, round)
 }
@@ -29,7 +25,6 @@ pub fn taken<F: Field>(
 pub fn bound<F: Field>(prover: &mut Prover<F>, challenge: F)
     requires { 0 < variables_of prover.old }
     ensures tables { tables_of F.field prover.new ≡ bound_to F.field challenge (tables_of F.field prover.old) }
-    ensures variables { variables_of prover.new ≡ variables_of prover.old - 1 }
 {
     prover.bind(challenge);
 }

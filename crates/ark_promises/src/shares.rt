@@ -1,8 +1,7 @@
 //! Calls of secret sharing.
 
-ghost use Rattle.std.specs.Prelude.{◌≡◌, ◌↔◌, ◌⊎◌, ℕ, ◌<◌, ◌≤◌, length, map, Err, IfOk};
+ghost use Rattle.std.specs.Prelude.{ℕ, length, IfOk};
 ghost use Rattle.ark_math.specs.Univariate.{of_list};
-ghost use Rattle.ark_points.specs.Points.{AreDifferent};
 ghost use Rattle.ark_sharing.specs.Sharing.{AreNotZero, AreShares, IsSharing};
 
 use ark_base::Field;
@@ -18,14 +17,9 @@ pub fn shared<F: Field, R: Rng>(
     points: &[F],
     rng: &mut R,
 ) -> Result<Vec<(F, F)>, SharingError>
-    ensures points { IfOk result (λ shares. map (λ s. s.0) shares.items ≡ points.now) }
     ensures sharing { IfOk result (λ shares. (a : ℕ → F) × IsSharing F.field k secret a
         × AreShares F.field a shares.items) }
-    ensures threshold { IfOk result (λ _. (0 < k) × (k ≤ length points.now)) }
-    ensures different { IfOk result (λ _. AreDifferent (length points.now) (of_list F.field points.now)) }
     ensures not_zero { IfOk result (λ _. AreNotZero F.field (length points.now) (of_list F.field points.now)) }
-    ensures wrong_threshold { (result ≡ Err SharingError.WrongThreshold)
-        ↔ (k ≡ 0) ⊎ (length points.now < k) }
 {
     share(alloc, secret, k, points, rng)
 }
