@@ -38,7 +38,6 @@ use polyrun_lib::arguments;
 use row_words::rows::{Answer, Rows, write_answers};
 use row_words::words::words_of;
 use std::alloc::Global;
-use std::io;
 use std::process::ExitCode;
 
 struct Sweep;

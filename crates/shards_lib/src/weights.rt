@@ -7,7 +7,7 @@ ghost use Rattle.ark_rows.specs.Row.{lanes};
 ghost use Rattle.shards_lib.specs.Rows.{entry};
 
 use crate::field::NumberField;
-use ark_base::{One, Zero};
+use ark_base::Zero;
 use ark_rows::Row;
 use std::alloc::{AllocError, Global};
 
