@@ -1,13 +1,17 @@
 -- Lemmas of this crate: what divides by x - z, the polynomial through given points, the weights of points, and products of
 -- x - z over halves of points, with what stands for a polynomial over each.
 pub mod Basis
+pub mod EveryOther
 pub mod Halves
 pub mod Lagrange
 pub mod Linear
 pub mod Newton
 pub mod Nodes
 pub mod PairParts
+pub mod PastProducts
 pub mod Root
+pub mod Shares
 pub mod StandIns
+pub mod UpperHalf
 pub mod Weighed
 pub mod Wrapped

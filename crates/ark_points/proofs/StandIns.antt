@@ -45,7 +45,7 @@ module _ {F : Type 0} (K : FieldOn F) (N : IsField K) where
       (constant_value K N (q i) z)))
 
   -- a coefficient of a product with a factor below h, by those at and below the own place
-  item_by_few : (h n : ℕ) (c s t : ℕ → F) → h ≤ n → 0 < h → IsBelow K h c → ((j : ℕ) → j < h → s (n - h + j) ≡ t j) → product K c s (n - 1) ≡ product K c t (h - 1)
+  pub item_by_few : (h n : ℕ) (c s t : ℕ → F) → h ≤ n → 0 < h → IsBelow K h c → ((j : ℕ) → j < h → s (n - h + j) ≡ t j) → product K c s (n - 1) ≡ product K c t (h - 1)
   item_by_few h n c s t l some below same =
       let e : suc (n - 1) ≡ n = omega arith in
       let g : suc (h - 1) ≡ h = omega arith in

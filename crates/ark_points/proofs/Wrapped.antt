@@ -58,6 +58,15 @@ module _ {F : Type 0} (K : FieldOn F) (N : IsField K) (n : ℕ) (c : F) (some : 
       ∙ (ap (λ t. K.plus t (r k)) (sym (item_before q k inside))
       ∙ sym (ap (λ t. t k) whole)))
 
+  -- and the quotient is what the whole has from n on
+  pub quotient_past : (b : ℕ) (a q r : ℕ → F) → b ≤ n → IsBelow K (b + n) a → IsBelow K n r → (m : ℕ) → IsBelow K m q → a ≡ added K (product K q (binomial K n c)) r → (k : ℕ) → q k ≡ a (k + n)
+  quotient_past b a q r few below short m finite whole k =
+      let none : q (k + n) ≡ K.zero = quotient_zero b m a q r whole below short finite m (k + n) (omega arith) (omega arith) in
+      ring2 K N (λ x c. (x, (x ⊖ (c ⊗ nought)) ⊕ nought)) refl (q k) c
+      ∙ (ap₂ (λ u w. K.plus (minus K (q k) (K.times c u)) w) (sym none) (sym (short (k + n) (omega arith)))
+      ∙ (ap (λ t. K.plus t (r (k + n))) (sym (item_past q k))
+      ∙ sym (ap (λ t. t (k + n)) whole)))
+
 module _ {F : Type 0} (K : FieldOn F) (N : IsField K) where
   -- a monic whole of the size's degree is its remainder by the vanishing polynomial and that one
   module _ (d : Domain F) (some : 0 < d.size) (a : ℕ → F) (monic : IsMonic K d.size a) where

@@ -1,6 +1,6 @@
 //! The polynomial through given points.
 
-ghost use Rattle.std.specs.Prelude.{◌≡◌, ◌≢◌, ℕ, ◌<◌, false, length, map, IfOk, IsOkUnless, Err};
+ghost use Rattle.std.specs.Prelude.{◌≡◌, ◌≢◌, ℕ, ◌<◌, length, map, IfOk, IsOkUnless, Err};
 ghost use Rattle.ark_math.specs.Linear.{constant as constant_of, linear_factor};
 ghost use Rattle.ark_math.specs.Outcome.{IsOkUnlessEither};
 ghost use Rattle.ark_math.specs.Univariate.{IsBelow, of_list};
@@ -8,6 +8,8 @@ ghost use Rattle.ark_points.specs.Points.{AreDifferent, HasRepeated, HasValues, 
 ghost use Rattle.ark_points.specs.Tree.{IsTreeOver, derived, nodes};
 
 use crate::error::PointsError;
+use crate::items::has_zero;
+use crate::levels::Levels;
 use crate::pairs::first_parts;
 use crate::repeated::has_repeated;
 use crate::tree::Products;
@@ -45,13 +47,15 @@ pub fn from_points<F: FftField>(
         return naive_from_points(alloc, points);
     }
     let xs = first_parts(alloc, points)?;
-    let tree = Products::<F, GeneralEvaluationDomain<F>>::new(alloc, &xs)?;
-    through_tree(alloc, &tree, &xs, points)
+    let levels = Levels::<F, GeneralEvaluationDomain<F>>::new(alloc, points.len())?;
+    let tree = Products::new(alloc, &levels, &xs)?;
+    through_tree(alloc, &levels, &tree, &xs, points)
 }
 
 // The polynomial through pairs that have these x.
 fn through_tree<F: FftField, D: EvaluationDomain<F>>(
     alloc: Global,
+    levels: &Levels<F, D>,
     tree: &Products<F, D>,
     xs: &[F],
     points: &[(F, F)],
@@ -70,18 +74,19 @@ fn through_tree<F: FftField, D: EvaluationDomain<F>>(
         → HasRepeated (length points.now) (x_of F.field points.now) }
     ensures errors { IsOkUnlessEither result PointsError.Memory PointsError.RepeatedPoint }
 {
-    let slopes = slopes(alloc, tree, xs)?;
+    let slopes = slopes(alloc, levels, tree, xs)?;
     if has_zero(&slopes) {
         // Two points are one, as the plain way tells.
         return naive_from_points(alloc, points);
     }
     let weights = weights(alloc, &slopes, points)?;
-    Ok(tree.weighed(alloc, xs, &weights)?)
+    Ok(tree.weighed(alloc, levels, xs, &weights)?)
 }
 
 // The slope at each point of the product of x - z over all of them.
 fn slopes<F: FftField, D: EvaluationDomain<F>>(
     alloc: Global,
+    levels: &Levels<F, D>,
     tree: &Products<F, D>,
     points: &[F],
 ) -> Result<Vec<F>, PolyError>
@@ -94,7 +99,7 @@ fn slopes<F: FftField, D: EvaluationDomain<F>>(
 {
     let coeffs = derivative(alloc, tree.product().coeffs())?;
     let derivative = DensePolynomial::from_coefficients_vec(coeffs);
-    values_by_tree(alloc, tree, &derivative, points)
+    values_by_tree(alloc, levels, tree, &derivative, points)
 }
 
 // The coefficients of the formal derivative.
@@ -108,18 +113,6 @@ fn derivative<F: Field>(alloc: Global, coeffs: &[F]) -> Result<Vec<F>, AllocErro
         lowered.push(exponent * coeffs[i])?;
     }
     Ok(lowered)
-}
-
-// Whether an item is zero.
-fn has_zero<F: Field>(items: &[F]) -> bool
-    ensures { (result ≡ false) → (i : ℕ) → i < length items.now → of_list F.field items.now i ≢ F.field.zero }
-{
-    for i in 0..items.len() {
-        if items[i].is_zero() {
-            return true;
-        }
-    }
-    false
 }
 
 // Each y by the slope at its place.

@@ -2,10 +2,14 @@
 //! polynomial through given ones, and the weights by which values at points give the value at another.
 #![tactic(auto)]
 
+mod coset;
 mod division;
+mod doubled;
 mod error;
 mod interpolation;
+mod items;
 mod laws;
+mod levels;
 mod pairs;
 mod parts;
 mod repeated;

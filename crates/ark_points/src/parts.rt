@@ -1,10 +1,11 @@
 //! Parts of polynomials and of products.
 
-ghost use Rattle.std.specs.Prelude.{◌≡◌, ℕ, ◌+◌, ◌-◌, ◌<◌, ◌≤◌, IfOk, IsOkUnless};
+ghost use Rattle.std.specs.Prelude.{◌≡◌, ℕ, ◌+◌, ◌-◌, ◌<◌, ◌≤◌, length, IfOk, IsOkUnless};
 ghost use Rattle.ark_math.specs.Points.{AreValues};
 ghost use Rattle.ark_math.specs.Univariate.{IsBelow, of_list, product};
 
 use ark_base::{FftField, Field, PolyError};
+use ark_coeffs::dense::add_scaled;
 use ark_poly::univariate::DensePolynomial;
 use ark_poly::{DenseUVPolynomial, EvaluationDomain, Evaluations};
 use std::alloc::{AllocError, Global};
@@ -45,4 +46,20 @@ pub fn upper_part<F: FftField, D: EvaluationDomain<F>>(
 {
     let product = left.mul(alloc, right)?.interpolate(alloc)?;
     Ok(part(alloc, &product, start, end)?)
+}
+
+/// Adds to each of n items the coefficient of a product as many places past n, of which one factor has at most n
+/// coefficients, and the other at most one more.
+pub fn add_product_past<F: Field>(items: &mut [F], left: &[F], right: &[F])
+    requires left { length left.now ≤ length items.old + 1 }
+    requires right { length right.now ≤ length items.old }
+    ensures len { length items.new ≡ length items.old }
+    ensures sum { (i : ℕ) → of_list F.field items.new i ≡ F.field.plus (of_list F.field items.old i)
+        (product F.field (of_list F.field left.now) (of_list F.field right.now) (i + length items.old)) }
+{
+    let len = items.len();
+    for i in 0..left.len() {
+        let start = right.len().min(len - i);
+        add_scaled(items, left[i], &right[start..]);
+    }
 }

@@ -5,10 +5,11 @@ ghost use Rattle.ark_math.specs.Univariate.{of_list};
 ghost use Rattle.ark_points.specs.Points.{HasValues};
 ghost use Rattle.ark_points.specs.Tree.{IsTreeOver};
 
+use crate::coset::values_by_coset;
+use crate::levels::Levels;
 use crate::scaled::scaled_by;
 use crate::tree::Products;
 use ark_base::{FftField, Field, PolyError, Polynomial};
-use ark_coeffs::dense::zeros;
 use ark_poly::univariate::DensePolynomial;
 use ark_poly::{DenseUVPolynomial, EvaluationDomain, GeneralEvaluationDomain};
 use std::alloc::Global;
@@ -35,13 +36,36 @@ pub fn evaluate_at<F: FftField>(
     if is_short || GeneralEvaluationDomain::<F>::new(points.len()).is_none() {
         return naive_evaluate_at(alloc, polynomial, points);
     }
-    let tree = Products::<F, GeneralEvaluationDomain<F>>::new(alloc, points)?;
-    values_by_tree(alloc, &tree, polynomial, points)
+    let levels = Levels::<F, GeneralEvaluationDomain<F>>::new(alloc, points.len())?;
+    let tree = Products::new(alloc, &levels, points)?;
+    values_by_tree(alloc, &levels, &tree, polynomial, points)
 }
 
 /// The values at the points of a tree, of which there are some.
 pub fn values_by_tree<F: FftField, D: EvaluationDomain<F>>(
     alloc: Global,
+    levels: &Levels<F, D>,
+    tree: &Products<F, D>,
+    polynomial: &DensePolynomial<F>,
+    points: &[F],
+) -> Result<Vec<F>, PolyError>
+    requires not_empty { 0 < length points.now }
+    requires tree { IsTreeOver F.field D.domain points.now tree.now }
+    ensures len { IfOk result (λ v. length v.items ≡ length points.now) }
+    ensures values { IfOk result (λ v. HasValues F.field (length points.now) (of_list F.field points.now)
+        (of_list F.field v.items) (of_list F.field polynomial.now)) }
+    ensures memory { IsOkUnless result PolyError.Memory }
+{
+    match values_by_coset(alloc, levels, tree, polynomial, points)? {
+        Some(values) => Ok(values),
+        None => values_by_series(alloc, levels, tree, polynomial, points),
+    }
+}
+
+// The same through an inverse power series of the product, which each field has.
+fn values_by_series<F: FftField, D: EvaluationDomain<F>>(
+    alloc: Global,
+    levels: &Levels<F, D>,
     tree: &Products<F, D>,
     polynomial: &DensePolynomial<F>,
     points: &[F],
@@ -54,9 +78,7 @@ pub fn values_by_tree<F: FftField, D: EvaluationDomain<F>>(
     ensures memory { IsOkUnless result PolyError.Memory }
 {
     let scaled = scaled_by(alloc, polynomial, tree.product(), points.len())?;
-    let mut values = zeros(alloc, points.len())?;
-    tree.write_values(alloc, points, &scaled, values.as_mut_slice())?;
-    Ok(values)
+    tree.values(alloc, levels, points, &scaled)
 }
 
 /// The values of a polynomial at points, in their order, each for itself.

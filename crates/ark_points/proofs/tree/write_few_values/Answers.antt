@@ -1,31 +1,27 @@
-use Rattle.std.proofs.Common.{◌≡◌, ◌<◌, length, sym, ap, subst, ◌∙◌, arith, below_more}
-use Rattle.std.proofs.Common.{get_or-set_same, get_or-set_other}
-use Rattle.std.proofs.lemmas.List.{get_or_read, length-set}
+use Rattle.std.proofs.Common.{◌≡◌, ◌+◌, ◌≤◌, length, refl, sym, ap, ap₂, subst, ◌∙◌, arith}
+use mathlib.Core.Path.{fun_ext}
+use Rattle.std.proofs.lemmas.List.{length-replicate}
 use Rattle.ark_math.specs.Univariate.{IsBelow, IsValue, of_list, product}
-use Rattle.ark_math.proofs.Polynomials.UnivariateLists.{of_list-below}
+use Rattle.ark_math.proofs.Algebra.Solve.{◌⊕◌, nought}
+use Rattle.ark_math.proofs.Algebra.Ring.{ring1}
+use Rattle.ark_math.proofs.Lists.Lists.{written_back}
+use Rattle.ark_math.proofs.Polynomials.UnivariateLists.{of_list-below, of_list-replicate, trimmed_length}
 use Rattle.ark_points.specs.Tree.{nodes}
-use Rattle.ark_points.proofs.Nodes.{cofactor, cofactor-below, cofactor-whole}
-use Rattle.ark_points.proofs.StandIns.{past_of_product, stands_at_leaf}
+use Rattle.ark_points.proofs.Nodes.{cofactor, cofactor-below, cofactor-whole, nodes-below}
+use Rattle.ark_points.proofs.StandIns.{stands_at_leaf}
 use Rattle.ark_points.proofs.tree.write_few_values.Goals as goal
 
-pub loop-i-preserved : goal.loop-i-preserved
-loop-i-preserved g c =
+pub add_product_past-requires-clause-left : goal.add_product_past-requires-clause-left
+add_product_past-requires-clause-left g c =
     let K = g.F.Field.field in
-    let v = c.loop-i.invariant in
-    let i = c.loop-i.i in
-    let xs = c.loop-i.values in
-    let new = c.value_at.result in
     let points = c.args.points.now in
-    let inside : i < length xs = omega (arith, c.loop-i-test.true, c.requires.len, v.len) in
-    let point : c.index-points-i.result ≡ of_list K points i = get_or_read points i c.index-points-i.result c.loop-i-test.true c.index-points-i.is K.zero in
-    let r = of_list K c.in_ok-remainder.remainder in
-    record {
-      len = length-set xs i new ∙ v.len;
-      done = below_more _ i
-          (λ k l. subst (IsValue K r (of_list K points k)) (sym (get_or-set_other xs i k new K.zero (omega (arith, l)))) (v.done k l))
-          (subst (IsValue K r (of_list K points i)) (sym (get_or-set_same xs i new K.zero inside))
-          (subst (λ t. IsValue K r t new) point (subst (λ t. IsValue K (of_list K t) c.index-points-i.result new) c.coeffs-in-loop-i.ensures.same c.value_at.ensures)));
-    }
+    let n = length points in
+    let coeffs = c.coeffs.result.now in
+    let room : length c.as_mut_slice.result.now ≡ n = ap length (c.as_mut_slice.ensures.value ∙ c.in_ok-past.ensures) ∙ length-replicate n K.zero in
+    let short : length coeffs ≤ n + 1 =
+    trimmed_length K coeffs (n + 1) c.coeffs.ensures.trimmed
+    (subst (IsBelow K (n + 1)) (sym (ap (of_list K) c.coeffs.ensures.same ∙ c.requires.product)) (nodes-below K g.met.F.Field.field_laws points)) in
+    omega (arith, room, short)
 
 pub returns-clause-values : goal.returns-clause-values
 returns-clause-values g c =
@@ -33,16 +29,21 @@ returns-clause-values g c =
     let N = g.met.F.Field.field_laws in
     let points = c.args.points.now in
     let n = length points in
+    let given = c.args.given.now in
     let m = nodes K points in
-    let s = of_list K c.args.scaled.now in
-    let r = of_list K c.in_ok-remainder.remainder in
+    let s = of_list K given in
+    let zeros = c.as_mut_slice.ensures.value ∙ c.in_ok-past.ensures in
+    let room : length c.as_mut_slice.result.now ≡ n = ap length zeros ∙ length-replicate n K.zero in
+    let left : of_list K c.coeffs.result.now ≡ m = ap (of_list K) c.coeffs.ensures.same ∙ c.requires.product in
+    let last = c.add_product_past.new.items in
+    let back : c.deref.result.now ≡ last = c.deref.ensures.value ∙ written_back last _ _ (omega (arith, c.add_product_past.ensures.len, c.as_mut_slice.ensures.len)) in
+    let past : of_list K c.deref.result.now ≡ (λ j. product K m s (j + n)) =
+    ap (of_list K) back
+    ∙ fun_ext (λ j.
+    c.add_product_past.ensures.sum j
+    ∙ ap₂ K.plus (ap (λ t. of_list K t j) zeros ∙ ap (λ t. t j) (of_list-replicate K n)) (ap₂ (λ a i. product K a s (j + i)) left room)
+    ∙ ring1 K N (λ x. (nought ⊕ x, x)) refl (product K m s (j + n))) in
     λ p stands k l.
-    let b : k < n = omega (arith, l) in
-    stands_at_leaf K N n n m p s (cofactor K N points k) (of_list K points k) (of_list K c.loop-i.values k) c.requires.not_empty c.requires.below
-    (cofactor-below K N points k b) (cofactor-whole K N points k b) stands
-    (subst (λ a. IsValue K a (of_list K points k) (of_list K c.loop-i.values k))
-    (past_of_product K N n _ m s r (of_list K c.in-Ok.whole)
-    (c.in-Ok.ensures.product ∙ ap (λ a. product K a s) c.requires.product)
-    (subst (λ t. IsBelow K t (of_list K c.in-Ok.whole)) (sym (ap length c.coeffs.ensures.same)) (of_list-below K c.in-Ok.whole))
-    c.in_ok-remainder.ensures.same c.in_ok-remainder.ensures.below)
-    (c.loop-i.invariant.done k (omega (arith, l, c.loop-i-test.false))))
+    stands_at_leaf K N n (length given) m p s (cofactor K N points k) (of_list K points k) (of_list K c.write_values_of.new.values k) c.requires.not_empty (of_list-below K given)
+    (cofactor-below K N points k l) (cofactor-whole K N points k l) stands
+    (subst (λ a. IsValue K a (of_list K points k) (of_list K c.write_values_of.new.values k)) past (c.write_values_of.ensures.values k l))

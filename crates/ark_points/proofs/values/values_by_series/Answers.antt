@@ -1,10 +1,9 @@
-use Rattle.std.proofs.Common.{◌≡◌, length, sym, ap, subst, ◌∙◌, arith}
+use Rattle.std.proofs.Common.{◌≡◌, length, sym, ap, subst, ◌∙◌}
+use Rattle.std.proofs.lemmas.Result.{IfOk-weaker}
 use Rattle.ark_math.specs.Univariate.{of_list}
-use Rattle.ark_math.proofs.Lists.Lists.{written_back}
-use Rattle.ark_points.specs.Points.{HasValues}
 use Rattle.ark_points.specs.Tree.{IsMonic, StandsFor, nodes}
 use Rattle.ark_points.proofs.Nodes.{nodes_monic, tree-whole}
-use Rattle.ark_points.proofs.values.values_by_tree.Goals as goal
+use Rattle.ark_points.proofs.values.values_by_series.Goals as goal
 
 pub scaled_by-requires-clause-monic : goal.scaled_by-requires-clause-monic
 scaled_by-requires-clause-monic g c =
@@ -23,6 +22,4 @@ returns-clause-values g c =
     let p = of_list K c.args.polynomial.now in
     let is : of_list K c.product.result.now ≡ nodes K points = ap (of_list K) c.product.ensures ∙ tree-whole K N g.D.EvaluationDomain.domain points c.args.tree.now c.requires.tree in
     let stands : StandsFor K n (nodes K points) p (of_list K c.in_ok-scaled.scaled) = subst (λ m. StandsFor K n m p (of_list K c.in_ok-scaled.scaled)) is c.in_ok-scaled.ensures.stands in
-    let last = c.write_values.new.values in
-    let back = written_back last _ _ (omega (arith, c.in_ok-write_values.ensures.len, c.as_mut_slice.ensures.len)) in
-    subst (λ v. HasValues K n (of_list K points) (of_list K v) p) (sym back) (c.in_ok-write_values.ensures.values p stands)
+    IfOk-weaker c.values.result _ _ (λ v h. h p stands) c.values.ensures.values

@@ -1,0 +1,11 @@
+use Rattle.std.proofs.Common.{◌≡◌, ℕ, ◌+◌, ◌<◌, length}
+use Rattle.ark_math.specs.Univariate.{of_list}
+use Rattle.ark_points.proofs.items.products_in_turn.Given as goal
+
+abbrev pub invariant-loop-i : goal.invariant-loop-i
+invariant-loop-i g l =
+    let K = g.F.Field.field in
+    record {
+      len : length l.products.items ≡ l.i;
+      done : (k : ℕ) → k < l.i → of_list K l.products.items k ≡ K.times (of_list K l.left (k + k + l.start)) (of_list K l.right (k + k + l.start));
+    }
