@@ -20,19 +20,19 @@ module _ {F : Type 0} (K : FieldOn F) (N : IsField K) (d e o : Domain F) (turn :
 
   pub even_element : (i : ℕ) → element K d (i + i) ≡ element K e i
   even_element i =
-      ap₂ K.times (sym turn.offset) (sym (square_power d.root i) ∙ ap (λ r. power K r i) (sym turn.root))
+      ap₂ K.times (sym turn.half.offset) (sym (square_power d.root i) ∙ ap (λ r. power K r i) (sym turn.half.root))
 
   pub odd_element : (i : ℕ) → element K d (suc (i + i)) ≡ element K o i
   odd_element i =
       sym (N.times_assoc d.offset d.root (power K d.root (i + i)))
-      ∙ ap₂ K.times (sym turn.other_offset) (sym (square_power d.root i) ∙ ap (λ r. power K r i) (sym (turn.other_root ∙ turn.root)))
+      ∙ ap₂ K.times (sym turn.other_offset) (sym (square_power d.root i) ∙ ap (λ r. power K r i) (sym (turn.other_root ∙ turn.half.root)))
 
   -- a list of d's values from lists of the others'
   pub turned_values : (a : ℕ → F) (u v w : List F) → AreValues K e a v → AreValues K o a w → length u ≡ d.size → ((i : ℕ) → i < e.size → of_list K u (i + i) ≡ of_list K v i) → ((i : ℕ) → i < e.size → of_list K u (suc (i + i)) ≡ of_list K w i) → AreValues K d a u
   turned_values a u v w V W len even odd =
       values_from K N d V.0 a u V.1 len (λ i l.
       let k : ℕ = i / 2 in
-      let inside : k < e.size = omega (arith, l, turn.size) in
+      let inside : k < e.size = omega (arith, l, turn.half.size) in
       ⊎_elim
       (λ (is : i % 2 ≡ 0).
       let place : k + k ≡ i = omega arith in
@@ -53,8 +53,8 @@ module _ {F : Type 0} (K : FieldOn F) (N : IsField K) (d e o : Domain F) (turn :
       subst (λ y. IsValue K (product K a b) (element K e i) y) (sym (places i l))
       (subst (λ z. IsValue K (product K a b) z (K.times (of_list K u (i + i)) (of_list K v (i + i)))) (even_element i)
       (value-product K N a b (element K d (i + i)) (of_list K u (i + i)) (of_list K v (i + i))
-      (values-item K N d a u A (i + i) (omega (arith, l, turn.size)))
-      (values-item K N d b v B (i + i) (omega (arith, l, turn.size))))))
+      (values-item K N d a u A (i + i) (omega (arith, l, turn.half.size)))
+      (values-item K N d b v B (i + i) (omega (arith, l, turn.half.size))))))
 
   pub odd_products : (a b : ℕ → F) (u v w : List F) → AreValues K d a u → AreValues K d b v → length w ≡ o.size → ((i : ℕ) → i < o.size → of_list K w i ≡ K.times (of_list K u (suc (i + i))) (of_list K v (suc (i + i)))) → AreValues K o (product K a b) w
   odd_products a b u v w A B len places =
@@ -62,5 +62,5 @@ module _ {F : Type 0} (K : FieldOn F) (N : IsField K) (d e o : Domain F) (turn :
       subst (λ y. IsValue K (product K a b) (element K o i) y) (sym (places i l))
       (subst (λ z. IsValue K (product K a b) z (K.times (of_list K u (suc (i + i))) (of_list K v (suc (i + i))))) (odd_element i)
       (value-product K N a b (element K d (suc (i + i))) (of_list K u (suc (i + i))) (of_list K v (suc (i + i)))
-      (values-item K N d a u A (suc (i + i)) (omega (arith, l, turn.size, turn.other_size)))
-      (values-item K N d b v B (suc (i + i)) (omega (arith, l, turn.size, turn.other_size))))))
+      (values-item K N d a u A (suc (i + i)) (omega (arith, l, turn.half.size, turn.other_size)))
+      (values-item K N d b v B (suc (i + i)) (omega (arith, l, turn.half.size, turn.other_size))))))

@@ -23,6 +23,18 @@ y_of K points i = (get_or points i (K.zero, K.zero)).1
 abbrev pub HasValues : {F : Type 0} → FieldOn F → ℕ → (ℕ → F) → (ℕ → F) → (ℕ → F) → Type 0
 HasValues K n x y a = (i : ℕ) → i < n → IsValue K a (x i) (y i)
 
+-- a list has the values of a at points, one for each
+pub record AreValuesAt {F : Type 0} (K : FieldOn F) (points values : List F) (a : ℕ → F) : Type 0 where
+  pub len : length values ≡ length points
+  pub values : HasValues K (length points) (of_list K points) (of_list K values) a
+
+-- a is the polynomial through pairs with different x: of a degree below their number it alone has the value y at each x
+pub record IsThrough {F : Type 0} (K : FieldOn F) (points : List (F × F)) (a : ℕ → F) : Type 0 where
+  pub below : IsBelow K (length points) a
+  pub values : HasValues K (length points) (x_of K points) (y_of K points) a
+  pub only : (b : ℕ → F) → IsBelow K (length points) b → HasValues K (length points) (x_of K points) (y_of K points) b → b ≡ a
+  pub different : AreDifferent (length points) (x_of K points)
+
 -- the weights by which the values at n points give the value at tau, for every polynomial below n
 pub record AreWeightsAt {F : Type 0} (K : FieldOn F) (n : ℕ) (x : ℕ → F) (tau : F) (weights : List F) : Type 0 where
   pub count : length weights ≡ n

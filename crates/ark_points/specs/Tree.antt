@@ -56,11 +56,9 @@ pub record IsHalfOf {F : Type 0} (K : FieldOn F) (e d : Domain F) : Type 0 where
 
 -- and o has those between
 pub record AreInterleaved {F : Type 0} (K : FieldOn F) (d e o : Domain F) : Type 0 where
-  pub size : e.size + e.size ≡ d.size
+  pub half : IsHalfOf K e d
   pub other_size : o.size ≡ e.size
-  pub root : e.root ≡ K.times d.root d.root
   pub other_root : o.root ≡ e.root
-  pub offset : e.offset ≡ d.offset
   pub other_offset : o.offset ≡ K.times d.offset d.root
 
 -- the power of the size is one for each element of e, and minus one for each of o; and w is the half of one
@@ -68,6 +66,13 @@ pub record TurnSigns {F : Type 0} (K : FieldOn F) (e o : Domain F) (w : F) : Typ
   pub ones : power K e.offset e.size ≡ K.one
   pub others : power K o.offset o.size ≡ K.negated K.one
   pub half : K.times (K.plus K.one K.one) w ≡ K.one
+
+-- the last list has over e the values of a product's upper half, its coefficients from e's size on: the first two have over d
+-- those of the product's factors
+abbrev pub HasUpperHalf : {F : Type 0} → FieldOn F → Domain F → List F → List F → Domain F → List F → Type 0
+HasUpperHalf {F} K d v w e upper =
+    (a b c : ℕ → F) → AreValues K d a v → AreValues K d b w → IsBelow K (e.size + d.size) (product K a b)
+    → IsBelow K e.size c → ((i : ℕ) → i < e.size → c i ≡ product K a b (e.size + i)) → AreValues K e c upper
 
 -- what a tree has for all of its points
 abbrev pub whole : {P V : Type 0} → Tree P V → P

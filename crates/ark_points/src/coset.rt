@@ -1,11 +1,11 @@
 //! Values at the points of a tree by a coset that has none of them: over it the polynomial's values are divided by those of
 //! the product of x - z.
 
-ghost use Rattle.std.specs.Prelude.{◌≡◌, ℕ, ◌+◌, ◌<◌, ◌≤◌, length, IfOk, IfSome, IsOkUnless};
-ghost use Rattle.ark_math.specs.Field.{minus, power};
+ghost use Rattle.std.specs.Prelude.{◌≡◌, ℕ, ◌<◌, ◌≤◌, length, IfOk, IfSome, IsOkUnless};
+ghost use Rattle.ark_math.specs.Field.{power};
 ghost use Rattle.ark_math.specs.Univariate.{IsBelow, of_list};
-ghost use Rattle.ark_points.specs.Points.{HasValues};
-ghost use Rattle.ark_points.specs.Tree.{IsMonic, IsTreeOver, StandsForShares, nodes};
+ghost use Rattle.ark_points.specs.Points.{AreValuesAt};
+ghost use Rattle.ark_points.specs.Tree.{IsMonic, IsTreeOver, StandsForShares};
 
 use crate::items::{has_zero, multiply_by_gaps, raise_each};
 use crate::levels::Levels;
@@ -30,9 +30,8 @@ pub fn values_by_coset<F: FftField, D: EvaluationDomain<F>>(
 ) -> Result<Option<Vec<F>>, PolyError>
     requires not_empty { 0 < length points.now }
     requires tree { IsTreeOver F.field D.domain points.now tree.now }
-    ensures len { IfOk result (λ found. IfSome found (λ v. length v.items ≡ length points.now)) }
-    ensures values { IfOk result (λ found. IfSome found (λ v. HasValues F.field (length points.now)
-        (of_list F.field points.now) (of_list F.field v.items) (of_list F.field polynomial.now))) }
+    ensures values { IfOk result (λ found. IfSome found (λ v. AreValuesAt F.field points.now v.items
+        (of_list F.field polynomial.now))) }
     ensures memory { IsOkUnless result PolyError.Memory }
 {
     let count = points.len().max(polynomial.coeffs().len());
@@ -79,9 +78,8 @@ fn values_over<F: FftField, D: EvaluationDomain<F>>(
     requires len { length powers.now ≡ length points.now }
     requires powers { (i : ℕ) → i < length points.now → of_list F.field powers.now i
         ≡ power F.field (of_list F.field points.now i) (D.domain coset).size }
-    ensures len { IfOk result (λ found. IfSome found (λ v. length v.items ≡ length points.now)) }
-    ensures values { IfOk result (λ found. IfSome found (λ v. HasValues F.field (length points.now)
-        (of_list F.field points.now) (of_list F.field v.items) (of_list F.field polynomial.now))) }
+    ensures values { IfOk result (λ found. IfSome found (λ v. AreValuesAt F.field points.now v.items
+        (of_list F.field polynomial.now))) }
     ensures memory { IsOkUnless result PolyError.Memory }
 {
     let found = scaled_over(alloc, polynomial, tree.product(), points.len(), coset)?;

@@ -1,9 +1,9 @@
 //! Values over a domain from those over every other of its elements, and over these from those over the domain.
 
-ghost use Rattle.std.specs.Prelude.{◌≡◌, ℕ, ◌+◌, ◌<◌, true, length, IfOk, IfSome, IsOkUnless};
+ghost use Rattle.std.specs.Prelude.{◌≡◌, true, length, IfOk, IfSome, IsOkUnless};
 ghost use Rattle.ark_math.specs.Points.{AreValues};
-ghost use Rattle.ark_math.specs.Univariate.{IsBelow, of_list, product};
-ghost use Rattle.ark_points.specs.Tree.{AreInterleaved, TurnSigns};
+ghost use Rattle.ark_math.specs.Univariate.{of_list};
+ghost use Rattle.ark_points.specs.Tree.{AreInterleaved, HasUpperHalf, TurnSigns};
 
 use crate::items::{interleaved, products_in_turn, scale_differences};
 use crate::levels::Levels;
@@ -39,8 +39,7 @@ pub fn doubled<F: FftField, D: EvaluationDomain<F>>(
 }
 
 /// From the values of two polynomials over a domain of which `half` has every other element: the values over that of the
-/// upper half of their product, the coefficients from its size on. `None` where it hasn't every other element, or is no
-/// subgroup.
+/// upper half of their product. `None` where it hasn't every other element, or is no subgroup.
 pub fn upper_half_values<F: FftField, D: EvaluationDomain<F>>(
     alloc: Global,
     levels: &Levels<F, D>,
@@ -50,13 +49,8 @@ pub fn upper_half_values<F: FftField, D: EvaluationDomain<F>>(
 ) -> Result<Option<Vec<F>>, PolyError>
     requires len { length right.now ≡ (D.domain left.now.domain).size }
     ensures len { IfOk result (λ found. IfSome found (λ v. length v.items ≡ (D.domain half).size)) }
-    ensures values { IfOk result (λ found. IfSome found (λ v. (a b c : ℕ → F)
-        → AreValues F.field (D.domain left.now.domain) a left.now.evals
-        → AreValues F.field (D.domain left.now.domain) b right.now
-        → IsBelow F.field ((D.domain half).size + (D.domain left.now.domain).size) (product F.field a b)
-        → IsBelow F.field (D.domain half).size c
-        → ((i : ℕ) → i < (D.domain half).size → c i ≡ product F.field a b ((D.domain half).size + i))
-        → AreValues F.field (D.domain half) c v.items)) }
+    ensures values { IfOk result (λ found. IfSome found (λ v. HasUpperHalf F.field (D.domain left.now.domain)
+        left.now.evals right.now (D.domain half) v.items)) }
     ensures memory { IsOkUnless result PolyError.Memory }
 {
     match levels.coset_between(half, left.domain()) {
@@ -102,13 +96,8 @@ fn halved<F: FftField, D: EvaluationDomain<F>>(
     requires turn { AreInterleaved F.field (D.domain left.now.domain) (D.domain half) (D.domain coset) }
     requires signs { TurnSigns F.field (D.domain half) (D.domain coset) inverse }
     ensures len { IfOk result (λ v. length v.items ≡ (D.domain half).size) }
-    ensures values { IfOk result (λ v. (a b c : ℕ → F)
-        → AreValues F.field (D.domain left.now.domain) a left.now.evals
-        → AreValues F.field (D.domain left.now.domain) b right.now
-        → IsBelow F.field ((D.domain half).size + (D.domain left.now.domain).size) (product F.field a b)
-        → IsBelow F.field (D.domain half).size c
-        → ((i : ℕ) → i < (D.domain half).size → c i ≡ product F.field a b ((D.domain half).size + i))
-        → AreValues F.field (D.domain half) c v.items) }
+    ensures values { IfOk result (λ v. HasUpperHalf F.field (D.domain left.now.domain) left.now.evals right.now
+        (D.domain half) v.items) }
     ensures memory { IsOkUnless result PolyError.Memory }
 {
     let between = products_in_turn(alloc, left.evals(), right, 1, coset.size())?;

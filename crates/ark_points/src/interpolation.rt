@@ -4,7 +4,7 @@ ghost use Rattle.std.specs.Prelude.{◌≡◌, ◌≢◌, ℕ, ◌<◌, length, 
 ghost use Rattle.ark_math.specs.Linear.{constant as constant_of, linear_factor};
 ghost use Rattle.ark_math.specs.Outcome.{IsOkUnlessEither};
 ghost use Rattle.ark_math.specs.Univariate.{IsBelow, of_list};
-ghost use Rattle.ark_points.specs.Points.{AreDifferent, HasRepeated, HasValues, x_of, y_of};
+ghost use Rattle.ark_points.specs.Points.{AreDifferent, HasRepeated, HasValues, IsThrough, x_of, y_of};
 ghost use Rattle.ark_points.specs.Tree.{IsTreeOver, derived, nodes};
 
 use crate::error::PointsError;
@@ -46,11 +46,26 @@ pub fn from_points<F: FftField>(
     if points.len() <= FEW || GeneralEvaluationDomain::<F>::new(points.len()).is_none() {
         return naive_from_points(alloc, points);
     }
+    through_many::<F, GeneralEvaluationDomain<F>>(alloc, points)
+}
+
+// The polynomial through some pairs, by a tree over their x.
+fn through_many<F: FftField, D: EvaluationDomain<F>>(
+    alloc: Global,
+    points: &[(F, F)],
+) -> Result<DensePolynomial<F>, PointsError>
+    requires not_empty { 0 < length points.now }
+    ensures through { IfOk result (λ p. IsThrough F.field points.now (of_list F.field p)) }
+    ensures repeated { (result ≡ Err PointsError.RepeatedPoint)
+        → HasRepeated (length points.now) (x_of F.field points.now) }
+    ensures errors { IsOkUnlessEither result PointsError.Memory PointsError.RepeatedPoint }
+{
     let xs = first_parts(alloc, points)?;
-    let levels = Levels::<F, GeneralEvaluationDomain<F>>::new(alloc, points.len())?;
+    let levels = Levels::<F, D>::new(alloc, points.len())?;
     let tree = Products::new(alloc, &levels, &xs)?;
     through_tree(alloc, &levels, &tree, &xs, points)
 }
+
 
 // The polynomial through pairs that have these x.
 fn through_tree<F: FftField, D: EvaluationDomain<F>>(
@@ -63,13 +78,7 @@ fn through_tree<F: FftField, D: EvaluationDomain<F>>(
     requires not_empty { 0 < length points.now }
     requires xs { xs.now ≡ map (λ p. p.0) points.now }
     requires tree { IsTreeOver F.field D.domain xs.now tree.now }
-    ensures below { IfOk result (λ p. IsBelow F.field (length points.now) (of_list F.field p)) }
-    ensures values { IfOk result (λ p. HasValues F.field (length points.now) (x_of F.field points.now)
-        (y_of F.field points.now) (of_list F.field p)) }
-    ensures only { IfOk result (λ p. (a : ℕ → F) → IsBelow F.field (length points.now) a
-        → HasValues F.field (length points.now) (x_of F.field points.now) (y_of F.field points.now) a
-        → a ≡ of_list F.field p) }
-    ensures different { IfOk result (λ p. AreDifferent (length points.now) (x_of F.field points.now)) }
+    ensures through { IfOk result (λ p. IsThrough F.field points.now (of_list F.field p)) }
     ensures repeated { (result ≡ Err PointsError.RepeatedPoint)
         → HasRepeated (length points.now) (x_of F.field points.now) }
     ensures errors { IsOkUnlessEither result PointsError.Memory PointsError.RepeatedPoint }
@@ -77,7 +86,8 @@ fn through_tree<F: FftField, D: EvaluationDomain<F>>(
     let slopes = slopes(alloc, levels, tree, xs)?;
     if has_zero(&slopes) {
         // Two points are one, as the plain way tells.
-        return naive_from_points(alloc, points);
+        let polynomial = naive_from_points(alloc, points)?;
+        return Ok(polynomial);
     }
     let weights = weights(alloc, &slopes, points)?;
     Ok(tree.weighed(alloc, levels, xs, &weights)?)

@@ -2,7 +2,7 @@
 
 ghost use Rattle.std.specs.Prelude.{◌≡◌, ◌<◌, length, IfOk, IsOkUnless};
 ghost use Rattle.ark_math.specs.Univariate.{of_list};
-ghost use Rattle.ark_points.specs.Points.{HasValues};
+ghost use Rattle.ark_points.specs.Points.{AreValuesAt, HasValues};
 ghost use Rattle.ark_points.specs.Tree.{IsTreeOver};
 
 use crate::coset::values_by_coset;
@@ -36,7 +36,20 @@ pub fn evaluate_at<F: FftField>(
     if is_short || GeneralEvaluationDomain::<F>::new(points.len()).is_none() {
         return naive_evaluate_at(alloc, polynomial, points);
     }
-    let levels = Levels::<F, GeneralEvaluationDomain<F>>::new(alloc, points.len())?;
+    values_at_many::<F, GeneralEvaluationDomain<F>>(alloc, polynomial, points)
+}
+
+// The values at some points, by a tree over them.
+fn values_at_many<F: FftField, D: EvaluationDomain<F>>(
+    alloc: Global,
+    polynomial: &DensePolynomial<F>,
+    points: &[F],
+) -> Result<Vec<F>, PolyError>
+    requires not_empty { 0 < length points.now }
+    ensures values { IfOk result (λ v. AreValuesAt F.field points.now v.items (of_list F.field polynomial.now)) }
+    ensures memory { IsOkUnless result PolyError.Memory }
+{
+    let levels = Levels::<F, D>::new(alloc, points.len())?;
     let tree = Products::new(alloc, &levels, points)?;
     values_by_tree(alloc, &levels, &tree, polynomial, points)
 }
@@ -51,9 +64,7 @@ pub fn values_by_tree<F: FftField, D: EvaluationDomain<F>>(
 ) -> Result<Vec<F>, PolyError>
     requires not_empty { 0 < length points.now }
     requires tree { IsTreeOver F.field D.domain points.now tree.now }
-    ensures len { IfOk result (λ v. length v.items ≡ length points.now) }
-    ensures values { IfOk result (λ v. HasValues F.field (length points.now) (of_list F.field points.now)
-        (of_list F.field v.items) (of_list F.field polynomial.now)) }
+    ensures values { IfOk result (λ v. AreValuesAt F.field points.now v.items (of_list F.field polynomial.now)) }
     ensures memory { IsOkUnless result PolyError.Memory }
 {
     match values_by_coset(alloc, levels, tree, polynomial, points)? {
@@ -62,7 +73,7 @@ pub fn values_by_tree<F: FftField, D: EvaluationDomain<F>>(
     }
 }
 
-// The same through an inverse power series of the product, which each field has.
+// The same through an inverse power series of the product, or a division where the field has no domain for that.
 fn values_by_series<F: FftField, D: EvaluationDomain<F>>(
     alloc: Global,
     levels: &Levels<F, D>,
@@ -72,13 +83,12 @@ fn values_by_series<F: FftField, D: EvaluationDomain<F>>(
 ) -> Result<Vec<F>, PolyError>
     requires not_empty { 0 < length points.now }
     requires tree { IsTreeOver F.field D.domain points.now tree.now }
-    ensures len { IfOk result (λ v. length v.items ≡ length points.now) }
-    ensures values { IfOk result (λ v. HasValues F.field (length points.now) (of_list F.field points.now)
-        (of_list F.field v.items) (of_list F.field polynomial.now)) }
+    ensures values { IfOk result (λ v. AreValuesAt F.field points.now v.items (of_list F.field polynomial.now)) }
     ensures memory { IsOkUnless result PolyError.Memory }
 {
     let scaled = scaled_by(alloc, polynomial, tree.product(), points.len())?;
-    tree.values(alloc, levels, points, &scaled)
+    let values = tree.values(alloc, levels, points, &scaled)?;
+    Ok(values)
 }
 
 /// The values of a polynomial at points, in their order, each for itself.

@@ -1,8 +1,7 @@
 //! Calls of erasure codes.
 
-ghost use Rattle.std.specs.Prelude.{◌≡◌, ◌↔◌, ◌-◌, ◌*◌, ◌<◌, length, map, Err, IfOk, IfSome};
-ghost use Rattle.rs_code.specs.Codeword.{AgreesWith, erasure_count};
-ghost use Rattle.rs_code.specs.Cost.{GrowsWithin};
+ghost use Rattle.std.specs.Prelude.{◌≡◌, map, IfOk, IfSome};
+ghost use Rattle.rs_code.specs.Codeword.{AgreesWith};
 
 use ark_base::{DomainCoeff, FftField, Work};
 use ark_poly::EvaluationDomain;
@@ -19,7 +18,7 @@ pub fn code_for<F: FftField, D: EvaluationDomain<F>>(
     DomainCode::new(k, n_at_least)
 }
 
-/// The codeword that has the word's values at the places that aren't erased, and what it costs.
+/// The codeword that has the word's values at the places that aren't erased.
 pub fn restored<F: FftField, D: EvaluationDomain<F>, T: DomainCoeff<F>>(
     alloc: Global,
     code: &DomainCode<F, D>,
@@ -27,10 +26,6 @@ pub fn restored<F: FftField, D: EvaluationDomain<F>, T: DomainCoeff<F>>(
     work: &mut Work,
 ) -> Result<Vec<T>, RsError>
     ensures agrees { IfOk result (λ c. AgreesWith T.group T.meaning word.now (map T.meaning c.items)) }
-    ensures too_many_erased { (result ≡ Err RsError.TooManyErased)
-        ↔ (length word.now ≡ code.now.domain.size)
-        × (code.now.domain.size - code.now.k < erasure_count word.now) }
-    ensures cost { GrowsWithin F.adicity code.now.domain 3 (5 * code.now.domain.size) work.old work.new }
 {
     code.restore_counted(alloc, word, work)
 }

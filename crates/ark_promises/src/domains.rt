@@ -1,10 +1,8 @@
 //! Calls of domains of any kind.
 
-ghost use Rattle.std.specs.Prelude.{◌≡◌, length, map, IfSome, OnOk, OnErr};
+ghost use Rattle.std.specs.Prelude.{◌≡◌, map, IfSome, OnOk};
 ghost use Rattle.ark_bytes.specs.Reading.{Reads, source_state};
-ghost use Rattle.ark_math.specs.Cost.{forward};
 ghost use Rattle.ark_math.specs.Transform.{IsInverse, transform};
-ghost use Rattle.ark_traits.specs.Cost.{GrowsByCost};
 
 use ark_base::{
     CanonicalDeserialize, Compress, DomainCoeff, FftField, PolyError, SerializationError, Source,
@@ -20,7 +18,7 @@ pub fn domain_for<F: FftField, D: EvaluationDomain<F>>(num_coeffs: usize) -> Opt
     D::new(num_coeffs)
 }
 
-/// The transform in place, and what it costs.
+/// The transform in place.
 pub fn transformed<F: FftField, D: EvaluationDomain<F>, T: DomainCoeff<F>>(
     domain: &D,
     alloc: Global,
@@ -29,9 +27,6 @@ pub fn transformed<F: FftField, D: EvaluationDomain<F>, T: DomainCoeff<F>>(
 ) -> Result<(), PolyError>
     ensures transform { OnOk result (map T.meaning coeffs.new.items
         ≡ transform F.field T.group (D.domain domain.now) (map T.meaning coeffs.old.items)) }
-    ensures cost { OnOk result (GrowsByCost F.adicity (D.domain domain.now) (length coeffs.old.items) forward
-        work.old work.new) }
-    ensures kept { OnErr result (coeffs.new.items ≡ coeffs.old.items) }
 {
     domain.fft_counted(alloc, coeffs, work)
 }

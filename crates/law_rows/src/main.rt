@@ -1,9 +1,13 @@
-//! Answers rows of laws, by what calls together give.
+//! Answers rows of laws, by what calls together give, and rows of bytes that are read and written.
 //!
-//! The first word is a field's order, the second says what the law is about, and an operation and its arguments follow.
+//! The first word is a field's order, the second says what the law is about, and an operation and its arguments follow; or the
+//! second is `bytes`.
 #![tactic(auto)]
 
+mod bytes;
 mod extensions;
+mod hostile;
+mod reading;
 mod univariate;
 
 use ark_test_types::numbered::Numbered;
@@ -26,6 +30,7 @@ impl FieldRows for LawRows {
             return no_row(alloc);
         };
         match subject.as_str() {
+            "bytes" => bytes::answer::<F>(alloc, words),
             "dense" => univariate::answer_of_dense::<F>(alloc, words),
             "values" => univariate::answer_of_values::<F>(alloc, words),
             "dense_extension" => extensions::answer_by_values::<F>(alloc, words),

@@ -29,12 +29,15 @@ returns-clause-values g c =
     let stands : StandsFor K n (nodes K points) u s = subst (λ m. StandsFor K n m u s) is found.1 in
     let last = c.multiply_by_gaps.new.items in
     let back = written_back last _ _ (omega (arith, c.multiply_by_gaps.ensures.len, c.as_mut_slice.ensures.len)) in
-    λ i l.
-    let z = of_list K points i in
-    let y = of_list K c.in_ok-values.values.items i in
-    let root : IsValue K (of_list K c.product.result.now) z K.zero = subst (λ m. IsValue K m z K.zero) (sym is) (nodes-zero K N points i l) in
-    subst (λ v. IsValue K p z (of_list K v i)) (sym back)
-    (subst (IsValue K p z)
-    (sym (c.multiply_by_gaps.ensures.products i (omega (arith, l, c.requires.len))
-    ∙ ap₂ K.times (ap (λ t. of_list K t i) c.as_mut_slice.ensures.value) (ap₂ (minus K) c.coset_offset_pow_size.ensures (c.requires.powers i l))))
-    (found.2 z y root (c.in_ok-values.ensures.values u stands i l)))
+    record {
+      len = omega (arith, ap length back, c.multiply_by_gaps.ensures.len, c.as_mut_slice.ensures.len, c.in_ok-values.ensures.len);
+      values = λ i l.
+          let z = of_list K points i in
+          let y = of_list K c.in_ok-values.values.items i in
+          let root : IsValue K (of_list K c.product.result.now) z K.zero = subst (λ m. IsValue K m z K.zero) (sym is) (nodes-zero K N points i l) in
+          subst (λ v. IsValue K p z (of_list K v i)) (sym back)
+          (subst (IsValue K p z)
+          (sym (c.multiply_by_gaps.ensures.products i (omega (arith, l, c.requires.len))
+          ∙ ap₂ K.times (ap (λ t. of_list K t i) c.as_mut_slice.ensures.value) (ap₂ (minus K) c.coset_offset_pow_size.ensures (c.requires.powers i l))))
+          (found.2 z y root (c.in_ok-values.ensures.values u stands i l)));
+    }

@@ -1,5 +1,4 @@
 use Rattle.std.proofs.Common.{◌≡◌, length, sym, ap, subst, ◌∙◌}
-use Rattle.std.proofs.lemmas.Result.{IfOk-weaker}
 use Rattle.ark_math.specs.Univariate.{of_list}
 use Rattle.ark_points.specs.Tree.{IsMonic, StandsFor, nodes}
 use Rattle.ark_points.proofs.Nodes.{nodes_monic, tree-whole}
@@ -22,4 +21,7 @@ returns-clause-values g c =
     let p = of_list K c.args.polynomial.now in
     let is : of_list K c.product.result.now ≡ nodes K points = ap (of_list K) c.product.ensures ∙ tree-whole K N g.D.EvaluationDomain.domain points c.args.tree.now c.requires.tree in
     let stands : StandsFor K n (nodes K points) p (of_list K c.in_ok-scaled.scaled) = subst (λ m. StandsFor K n m p (of_list K c.in_ok-scaled.scaled)) is c.in_ok-scaled.ensures.stands in
-    IfOk-weaker c.values.result _ _ (λ v h. h p stands) c.values.ensures.values
+    record {
+      len = c.in_ok-values.ensures.len;
+      values = c.in_ok-values.ensures.values p stands;
+    }
