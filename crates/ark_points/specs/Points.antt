@@ -24,9 +24,9 @@ abbrev pub HasValues : {F : Type 0} → FieldOn F → ℕ → (ℕ → F) → (�
 HasValues K n x y a = (i : ℕ) → i < n → IsValue K a (x i) (y i)
 
 -- a list has the values of a at points, one for each
-pub record AreValuesAt {F : Type 0} (K : FieldOn F) (points values : List F) (a : ℕ → F) : Type 0 where
-  pub len : length values ≡ length points
-  pub values : HasValues K (length points) (of_list K points) (of_list K values) a
+pub record AreValuesAt {F : Type 0} (K : FieldOn F) (points ys : List F) (a : ℕ → F) : Type 0 where
+  pub len : length ys ≡ length points
+  pub values : HasValues K (length points) (of_list K points) (of_list K ys) a
 
 -- a is the polynomial through pairs with different x: of a degree below their number it alone has the value y at each x
 pub record IsThrough {F : Type 0} (K : FieldOn F) (points : List (F × F)) (a : ℕ → F) : Type 0 where

@@ -1,12 +1,15 @@
-//! Answers rows of laws, by what calls together give, and rows of bytes that are read and written.
+//! Answers rows of laws, by what calls together give; of bytes that are read and written; and of erasure codes.
 //!
-//! The first word is a field's order, the second says what the law is about, and an operation and its arguments follow; or the
-//! second is `bytes`.
+//! The first word is a field's order. The second is `bytes`, `code` or what a law is about, and its module says which words
+//! follow.
 #![tactic(auto)]
 
 mod bytes;
+mod codes;
+mod drawn_words;
 mod extensions;
 mod hostile;
+mod pairs;
 mod reading;
 mod univariate;
 
@@ -31,6 +34,7 @@ impl FieldRows for LawRows {
         };
         match subject.as_str() {
             "bytes" => bytes::answer::<F>(alloc, words),
+            "code" => codes::answer::<F>(alloc, words),
             "dense" => univariate::answer_of_dense::<F>(alloc, words),
             "values" => univariate::answer_of_values::<F>(alloc, words),
             "dense_extension" => extensions::answer_by_values::<F>(alloc, words),

@@ -51,7 +51,7 @@ returns-clause-values g c =
     let back = written_back last _ _ (omega (arith, c.scale_differences.ensures.len, c.as_mut_slice.ensures.len)) in
     subst (AreValues K e t) (sym back)
     (upper_values K N e.size p e o O refl turn.other_size ones others c.args.inverse signs.half t q first between turned last
-    (subst (λ n. IsBelow K (e.size + n) p) (sym turn.size) below) few upper V X Q short c.in_ok-turned_values.ensures.values
+    (subst (λ n. IsBelow K (e.size + n) p) (sym turn.half.size) below) few upper V X Q short c.in_ok-turned_values.ensures.values
     (c.scale_differences.ensures.len ∙ ap length c.as_mut_slice.ensures.value ∙ firsts.len ∙ c.size-2.ensures)
     (λ i l.
     halves i (omega (arith, l, many))

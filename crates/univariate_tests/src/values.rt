@@ -1,10 +1,10 @@
 //! Values of drawn polynomials over domains, the polynomials through them, and products and quotients by vanishing
 //! polynomials.
 
+use crate::calls::coset;
 use crate::forms::{Form, gave, some};
 use ark_base::{FftField, Field};
 use ark_laws::{values_of_all_forms, weighted_sum};
-use ark_trials::calls::coset;
 use ark_univariate::univariate::{DenseOrSparsePolynomial, DensePolynomial, SparsePolynomial};
 use ark_univariate::{DenseUVPolynomial, EvaluationDomain, Evaluations, Polynomial};
 use rand_pcg::Pcg64;

@@ -1,8 +1,8 @@
 //! What domains give at points: weights, vanishing polynomials, filters and orders, over every size.
 
+use crate::calls::{coset, listed};
 use crate::forms::gave;
 use ark_base::{FftField, Field};
-use ark_trials::calls::{coset, listed};
 use ark_univariate::univariate::{DensePolynomial, SparsePolynomial};
 use ark_univariate::{DenseUVPolynomial, EvaluationDomain, Polynomial};
 use std::alloc::Global;

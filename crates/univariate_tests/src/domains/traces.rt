@@ -1,10 +1,10 @@
 //! How many distinct products are behind the answers of the kernels, seen from outside.
 
+use crate::calls::coset;
 use ark_base::{PolyError, Work};
 use ark_fft::domain::radix2::plain::fft_plain;
 use ark_test_types::numbered::Numbered;
 use ark_test_types::traced::{Products, Traced};
-use ark_trials::calls::coset;
 use ark_univariate::EvaluationDomain;
 use std::alloc::{AllocError, Global};
 

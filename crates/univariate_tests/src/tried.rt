@@ -1,10 +1,10 @@
 //! What is tried, over which fields, and over which kinds of domains.
 
+use crate::trials::{Kind, Trial, over};
 use crate::{division, draws, mixed, points, products, sums, values};
 use ark_base::PolyError;
 use ark_test_types::numbered::Numbered;
 use ark_test_types::trials::{FieldTrial, Prime, over_field};
-use ark_trials::trials::{Kind, Trial, over};
 use ark_univariate::EvaluationDomain;
 use std::alloc::Global;
 use std::test::Fail;

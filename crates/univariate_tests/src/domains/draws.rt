@@ -1,8 +1,8 @@
 //! Samples outside a domain, and how much is drawn for them.
 
+use crate::calls::coset;
 use ark_base::FftField;
 use ark_test_types::counting::Counting;
-use ark_trials::calls::coset;
 use ark_univariate::EvaluationDomain;
 use rand_pcg::Pcg64;
 use std::alloc::Global;

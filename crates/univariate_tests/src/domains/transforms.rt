@@ -1,11 +1,11 @@
 //! Transforms at every size, against plain bodies and against their inverses.
 
+use crate::calls::coset;
+use crate::plain::{agrees, forward, inverse};
 use ark_base::{DomainCoeff, FftField, Field, Lanes, PolyError};
 use ark_fft::domain::radix2::fft::powers;
 use ark_test_types::nothing::Nothing;
 use ark_test_types::trials::drawn_elements;
-use ark_trials::calls::coset;
-use ark_trials::plain::{agrees, forward, inverse};
 use ark_univariate::EvaluationDomain;
 use rand_pcg::Pcg64;
 use std::alloc::{AllocError, Global};

@@ -1,6 +1,7 @@
-//! Rows of one field's codes, whose values are elements.
+//! Rows of one field's codes, whose values are elements: an operation, the greatest number of a message's items and the least
+//! number of places, and then its arguments. In a word `_` is an erased place.
 
-use crate::drawn::answer_of_drawn;
+use crate::drawn_words::answer_of_drawn;
 use crate::pairs::{encoded_pairs, restored_pairs};
 use ark_base::{DomainCoeff, FftField};
 use ark_test_types::numbered::Numbered;

@@ -1,10 +1,10 @@
 //! What is tried, over which fields and kinds of domains.
 
-use crate::{draws, traces, transforms};
+use crate::domains::{draws, traces, transforms};
+use crate::trials::{Kind, Trial, over};
 use ark_base::PolyError;
 use ark_test_types::numbered::Numbered;
 use ark_test_types::trials::Prime;
-use ark_trials::trials::{Kind, Trial, over};
 use ark_univariate::EvaluationDomain;
 use std::alloc::Global;
 use std::test::Fail;
