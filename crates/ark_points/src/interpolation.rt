@@ -66,7 +66,6 @@ fn through_many<F: FftField, D: EvaluationDomain<F>>(
     through_tree(alloc, &levels, &tree, &xs, points)
 }
 
-
 // The polynomial through pairs that have these x.
 fn through_tree<F: FftField, D: EvaluationDomain<F>>(
     alloc: Global,

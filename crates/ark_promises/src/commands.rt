@@ -17,7 +17,12 @@ pub fn answered<W: Sink>(alloc: Global, words: &[String], out: &mut W) -> u8
 }
 
 /// Writes a line for each row, and gives the status.
-pub fn checked<W: Sink>(alloc: Global, field: u64, rows: &[(Vec<String>, String)], out: &mut W) -> u8
+pub fn checked<W: Sink>(
+    alloc: Global,
+    field: u64,
+    rows: &[(Vec<String>, String)],
+    out: &mut W,
+) -> u8
     ensures { IsOneWritten (MayCheck (decimal field) (map row_of rows.now))
         (writer W.Sink out.old) (writer W.Sink out.new) result }
 {
