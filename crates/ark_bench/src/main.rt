@@ -30,7 +30,9 @@ use codes::report_codes;
 use draws::Draws;
 use pieces::report_pieces;
 use points::{BoundTable, VARIABLES, ValueAtPoint, polynomial_of_terms};
-use polynomials::{Interpolation, LongDivision, OfTwo, Quotients, SparseProduct, Value, Way};
+use polynomials::{
+    Interpolation, LongDivision, NaiveProduct, OfTwo, Quotients, SparseProduct, Value, Way,
+};
 use shards_format::StripeCode;
 use shards_lib::FileCode;
 use std::alloc::{AllocGlobal, Global};
@@ -224,18 +226,30 @@ fn report_of_two<F: Counted>(
     report(rt, alloc, timed, name, left, &mut of_two)
 }
 
+fn report_naive_product<F: Counted>(
+    rt: &(impl Print + Clock),
+    alloc: Global,
+    timed: bool,
+    draws: &mut Draws,
+) -> anyhow::Result<()> {
+    let mut product = NaiveProduct::<F> {
+        left: draws.dense(alloc, 1 << 10)?,
+        right: draws.dense(alloc, 1 << 10)?,
+        product: DensePolynomial::zero(alloc)?,
+    };
+    report(rt, alloc, timed, "naive_mul", 1 << 10, &mut product)
+}
+
 fn report_dense<F: Counted>(
     rt: &(impl Print + Clock),
     alloc: Global,
     timed: bool,
     draws: &mut Draws,
 ) -> anyhow::Result<()> {
-    for (way, name, len) in [
-        (Way::Naive, "naive_mul", 1 << 10),
-        (Way::Transforms, "dense_mul", 1 << 13),
-        (Way::Transforms, "dense_mul", (1 << 15) - 1),
-    ] {
-        report_of_two::<F>(rt, alloc, timed, draws, (way, name), (len, len))?;
+    report_naive_product::<F>(rt, alloc, timed, draws)?;
+    for len in [1 << 13, (1 << 15) - 1] {
+        let name = (Way::Transforms, "dense_mul");
+        report_of_two::<F>(rt, alloc, timed, draws, name, (len, len))?;
     }
     let mut value = Value::<F> {
         polynomial: draws.dense(alloc, 1 << 16)?,

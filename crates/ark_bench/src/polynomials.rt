@@ -27,8 +27,6 @@ impl<F: Counted> Benchmark for Value<F> {
 /// What is made of two polynomials.
 #[derive(Clone, Copy)]
 pub enum Way {
-    /// The product, by all products of two coefficients.
-    Naive,
     /// The product, through a domain.
     Transforms,
     /// The remainder, through transforms.
@@ -47,7 +45,6 @@ pub struct OfTwo<F: FftField> {
 impl<F: Counted> Benchmark for OfTwo<F> {
     fn call(&mut self, alloc: Global) -> Result<(), PolyError> {
         match self.way {
-            Way::Naive => self.answer = self.left.naive_mul(alloc, &self.right)?,
             Way::Transforms => self.answer = self.left.mul(alloc, &self.right)?,
             Way::Remainder => {
                 if let Some((_, remainder)) = self.left.divide_by_transforms(alloc, &self.right)? {
@@ -60,6 +57,25 @@ impl<F: Counted> Benchmark for OfTwo<F> {
 
     fn checksum(&self) -> u64 {
         mixed(self.answer.coeffs())
+    }
+}
+
+/// The product of two dense polynomials by all products of two coefficients.
+#[derive(Drop)]
+pub struct NaiveProduct<F: Field> {
+    pub left: DensePolynomial<F>,
+    pub right: DensePolynomial<F>,
+    pub product: DensePolynomial<F>,
+}
+
+impl<F: Field + Number> Benchmark for NaiveProduct<F> {
+    fn call(&mut self, alloc: Global) -> Result<(), PolyError> {
+        self.product = self.left.naive_mul(alloc, &self.right)?;
+        Ok(())
+    }
+
+    fn checksum(&self) -> u64 {
+        mixed(self.product.coeffs())
     }
 }
 
