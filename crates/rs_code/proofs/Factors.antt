@@ -2,7 +2,7 @@
 use Rattle.std.proofs.Common.{◌≡◌, ◌≢◌, ℕ, zero, suc, ◌+◌, ◌-◌, ◌/◌, ◌<◌, ◌≤◌, List, [], ◌∷◌, ◌++◌, length, take, drop, sym, ◌∙◌, ap, ap₂, refl, subst, arith, ⊎_elim}
 use mathlib.Core.Path.{fun_ext}
 use Rattle.std.proofs.lemmas.Bool.{cases_eq, cases_lt}
-use Rattle.std.proofs.lemmas.List.{get_or_push, get_or_append_left, get_or_past, length-append}
+use Rattle.std.proofs.lemmas.List.{get_or_push, get_or_append_left, get_or_past, length-append, length-drop, length-take-le}
 use Rattle.ark_math.specs.Field.{FieldOn, IsField, minus}
 use Rattle.ark_math.specs.Module.{itself}
 use Rattle.ark_math.specs.Univariate.{monomial, product, IsBelow, IsValue, of_list}
@@ -58,11 +58,19 @@ module _ {F : Type 0} (K : FieldOn F) (N : IsField K) where
   abbrev pub other_half : List F → List F
   other_half rs = take (length rs - length rs / 2) (drop (length rs / 2) rs)
 
+  pub length-half : (rs : List F) → length (half rs) ≡ length rs / 2
+  length-half rs = length-take-le (length rs / 2) rs (omega arith)
+
+  pub length-other_half : (rs : List F) → length (other_half rs) ≡ length rs - length rs / 2
+  length-other_half rs = length-take-le (length rs - length rs / 2) (drop (length rs / 2) rs) (omega (arith, length-drop (length rs / 2) rs))
+
   locator_halves : (rs : List F) → product K (locator K (half rs)) (locator K (other_half rs)) ≡ locator K rs
   locator_halves rs = locator-append (half rs) (other_half rs) ∙ ap (locator K) (halves rs (length rs / 2))
 
-  pub locator-quarters : (rs : List F) → product K (product K (locator K (half (half rs))) (locator K (other_half (half rs)))) (product K (locator K (half (other_half rs))) (locator K (other_half (other_half rs)))) ≡ locator K rs
-  locator-quarters rs = ap₂ (product K) (locator_halves (half rs)) (locator_halves (other_half rs)) ∙ locator_halves rs
+  pub locator-quarters : (rs : List F) (a b c d : ℕ → F) → a ≡ locator K (half (half rs)) → b ≡ locator K (other_half (half rs)) → c ≡ locator K (half (other_half rs)) → d ≡ locator K (other_half (other_half rs)) →
+      product K (product K a b) (product K c d) ≡ locator K rs
+  locator-quarters rs a b c d first second third fourth =
+      ap₂ (product K) (ap₂ (product K) first second ∙ locator_halves (half rs)) (ap₂ (product K) third fourth ∙ locator_halves (other_half rs)) ∙ locator_halves rs
 
   pub locator-push : (rs : List F) (r : F) → product K (linear K r) (locator K rs) ≡ locator K (rs ++ r ∷ [])
   locator-push rs r =

@@ -2,6 +2,7 @@
 pub mod ChosenFactors
 pub mod Divided
 pub mod Factors
+pub mod Kept
 pub mod Locators
 pub mod Lost
 pub mod Messages
@@ -9,6 +10,9 @@ pub mod Monic
 pub mod PairedValues
 pub mod Parts
 pub mod Places
+pub mod QuarterTurns
 pub mod Restored
 pub mod Sizes
 pub mod Spent
+pub mod TurnedPlaces
+pub mod UpperParts

@@ -4,7 +4,7 @@ use Rattle.std.proofs.lemmas.Bool.{cases_lt}
 use Rattle.ark_math.specs.Field.{FieldOn, IsField}
 use Rattle.ark_math.specs.Root.{Adicity}
 use Rattle.ark_math.specs.Domain.{radix2, mixed_radix, IsSize, HasNoSize, IsGeneral}
-use Rattle.ark_math.specs.Univariate.{of_list, IsTrimmed}
+use Rattle.ark_math.specs.Univariate.{of_list, IsDegree, IsTrimmed}
 use Rattle.ark_math.proofs.Domains.GeneralSizes.{none_from_no_least}
 use Rattle.rs_code.specs.Locator.{HasSizeFor, locator}
 use Rattle.rs_code.proofs.Factors.{locator-short}
@@ -29,6 +29,14 @@ locator_length K N rs p trimmed is =
     absurd (trimmed (omega arith) (ap (λ a. a (length p - 1)) is ∙ locator-short K N rs (length p - 1) (omega arith))))
     (λ (m : length p ≤ length rs + 1). m)
     (cases_lt (length rs + 1) (length p))
+
+-- its degree is no more than their number
+pub locator_degree : {F : Type 0} (K : FieldOn F) → IsField K → (rs : List F) (n : ℕ) → IsDegree K (locator K rs) n → n ≤ length rs
+locator_degree K N rs n degree =
+    ⊎_elim
+    (λ (l : length rs < n). absurd (degree.leading (omega arith) (locator-short K N rs n (omega arith))))
+    (λ (m : n ≤ length rs). m)
+    (cases_lt (length rs) n)
 
 -- of two errors the one that can't come leaves the other
 pub only_first : {E : Type 0} {e a b : E} → (e ≡ a) ⊎ (e ≡ b) → (e ≡ b → ⊥) → e ≡ a

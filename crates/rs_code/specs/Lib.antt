@@ -3,3 +3,4 @@ pub mod Code
 pub mod Codeword
 pub mod Cost
 pub mod Locator
+pub mod Turns

@@ -1,10 +1,10 @@
 -- Words of the private steps: the polynomial that is zero at the erased places, and its derivative.
-use Rattle.std.specs.Prelude.{◌≡◌, ℕ, zero, suc, ◌≤◌, ◌<◌, Bool, true, false, List, [], ◌∷◌, length, get_or}
+use Rattle.std.specs.Prelude.{◌≡◌, ℕ, zero, suc, ◌+◌, ◌≤◌, ◌<◌, Bool, true, false, List, [], ◌∷◌, length, get_or}
 use Rattle.ark_math.specs.Field.{FieldOn, natural, minus}
 use Rattle.ark_math.specs.Module.{ModuleOn}
 use Rattle.ark_math.specs.Root.{Adicity}
 use Rattle.ark_math.specs.Domain.{Kind, Domain, IsSize, element}
-use Rattle.ark_math.specs.Univariate.{difference, monomial, product, of_list}
+use Rattle.ark_math.specs.Univariate.{IsDegree, difference, monomial, product, of_list}
 
 -- the elements at the marked places, of which the first one is place i
 abbrev pub lost_from : {F : Type 0} → FieldOn F → Domain F → ℕ → List Bool → List F
@@ -68,10 +68,9 @@ abbrev pub locator : {F : Type 0} → FieldOn F → List F → ℕ → F
 locator K [] = monomial K 0 K.one
 locator K (r ∷ rs) = product K (linear K r) (locator K rs)
 
--- of degree n, with one as the leading coefficient
-pub record IsMonic {F : Type 0} (K : FieldOn F) (n : ℕ) (a : ℕ → F) : Type 0 where
-  pub leading : a n ≡ K.one
-  pub rest : (i : ℕ) → n < i → a i ≡ K.zero
+-- the degrees of three polynomials are n at most together
+abbrev pub DegreesWithin : {F : Type 0} → FieldOn F → (ℕ → F) → (ℕ → F) → (ℕ → F) → ℕ → Type 0
+DegreesWithin K a b c n = (i j k : ℕ) → IsDegree K a i → IsDegree K b j → IsDegree K c k → i + j + k ≤ n
 
 -- domains have a size at or above k
 abbrev pub HasSizeFor : Adicity → ℕ → Type 0

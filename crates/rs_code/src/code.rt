@@ -103,8 +103,7 @@ impl<F: FftField, D: EvaluationDomain<F>> DomainCode<F, D> {
     /// let codeword = decoder.restore(alloc, &word)?; // and so for each word that is erased there
     /// ```
     ///
-    /// All of its work is arithmetic of field elements: products of polynomials by halves, two transforms and one batch
-    /// inversion.
+    /// All of its work is arithmetic of field elements: products of polynomials, and values of these over the domain.
     pub fn decoder(&self, alloc: Global, erased: &[bool]) -> Result<DomainDecoder<F, D>, RsError>
         ensures code { IfOk result (λ d. d.code ≡ self.now) }
         ensures erased { IfOk result (λ d. d.erased ≡ erased.now) }

@@ -8,6 +8,8 @@ mod error;
 mod locator;
 mod part;
 mod restore;
+mod sorted;
+mod turns;
 
 pub use code::{Code, DomainCode};
 pub use decoder::{Decoder, DomainDecoder};

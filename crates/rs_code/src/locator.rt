@@ -1,26 +1,55 @@
 //! The polynomial that is zero exactly at the erased places, and the factors that it gives to the places. All of it is
 //! arithmetic of the field's own elements.
 
-ghost use Rattle.std.specs.Prelude.{◌≡◌, ℕ, ◌+◌, ◌<◌, ◌≤◌, true, List, get_or, length, IfOk, OnOk, IsOkUnless};
-ghost use Rattle.std.specs.Prelude.{if◌then◌else◌};
+ghost use Rattle.std.specs.Prelude.{◌≡◌, ℕ, ◌+◌, ◌-◌, ◌*◌, ◌<◌, ◌≤◌, true, List, get_or, length, IfOk, OnOk};
+ghost use Rattle.std.specs.Prelude.{IsOkUnless, if◌then◌else◌};
 ghost use Rattle.ark_math.specs.Module.{itself};
 ghost use Rattle.ark_math.specs.Points.{AreValues};
-ghost use Rattle.ark_math.specs.Univariate.{of_list, product, IsTrimmed};
+ghost use Rattle.ark_math.specs.Univariate.{of_list, product, IsBelow, IsTrimmed};
 ghost use Rattle.rs_code.specs.Codeword.{mark_count};
-ghost use Rattle.rs_code.specs.Locator.{AreFactors, HasSizeFor, IsMonic, derived, linear, locator, lost};
+ghost use Rattle.rs_code.specs.Locator.{AreFactors, DegreesWithin, HasSizeFor, derived, linear, locator, lost};
 
+use crate::part::every;
+use crate::turns::factors_by_turns;
 use ark_base::{FftField, Field, PolyError, batch_inversion};
 use ark_poly::univariate::DensePolynomial;
-use ark_poly::{DenseUVPolynomial, EvaluationDomain, Evaluations, GeneralEvaluationDomain};
+use ark_poly::{
+    DenseUVPolynomial, EvaluationDomain, Evaluations, GeneralEvaluationDomain, Polynomial,
+};
 use std::alloc::{AllocError, Global};
 
 // Up to so many roots are multiplied in one by one.
-const FEW_ROOTS: usize = 64;
+const FEW_ROOTS: usize = 68;
+
+// Up to so many coefficients of a product, and the leading one, are past its domain's size.
+const MOST_PAST: usize = 1024;
 
 /// The factors: at a kept place the value of the polynomial that is zero at the erased ones, and at an erased one the
-/// inverse of its derivative's. The polynomial is made by
-/// quarters, each product through transforms.
+/// inverse of its derivative's. Where more than one of eight places is erased they come from the values at quarter turns, if
+/// the domain has these.
 pub fn factors<F: FftField, D: EvaluationDomain<F>>(
+    alloc: Global,
+    domain: D,
+    erased: &[bool],
+) -> Result<Vec<F>, PolyError>
+    requires len { length erased.now ≡ (D.domain domain).size }
+    requires some_kept { mark_count erased.now < (D.domain domain).size }
+    requires subgroup { (D.domain domain).offset ≡ F.field.one }
+    ensures factors { IfOk result (λ f. AreFactors F.field (D.domain domain) erased.now f.items) }
+    ensures memory { IsOkUnless result PolyError.Memory }
+{
+    if erased.iter().filter(|place| **place).count() > domain.size() / 8 {
+        if let Some(half) = every(domain, 2) {
+            if let Some(quarter) = every(domain, 4) {
+                return factors_by_turns(alloc, domain, half, quarter, erased);
+            }
+        }
+    }
+    factors_by_slopes(alloc, domain, erased)
+}
+
+// The same, by the values of the polynomial and of its derivative, and the inverses of these.
+fn factors_by_slopes<F: FftField, D: EvaluationDomain<F>>(
     alloc: Global,
     domain: D,
     erased: &[bool],
@@ -61,7 +90,10 @@ fn lost_elements<F: FftField, D: EvaluationDomain<F>>(
 }
 
 // The product of x - r for each r of the list.
-fn with_roots<F: FftField>(alloc: Global, roots: &[F]) -> Result<DensePolynomial<F>, PolyError>
+pub(crate) fn with_roots<F: FftField>(
+    alloc: Global,
+    roots: &[F],
+) -> Result<DensePolynomial<F>, PolyError>
     requires room { HasSizeFor F.adicity (length roots.now + 1) }
     ensures product { IfOk result (λ p. of_list F.field p ≡ locator F.field roots.now) }
     ensures memory { IsOkUnless result PolyError.Memory }
@@ -69,7 +101,8 @@ fn with_roots<F: FftField>(alloc: Global, roots: &[F]) -> Result<DensePolynomial
     if roots.len() <= FEW_ROOTS {
         return Ok(with_few_roots(alloc, roots)?);
     }
-    let Some(domain) = GeneralEvaluationDomain::<F>::new(roots.len()) else {
+    let past = MOST_PAST.min(roots.len() / 16);
+    let Some(domain) = GeneralEvaluationDomain::<F>::new(roots.len() - past) else {
         return Err(PolyError::NoDomain);
     };
     let low = &roots[..roots.len() / 2];
@@ -78,11 +111,12 @@ fn with_roots<F: FftField>(alloc: Global, roots: &[F]) -> Result<DensePolynomial
     let second = with_roots(alloc, &low[low.len() / 2..])?;
     let third = with_roots(alloc, &high[..high.len() / 2])?;
     let fourth = with_roots(alloc, &high[high.len() / 2..])?;
-    product(alloc, &first, &second, &third, &fourth, domain, roots.len())
+    product(alloc, &first, &second, &third, &fourth, domain)
 }
 
-// The product of four polynomials, of this degree and with one as its leading coefficient, over a domain with an element
-// for each coefficient below that one: one transform back for two levels of products.
+// The product of four polynomials, over a domain with elements for nearly all of its coefficients: one
+// transform back for two levels of products. That gives the remainder by the vanishing polynomial, of which
+// the quotient is what the product has from the domain's size on.
 fn product<F: FftField, D: EvaluationDomain<F>>(
     alloc: Global,
     first: &DensePolynomial<F>,
@@ -90,13 +124,15 @@ fn product<F: FftField, D: EvaluationDomain<F>>(
     third: &DensePolynomial<F>,
     fourth: &DensePolynomial<F>,
     domain: D,
-    degree: usize,
 ) -> Result<DensePolynomial<F>, PolyError>
-    requires monic { IsMonic F.field degree (product F.field
+    requires three { DegreesWithin F.field (of_list F.field second.now) (of_list F.field third.now)
+        (of_list F.field fourth.now) (D.domain domain).size }
+    requires room { IsBelow F.field (2 * (D.domain domain).size) (product F.field
         (product F.field (of_list F.field first.now) (of_list F.field second.now))
         (product F.field (of_list F.field third.now) (of_list F.field fourth.now))) }
-    requires room { degree ≤ (D.domain domain).size }
-    requires fits { degree < usize.MAX }
+    requires fits { IsBelow F.field usize.MAX (product F.field
+        (product F.field (of_list F.field first.now) (of_list F.field second.now))
+        (product F.field (of_list F.field third.now) (of_list F.field fourth.now))) }
     ensures product { IfOk result (λ p. of_list F.field p ≡ product F.field
         (product F.field (of_list F.field first.now) (of_list F.field second.now))
         (product F.field (of_list F.field third.now) (of_list F.field fourth.now))) }
@@ -105,9 +141,8 @@ fn product<F: FftField, D: EvaluationDomain<F>>(
     let mut values = values_of_product(alloc, first, second, domain)?;
     values.mul_assign(&values_of_product(alloc, third, fourth, domain)?);
     let mut product = values.interpolate(alloc)?;
-    if domain.size() == degree {
-        product.add_assign_sparse(alloc, &domain.vanishing_polynomial(alloc)?)?;
-    }
+    let upper = upper_part(alloc, first, second, third, fourth, domain.size())?;
+    product.add_assign(alloc, &upper.mul_by_vanishing_poly(alloc, domain)?)?;
     Ok(product)
 }
 
@@ -128,6 +163,58 @@ fn values_of_product<F: FftField, D: EvaluationDomain<F>>(
     let mut values = left.evaluate_over_domain_by_ref(alloc, domain)?;
     values.mul_assign(&right.evaluate_over_domain_by_ref(alloc, domain)?);
     Ok(values)
+}
+
+// The coefficients of the product of four polynomials from `start` on. The degrees of the last three are no
+// more than that together, so of each factor only as many coefficients count as are to be found, the highest.
+fn upper_part<F: Field>(
+    alloc: Global,
+    first: &DensePolynomial<F>,
+    second: &DensePolynomial<F>,
+    third: &DensePolynomial<F>,
+    fourth: &DensePolynomial<F>,
+    start: usize,
+) -> Result<DensePolynomial<F>, AllocError>
+    requires { DegreesWithin F.field (of_list F.field second.now) (of_list F.field third.now)
+        (of_list F.field fourth.now) start }
+    ensures same { IfOk result (λ p. (i : ℕ) → of_list F.field p i ≡ product F.field
+        (product F.field (of_list F.field first.now) (of_list F.field second.now))
+        (product F.field (of_list F.field third.now) (of_list F.field fourth.now)) (start + i)) }
+    ensures trimmed { IfOk result (λ p. IsTrimmed F.field p) }
+{
+    let coeffs = first.coeffs();
+    let below = start
+        .saturating_sub(second.degree())
+        .saturating_sub(third.degree())
+        .saturating_sub(fourth.degree());
+    let mut upper = Vec::from_slice(alloc, &coeffs[below.min(coeffs.len())..])?;
+    multiply_upper(upper.as_mut_slice(), second.coeffs());
+    multiply_upper(upper.as_mut_slice(), third.coeffs());
+    multiply_upper(upper.as_mut_slice(), fourth.coeffs());
+    Ok(DensePolynomial::from_coefficients_vec(upper))
+}
+
+// Puts the coefficients of the product with a factor in place of the coefficients: those from the factor's
+// degree on.
+fn multiply_upper<F: Field>(coeffs: &mut [F], factor: &[F])
+    ensures { (i : ℕ) → of_list F.field coeffs.new i ≡ product F.field (of_list F.field coeffs.old)
+        (of_list F.field factor.now) (length factor.now - 1 + i) }
+{
+    for i in 0..coeffs.len() {
+        coeffs[i] = coefficient_at_degree(&coeffs[i..], factor);
+    }
+}
+
+// The coefficient of the product with a factor at the factor's degree.
+fn coefficient_at_degree<F: Field>(coeffs: &[F], factor: &[F]) -> F
+    ensures { result ≡ product F.field (of_list F.field coeffs.now) (of_list F.field factor.now)
+        (length factor.now - 1) }
+{
+    let mut sum = F::zero();
+    for i in 0..coeffs.len().min(factor.len()) {
+        sum += coeffs[i] * factor[factor.len() - 1 - i];
+    }
+    sum
 }
 
 // The product of x - r over few roots, one by one.

@@ -1,6 +1,6 @@
 //! Evenly spaced elements of a domain: what a polynomial with few coefficients is known by.
 
-ghost use Rattle.std.specs.Prelude.{◌≡◌, ℕ, ◌+◌, ◌*◌, ◌<◌, ◌≤◌, true, get_or, length, map};
+ghost use Rattle.std.specs.Prelude.{IfSome, ◌≡◌, ℕ, ◌+◌, ◌*◌, ◌<◌, ◌≤◌, true, get_or, length, map};
 ghost use Rattle.ark_math.specs.Domain.{element};
 ghost use Rattle.ark_math.specs.Field.{power};
 ghost use Rattle.ark_math.specs.Module.{item, sum_below};
@@ -27,6 +27,21 @@ pub fn spaced_part<F: FftField, D: EvaluationDomain<F>>(domain: D, k: usize) -> 
         }
     }
     (domain, 1)
+}
+
+/// The subgroup of every so many elements, where the domain's type has it.
+pub fn every<F: FftField, D: EvaluationDomain<F>>(domain: D, stride: usize) -> Option<D>
+    requires subgroup { (D.domain domain).offset ≡ F.field.one }
+    requires positive { 0 < stride }
+    ensures { IfSome result (λ part. IsSpaced F.field (D.domain domain) (D.domain part) stride) }
+{
+    let n = domain.size();
+    let part = D::new(n / stride)?;
+    let m = part.size();
+    if n % m == 0 && n / m == stride {
+        return Some(part);
+    }
+    None
 }
 
 /// Adds each item to the one that is `m` places before it, from the end on: where the `m`-th power of `x` is one, the

@@ -9,7 +9,7 @@ use Rattle.rs_code.specs.Locator.{AreFactors, derived, locator, lost}
 use Rattle.rs_code.proofs.Lost.{lost-length}
 use Rattle.rs_code.proofs.Sizes.{locator_length}
 use Rattle.rs_code.proofs.ChosenFactors.{chosen_factors}
-use Rattle.rs_code.proofs.locator.factors.Goals as goal
+use Rattle.rs_code.proofs.locator.factors_by_slopes.Goals as goal
 
 pub with_roots-requires : goal.with_roots-requires
 with_roots-requires g c =

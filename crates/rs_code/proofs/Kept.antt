@@ -1,0 +1,177 @@
+-- The marked places of a subgroup and the kept ones: together they are the roots of x ^ n - 1, so at a marked place the
+-- derivative of the one polynomial comes from the value of the other.
+use Rattle.std.proofs.Common.{◌≡◌, ◌≢◌, ℕ, suc, ◌+◌, ◌-◌, ◌<◌, Bool, true, false, List, [], ◌∷◌, ◌++◌, length, map, get_or, cond, sym, ◌∙◌, ap, ap₂, refl, subst, arith, ⊎_elim}
+use mathlib.Core.Path.{fun_ext}
+use Rattle.std.specs.Prelude.{not}
+use Rattle.std.proofs.lemmas.Bool.{cases_eq}
+use Rattle.std.proofs.lemmas.List.{get_or-map, length-append, length-map}
+use Rattle.std.proofs.lemmas.List.Sums.{sum_by-cons}
+use Rattle.ark_math.specs.Field.{FieldOn, IsField, power, natural, minus}
+use Rattle.ark_math.specs.Module.{itself}
+use Rattle.ark_math.specs.Root.{HasOrder}
+use Rattle.ark_math.specs.Domain.{Domain, element}
+use Rattle.ark_math.specs.Univariate.{difference, monomial, nothing, IsBelow, IsValue}
+use Rattle.ark_math.specs.Points.{vanishing}
+use Rattle.ark_math.proofs.Algebra.Groups.{itself_is_module, one_times, zero_scale}
+use Rattle.ark_math.proofs.Algebra.Powers.{power-one, times_zero}
+use Rattle.ark_math.proofs.Algebra.Solve.{◌⊕◌, ◌⊗◌, unit, nought}
+use Rattle.ark_math.proofs.Algebra.Ring.{ring2, ring4, ring5}
+use Rattle.ark_math.proofs.Domains.Elements.{element-power, elements_differ, minus_same, same_from_minus, value-vanishing, element-vanishes}
+use Rattle.ark_math.proofs.OverDomains.Vanishing.{vanishing-below, vanishing-leading}
+use Rattle.ark_math.proofs.Polynomials.Univariate.{IsBelow-less, difference-below, monomial-same, monomial-other}
+use Rattle.ark_math.proofs.Polynomials.UnivariateValues.{one_value, value_is, value-difference, value-monomial}
+use Rattle.ark_math.proofs.Polynomials.Zeros.{zeros_nothing}
+use Rattle.rs_code.specs.Codeword.{mark_count}
+use Rattle.rs_code.specs.Locator.{derived, located, locator, lost, slope}
+use Rattle.rs_code.proofs.Factors.{locator-value, slope-value}
+use Rattle.rs_code.proofs.Lost.{located-lost, lost-length}
+use Rattle.rs_code.proofs.Monic.{locator_monic}
+
+-- ---- the roots of two lists
+
+module _ {F : Type 0} (K : FieldOn F) (N : IsField K) where
+  located-append : (rs ss : List F) (x : F) → located K (rs ++ ss) x ≡ K.times (located K rs x) (located K ss x)
+  located-append [] ss x = sym (one_times K N (located K ss x))
+  located-append (r ∷ rs) ss x =
+      ap (K.times (minus K x r)) (located-append rs ss x) ∙ sym (N.times_assoc (minus K x r) (located K rs x) (located K ss x))
+
+  -- the product rule
+  slope-append : (rs ss : List F) (x : F) → slope K (rs ++ ss) x ≡ K.plus (K.times (slope K rs x) (located K ss x)) (K.times (located K rs x) (slope K ss x))
+  slope-append [] ss x = ring2 K N (λ l s. (s, nought ⊗ l ⊕ unit ⊗ s)) refl (located K ss x) (slope K ss x)
+  slope-append (r ∷ rs) ss x =
+      ap₂ (λ l s. K.plus l (K.times (minus K x r) s)) (located-append rs ss x) (slope-append rs ss x)
+      ∙ ring5 K N (λ m l s k t. (l ⊗ k ⊕ m ⊗ (s ⊗ k ⊕ l ⊗ t), (l ⊕ m ⊗ s) ⊗ k ⊕ (m ⊗ l) ⊗ t)) refl (minus K x r) (located K rs x) (slope K rs x) (located K ss x) (slope K ss x)
+
+-- ---- as many roots as a domain has elements, and each element one of them
+
+module _ {F : Type 0} (K : FieldOn F) (N : IsField K) (d : Domain F) where
+  derived-vanishing : 0 < d.size → derived K (itself K) (vanishing K d) ≡ monomial K (d.size - 1) (natural K d.size)
+  derived-vanishing some =
+      let leading = natural K d.size in
+      fun_ext (λ i. ⊎_elim
+      (λ (e : suc i ≡ d.size).
+      let last : d.size - 1 ≡ i = omega arith in
+      ap (λ k. K.times (natural K k) (vanishing K d k)) e ∙ ap (K.times leading) (vanishing-leading K N d some) ∙ N.times_one leading
+      ∙ sym (ap (λ k. monomial K k leading i) last ∙ monomial-same K i leading))
+      (λ (ne : suc i ≢ d.size).
+      ap (K.times (natural K (suc i)))
+      (ap₂ (minus K) (monomial-other K d.size K.one (suc i) (λ e. ne (sym e))) (monomial-other K 0 (power K d.offset d.size) (suc i) (λ e. omega arith))
+      ∙ minus_same K N K.zero K.zero refl)
+      ∙ times_zero K N (natural K (suc i))
+      ∙ sym (monomial-other K (d.size - 1) leading i (λ e. ne (omega arith))))
+      (cases_eq (suc i) d.size))
+
+  module _ (o : HasOrder K d.root d.size) (off : d.offset ≢ K.zero) (some : 0 < d.size) (rs : List F) (len : length rs ≡ d.size) (roots : (i : ℕ) → i < d.size → located K rs (element K d i) ≡ K.zero) where
+    less : ℕ → F
+    less = difference K (locator K rs) (vanishing K d)
+
+    less-below : IsBelow K d.size less
+    unfolding less
+    less-below =
+        let monic = locator_monic K N rs in
+        IsBelow-less K d.size less
+        (minus_same K N _ _ (ap (locator K rs) (sym len) ∙ monic.leading ∙ sym (vanishing-leading K N d some)))
+        (difference-below K N (suc d.size) (locator K rs) (vanishing K d)
+        (λ i l. monic.rest i (omega arith))
+        (λ i l. vanishing-below K N d i (omega arith)))
+
+    less-value : (i : ℕ) → i < d.size → IsValue K less (element K d i) K.zero
+    unfolding less
+    less-value i l =
+        subst (IsValue K less (element K d i)) (minus_same K N _ _ (roots i l))
+        (value-difference K N (locator K rs) (vanishing K d) (element K d i) _ _ (locator-value K N rs (element K d i)) (element-vanishes K N d o i))
+
+    locator_is_vanishing : locator K rs ≡ vanishing K d
+    unfolding less
+    locator_is_vanishing =
+        let none : less ≡ nothing K =
+        zeros_nothing K N d.size less (element K d) less-below (elements_differ K N d o off)
+        (λ i l. sym (value_is K N d.size less (element K d i) K.zero less-below (less-value i l))) in
+        fun_ext (λ i. same_from_minus K N _ _ (ap (λ a. a i) none))
+
+    located-roots : (x : F) → located K rs x ≡ minus K (power K x d.size) (power K d.offset d.size)
+    located-roots x =
+        one_value K N (locator K rs) x _ _ (locator-value K N rs x)
+        (subst (λ a. IsValue K a x (minus K (power K x d.size) (power K d.offset d.size))) (sym locator_is_vanishing) (value-vanishing K N d x))
+
+    slope-roots : (x : F) → slope K rs x ≡ K.times (natural K d.size) (power K x (d.size - 1))
+    slope-roots x =
+        one_value K N (derived K (itself K) (locator K rs)) x _ _ (slope-value K N rs x)
+        (subst (λ a. IsValue K a x (K.times (power K x (d.size - 1)) (natural K d.size)))
+        (sym (ap (derived K (itself K)) locator_is_vanishing ∙ derived-vanishing some))
+        (value-monomial K N (d.size - 1) (natural K d.size) x))
+        ∙ N.times_comm _ _
+
+-- ---- the marked places and the others
+
+mark_count-not : (marks : List Bool) → mark_count marks + mark_count (map not marks) ≡ length marks
+mark_count-not [] = refl
+mark_count-not (true ∷ marks) =
+    let e = sum_by-cons (λ (mark : Bool). cond mark 1 0) true marks in
+    let f = sum_by-cons (λ (mark : Bool). cond mark 1 0) false (map not marks) in
+    let h = mark_count-not marks in
+    omega (arith, e, f, h)
+mark_count-not (false ∷ marks) =
+    let e = sum_by-cons (λ (mark : Bool). cond mark 1 0) false marks in
+    let f = sum_by-cons (λ (mark : Bool). cond mark 1 0) true (map not marks) in
+    let h = mark_count-not marks in
+    omega (arith, e, f, h)
+
+module _ {F : Type 0} (K : FieldOn F) (N : IsField K) (d : Domain F) (o : HasOrder K d.root d.size) (one : d.offset ≡ K.one) where
+  off : d.offset ≢ K.zero
+  off z = N.one_not_zero (sym one ∙ z)
+
+  offset_power : power K d.offset d.size ≡ K.one
+  offset_power = ap (λ t. power K t d.size) one ∙ power-one K N d.size
+
+  module _ (marks : List Bool) (len : length marks ≡ d.size) where
+    abbrev gone : List F
+    gone = lost K d marks
+
+    abbrev kept : List F
+    kept = lost K d (map not marks)
+
+    both-length : length (gone ++ kept) ≡ d.size
+    both-length = omega (arith, len, length-append gone kept, lost-length K d marks, lost-length K d (map not marks), mark_count-not marks)
+
+    both-roots : (i : ℕ) → i < d.size → located K (gone ++ kept) (element K d i) ≡ K.zero
+    both-roots i l =
+        let x = element K d i in
+        let here : i < length marks = omega arith in
+        let there : i < length (map not marks) = omega (arith, length-map marks not) in
+        located-append K N gone kept x
+        ∙ elim (get_or marks i true) as (λ b. get_or marks i true ≡ b → K.times (located K gone x) (located K kept x) ≡ K.zero) [
+          | true ↦ λ e.
+              ap (λ t. K.times t (located K kept x)) (located-lost K N d o off marks i here e)
+              ∙ zero_scale N (itself_is_module K N) (located K kept x)
+          | false ↦ λ e.
+              ap (K.times (located K gone x)) (located-lost K N d o off (map not marks) i there (get_or-map not marks i true true here ∙ ap not e))
+              ∙ times_zero K N (located K gone x)
+        ] refl
+
+    pub located-all : 0 < d.size → (x : F) → K.times (located K (lost K d marks) x) (located K (lost K d (map not marks)) x) ≡ minus K (power K x d.size) K.one
+    located-all some x =
+        sym (located-append K N gone kept x)
+        ∙ located-roots K N d o off some (gone ++ kept) both-length both-roots x
+        ∙ ap (minus K (power K x d.size)) offset_power
+
+    pub slope-kept : (i : ℕ) → i < d.size → get_or marks i true ≡ true → K.times (slope K (lost K d marks) (element K d i)) (located K (lost K d (map not marks)) (element K d i)) ≡ K.times (natural K d.size) (power K (element K d i) (d.size - 1))
+    slope-kept i l e =
+        let x = element K d i in
+        let s = K.times (slope K gone x) (located K kept x) in
+        sym (slope-append K N gone kept x
+        ∙ ap (λ t. K.plus s (K.times t (slope K kept x))) (located-lost K N d o off marks i (omega arith) e)
+        ∙ ring2 K N (λ s t. (s ⊕ nought ⊗ t, s)) refl s (slope K kept x))
+        ∙ slope-roots K N d o off (omega arith) (gone ++ kept) both-length both-roots x
+
+    -- where h is 1 / n, this is the inverse of the derivative's value
+    pub inverse-slope : (i : ℕ) → i < d.size → get_or marks i true ≡ true → (h : F) → K.times h (natural K d.size) ≡ K.one → K.times (K.times h (K.times (element K d i) (located K (lost K d (map not marks)) (element K d i)))) (slope K (lost K d marks) (element K d i)) ≡ K.one
+    inverse-slope i l e h inverse =
+        let x = element K d i in
+        let p = power K x (d.size - 1) in
+        let whole : suc (d.size - 1) ≡ d.size = omega arith in
+        ring4 K N (λ h x k s. ((h ⊗ (x ⊗ k)) ⊗ s, h ⊗ (x ⊗ (s ⊗ k)))) refl h x (located K kept x) (slope K gone x)
+        ∙ ap (λ t. K.times h (K.times x t)) (slope-kept i l e)
+        ∙ ring4 K N (λ h x n p. (h ⊗ (x ⊗ (n ⊗ p)), (h ⊗ n) ⊗ (x ⊗ p))) refl h x (natural K d.size) p
+        ∙ ap₂ K.times inverse (ap (power K x) whole ∙ element-power K N d o i ∙ offset_power)
+        ∙ N.times_one K.one

@@ -1,0 +1,263 @@
+-- Factors of places from the values at their turns.
+use Rattle.std.proofs.Common.{◌≡◌, ℕ, ◌+◌, ◌*◌, ◌/◌, ◌%◌, ◌-◌, ◌⊎◌, inl, inr, ⊎_elim, ◌<◌, ◌≤◌, Bool, true, false, List, length, map, get_or, sym, ◌∙◌, ap, ap₂, refl, subst, arith, mod-lt}
+use Rattle.std.specs.Prelude.{not}
+use Rattle.std.proofs.Math.Nat.{mod-add-div, mul-le-mul_right}
+use Rattle.std.proofs.lemmas.Bool.{cases_lt}
+use Rattle.ark_math.specs.Field.{FieldOn, IsField, natural, power}
+use Rattle.ark_math.specs.Root.{Adicity, HasOrder}
+use Rattle.ark_math.specs.Domain.{Domain, IsSize, element}
+use Rattle.ark_math.proofs.Algebra.Powers.{power-add, power-mul, power-one}
+use Rattle.ark_math.proofs.Algebra.Solve.{◌⊗◌, negative, unit}
+use Rattle.ark_math.proofs.Algebra.Ring.{ring3, ring4, ring6, ring7, ring2_by}
+use Rattle.ark_math.specs.Univariate.{of_list}
+use Rattle.rs_code.specs.Locator.{HasSizeFor, lost, located, slope, IsFactor}
+use Rattle.rs_code.specs.Turns.{HoldValues, four, Sorted, over_kept, AreSorted, kept_factor, erased_factor, kept_from, erased_from}
+use Rattle.rs_code.proofs.QuarterTurns.{turn-square, element-turned, element-opposite, element-back}
+use Rattle.rs_code.proofs.Places.{at_default, is_read}
+use Rattle.rs_code.proofs.Kept.{inverse-slope}
+
+-- a later place of four is within
+pub first_fits : (q j f n : ℕ) → {m : ℕ} → m ≡ q + (q + (q + q)) → n ≡ m → j < q → f < 4 → j + f * q < n
+first_fits q j f n whole len l b = let e : f * q ≤ 3 * q = mul-le-mul_right q (omega (arith, b)) in omega (arith, whole, len, l, e)
+
+-- a list of no more roots than a quarter of the elements has room
+pub list_room : {F : Type 0} (s : Adicity) (d : Domain F) → IsSize s d.kind d.size → 0 < d.size → (xs ys zs : List F) → length xs ≡ d.size → length zs ≤ length xs / 4 → ys ≡ zs → HasSizeFor s (length ys + 1)
+list_room s d size some xs ys zs len few same = (d.kind, d.size, size, omega (arith, len, few, some, ap length same))
+
+-- a quarter, or one of two halves of a half, ends within
+pub turn_end : (t q n : ℕ) → t < 4 → n ≡ q * 4 → t * q + q ≤ n
+turn_end t q n l e = let f : t * q ≤ 3 * q = mul-le-mul_right q (omega (arith, l)) in omega (arith, e, f)
+
+pub half_end : (t q n : ℕ) → t < 2 → n ≡ q * 2 → t * q + q ≤ n
+half_end t q n l e = let f : t * q ≤ 1 * q = mul-le-mul_right q (omega (arith, l)) in omega (arith, e, f)
+
+-- the marks of four places as they are read
+pub four_read : (marks : List Bool) (q j : ℕ) → j + q + q + q < length marks →
+    record { first = get_or marks j false; second = get_or marks (j + q) false; third = get_or marks (j + q + q) false; fourth = get_or marks (j + q + q + q) false } ≡ four marks q j
+four_read marks q j l =
+    let same : (i : ℕ) → i < length marks → get_or marks i false ≡ get_or marks i true = λ i h. sym (at_default marks i false true (get_or marks i false) h refl) in
+    ap₂ (λ s t. record { first = s; second = t; third = get_or marks (j + q + q) false; fourth = get_or marks (j + q + q + q) false }) (same j (omega (arith, l))) (same (j + q) (omega (arith, l)))
+    ∙ ap₂ (λ s t. record { first = get_or marks j true; second = get_or marks (j + q) true; third = s; fourth = t }) (same (j + q + q) (omega (arith, l))) (same (j + q + q + q) l)
+
+module _ {F : Type 0} (K : FieldOn F) where
+  -- what is read of a list
+  pub read : (xs : List F) (i : ℕ) (x : F) → i < length xs → x ≡ get_or xs i x → x ≡ of_list K xs i
+  read xs i x l e = sym (is_read xs i x K.zero l e)
+
+  -- factors from the same values
+  pub kept_same : {a b c e f g h i a2 b2 c2 e2 f2 g2 h2 i2 : F} → a ≡ a2 → b ≡ b2 → c ≡ c2 → e ≡ e2 → f ≡ f2 → g ≡ g2 → h ≡ h2 → i ≡ i2 →
+      kept_factor K a b c e f g h i ≡ kept_factor K a2 b2 c2 e2 f2 g2 h2 i2
+  kept_same a b c e f g h i = ap₂ K.times (ap₂ K.times (ap₂ K.times a b) c) (ap₂ K.times (ap₂ K.times e f) (ap₂ K.times g (ap₂ K.times h i)))
+
+  pub erased_same : {x a b c e f g h i x2 a2 b2 c2 e2 f2 g2 h2 i2 : F} → x ≡ x2 → a ≡ a2 → b ≡ b2 → c ≡ c2 → e ≡ e2 → f ≡ f2 → g ≡ g2 → h ≡ h2 → i ≡ i2 →
+      erased_factor K x a b c e f g h i ≡ erased_factor K x2 a2 b2 c2 e2 f2 g2 h2 i2
+  erased_same x a b c e f g h i = ap₂ K.times (ap₂ K.times (ap₂ K.times x a) (ap₂ K.times b i)) (ap₂ K.times (ap₂ K.times c (ap₂ K.times e f)) (ap₂ K.times g h))
+
+module _ {F : Type 0} (K : FieldOn F) (N : IsField K) (d : Domain F) (q : ℕ) (o : HasOrder K d.root d.size) (one : d.offset ≡ K.one) (size : d.size ≡ q + (q + (q + q))) (some : 0 < q) where
+  -- places that differ by rounds
+  pub element-rounds : (i c : ℕ) → element K d (i + d.size * c) ≡ element K d i
+  element-rounds i c =
+      ap (K.times d.offset)
+      (power-add K N d.root i (d.size * c)
+      ∙ ap (K.times (power K d.root i)) (power-mul K N d.root d.size c ∙ ap (λ t. power K t c) o.one ∙ power-one K N c)
+      ∙ N.times_one (power K d.root i))
+
+  -- a place of the quarter t, turned s times
+  pub element-turns : (t s j : ℕ) → element K d (((t + s) % 4) * q + j) ≡ element K d ((t * q + j) + s * q)
+  element-turns t s j =
+      let whole : t + s ≡ (t + s) % 4 + 4 * ((t + s) / 4) = omega (arith, mod-add-div (t + s) 4) in
+      let e : (t * q + j) + s * q ≡ (((t + s) % 4) * q + j) + d.size * ((t + s) / 4) = rounds t s j ((t + s) % 4) ((t + s) / 4) whole in
+      sym (ap (element K d) e ∙ element-rounds (((t + s) % 4) * q + j) ((t + s) / 4))
+    where
+      rounds : (t s j r c : ℕ) → t + s ≡ r + 4 * c → (t * q + j) + s * q ≡ (r * q + j) + d.size * c
+      rounds t s j r c e =
+          let f : t * q + s * q ≡ (t + s) * q = omega arith in
+          let g : (t + s) * q ≡ (r + 4 * c) * q = ap (λ n. n * q) e in
+          let h : (r + 4 * c) * q ≡ r * q + (q + (q + (q + q))) * c = omega arith in
+          let k : d.size * c ≡ (q + (q + (q + q))) * c = ap (λ n. n * c) size in
+          omega (arith, f, g, h, k)
+
+  -- the square of an element, and the other one of its half of the squares
+  element-square : (i : ℕ) → element K d (i * 2) ≡ K.times (element K d i) (element K d i)
+  element-square i =
+      let e : i * 2 ≡ i + i = omega arith in
+      ap (element K d) e
+      ∙ ap₂ K.times one (power-add K N d.root i i)
+      ∙ ring3 K N (λ o p w. (unit ⊗ (p ⊗ p), (unit ⊗ p) ⊗ (unit ⊗ p))) refl K.one (power K d.root i) K.one
+      ∙ sym (ap₂ (λ s t. K.times (K.times s (power K d.root i)) (K.times t (power K d.root i))) one one)
+
+  element-fourth : (i : ℕ) → element K d (i * 4) ≡ K.times (K.times (element K d i) (element K d i)) (K.times (element K d i) (element K d i))
+  element-fourth i =
+      let e : i * 4 ≡ (i * 2) * 2 = omega arith in
+      ap (element K d) e ∙ element-square (i * 2) ∙ ap (λ t. K.times t t) (element-square i)
+
+  pub square-turned : (t j : ℕ) → element K d (((t % 2) * q + j) * 2) ≡ K.times (element K d (t * q + j)) (element K d (t * q + j))
+  square-turned t j =
+      let whole : t ≡ t % 2 + 2 * (t / 2) = omega (arith, mod-add-div t 2) in
+      let e : (t * q + j) * 2 ≡ ((t % 2) * q + j) * 2 + d.size * (t / 2) = rounds t j (t % 2) (t / 2) whole in
+      sym (ap (element K d) e ∙ element-rounds (((t % 2) * q + j) * 2) (t / 2)) ∙ element-square (t * q + j)
+    where
+      rounds : (t j r c : ℕ) → t ≡ r + 2 * c → (t * q + j) * 2 ≡ (r * q + j) * 2 + d.size * c
+      rounds t j r c e =
+          let g : t * q ≡ (r + 2 * c) * q = ap (λ n. n * q) e in
+          let h : (r + 2 * c) * q * 2 ≡ r * q * 2 + (q + (q + (q + q))) * c = omega arith in
+          let k : d.size * c ≡ (q + (q + (q + q))) * c = ap (λ n. n * c) size in
+          omega (arith, g, h, k)
+
+  pub square-other : (t j : ℕ) → element K d ((((t + 1) % 2) * q + j) * 2) ≡ K.negated (K.times (element K d (t * q + j)) (element K d (t * q + j)))
+  square-other t j =
+      let next : (t + 1) * q + j ≡ (t * q + j) + q = omega arith in
+      let w = element K d q in
+      let x = element K d (t * q + j) in
+      square-turned (t + 1) j
+      ∙ ap (λ i. K.times (element K d i) (element K d i)) next
+      ∙ ap (λ y. K.times y y) (element-turned K N d q o one size some (t * q + j))
+      ∙ ring2_by K N (λ w x. ((w ⊗ x) ⊗ (w ⊗ x), negative (x ⊗ x), (x ⊗ x) ⊗ (w ⊗ w), (x ⊗ x) ⊗ negative unit)) refl w x (ap (K.times (K.times x x)) (turn-square K N d q o one size some))
+
+  pub fourth-turned : (t j : ℕ) → element K d (j * 4) ≡ K.times (K.times (element K d (t * q + j)) (element K d (t * q + j))) (K.times (element K d (t * q + j)) (element K d (t * q + j)))
+  fourth-turned t j =
+      let k : d.size * t ≡ (q + (q + (q + q))) * t = ap (λ n. n * t) size in
+      let h : (q + (q + (q + q))) * t ≡ t * q * 4 = omega arith in
+      let e : (t * q + j) * 4 ≡ j * 4 + d.size * t = omega (arith, h, k) in
+      sym (ap (element K d) e ∙ element-rounds (j * 4) t) ∙ element-fourth (t * q + j)
+
+  -- the three turns of a place
+  pub turn-ahead : (t j : ℕ) → element K d (((t + 1) % 4) * q + j) ≡ K.times (element K d q) (element K d (t * q + j))
+  turn-ahead t j = element-turns t 1 j ∙ (let e : (t * q + j) + 1 * q ≡ (t * q + j) + q = omega arith in ap (element K d) e) ∙ element-turned K N d q o one size some (t * q + j)
+
+  pub turn-over : (t j : ℕ) → element K d (((t + 2) % 4) * q + j) ≡ K.negated (element K d (t * q + j))
+  turn-over t j = element-turns t 2 j ∙ (let e : (t * q + j) + 2 * q ≡ (t * q + j) + q + q = omega arith in ap (element K d) e) ∙ element-opposite K N d q o one size some (t * q + j)
+
+  pub turn-back : (t j : ℕ) → element K d (((t + 3) % 4) * q + j) ≡ K.negated (K.times (element K d q) (element K d (t * q + j)))
+  turn-back t j = element-turns t 3 j ∙ (let e : (t * q + j) + 3 * q ≡ (t * q + j) + q + q + q = omega arith in ap (element K d) e) ∙ element-back K N d q o one size some (t * q + j)
+
+  -- ---- factors
+
+  module _ (marks : List Bool) (len : length marks ≡ d.size) (s : Sorted F) (sorted : AreSorted K d q marks s) (t j : ℕ) (inside : t * q + j < d.size) where
+    pub kept-place : (all opposite first two two_back three three_back three_over : F) → get_or marks (t * q + j) true ≡ false →
+        all ≡ K.times s.erased_scale (located K s.all (element K d (j * 4))) →
+        opposite ≡ located K s.opposite (element K d (((t % 2) * q + j) * 2)) →
+        first ≡ located K s.one (element K d (t * q + j)) →
+        two ≡ located K s.two (element K d (t * q + j)) → two_back ≡ located K s.two (element K d (((t + 3) % 4) * q + j)) →
+        three ≡ located K s.three (element K d (t * q + j)) → three_back ≡ located K s.three (element K d (((t + 3) % 4) * q + j)) → three_over ≡ located K s.three (element K d (((t + 2) % 4) * q + j)) →
+        IsFactor K (lost K d marks) (element K d (t * q + j)) (get_or marks (t * q + j) true) (kept_factor K all opposite first two two_back three three_back three_over)
+    kept-place all opposite first two two_back three three_back three_over e all_is opposite_is one_is two_is two_back_is three_is three_back_is three_over_is =
+        let x = element K d (t * q + j) in
+        let w = element K d q in
+        let a = located K s.all (K.times (K.times x x) (K.times x x)) in
+        let p = located K s.opposite (K.times x x) in
+        let f = located K s.one x in
+        let g = located K s.two x in
+        let g_back = located K s.two (K.negated (K.times w x)) in
+        let h = located K s.three x in
+        let h_back = located K s.three (K.negated (K.times w x)) in
+        let h_over = located K s.three (K.negated x) in
+        subst (λ b. IsFactor K (lost K d marks) x b (kept_factor K all opposite first two two_back three three_back three_over)) (sym e)
+        (ap₂ (λ u v. K.times (K.times u first) v)
+        (ap₂ K.times (all_is ∙ ap (λ y. K.times s.erased_scale (located K s.all y)) (fourth-turned t j)) (opposite_is ∙ ap (located K s.opposite) (square-turned t j)))
+        (ap₂ K.times (ap₂ K.times two_is (two_back_is ∙ ap (located K s.two) (turn-back t j))) (ap₂ K.times three_is (ap₂ K.times (three_back_is ∙ ap (located K s.three) (turn-back t j)) (three_over_is ∙ ap (located K s.three) (turn-over t j)))))
+        ∙ ap (λ y. K.times (K.times (K.times (K.times s.erased_scale a) p) y) (K.times (K.times g g_back) (K.times h (K.times h_back h_over)))) one_is
+        ∙ ring6 K N (λ k a p f g h. ((((k ⊗ a) ⊗ p) ⊗ f) ⊗ (g ⊗ h), k ⊗ (f ⊗ (g ⊗ (h ⊗ (p ⊗ a)))))) refl s.erased_scale a p f (K.times g g_back) (K.times h (K.times h_back h_over))
+        ∙ sorted.erased x)
+
+    pub erased-place : (inverse none opposite first_back first_over first_ahead two_over two_ahead three_ahead : F) → get_or marks (t * q + j) true ≡ true →
+        K.times inverse (natural K d.size) ≡ K.one →
+        none ≡ K.times (K.times s.kept_scale inverse) (located K s.none (element K d (j * 4))) →
+        opposite ≡ located K s.opposite (element K d ((((t + 1) % 2) * q + j) * 2)) →
+        first_back ≡ located K s.one (element K d (((t + 3) % 4) * q + j)) → first_over ≡ located K s.one (element K d (((t + 2) % 4) * q + j)) → first_ahead ≡ located K s.one (element K d (((t + 1) % 4) * q + j)) →
+        two_over ≡ located K s.two (element K d (((t + 2) % 4) * q + j)) → two_ahead ≡ located K s.two (element K d (((t + 1) % 4) * q + j)) →
+        three_ahead ≡ located K s.three (element K d (((t + 1) % 4) * q + j)) →
+        IsFactor K (lost K d marks) (element K d (t * q + j)) (get_or marks (t * q + j) true) (erased_factor K (element K d (t * q + j)) none opposite first_back first_over first_ahead two_over two_ahead three_ahead)
+    erased-place inverse none opposite first_back first_over first_ahead two_over two_ahead three_ahead e inverse_is none_is opposite_is back_is over_is ahead_is two_over_is two_ahead_is three_ahead_is =
+        let x = element K d (t * q + j) in
+        let w = element K d q in
+        let z = located K s.none (K.times (K.times x x) (K.times x x)) in
+        let p = located K s.opposite (K.negated (K.times x x)) in
+        let f = K.times (located K s.one (K.negated (K.times w x))) (K.times (located K s.one (K.negated x)) (located K s.one (K.times w x))) in
+        let g = K.times (located K s.two (K.negated x)) (located K s.two (K.times w x)) in
+        let h = located K s.three (K.times w x) in
+        let formula = erased_factor K x none opposite first_back first_over first_ahead two_over two_ahead three_ahead in
+        let same : formula ≡ K.times inverse (K.times x (located K (lost K d (map not marks)) x)) =
+        ap₂ (λ u v. K.times (K.times (K.times x u) v) (K.times (K.times first_back (K.times first_over first_ahead)) (K.times two_over two_ahead)))
+        (none_is ∙ ap (λ y. K.times (K.times s.kept_scale inverse) (located K s.none y)) (fourth-turned t j))
+        (ap₂ K.times (opposite_is ∙ ap (located K s.opposite) (square-other t j)) (three_ahead_is ∙ ap (located K s.three) (turn-ahead t j)))
+        ∙ ap₂ (λ u v. K.times (K.times (K.times x (K.times (K.times s.kept_scale inverse) z)) (K.times p h)) (K.times u v))
+        (ap₂ K.times (back_is ∙ ap (located K s.one) (turn-back t j)) (ap₂ K.times (over_is ∙ ap (located K s.one) (turn-over t j)) (ahead_is ∙ ap (located K s.one) (turn-ahead t j))))
+        (ap₂ K.times (two_over_is ∙ ap (located K s.two) (turn-over t j)) (two_ahead_is ∙ ap (located K s.two) (turn-ahead t j)))
+        ∙ ap (λ y. K.times (K.times y (K.times p h)) (K.times f g)) (ring4 K N (λ x k i z. (x ⊗ ((k ⊗ i) ⊗ z), (i ⊗ x) ⊗ (k ⊗ z))) refl x s.kept_scale inverse z)
+        ∙ ring7 K N (λ i k z p h f g. (((i ⊗ (k ⊗ z)) ⊗ (p ⊗ h)) ⊗ (f ⊗ g), i ⊗ (k ⊗ (f ⊗ (g ⊗ (h ⊗ (p ⊗ z))))))) refl (K.times inverse x) s.kept_scale z p h f g
+        ∙ N.times_assoc inverse x (over_kept K w s x)
+        ∙ ap (λ y. K.times inverse (K.times x y)) (sorted.kept x) in
+        subst (λ b. IsFactor K (lost K d marks) x b formula) (sym e)
+        (ap (λ y. K.times y (slope K (lost K d marks) x)) same
+        ∙ inverse-slope K N d o one marks len (t * q + j) inside e inverse inverse_is)
+
+  quarter_fits : (t j : ℕ) → t < 4 → j < q → t * q + j < d.size
+  quarter_fits t j l h = let e : t * q ≤ 3 * q = mul-le-mul_right q (omega (arith, l)) in omega (arith, size, e, h)
+
+  half_fits : (t j : ℕ) → t < 2 → j < q → t * q + j < q + q
+  half_fits t j l h = let e : t * q ≤ 1 * q = mul-le-mul_right q (omega (arith, l)) in omega (arith, e, h)
+
+  -- so what is made of them is a factor
+  pub turn-factor : (marks : List Bool) (len : length marks ≡ d.size) (s : Sorted F) (sorted : AreSorted K d q marks s) (inverse : F) (inverse_is : K.times inverse (natural K d.size) ≡ K.one)
+      (one_list two_list three_list opposite_list all_list none_list : List F) → HoldValues K d q s inverse one_list two_list three_list opposite_list all_list none_list →
+      (t j : ℕ) → t < 4 → j < q → (y : F) →
+      (get_or marks (t * q + j) true ≡ false → y ≡ kept_from K all_list opposite_list one_list two_list three_list (t * q) ((t + 3) % 4 * q) ((t + 2) % 4 * q) (t % 2 * q) j) →
+      (get_or marks (t * q + j) true ≡ true → y ≡ erased_from K (element K d (t * q + j)) none_list opposite_list one_list two_list three_list ((t + 1) % 4 * q) ((t + 2) % 4 * q) ((t + 3) % 4 * q) ((t + 1) % 2 * q) j) →
+      IsFactor K (lost K d marks) (element K d (t * q + j)) (get_or marks (t * q + j) true) y
+  turn-factor marks len s sorted inverse inverse_is ones twos threes opposites alls nones h t j l m y kept erased =
+      let here = quarter_fits t j l m in
+      let ahead = quarter_fits ((t + 1) % 4) j (mod-lt (t + 1) (omega arith)) m in
+      let over = quarter_fits ((t + 2) % 4) j (mod-lt (t + 2) (omega arith)) m in
+      let back = quarter_fits ((t + 3) % 4) j (mod-lt (t + 3) (omega arith)) m in
+      let square = half_fits (t % 2) j (mod-lt t (omega arith)) m in
+      let other = half_fits ((t + 1) % 2) j (mod-lt (t + 1) (omega arith)) m in
+      elim (get_or marks (t * q + j) true) as (λ b. get_or marks (t * q + j) true ≡ b → IsFactor K (lost K d marks) (element K d (t * q + j)) b y) [
+        | true ↦ λ e.
+            subst (λ z. K.times z (slope K (lost K d marks) (element K d (t * q + j))) ≡ K.one) (sym (erased e))
+            (subst (λ b. IsFactor K (lost K d marks) (element K d (t * q + j)) b (erased_from K (element K d (t * q + j)) nones opposites ones twos threes ((t + 1) % 4 * q) ((t + 2) % 4 * q) ((t + 3) % 4 * q) ((t + 1) % 2 * q) j)) e
+            (erased-place marks len s sorted t j here inverse _ _ _ _ _ _ _ _ e inverse_is (h.none_is j m) (h.opposite_is _ other) (h.one_is _ back) (h.one_is _ over) (h.one_is _ ahead) (h.two_is _ over) (h.two_is _ ahead) (h.three_is _ ahead)))
+        | false ↦ λ e.
+            kept e
+            ∙ subst (λ b. IsFactor K (lost K d marks) (element K d (t * q + j)) b (kept_from K alls opposites ones twos threes (t * q) ((t + 3) % 4 * q) ((t + 2) % 4 * q) (t % 2 * q) j)) e
+            (kept-place marks len s sorted t j here _ _ _ _ _ _ _ _ e (h.all_is j m) (h.opposite_is _ square) (h.one_is _ here) (h.two_is _ here) (h.two_is _ back) (h.three_is _ here) (h.three_is _ back) (h.three_is _ over))
+      ] refl
+
+  -- one more turn is written
+  pub turn-written : (marks : List Bool) (len : length marks ≡ d.size) (s : Sorted F) (sorted : AreSorted K d q marks s) (inverse : F) (inverse_is : K.times inverse (natural K d.size) ≡ K.one)
+      (ones twos threes opposites alls nones : List F) → HoldValues K d q s inverse ones twos threes opposites alls nones → length alls ≡ q →
+      (t : ℕ) → t < 4 → (here ahead over back square other : ℕ) →
+      here ≡ t * q → ahead ≡ (t + 1) % 4 * q → over ≡ (t + 2) % 4 * q → back ≡ (t + 3) % 4 * q → square ≡ t % 2 * q → other ≡ (t + 1) % 2 * q →
+      (old new : List F) →
+      ((i : ℕ) → (i < here) ⊎ (here + length alls ≤ i) → of_list K new i ≡ of_list K old i) →
+      ((j : ℕ) → j < length alls → get_or marks (here + j) true ≡ false → of_list K new (here + j) ≡ kept_from K alls opposites ones twos threes here back over square j) →
+      ((j : ℕ) → j < length alls → get_or marks (here + j) true ≡ true → of_list K new (here + j) ≡ erased_from K (of_list K old (here + j)) nones opposites ones twos threes ahead over back other j) →
+      ((i : ℕ) → i < t * q → IsFactor K (lost K d marks) (element K d i) (get_or marks i true) (of_list K old i)) →
+      ((i : ℕ) → t * q ≤ i → i < d.size → of_list K old i ≡ element K d i) →
+      ((i : ℕ) → i < (t + 1) * q → IsFactor K (lost K d marks) (element K d i) (get_or marks i true) (of_list K new i)) × ((i : ℕ) → (t + 1) * q ≤ i → i < d.size → of_list K new i ≡ element K d i)
+  turn-written marks len s sorted inverse inverse_is ones twos threes opposites alls nones hold wide t l here ahead over back square other here_is ahead_is over_is back_is square_is other_is old new rest kept erased done after =
+      let next : (t + 1) * q ≡ t * q + q = omega arith in (
+        λ i h. ⊎_elim
+            (λ (before : i < t * q).
+            subst (IsFactor K (lost K d marks) (element K d i) (get_or marks i true)) (sym (rest i (inl (omega (arith, before, here_is))))) (done i before))
+            (λ (from : t * q ≤ i).
+            let j = i - t * q in
+            let is : i ≡ t * q + j = omega (arith, from) in
+            let below : j < q = omega (arith, from, h, next) in
+            let place : here + j ≡ t * q + j = omega (arith, here_is) in
+            subst (λ k. IsFactor K (lost K d marks) (element K d k) (get_or marks k true) (of_list K new k)) (sym is)
+            (turn-factor marks len s sorted inverse inverse_is ones twos threes opposites alls nones hold t j l below (of_list K new (t * q + j))
+            (λ e.
+            ap (of_list K new) (sym place)
+            ∙ kept j (omega (arith, below, wide)) (ap (λ k. get_or marks k true) place ∙ e)
+            ∙ ap₂ (λ a b. kept_from K alls opposites ones twos threes a b over square j) here_is back_is
+            ∙ ap₂ (λ a b. kept_from K alls opposites ones twos threes (t * q) ((t + 3) % 4 * q) a b j) over_is square_is)
+            (λ e.
+            ap (of_list K new) (sym place)
+            ∙ erased j (omega (arith, below, wide)) (ap (λ k. get_or marks k true) place ∙ e)
+            ∙ ap (λ x. erased_from K x nones opposites ones twos threes ahead over back other j) (ap (of_list K old) place ∙ after (t * q + j) (omega arith) (quarter_fits t j l below))
+            ∙ ap₂ (λ a b. erased_from K (element K d (t * q + j)) nones opposites ones twos threes a b back other j) ahead_is over_is
+            ∙ ap₂ (λ a b. erased_from K (element K d (t * q + j)) nones opposites ones twos threes ((t + 1) % 4 * q) ((t + 2) % 4 * q) a b j) back_is other_is)))
+            (cases_lt i (t * q)),
+        λ i h m. rest i (inr (omega (arith, h, next, here_is, wide))) ∙ after i (omega (arith, h, next)) m,
+      )

@@ -1,0 +1,164 @@
+-- Words of the private steps that look at four places together of which each is a quarter turn of the last.
+use Rattle.std.specs.Prelude.{◌≡◌, ℕ, zero, suc, ◌+◌, ◌*◌, ◌≤◌, ◌<◌, Bool, true, false, List, length, get_or, map, not, ◌++◌, [], ◌∷◌, if◌then◌else◌}
+use Rattle.ark_math.specs.Field.{FieldOn, minus}
+use Rattle.ark_math.specs.Root.{HasOrder}
+use Rattle.ark_math.specs.Domain.{Domain, element}
+use Rattle.ark_math.specs.Multilinear.{product_below}
+use Rattle.ark_math.specs.Univariate.{of_list}
+use Rattle.rs_code.specs.Locator.{located, lost}
+
+-- which of four places are marked
+pub record Four : Type 0 where
+  pub first : Bool
+  pub second : Bool
+  pub third : Bool
+  pub fourth : Bool
+
+-- begun at a later one of the four
+abbrev pub turned : ℕ → Four → Four
+turned zero m = m
+turned (suc t) m = turned t (record { first = m.second; second = m.third; third = m.fourth; fourth = m.first })
+
+-- those that aren't
+abbrev pub others : Four → Four
+others m = record { first = not m.first; second = not m.second; third = not m.third; fourth = not m.fourth }
+
+-- the marked ones in a row from the first on, as many as are told of up to four; or else the first and the third
+abbrev pub in_row : ℕ → Four
+in_row zero = record { first = false; second = false; third = false; fourth = false }
+in_row (suc zero) = record { first = true; second = false; third = false; fourth = false }
+in_row (suc (suc zero)) = record { first = true; second = true; third = false; fourth = false }
+in_row (suc (suc (suc zero))) = record { first = true; second = true; third = true; fourth = false }
+in_row (suc (suc (suc (suc zero)))) = record { first = true; second = true; third = true; fourth = true }
+in_row (suc (suc (suc (suc (suc n))))) = record { first = true; second = false; third = true; fourth = false }
+
+-- the elements of a subgroup, in order
+pub record AreElements {F : Type 0} (K : FieldOn F) (d : Domain F) (xs : List F) : Type 0 where
+  pub subgroup : d.offset ≡ K.one
+  pub order : HasOrder K d.root d.size
+  pub len : length xs ≡ d.size
+  pub each : (i : ℕ) → i < d.size → of_list K xs i ≡ element K d i
+
+-- a factor where there is a mark, else one
+abbrev pub factor : {F : Type 0} → FieldOn F → Bool → F → F
+factor K mark x = if mark then x else K.one
+
+-- the marks of the places j, j + q, j + 2 * q and j + 3 * q
+abbrev pub four : List Bool → ℕ → ℕ → Four
+four marks q j = record {
+  first = get_or marks j true;
+  second = get_or marks (j + q) true;
+  third = get_or marks (j + q + q) true;
+  fourth = get_or marks (j + q + q + q) true;
+}
+
+-- the product of x - r for the elements r at those of the four places that are marked
+abbrev pub over_four : {F : Type 0} → FieldOn F → Domain F → Four → ℕ → ℕ → F → F
+over_four K d m q j x =
+    K.times (factor K m.first (minus K x (element K d j)))
+    (K.times (factor K m.second (minus K x (element K d (j + q))))
+    (K.times (factor K m.third (minus K x (element K d (j + q + q))))
+    (factor K m.fourth (minus K x (element K d (j + q + q + q))))))
+
+-- Places sorted by how they and their quarter turns are erased: for each four one root, in the list of its pattern.
+pub record Sorted (F : Type 0) : Type 0 where
+  -- the first of one, two or three erased ones in a row
+  pub one : List F
+  pub two : List F
+  pub three : List F
+  -- the square of two erased ones that are opposite, and the fourth power where all are erased, or none
+  pub opposite : List F
+  pub all : List F
+  pub none : List F
+  -- what the products of values are to be multiplied by
+  pub erased_scale : F
+  pub kept_scale : F
+
+-- the product of x - r over the erased places, from the lists; w is a quarter turn
+abbrev pub over_erased : {F : Type 0} → FieldOn F → F → Sorted F → F → F
+over_erased K w s x =
+    K.times s.erased_scale
+    (K.times (located K s.one x)
+    (K.times (K.times (located K s.two x) (located K s.two (K.negated (K.times w x))))
+    (K.times (K.times (located K s.three x) (K.times (located K s.three (K.negated (K.times w x))) (located K s.three (K.negated x))))
+    (K.times (located K s.opposite (K.times x x)) (located K s.all (K.times (K.times x x) (K.times x x)))))))
+
+-- and over the kept ones
+abbrev pub over_kept : {F : Type 0} → FieldOn F → F → Sorted F → F → F
+over_kept K w s x =
+    K.times s.kept_scale
+    (K.times (K.times (located K s.one (K.negated (K.times w x))) (K.times (located K s.one (K.negated x)) (located K s.one (K.times w x))))
+    (K.times (K.times (located K s.two (K.negated x)) (located K s.two (K.times w x)))
+    (K.times (located K s.three (K.times w x))
+    (K.times (located K s.opposite (K.negated (K.times x x))) (located K s.none (K.times (K.times x x) (K.times x x)))))))
+
+-- the lists with one more root r, of four places of which so many in a row are erased from r on; w is a quarter turn
+abbrev pub pushed : {F : Type 0} → FieldOn F → F → ℕ → F → Sorted F → Sorted F
+pushed K w zero r s = record s { none = s.none ++ K.times (K.times r r) (K.times r r) ∷ [] }
+pushed K w (suc zero) r s = record s { one = s.one ++ r ∷ []; kept_scale = K.negated s.kept_scale }
+pushed K w (suc (suc zero)) r s = record s { two = s.two ++ r ∷ []; erased_scale = K.times s.erased_scale w; kept_scale = K.times s.kept_scale w }
+pushed K w (suc (suc (suc zero))) r s = record s {
+  three = s.three ++ r ∷ [];
+  erased_scale = K.negated (K.times s.erased_scale w);
+  kept_scale = K.negated (K.times s.kept_scale w);
+}
+pushed K w (suc (suc (suc (suc zero)))) r s = record s { all = s.all ++ K.times (K.times r r) (K.times r r) ∷ [] }
+pushed K w (suc (suc (suc (suc (suc n))))) r s = record s { opposite = s.opposite ++ K.times r r ∷ []; kept_scale = K.negated s.kept_scale }
+
+-- none yet
+abbrev pub nothing_sorted : {F : Type 0} → FieldOn F → Sorted F
+nothing_sorted K = record { one = []; two = []; three = []; opposite = []; all = []; none = []; erased_scale = K.one; kept_scale = K.one }
+
+-- lists of at most n roots
+pub record AreWithin {F : Type 0} (n : ℕ) (s : Sorted F) : Type 0 where
+  pub one : length s.one ≤ n
+  pub two : length s.two ≤ n
+  pub three : length s.three ≤ n
+  pub opposite : length s.opposite ≤ n
+  pub all : length s.all ≤ n
+  pub none : length s.none ≤ n
+
+-- the lists of the fours that begin below j
+pub record AreSortedBelow {F : Type 0} (K : FieldOn F) (d : Domain F) (q : ℕ) (marks : List Bool) (j : ℕ) (s : Sorted F) : Type 0 where
+  pub within : AreWithin j s
+  pub erased : (x : F) → over_erased K (element K d q) s x ≡ product_below K j (λ i. over_four K d (four marks q i) q i x)
+  pub kept : (x : F) → over_kept K (element K d q) s x ≡ product_below K j (λ i. over_four K d (others (four marks q i)) q i x)
+
+-- which places the sorted lists stand for
+pub record AreSorted {F : Type 0} (K : FieldOn F) (d : Domain F) (q : ℕ) (marks : List Bool) (s : Sorted F) : Type 0 where
+  pub within : AreWithin q s
+  pub erased : (x : F) → over_erased K (element K d q) s x ≡ located K (lost K d marks) x
+  pub kept : (x : F) → over_kept K (element K d q) s x ≡ located K (lost K d (map not marks)) x
+
+-- the factor of a kept place, from values at it and at its turns
+abbrev pub kept_factor : {F : Type 0} → FieldOn F → F → F → F → F → F → F → F → F → F
+kept_factor K all opposite one two two_back three three_back three_over =
+    K.times (K.times (K.times all opposite) one) (K.times (K.times two two_back) (K.times three (K.times three_back three_over)))
+
+-- and of an erased place x
+abbrev pub erased_factor : {F : Type 0} → FieldOn F → F → F → F → F → F → F → F → F → F → F
+erased_factor K x none opposite one_back one_over one_ahead two_over two_ahead three_ahead =
+    K.times (K.times (K.times x none) (K.times opposite three_ahead)) (K.times (K.times one_back (K.times one_over one_ahead)) (K.times two_over two_ahead))
+
+-- the factor of place j of a turn, from the lists of values and where each turn of it begins
+abbrev pub kept_from : {F : Type 0} → FieldOn F → List F → List F → List F → List F → List F → ℕ → ℕ → ℕ → ℕ → ℕ → F
+kept_from K all opposite one two three here back over square j =
+    kept_factor K (of_list K all j) (of_list K opposite (square + j)) (of_list K one (here + j))
+    (of_list K two (here + j)) (of_list K two (back + j))
+    (of_list K three (here + j)) (of_list K three (back + j)) (of_list K three (over + j))
+
+abbrev pub erased_from : {F : Type 0} → FieldOn F → F → List F → List F → List F → List F → List F → ℕ → ℕ → ℕ → ℕ → ℕ → F
+erased_from K x none opposite one two three ahead over back other j =
+    erased_factor K x (of_list K none j) (of_list K opposite (other + j))
+    (of_list K one (back + j)) (of_list K one (over + j)) (of_list K one (ahead + j))
+    (of_list K two (over + j)) (of_list K two (ahead + j)) (of_list K three (ahead + j))
+
+-- what the lists of values hold, for a quarter of q places: the products over the sorted lists at the elements, at the
+-- squares, and at the fourth powers times their scales; inverse is that of the domain's size
+pub record HoldValues {F : Type 0} (K : FieldOn F) (d : Domain F) (q : ℕ) (s : Sorted F) (inverse : F) (one two three opposite all none : List F) : Type 0 where
+  pub one_is : (i : ℕ) → i < d.size → of_list K one i ≡ located K s.one (element K d i)
+  pub two_is : (i : ℕ) → i < d.size → of_list K two i ≡ located K s.two (element K d i)
+  pub three_is : (i : ℕ) → i < d.size → of_list K three i ≡ located K s.three (element K d i)
+  pub opposite_is : (i : ℕ) → i < q + q → of_list K opposite i ≡ located K s.opposite (element K d (i * 2))
+  pub all_is : (j : ℕ) → j < q → of_list K all j ≡ K.times s.erased_scale (located K s.all (element K d (j * 4)))
+  pub none_is : (j : ℕ) → j < q → of_list K none j ≡ K.times (K.times s.kept_scale inverse) (located K s.none (element K d (j * 4)))
