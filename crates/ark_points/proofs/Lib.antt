@@ -1,6 +1,7 @@
 -- Lemmas of this crate: what divides by x - z, the polynomial through given points, the weights of points, and products of
 -- x - z over halves of points, with what stands for a polynomial over each.
 pub mod Basis
+pub mod Digits
 pub mod EveryOther
 pub mod Halves
 pub mod Lagrange

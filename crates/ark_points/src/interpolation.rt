@@ -13,7 +13,7 @@ use crate::levels::Levels;
 use crate::pairs::first_parts;
 use crate::repeated::has_repeated;
 use crate::tree::Products;
-use crate::values::values_by_tree;
+use crate::values::values_with_tree;
 use ark_base::{FftField, Field, PolyError, Polynomial, batch_inversion};
 use ark_poly::univariate::DensePolynomial;
 use ark_poly::{DenseUVPolynomial, EvaluationDomain, GeneralEvaluationDomain};
@@ -108,7 +108,7 @@ fn slopes<F: FftField, D: EvaluationDomain<F>>(
 {
     let coeffs = derivative(alloc, tree.product().coeffs())?;
     let derivative = DensePolynomial::from_coefficients_vec(coeffs);
-    values_by_tree(alloc, levels, tree, &derivative, points)
+    values_with_tree(alloc, levels, tree, &derivative, points)
 }
 
 // The coefficients of the formal derivative.

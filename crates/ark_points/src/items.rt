@@ -64,6 +64,9 @@ fn raise_one_by_one<F: Field>(items: &mut [F], exponent: usize)
     ensures powers { (i : ℕ) → i < length items.old → of_list F.field items.new i
         ≡ power F.field (of_list F.field items.old i) exponent }
 {
+    if exponent == 1 {
+        return;
+    }
     for i in 0..items.len() {
         let own = items[i];
         items[i] = own.pow(exponent as u64);
@@ -127,4 +130,19 @@ pub fn scale_differences<F: Field>(items: &mut [F], other: &[F], factor: F)
     for i in 0..other.len() {
         items[i] = (items[i] - other[i]) * factor;
     }
+}
+
+/// The powers of an element from 0 on, so many.
+pub fn powers<F: Field>(alloc: Global, element: F, count: usize) -> Result<Vec<F>, AllocError>
+    ensures len { IfOk result (λ v. length v.items ≡ count) }
+    ensures powers { IfOk result (λ v. (i : ℕ) → i < count
+        → of_list F.field v.items i ≡ power F.field element i) }
+{
+    let mut powers = Vec::with_capacity(alloc, count)?;
+    let mut next = F::one();
+    for _ in 0..count {
+        powers.push(next)?;
+        next *= element;
+    }
+    Ok(powers)
 }

@@ -7,6 +7,7 @@ ghost use Rattle.ark_points.specs.Tree.{IsTreeOver};
 
 use crate::coset::values_by_coset;
 use crate::levels::Levels;
+use crate::lookup::values_by_lookup;
 use crate::scaled::scaled_by;
 use crate::tree::Products;
 use ark_base::{FftField, Field, PolyError, Polynomial};
@@ -19,9 +20,12 @@ const FEW: usize = 384;
 
 /// The values of a polynomial at points, in their order. Points may be repeated.
 ///
-/// For long lists it takes O(n log^2 n) operations, through products over domains of the field: down a tree of products of
-/// x - z, where each part of the points is handed what has the polynomial's values there; and memory for the tree. Short
-/// lists, and all where the field has no domain for them, go as `naive_evaluate_at` does. The only error is `Memory`.
+/// For long lists it takes O(n log^2 n) operations, through products over domains of the field: down a tree
+/// of products of x - z, where each part of the points is handed what has the polynomial's values there; and
+/// memory for the tree. Where all points are zero or elements of a domain of a few times as many, up to 32,
+/// as there are points or coefficients, their values are looked up among those over the domain: in O(n log n)
+/// operations, and memory for these. Short lists, and all where the field has no domain for them, go as
+/// `naive_evaluate_at` does. The only error is `Memory`.
 pub fn evaluate_at<F: FftField>(
     alloc: Global,
     polynomial: &DensePolynomial<F>,
@@ -39,8 +43,24 @@ pub fn evaluate_at<F: FftField>(
     values_at_many::<F, GeneralEvaluationDomain<F>>(alloc, polynomial, points)
 }
 
-// The values at some points, by a tree over them.
+// The values at some points: looked up, or by a tree over them.
 fn values_at_many<F: FftField, D: EvaluationDomain<F>>(
+    alloc: Global,
+    polynomial: &DensePolynomial<F>,
+    points: &[F],
+) -> Result<Vec<F>, PolyError>
+    requires not_empty { 0 < length points.now }
+    ensures values { IfOk result (λ v. AreValuesAt F.field points.now v.items (of_list F.field polynomial.now)) }
+    ensures memory { IsOkUnless result PolyError.Memory }
+{
+    match values_by_lookup::<F, D>(alloc, polynomial, points)? {
+        Some(values) => Ok(values),
+        None => values_by_own_tree::<F, D>(alloc, polynomial, points),
+    }
+}
+
+// The values at some points, by a tree over them.
+fn values_by_own_tree<F: FftField, D: EvaluationDomain<F>>(
     alloc: Global,
     polynomial: &DensePolynomial<F>,
     points: &[F],
@@ -54,8 +74,27 @@ fn values_at_many<F: FftField, D: EvaluationDomain<F>>(
     values_by_tree(alloc, &levels, &tree, polynomial, points)
 }
 
-/// The values at the points of a tree, of which there are some.
-pub fn values_by_tree<F: FftField, D: EvaluationDomain<F>>(
+/// The values at the points of a tree, of which there are some: looked up, or down the tree.
+pub fn values_with_tree<F: FftField, D: EvaluationDomain<F>>(
+    alloc: Global,
+    levels: &Levels<F, D>,
+    tree: &Products<F, D>,
+    polynomial: &DensePolynomial<F>,
+    points: &[F],
+) -> Result<Vec<F>, PolyError>
+    requires not_empty { 0 < length points.now }
+    requires tree { IsTreeOver F.field D.domain points.now tree.now }
+    ensures values { IfOk result (λ v. AreValuesAt F.field points.now v.items (of_list F.field polynomial.now)) }
+    ensures memory { IsOkUnless result PolyError.Memory }
+{
+    match values_by_lookup::<F, D>(alloc, polynomial, points)? {
+        Some(values) => Ok(values),
+        None => values_by_tree(alloc, levels, tree, polynomial, points),
+    }
+}
+
+// The values at the points of a tree, of which there are some, down the tree.
+fn values_by_tree<F: FftField, D: EvaluationDomain<F>>(
     alloc: Global,
     levels: &Levels<F, D>,
     tree: &Products<F, D>,
