@@ -6,7 +6,7 @@ use ark_base::{DomainCoeff, F65537, FftField, PolyError, Zero};
 use ark_poly::{EvaluationDomain, Radix2EvaluationDomain};
 use ark_rows::Row;
 use rs_code::Code;
-use std::alloc::Global;
+use std::alloc::{AllocError, Global};
 use std::io::Print;
 use std::time::Clock;
 
@@ -36,7 +36,7 @@ impl<F: FftField, T: DomainCoeff<F> + Number> Benchmark for Encoding<F, T> {
     }
 }
 
-/// The codeword of which some places are erased.
+/// The codeword of which drawn places are erased.
 #[derive(Drop)]
 pub struct Restoring<F: FftField, T: DomainCoeff<F>> {
     pub code: Code<F>,
@@ -92,7 +92,7 @@ pub fn report_codes<F: Counted>(
     report_rows(rt, alloc, timed, &mut draws)
 }
 
-// A message's codeword, and the codeword with a quarter and with half of its places erased.
+// A message's codeword, and the codeword with a quarter and with half of its places erased, which are drawn.
 fn report_code<F: Counted, T: DomainCoeff<F> + Number>(
     rt: &(impl Print + Clock),
     alloc: Global,
@@ -105,9 +105,9 @@ fn report_code<F: Counted, T: DomainCoeff<F> + Number>(
         return Ok(());
     };
     let codeword = code.encode(alloc, &message)?;
-    for (part, every) in [("quarter", 4), ("half", 2)] {
+    for (part, count) in [("quarter", n / 4), ("half", n / 2)] {
         let name = format!(in alloc; "code_restore_{part}{of}")?;
-        report_restoring(rt, alloc, timed, &name, n, every, &codeword)?;
+        report_restoring(rt, alloc, timed, &name, n, count, &codeword)?;
     }
     let name = format!(in alloc; "code_encode{of}")?;
     let mut encoding = Encoding {
@@ -118,33 +118,39 @@ fn report_code<F: Counted, T: DomainCoeff<F> + Number>(
     report(rt, alloc, timed, &name, n, &mut encoding)
 }
 
-// One place of so many is erased.
+// So many places are erased. Which ones is drawn, and the same for all codewords of one length.
 fn report_restoring<F: Counted, T: DomainCoeff<F> + Number>(
     rt: &(impl Print + Clock),
     alloc: Global,
     timed: bool,
     name: &str,
     n: usize,
-    every: usize,
+    count: usize,
     codeword: &[T],
 ) -> anyhow::Result<()> {
     let Some(code) = Code::<F>::new(n / 2, n) else {
         return Ok(());
     };
-    let mut word = Vec::with_capacity(alloc, codeword.len())?;
-    for (i, value) in codeword.iter().enumerate() {
-        word.push(if i % every.max(1) == 0 {
-            None
-        } else {
-            Some(*value)
-        })?;
-    }
+    let erased = Draws::new().marks(alloc, n, count)?;
     let mut restoring = Restoring {
         code,
-        word,
+        word: with_erased(alloc, codeword, &erased)?,
         codeword: Vec::new(alloc),
     };
     report(rt, alloc, timed, name, n, &mut restoring)
+}
+
+// The values at all places but those that are erased.
+fn with_erased<T: Copy>(
+    alloc: Global,
+    codeword: &[T],
+    erased: &[bool],
+) -> Result<Vec<Option<T>>, AllocError> {
+    let mut word = Vec::with_capacity(alloc, codeword.len())?;
+    for (value, is_erased) in codeword.iter().zip(erased) {
+        word.push(if *is_erased { None } else { Some(*value) })?;
+    }
+    Ok(word)
 }
 
 fn report_rows(

@@ -5,6 +5,7 @@ ghost use Rattle.std.specs.Prelude.{◌<◌};
 use ark_base::{Field, Lanes, PolyError};
 use ark_poly::univariate::DensePolynomial;
 use ark_poly::{DenseUVPolynomial, MultilinearExtension};
+use rand::seq::SliceRandom;
 use rand_core::Rng;
 use rand_pcg::Pcg64;
 use std::alloc::{AllocError, Global};
@@ -39,6 +40,21 @@ impl Draws {
             bytes.push((self.rng.next_u64() % 256) as u8)?;
         }
         Ok(bytes)
+    }
+
+    /// A list of `len` marks. A drawn choice of `set` of them are set, or all where there are fewer.
+    pub fn marks(
+        &mut self,
+        alloc: Global,
+        len: usize,
+        set: usize,
+    ) -> Result<Vec<bool>, AllocError> {
+        let mut marks = Vec::with_capacity(alloc, len)?;
+        for i in 0..len {
+            marks.push(i < set)?;
+        }
+        marks.shuffle(&mut self.rng);
+        Ok(marks)
     }
 
     pub fn pairs<F: Field>(
