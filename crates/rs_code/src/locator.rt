@@ -25,7 +25,7 @@ const FEW_ROOTS: usize = 68;
 const MOST_PAST: usize = 1024;
 
 /// The factors: at a kept place the value of the polynomial that is zero at the erased ones, and at an erased one the
-/// inverse of its derivative's. Where more than one of eight places is erased they come from the values at quarter turns, if
+/// inverse of its derivative's. Where more than a quarter of the places is erased they come from values at quarter turns, if
 /// the domain has these.
 pub fn factors<F: FftField, D: EvaluationDomain<F>>(
     alloc: Global,
@@ -38,7 +38,7 @@ pub fn factors<F: FftField, D: EvaluationDomain<F>>(
     ensures factors { IfOk result (λ f. AreFactors F.field (D.domain domain) erased.now f.items) }
     ensures memory { IsOkUnless result PolyError.Memory }
 {
-    if erased.iter().filter(|place| **place).count() > domain.size() / 8 {
+    if erased.iter().filter(|place| **place).count() > domain.size() / 4 {
         if let Some(half) = every(domain, 2) {
             if let Some(quarter) = every(domain, 4) {
                 return factors_by_turns(alloc, domain, half, quarter, erased);

@@ -20,8 +20,8 @@ use ark_base::{FftField, Field, PolyError};
 use ark_poly::{EvaluationDomain, Evaluations};
 use std::alloc::{AllocError, Global};
 
-/// The factors, of more than four places: at a kept one the value of the polynomial that is zero at the erased ones, and at
-/// an erased one the inverse of its derivative's.
+/// The factors of the places of a subgroup that has quarter turns: at a kept one the value of the polynomial that is zero at
+/// the erased ones, and at an erased one the inverse of its derivative's.
 pub fn factors_by_turns<F: FftField, D: EvaluationDomain<F>>(
     alloc: Global,
     domain: D,
