@@ -1,0 +1,76 @@
+-- The powers of a block's elements.
+use Rattle.std.proofs.Common.{◌≡◌, ℕ, zero, suc, ◌+◌, ◌*◌, ◌-◌, ◌/◌, ◌^◌, ◌<◌, ap, ◌∙◌, arith, subst}
+use Rattle.std.proofs.lemmas.Nat.{pow-add, pow_pos}
+use Rattle.ark_math.specs.Field.{FieldOn, IsField, power}
+use Rattle.ark_math.proofs.Algebra.Powers.{power-mul}
+use Rattle.ark_blocks.specs.Blocks.{AreReversed}
+
+-- a power of two is twice the one before
+pub pow_suc : (l : ℕ) → 2 ^ suc l ≡ 2 * 2 ^ l
+pow_suc l = let e : suc l ≡ 1 + l = omega arith in ap (λ t. 2 ^ t) e ∙ pow-add 2 1 l
+
+-- half of a place in a block of twice as many
+half_place : (b m i : ℕ) → (b * (2 * m) + i) / 2 ≡ b * m + i / 2
+half_place b m i = omega arith
+
+-- a block is named by no later element than those that it has
+pub block_within : (n l b i : ℕ) → b * 2 ^ l + i < n → b < n
+block_within n l b i h =
+    let p = 2 ^ l - 1 in
+    let e : 2 ^ l ≡ suc p = omega (arith, pow_pos l) in
+    let whole : b * 2 ^ l ≡ b + b * p = ap (λ t. b * t) e ∙ omega arith in
+    omega (arith, h, whole)
+
+module _ {F : Type 0} (K : FieldOn F) (N : IsField K) (n : ℕ) (x : ℕ → F) (R : AreReversed K n x) where
+  -- the elements of a block, to the power of how many they are, are the element that it is named by
+  pub power_of_block : (l b i : ℕ) → i < 2 ^ l → b * 2 ^ l + i < n → power K (x (b * 2 ^ l + i)) (2 ^ l) ≡ x b
+  power_of_block zero b i inside within =
+      let e : b * 1 + i ≡ b = omega (arith, inside) in
+      N.times_one (x (b * 1 + i)) ∙ ap x e
+  power_of_block (suc l) b i inside within =
+      let m = 2 ^ l in
+      let z = x (b * 2 ^ suc l + i) in
+      let place : (b * 2 ^ suc l + i) / 2 ≡ b * m + i / 2 = ap (λ t. (b * t + i) / 2) (pow_suc l) ∙ half_place b m i in
+      let less : (b * 2 ^ suc l + i) / 2 < n = omega (arith, within) in
+      let square : K.times z (K.times z K.one) ≡ x (b * m + i / 2) = ap (K.times z) (N.times_one z) ∙ R.squares (b * 2 ^ suc l + i) within ∙ ap x place in
+      ap (power K z) (pow_suc l) ∙ power-mul K N z 2 m ∙ ap (λ y. power K y m) square
+      ∙ power_of_block l b (i / 2) (omega (arith, inside, pow_suc l)) (subst (λ t. t < n) place less)
+
+  -- the same in the first half of a block: the half's own root
+  pub power_in_low : (l b i : ℕ) → i < 2 ^ l → b * 2 ^ suc l + i < n → power K (x (b * 2 ^ suc l + i)) (2 ^ l) ≡ x (b + b)
+  power_in_low l b i inside within =
+      let e : b * 2 ^ suc l + i ≡ (b + b) * 2 ^ l + i = ap (λ t. b * t + i) (pow_suc l) ∙ omega arith in
+      ap (λ t. power K (x t) (2 ^ l)) e ∙ power_of_block l (b + b) i inside (subst (λ t. t < n) e within)
+
+  -- and in the second half: minus that
+  pub power_in_high : (l b i : ℕ) → i < 2 ^ l → b * 2 ^ suc l + (2 ^ l + i) < n → power K (x (b * 2 ^ suc l + (2 ^ l + i))) (2 ^ l) ≡ K.negated (x (b + b))
+  power_in_high l b i inside within =
+      let e : b * 2 ^ suc l + (2 ^ l + i) ≡ suc (b + b) * 2 ^ l + i = ap (λ t. b * t + (2 ^ l + i)) (pow_suc l) ∙ omega arith in
+      let there : suc (b + b) * 2 ^ l + i < n = subst (λ t. t < n) e within in
+      ap (λ t. power K (x t) (2 ^ l)) e ∙ power_of_block l (suc (b + b)) i inside there
+      ∙ R.opposites b (block_within n l (suc (b + b)) i there)
+
+  -- two levels down: the roots of a block's first half
+  pub root_of_low : (b : ℕ) → 4 * b < n → K.times (x (4 * b)) (x (4 * b)) ≡ x (2 * b)
+  root_of_low b l = R.squares (4 * b) l ∙ ap x (omega arith)
+
+  -- the second quarter is named by minus what names the first
+  pub second_of_low : (b : ℕ) → 4 * b + 1 < n → x (4 * b + 1) ≡ K.negated (x (4 * b))
+  second_of_low b l =
+      let e : 4 * b + 1 ≡ suc (2 * b + 2 * b) = omega arith in
+      let f : 2 * b + 2 * b ≡ 4 * b = omega arith in
+      ap x e ∙ R.opposites (2 * b) (omega (arith, l)) ∙ ap (λ t. K.negated (x t)) f
+
+  -- and of its second half
+  pub root_of_high : (b : ℕ) → 4 * b + 2 < n → K.times (x (4 * b + 2)) (x (4 * b + 2)) ≡ K.negated (x (2 * b))
+  root_of_high b l =
+      let e : (4 * b + 2) / 2 ≡ suc (b + b) = omega arith in
+      let f : b + b ≡ 2 * b = omega arith in
+      R.squares (4 * b + 2) l ∙ ap x e ∙ R.opposites b (omega (arith, l)) ∙ ap (λ t. K.negated (x t)) f
+
+  -- the fourth quarter is named by minus what names the third
+  pub second_of_high : (b : ℕ) → 4 * b + 3 < n → x (4 * b + 3) ≡ K.negated (x (4 * b + 2))
+  second_of_high b l =
+      let e : 4 * b + 3 ≡ suc ((2 * b + 1) + (2 * b + 1)) = omega arith in
+      let f : (2 * b + 1) + (2 * b + 1) ≡ 4 * b + 2 = omega arith in
+      ap x e ∙ R.opposites (2 * b + 1) (omega (arith, l)) ∙ ap (λ t. K.negated (x t)) f

@@ -1,0 +1,145 @@
+-- What the values over blocks are by: coefficients from values, values at as many elements more, and those of the second of a
+-- polynomial's three parts.
+use Rattle.std.proofs.Common.{◌≡◌, ℕ, ◌+◌, ◌-◌, ◌*◌, ◌<◌, ◌≤◌, List, length, refl, sym, ◌∙◌, ap, ap₂, subst, arith, inl, inr}
+use mathlib.Core.Path.{fun_ext}
+use Rattle.std.proofs.lemmas.Bool.{cases_lt}
+use Rattle.ark_math.specs.Field.{FieldOn, IsField, power, minus}
+use Rattle.ark_math.specs.Univariate.{difference, product, IsBelow, IsValue, value_below, of_list}
+use Rattle.ark_math.proofs.Algebra.Powers.{powers_inverse}
+use Rattle.ark_math.proofs.Algebra.Solve.{◌⊗◌, ◌⊕◌, ◌⊖◌, negative, unit}
+use Rattle.ark_math.proofs.Algebra.Ring.{ring2, ring3, ring4}
+use Rattle.ark_math.proofs.Polynomials.UnivariateLists.{of_list-past}
+use Rattle.ark_math.proofs.Polynomials.UnivariateValues.{value_is, value_below-added, value_below-difference}
+use Rattle.ark_math.proofs.Polynomials.UnivariateProducts.{value-product}
+use Rattle.ark_blocks.specs.Blocks.{AreReversed, AreValuesFrom, IsPowerOfTwo}
+use Rattle.ark_blocks.proofs.Runs.{power_at_first, power_at_next, value_item, values_from}
+use Rattle.ark_blocks.proofs.Splits.{value_by_halves, value_of_same, value_split}
+
+module _ {F : Type 0} (K : FieldOn F) (N : IsField K) where
+  -- what a butterfly back multiplies by
+  abbrev two : F
+  two = K.plus K.one K.one
+
+  -- ---- coefficients from values
+
+  -- as many halvings undo that many doublings
+  pub halved : (half : F) → K.times two half ≡ K.one → (levels : ℕ) (v : F) → K.times (K.times (power K two levels) v) (power K half levels) ≡ v
+  halved half is levels v =
+      ring3 K N (λ p v h. ((p ⊗ v) ⊗ h, v ⊗ (p ⊗ h))) refl (power K two levels) v (power K half levels)
+      ∙ ap (K.times v) (powers_inverse K N two half levels is)
+      ∙ N.times_one v
+
+  -- a list of a polynomial's coefficients below a bound is the polynomial
+  pub same_polynomial : (n : ℕ) (a : ℕ → F) (u : List F) → IsBelow K n a → length u ≡ n → ((i : ℕ) → i < n → of_list K u i ≡ a i) → of_list K u ≡ a
+  same_polynomial n a u below len each = fun_ext (λ i. elim (cases_lt i n) [
+    | inl l ↦ each i l
+    | inr past ↦ of_list-past K u i (omega (arith, past, len)) ∙ sym (below i past)
+  ])
+
+  -- values at the first elements, as those of the first block
+  pub at_first_block : (x : ℕ → F) (n m : ℕ) (a : ℕ → F) (v : List F) → n ≡ m → IsBelow K n a → AreValuesFrom K x 0 n a v → (i : ℕ) → i < m → of_list K v i ≡ value_below K m a (x (0 * m + i))
+  at_first_block x n m a v e below V i l =
+      let place : 0 + i ≡ 0 * m + i = omega arith in
+      value_item K N x 0 n n a v below V i (subst (λ t. i < t) (sym e) l)
+      ∙ ap₂ (λ t j. value_below K t a (x j)) e place
+
+  -- ---- values at as many elements more
+
+  -- where the power m is minus one, coefficients from m on count as minus those before them
+  pub value_at_next : (size m : ℕ) (x c d : ℕ → F) → AreReversed K size x → IsPowerOfTwo m → m + m ≤ size → ((i : ℕ) → i < m → d i ≡ minus K (c i) (c (m + i))) → (i : ℕ) → i < m → value_below K m d (x (m + i)) ≡ value_below K (m + m) c (x (m + i))
+  value_at_next size m x c d rev p room each i l =
+      let z = x (m + i) in
+      let high : ℕ → F = λ j. c (m + j) in
+      value_of_same K N m d (difference K c high) z each
+      ∙ value_below-difference K N m c high z
+      ∙ ring2 K N (λ a b. (a ⊖ b, a ⊕ (negative unit ⊗ b))) refl (value_below K m c z) (value_below K m high z)
+      ∙ sym (value_by_halves K N m c z (K.negated K.one) (power_at_next K N size m x rev p room i l))
+
+  -- the known values and those behind them
+  pub values-joined : (x : ℕ → F) (m : ℕ) (a : ℕ → F) (u w : List F) → AreValuesFrom K x 0 m a u → IsBelow K (m + m) a → length w ≡ m + m → ((i : ℕ) → i < m → of_list K w i ≡ of_list K u i) → ((i : ℕ) → i < m → of_list K w (m + i) ≡ value_below K (m + m) a (x (m + i))) → AreValuesFrom K x 0 (m + m) a w
+  values-joined x m a u w U below len known added = record {
+    len = len;
+    values = λ i l. elim (cases_lt i m) [
+      | inl inside ↦ subst (IsValue K a (x (0 + i))) (sym (known i inside)) (U.values i inside)
+      | inr past ↦
+          let k = i - m in
+          let place : m + k ≡ i = omega (arith, past) in
+          let start : 0 + i ≡ i = omega arith in
+          subst (λ j. IsValue K a (x j) (of_list K w i)) (sym start)
+          (subst (λ j. IsValue K a (x j) (of_list K w j)) place (m + m, below, added k (omega (arith, place, l))))
+    ];
+  }
+
+  -- ---- the second of three parts
+
+  module _ (s : ℕ) (p : ℕ → F) where
+    -- what a polynomial below three times s is where the power s is minus one
+    pub turned : ℕ → F
+    turned j = K.plus (minus K (p j) (p (s + j))) (p (s + (s + j)))
+
+    -- the values of the three parts
+    low : F → F
+    low z = value_below K s p z
+
+    middle : F → F
+    middle z = value_below K s (λ j. p (s + j)) z
+
+    high : F → F
+    high z = value_below K s (λ j. p (s + (s + j))) z
+
+    -- the whole's value by theirs, where the power s is known
+    three_parts : (z w : F) → power K z s ≡ w → value_below K (s + (s + s)) p z ≡ K.plus (low z) (K.times w (K.plus (middle z) (K.times w (high z))))
+    unfolding low middle high
+    three_parts z w e =
+        value_split K N s (s + s) p z
+        ∙ ap₂ (λ r t. K.plus (value_below K s p z) (K.times r t)) e (value_by_halves K N s (λ j. p (s + j)) z w e)
+
+    -- the value of what it is where that is minus one
+    turned-value : (z : F) → value_below K s turned z ≡ K.plus (minus K (low z) (middle z)) (high z)
+    unfolding turned low middle high
+    turned-value z =
+        value_below-added K N s (difference K p (λ j. p (s + j))) (λ j. p (s + (s + j))) z
+        ∙ ap (λ t. K.plus t (value_below K s (λ j. p (s + (s + j))) z)) (value_below-difference K N s p (λ j. p (s + j)) z)
+
+    -- the whole's value there
+    pub value_where_turned : (z : F) → power K z s ≡ K.negated K.one → value_below K (s + (s + s)) p z ≡ value_below K s turned z
+    value_where_turned z e =
+        three_parts z (K.negated K.one) e
+        ∙ ring3 K N (λ a b c. (a ⊕ (negative unit ⊗ (b ⊕ (negative unit ⊗ c))), (a ⊖ b) ⊕ c)) refl (low z) (middle z) (high z)
+        ∙ sym (turned-value z)
+
+    -- where the power is one, half of what is left of the whole without that is the second part
+    pub second_part : (half : F) → K.times two half ≡ K.one → (z : F) → power K z s ≡ K.one → K.times (minus K (value_below K (s + (s + s)) p z) (value_below K s turned z)) half ≡ value_below K s (λ j. p (s + j)) z
+    unfolding middle
+    second_part half is z e =
+        ap₂ (λ t r. K.times (minus K t r) half) (three_parts z K.one e) (turned-value z)
+        ∙ ring4 K N (λ a b c w. (((a ⊕ (unit ⊗ (b ⊕ (unit ⊗ c)))) ⊖ ((a ⊖ b) ⊕ c)) ⊗ w, b ⊗ ((unit ⊕ unit) ⊗ w))) refl (low z) (middle z) (high z) half
+        ∙ ap (K.times (middle z)) is
+        ∙ N.times_one (middle z)
+
+  -- the values of products, place by place
+  module _ (size s : ℕ) (x : ℕ → F) (rev : AreReversed K size x) (two_to : IsPowerOfTwo s) (room : s + s ≤ size) (a b : ℕ → F) (u v : List F) (A : AreValuesFrom K x 0 (s + s) a u) (B : AreValuesFrom K x 0 (s + s) b v) (below : IsBelow K (s + (s + s)) (product K a b)) where
+    -- the product of two items is a value of the product
+    product_item : (i : ℕ) → i < s + s → K.times (of_list K u i) (of_list K v i) ≡ value_below K (s + (s + s)) (product K a b) (x i)
+    product_item i l =
+        let start : 0 + i ≡ i = omega arith in
+        value_is K N (s + (s + s)) (product K a b) (x (0 + i)) _ below (value-product K N a b (x (0 + i)) _ _ (A.values i l) (B.values i l))
+        ∙ ap (λ j. value_below K (s + (s + s)) (product K a b) (x j)) start
+
+    -- at the second block's elements they are those of what the product is there
+    pub turned_values : (i : ℕ) → i < s → K.times (of_list K u (s + i)) (of_list K v (s + i)) ≡ value_below K s (turned s (product K a b)) (x (s + i))
+    turned_values i l =
+        product_item (s + i) (omega (arith, l))
+        ∙ value_where_turned s (product K a b) (x (s + i)) (power_at_next K N size s x rev two_to room i l)
+
+    -- and at the first's, without the values of that there and halved, those of the second part
+    pub upper_values : (half : F) → K.times two half ≡ K.one → (d : ℕ → F) (w : List F) (y : ℕ → F) → IsBelow K s d → ((i : ℕ) → i < s → d i ≡ product K a b (s + i)) → ((i : ℕ) → i < s → y i ≡ value_below K s (turned s (product K a b)) (x i)) → length w ≡ s → ((i : ℕ) → i < s → of_list K w i ≡ K.times (minus K (K.times (of_list K u i) (of_list K v i)) (y i)) half) → AreValuesFrom K x 0 s d w
+    upper_values half is d w y few upper others len each =
+        let p = product K a b in
+        values_from K N x 0 s s d w few len (λ i l.
+        let start : i ≡ 0 + i = omega arith in
+        each i l
+        ∙ ap₂ (λ t r. K.times (minus K t r) half) (product_item i (omega (arith, l))) (others i l)
+        ∙ second_part s p half is (x i) (power_at_first K N size s x rev two_to (omega (arith, room)) i l)
+        ∙ value_of_same K N s (λ j. p (s + j)) d (x i) (λ j b. sym (upper j b))
+        ∙ ap (λ j. value_below K s d (x j)) start)

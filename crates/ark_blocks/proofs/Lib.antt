@@ -1,0 +1,13 @@
+-- Proofs of the transforms over blocks, and of what they rest on.
+pub mod BlockParts
+pub mod Elements
+pub mod Evaluations
+pub mod FourItems
+pub mod Fourths
+pub mod Joined
+pub mod Levels
+pub mod Padded
+pub mod Runs
+pub mod Splits
+pub mod Tables
+pub mod Undone

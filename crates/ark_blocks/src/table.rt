@@ -1,0 +1,124 @@
+//! Tables of roots of unity.
+
+ghost use Rattle.std.specs.Prelude.{◌≡◌, ℕ, ◌+◌, ◌<◌, ◌≤◌, length, IfOk, IfSome};
+ghost use Rattle.ark_math.specs.Field.{power};
+ghost use Rattle.ark_math.specs.Univariate.{of_list};
+ghost use Rattle.ark_blocks.specs.Blocks.{AreInverseRoots, AreReversed, AreRoots, IsPowerOfTwo, element_of, size_of};
+
+use ark_traits::{FftField, Field};
+use std::alloc::{AllocError, Global};
+use std::marker::Model;
+
+/// The roots of unity by which polynomials are evaluated at the elements of a subgroup of a power of two elements, in
+/// bit-reversed order: the first `m` of them, for each power of two `m`, are the subgroup of `m` elements, and those
+/// from `b * m` on as many as that a coset of it.
+///
+/// Contracts see the list of roots, which has the first of each two elements: the second is minus the first.
+#[derive(Drop)]
+pub struct BlockRoots<F: FftField> {
+    pub(crate) roots: Vec<F>,
+    pub(crate) inverses: Vec<F>,
+    // The inverse of two.
+    pub(crate) half: F,
+}
+
+impl<F: FftField> Model for BlockRoots<F> {
+    ghost use Rattle.std.specs.Prelude.{List};
+    ghost use Rattle.ark_blocks.specs.Blocks.{AreTables};
+
+    ghost Value = { List F };
+
+    ghost view = { λ b. b.roots.items };
+
+    ghost invariant = { λ b. AreTables F.field b.roots.items b.inverses.items b.half };
+}
+
+impl<F: FftField> BlockRoots<F> {
+    /// The table of the least power of two, from two on, that isn't below `count`. `None` where the field has no such
+    /// root.
+    pub fn new(alloc: Global, count: usize) -> Result<Option<Self>, AllocError>
+        ensures room { IfOk result (λ found. IfSome found (λ b. count ≤ size_of b)) }
+    {
+        let Some(size) = count.max(2).checked_next_power_of_two() else {
+            return Ok(None);
+        };
+        let Some(root) = F::get_root_of_unity(size as u64) else {
+            return Ok(None);
+        };
+        let one = F::one();
+        let Some(half) = (one + one).inverse() else {
+            return Ok(None);
+        };
+        let mut roots = Vec::new(alloc);
+        roots.resize(size / 2, one)?;
+        fill(roots.as_mut_slice(), root);
+        let inverses = inverses(alloc, &roots)?;
+        Ok(Some(BlockRoots {
+            roots,
+            inverses,
+            half,
+        }))
+    }
+
+    /// How many elements there are: a power of two.
+    pub fn size(&self) -> usize
+        ensures size { result ≡ size_of self.now }
+        ensures power { IsPowerOfTwo result }
+        ensures elements { AreReversed F.field result (element_of F.field self.now) }
+    {
+        2 * self.roots.len()
+    }
+}
+
+// Fills a list with the roots: a power of this one, of twice the list's order, is minus one. Each of the second half
+// is one of the first times the root.
+fn fill<F: Field>(roots: &mut [F], root: F)
+    requires size { IsPowerOfTwo (length roots.old) }
+    requires root { power F.field root (length roots.old) ≡ F.field.negated F.field.one }
+    ensures len { length roots.new ≡ length roots.old }
+    ensures roots { AreRoots F.field (element_of F.field roots.new) roots.new }
+    ensures next { (i : ℕ) → i < length roots.old → element_of F.field roots.new (length roots.old + i)
+        ≡ F.field.times (element_of F.field roots.new i) root }
+{
+    let half = roots.len() / 2;
+    if half == 0 {
+        roots[0] = F::one();
+    } else {
+        let (low, high) = roots.split_at_mut(half);
+        fill(low, root * root);
+        multiply_each(high, low, root);
+    }
+}
+
+// Puts the products of each known item and the factor in a list.
+fn multiply_each<F: Field>(items: &mut [F], known: &[F], factor: F)
+    requires { length items.old ≡ length known.now }
+    ensures len { length items.new ≡ length items.old }
+    ensures products { (i : ℕ) → i < length known.now → of_list F.field items.new i
+        ≡ F.field.times (of_list F.field known.now i) factor }
+{
+    for i in 0..known.len() {
+        items[i] = known[i] * factor;
+    }
+}
+
+// The inverses of roots: of each its own product with the inverse of its square, which is an earlier one's or minus
+// that.
+fn inverses<F: Field>(alloc: Global, roots: &[F]) -> Result<Vec<F>, AllocError>
+    requires some { 0 < length roots.now }
+    ensures inverses { IfOk result (λ v. (x : ℕ → F) → AreRoots F.field x roots.now
+        → AreInverseRoots F.field x v.items) }
+    ensures len { IfOk result (λ v. length v.items ≡ length roots.now) }
+{
+    let mut inverses = Vec::with_capacity(alloc, roots.len())?;
+    inverses.push(F::one())?;
+    for i in 1..roots.len() {
+        let square = inverses[i / 2];
+        inverses.push(if i % 2 == 0 {
+            roots[i] * square
+        } else {
+            -(roots[i] * square)
+        })?;
+    }
+    Ok(inverses)
+}

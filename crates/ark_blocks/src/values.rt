@@ -1,0 +1,184 @@
+//! Values over runs of a table's elements, and polynomials from them.
+
+ghost use Rattle.std.specs.Prelude.{◌≡◌, ℕ, suc, ◌+◌, ◌*◌, ◌^◌, ◌<◌, ◌≤◌, length, take, IfOk, OnOk};
+ghost use Rattle.ark_math.specs.Field.{minus};
+ghost use Rattle.ark_math.specs.Univariate.{IsBelow, of_list, product, value_below};
+ghost use Rattle.ark_blocks.specs.Blocks.{AreReversed, AreRoots, AreValuesFrom, IsPowerOfTwo, element_of, size_of};
+
+use crate::backward::backward;
+use crate::forward::forward;
+use crate::table::BlockRoots;
+use ark_traits::{FftField, Field};
+use std::alloc::{AllocError, Global};
+
+impl<F: FftField> BlockRoots<F> {
+    /// The values at the first `count` elements of the polynomial with these coefficients, of which there are no
+    /// more.
+    pub fn values(&self, alloc: Global, coeffs: &[F], count: usize) -> Result<Vec<F>, AllocError>
+        requires power { IsPowerOfTwo count }
+        requires room { count ≤ size_of self.now }
+        requires few { length coeffs.now ≤ count }
+        ensures values { IfOk result (λ v. AreValuesFrom F.field (element_of F.field self.now) 0 count
+            (of_list F.field coeffs.now) v.items) }
+    {
+        let mut values = Vec::with_capacity(alloc, count)?;
+        let len = coeffs.len().next_power_of_two();
+        for block in 0..count / len {
+            push_block(&mut values, coeffs, &self.roots, block, len)?;
+        }
+        Ok(values)
+    }
+
+    /// Behind the values at the first elements those at as many more, of the polynomial with these coefficients.
+    pub fn double(&self, values: &mut Vec<F>, coeffs: &[F]) -> Result<(), AllocError>
+        requires power { IsPowerOfTwo (length values.old.items) }
+        requires room { length values.old.items + length values.old.items ≤ size_of self.now }
+        requires few { length coeffs.now ≤ length values.old.items + length values.old.items }
+        ensures values { OnOk result (AreValuesFrom F.field (element_of F.field self.now) 0 (length values.old.items)
+            (of_list F.field coeffs.now) values.old.items → AreValuesFrom F.field (element_of F.field self.now) 0
+            (length values.old.items + length values.old.items) (of_list F.field coeffs.now) values.new.items) }
+    {
+        let len = values.len();
+        let (low, high) = coeffs.split_at(len.min(coeffs.len()));
+        values.extend_from_slice(low)?;
+        values.resize(2 * len, F::zero())?;
+        let (_known, added) = values.as_mut_slice().split_at_mut(len);
+        subtract(added, high);
+        forward(added, &self.roots, 1, len.ilog2());
+        Ok(())
+    }
+
+    /// Puts the coefficients of the polynomial that has these values at the first elements in their place.
+    pub fn interpolate(&self, values: &mut [F])
+        requires power { IsPowerOfTwo (length values.old) }
+        requires room { length values.old ≤ size_of self.now }
+        ensures len { length values.new ≡ length values.old }
+        ensures coefficients { (a : ℕ → F) → IsBelow F.field (length values.old) a
+            → AreValuesFrom F.field (element_of F.field self.now) 0 (length values.old) a values.old
+            → of_list F.field values.new ≡ a }
+        ensures elements { AreReversed F.field (size_of self.now) (element_of F.field self.now) }
+    {
+        let levels = values.len().ilog2();
+        backward(values, &self.inverses, 0, levels);
+        scale_each(values, self.half.pow(levels as u64));
+    }
+
+    /// From the values of two polynomials at the first elements, those at the first half of these elements of the
+    /// upper half of their product: of its coefficients from half the number of elements on.
+    pub fn upper_half(
+        &self,
+        alloc: Global,
+        left: &[F],
+        right: &[F],
+        half: usize,
+    ) -> Result<Vec<F>, AllocError>
+        requires power { IsPowerOfTwo half }
+        requires left { length left.now ≡ half + half }
+        requires right { length right.now ≡ half + half }
+        requires room { half + half ≤ size_of self.now }
+        ensures len { IfOk result (λ v. length v.items ≡ half) }
+        ensures values { IfOk result (λ v. (a b c : ℕ → F)
+            → AreValuesFrom F.field (element_of F.field self.now) 0 (half + half) a left.now
+            → AreValuesFrom F.field (element_of F.field self.now) 0 (half + half) b right.now
+            → IsBelow F.field (half + (half + half)) (product F.field a b) → IsBelow F.field half c
+            → ((i : ℕ) → i < half → c i ≡ product F.field a b (half + i))
+            → AreValuesFrom F.field (element_of F.field self.now) 0 half c v.items) }
+    {
+        let levels = half.ilog2();
+        let mut turned = products(alloc, &left[half..], &right[half..])?;
+        let items = turned.as_mut_slice();
+        backward(items, &self.inverses, 1, levels);
+        scale_each(items, self.half.pow(levels as u64));
+        forward(items, &self.roots, 0, levels);
+        subtract_from_products(items, &left[..half], &right[..half], self.half);
+        Ok(turned)
+    }
+}
+
+// Adds the values, at the elements of a block of `len`, of the polynomial with these coefficients.
+fn push_block<F: Field>(
+    values: &mut Vec<F>,
+    coeffs: &[F],
+    roots: &[F],
+    block: usize,
+    len: usize,
+) -> Result<(), AllocError>
+    requires power { IsPowerOfTwo len }
+    requires few { length coeffs.now ≤ len }
+    requires room { length values.old.items + len < 2 ^ 64 }
+    requires within { suc block * len ≤ length roots.now + length roots.now }
+    requires fits { length roots.now + length roots.now < 2 ^ 64 }
+    ensures len { OnOk result (length values.new.items ≡ length values.old.items + len) }
+    ensures before { OnOk result (take (length values.old.items) values.new.items ≡ values.old.items) }
+    ensures values { OnOk result ((x : ℕ → F) → AreRoots F.field x roots.now → (i : ℕ) → i < len
+        → of_list F.field values.new.items (length values.old.items + i)
+        ≡ value_below F.field len (of_list F.field coeffs.now) (x (block * len + i))) }
+{
+    let start = values.len();
+    values.extend_from_slice(coeffs)?;
+    values.resize(start + len, F::zero())?;
+    let (_before, added) = values.as_mut_slice().split_at_mut(start);
+    forward(added, roots, block, len.ilog2());
+    Ok(())
+}
+
+// Subtracts from each item the other list's, as far as that goes.
+fn subtract<F: Field>(items: &mut [F], others: &[F])
+    requires { length others.now ≤ length items.old }
+    ensures len { length items.new ≡ length items.old }
+    ensures differences { (i : ℕ) → i < length items.old → of_list F.field items.new i
+        ≡ minus F.field (of_list F.field items.old i) (of_list F.field others.now i) }
+{
+    for i in 0..others.len() {
+        items[i] = items[i] - others[i];
+    }
+}
+
+// Multiplies each item by the factor.
+fn scale_each<F: Field>(items: &mut [F], factor: F)
+    ensures len { length items.new ≡ length items.old }
+    ensures products { (i : ℕ) → i < length items.old → of_list F.field items.new i
+        ≡ F.field.times (of_list F.field items.old i) factor }
+{
+    for i in 0..items.len() {
+        items[i] = items[i] * factor;
+    }
+}
+
+// The products of the items of two lists.
+fn products<F: Field>(alloc: Global, left: &[F], right: &[F]) -> Result<Vec<F>, AllocError>
+    requires { length left.now ≡ length right.now }
+    ensures len { IfOk result (λ v. length v.items ≡ length left.now) }
+    ensures products { IfOk result (λ v. (i : ℕ) → i < length left.now → of_list F.field v.items i
+        ≡ F.field.times (of_list F.field left.now i) (of_list F.field right.now i)) }
+{
+    let mut products = Vec::from_slice(alloc, left)?;
+    multiply_places(products.as_mut_slice(), right);
+    Ok(products)
+}
+
+// Multiplies each item by the other list's.
+fn multiply_places<F: Field>(items: &mut [F], others: &[F])
+    requires { length others.now ≡ length items.old }
+    ensures len { length items.new ≡ length items.old }
+    ensures products { (i : ℕ) → i < length items.old → of_list F.field items.new i
+        ≡ F.field.times (of_list F.field items.old i) (of_list F.field others.now i) }
+{
+    for i in 0..others.len() {
+        items[i] = items[i] * others[i];
+    }
+}
+
+// Puts what is left of the products of two lists' items without each item, times the factor, in its place.
+fn subtract_from_products<F: Field>(items: &mut [F], left: &[F], right: &[F], factor: F)
+    requires left { length left.now ≡ length items.old }
+    requires right { length right.now ≡ length items.old }
+    ensures len { length items.new ≡ length items.old }
+    ensures differences { (i : ℕ) → i < length items.old → of_list F.field items.new i ≡ F.field.times
+        (minus F.field (F.field.times (of_list F.field left.now i) (of_list F.field right.now i))
+        (of_list F.field items.old i)) factor }
+{
+    for i in 0..items.len() {
+        items[i] = (left[i] * right[i] - items[i]) * factor;
+    }
+}
