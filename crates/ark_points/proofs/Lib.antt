@@ -1,8 +1,9 @@
 -- Lemmas of this crate: what divides by x - z, the polynomial through given points, the weights of points, and products of
 -- x - z over halves of points, with what stands for a polynomial over each.
 pub mod Basis
+pub mod BlockWeighed
+pub mod BlockWraps
 pub mod Digits
-pub mod EveryOther
 pub mod Halves
 pub mod Lagrange
 pub mod Linear
@@ -10,9 +11,9 @@ pub mod Newton
 pub mod Nodes
 pub mod PairParts
 pub mod PastProducts
+pub mod PowersOfTwo
 pub mod Root
 pub mod Shares
 pub mod StandIns
-pub mod UpperHalf
 pub mod Weighed
 pub mod Wrapped

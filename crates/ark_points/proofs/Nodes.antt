@@ -1,5 +1,6 @@
 -- The product of x - z over a list: its length, its leading coefficient, its factors and its roots.
-use Rattle.std.proofs.Common.{◌≡◌, ◌≢◌, ℕ, zero, suc, ◌+◌, ◌<◌, List, [], ◌∷◌, ◌++◌, length, get_or, take, drop, refl, sym, ◌∙◌, ap, ap₂, subst, arith}
+use Rattle.std.proofs.Common.{◌≡◌, ◌≢◌, ℕ, zero, suc, ◌+◌, ◌<◌, List, [], ◌∷◌, ◌++◌, length, get_or, take, drop, Vec, refl, sym, ◌∙◌, ap, ap₂, subst, arith}
+use Rattle.std.specs.declared.alloc.Global.{Global}
 use Rattle.std.proofs.lemmas.List.{take-append-drop}
 use Rattle.ark_math.specs.Field.{FieldOn, IsField, minus}
 use Rattle.ark_math.specs.Linear.{linear_factor}
@@ -12,9 +13,12 @@ use Rattle.ark_math.proofs.Polynomials.UnivariateProducts.{product_comm, product
 use Rattle.ark_math.proofs.Polynomials.UnivariateValues.{has_value}
 use Rattle.ark_math.proofs.Callers.Remainders.{linear_root, divided_root}
 use Rattle.ark_points.proofs.Linear.{before, linear-product}
-use Rattle.ark_points.specs.Tree.{IsMonic, IsTreeOver, nodes, whole}
+use Rattle.ark_points.specs.Tree.{IsBlockTreeOver, IsLeafOver, IsMonic, IsTreeOver, nodes, product_of_leaf, whole, whole_of_blocks}
+use Rattle.ark_points.specs.declared.leaf.Leaf.{Leaf}
+use Rattle.ark_points.specs.declared.leaf.Leaf.TheVariants.{Plain, Blocks}
 use Rattle.ark_points.specs.declared.tree.Tree.{Tree}
 use Rattle.ark_points.specs.declared.tree.Tree.TheVariants.{Few, Halves'}
+use Rattle.ark_blocks.specs.Blocks.{size_of}
 use Rattle.ark_poly.specs.Values.{Values}
 use Rattle.ark_math.specs.Domain.{Domain}
 
@@ -112,7 +116,17 @@ module _ {F : Type 0} (K : FieldOn F) (N : IsField K) where
   pub nodes-halves : (zs : List F) (h : ℕ) → product K (nodes K (take h zs)) (nodes K (drop h zs)) ≡ nodes K zs
   nodes-halves zs h = sym (nodes-joined (take h zs) (drop h zs)) ∙ ap (nodes K) (take-append-drop h zs)
 
-  -- what a tree over points has for all of them
-  pub tree-whole : {D : Type 0} (domain : D → Domain F) (points : List F) (t : Tree (List F) (Values F D)) → IsTreeOver K domain points t → of_list K (whole t) ≡ nodes K points
-  tree-whole domain points (Few p) h = h
+  -- what a tree by a table has for all of its points
+  pub blocks-whole : (roots : List F) (count : ℕ) (points : List F) (t : Tree (List F) (List F) (Vec F Global)) → IsBlockTreeOver K roots count points t → of_list K (whole_of_blocks t) ≡ nodes K points
+  blocks-whole roots count points (Few p) h = h
+  blocks-whole roots count points (Halves' p a low v b high w) h = h.0
+
+  -- a leaf
+  pub leaf-whole : (points : List F) (l : Leaf F) → IsLeafOver K points l → of_list K (product_of_leaf l) ≡ nodes K points
+  leaf-whole points (Plain p) h = h
+  leaf-whole points (Blocks roots tree) h = blocks-whole roots (size_of roots) points tree.value h.1
+
+  -- and a tree above leaves
+  pub tree-whole : {D : Type 0} (domain : D → Domain F) (points : List F) (t : Tree (Leaf F) (List F) (Values F D)) → IsTreeOver K domain points t → of_list K (whole t) ≡ nodes K points
+  tree-whole domain points (Few p) h = leaf-whole points p h
   tree-whole domain points (Halves' p a low v b high w) h = h.0

@@ -1,6 +1,5 @@
 -- What stands for a polynomial over a part of the points: at the root, down to a factor, and at a leaf.
-use Rattle.std.proofs.Common.{◌≡◌, ℕ, zero, suc, ◌+◌, ◌-◌, ◌<◌, ◌≤◌, [], ◌∷◌, refl, sym, ◌∙◌, ap, ap₂, subst, arith, ⊎_elim}
-use Rattle.std.proofs.lemmas.Bool.{cases_lt}
+use Rattle.std.proofs.Common.{◌≡◌, ℕ, zero, suc, ◌+◌, ◌-◌, ◌<◌, ◌≤◌, [], ◌∷◌, refl, sym, ◌∙◌, ap, ap₂, subst, arith}
 use mathlib.Core.Path.{fun_ext}
 use Rattle.ark_math.specs.Field.{FieldOn, IsField, minus}
 use Rattle.ark_math.specs.Linear.{constant, linear_factor}
@@ -111,12 +110,3 @@ module _ {F : Type 0} (K : FieldOn F) (N : IsField K) where
       one_value K N (λ j. product K m s (j + n)) z (d i) y
       (subst (λ t. IsValue K t z (d i)) (fun_ext at) (quotient-item d (n + k - 1) z i (product-below K N n k c s below finite))) given in
       subst (IsValue K p z) same (stands c z below is)
-
-  -- a list of what is past n of a product
-  pub past_of_product : (n len : ℕ) (m s r whole : ℕ → F) → whole ≡ product K m s → IsBelow K len whole → ((i : ℕ) → n + i < len → r i ≡ whole (n + i)) → IsBelow K (len - n) r → r ≡ (λ j. product K m s (j + n))
-  past_of_product n len m s r whole is below same short = fun_ext (λ j.
-      let e : n + j ≡ j + n = omega arith in
-      ⊎_elim
-      (λ (l : n + j < len). same j l ∙ (ap whole e ∙ ap (λ t. t (j + n)) is))
-      (λ (l : len ≤ n + j). short j (omega arith) ∙ (sym (below (n + j) l) ∙ (ap whole e ∙ ap (λ t. t (j + n)) is)))
-      (cases_lt (n + j) len))

@@ -1,11 +1,15 @@
 -- The product of x - z over points and over halves of them, and what stands for a polynomial over each part.
-use Rattle.std.specs.Prelude.{◌≡◌, ℕ, suc, ◌+◌, ◌-◌, ◌/◌, ◌<◌, ◌≤◌, List, [], ◌∷◌, length, take, drop}
+use Rattle.std.specs.Prelude.{◌≡◌, ℕ, suc, ◌+◌, ◌-◌, ◌/◌, ◌<◌, ◌≤◌, List, [], ◌∷◌, length, take, drop, Vec}
+use Rattle.std.specs.declared.alloc.Global.{Global}
 use Rattle.ark_math.specs.Domain.{Domain}
 use Rattle.ark_math.specs.Field.{FieldOn, minus, natural, power}
 use Rattle.ark_math.specs.Linear.{linear_factor}
 use Rattle.ark_math.specs.Points.{AreValues}
-use Rattle.ark_math.specs.Univariate.{IsBelow, IsValue, added, monomial, nothing, of_list, product, scaled}
+use Rattle.ark_math.specs.Univariate.{IsBelow, IsValue, added, difference, monomial, nothing, of_list, product, scaled}
+use Rattle.ark_blocks.specs.Blocks.{AreValuesFrom, element_of, size_of}
 use Rattle.ark_poly.specs.Values.{Values}
+use Rattle.ark_points.specs.declared.leaf.Leaf.{Leaf}
+use Rattle.ark_points.specs.declared.leaf.Leaf.TheVariants.{Plain, Blocks}
 use Rattle.ark_points.specs.declared.tree.Tree.{Tree}
 use Rattle.ark_points.specs.declared.tree.Tree.TheVariants.{Few, Halves'}
 
@@ -48,50 +52,59 @@ pub record HaveValues {F : Type 0} (K : FieldOn F) (points : List F) (d e : Doma
   pub low : AreValues K d (nodes K (take (length points / 2) points)) v
   pub high : AreValues K d (nodes K (drop (length points / 2) points)) w
 
--- e has every other element of d, from the first on
-pub record IsHalfOf {F : Type 0} (K : FieldOn F) (e d : Domain F) : Type 0 where
-  pub size : e.size + e.size ≡ d.size
-  pub root : e.root ≡ K.times d.root d.root
-  pub offset : e.offset ≡ d.offset
+-- x ^ n - 1
+abbrev pub power_less_one : {F : Type 0} → FieldOn F → ℕ → ℕ → F
+power_less_one K n = difference K (monomial K n K.one) (monomial K 0 K.one)
 
--- and o has those between
-pub record AreInterleaved {F : Type 0} (K : FieldOn F) (d e o : Domain F) : Type 0 where
-  pub half : IsHalfOf K e d
-  pub other_size : o.size ≡ e.size
-  pub other_root : o.root ≡ e.root
-  pub other_offset : o.offset ≡ K.times d.offset d.root
+-- the values of both halves' products over the first elements of a table, of which there are as many as told
+pub record HaveBlockValues {F : Type 0} (K : FieldOn F) (roots : List F) (count : ℕ) (points v w : List F) : Type 0 where
+  pub many : 2 < length points
+  pub low : AreValuesFrom K (element_of K roots) 0 count (nodes K (take (length points / 2) points)) v
+  pub high : AreValuesFrom K (element_of K roots) 0 count (nodes K (drop (length points / 2) points)) w
 
--- the power of the size is one for each element of e, and minus one for each of o; and w is the half of one
-pub record TurnSigns {F : Type 0} (K : FieldOn F) (e o : Domain F) (w : F) : Type 0 where
-  pub ones : power K e.offset e.size ≡ K.one
-  pub others : power K o.offset o.size ≡ K.negated K.one
-  pub half : K.times (K.plus K.one K.one) w ≡ K.one
+-- the products over these points and over the halves of each part, with values over this many elements, and half as many for
+-- each half
+abbrev pub IsBlockTreeOver : {F : Type 0} → FieldOn F → List F → ℕ → List F → Tree (List F) (List F) (Vec F Global) → Type 0
+IsBlockTreeOver K roots count points (Few p) = of_list K p ≡ nodes K points
+IsBlockTreeOver K roots count points (Halves' p a low v b high w) =
+    (of_list K p ≡ nodes K points)
+    × HaveBlockValues K roots count points v.items w.items
+    × IsBlockTreeOver K roots (count / 2) (take (length points / 2) points) low
+    × IsBlockTreeOver K roots (count / 2) (drop (length points / 2) points) high
 
--- the last list has over e the values of a product's upper half, its coefficients from e's size on: the first two have over d
--- those of the product's factors
-abbrev pub HasUpperHalf : {F : Type 0} → FieldOn F → Domain F → List F → List F → Domain F → List F → Type 0
-HasUpperHalf {F} K d v w e upper =
-    (a b c : ℕ → F) → AreValues K d a v → AreValues K d b w → IsBelow K (e.size + d.size) (product K a b)
-    → IsBelow K e.size c → ((i : ℕ) → i < e.size → c i ≡ product K a b (e.size + i)) → AreValues K e c upper
+-- what such a tree has for all of its points
+abbrev pub whole_of_blocks : {F : Type 0} → Tree (List F) (List F) (Vec F Global) → List F
+whole_of_blocks (Few p) = p
+whole_of_blocks (Halves' p a low v b high w) = p
 
--- what a tree has for all of its points
-abbrev pub whole : {P V : Type 0} → Tree P V → P
-whole (Few p) = p
-whole (Halves' p a low v b high w) = p
-
--- a list gives a to a tree: its coefficients, or where the tree has halves its values over their domain
-abbrev pub IsGiven : {F D : Type 0} → FieldOn F → (D → Domain F) → Tree (List F) (Values F D) → (ℕ → F) → List F → Type 0
-IsGiven K domain (Few p) a c = of_list K c ≡ a
-IsGiven K domain (Halves' p q low v b high w) a c = AreValues K (domain v.domain) a c
+-- a list gives a to such a tree: its coefficients, or where the tree has halves its values over as many elements as told
+abbrev pub IsGiven : {F : Type 0} → FieldOn F → List F → Tree (List F) (List F) (Vec F Global) → ℕ → (ℕ → F) → List F → Type 0
+IsGiven K roots (Few p) count a c = of_list K c ≡ a
+IsGiven K roots (Halves' p q low v b high w) count a c = AreValuesFrom K (element_of K roots) 0 count a c
 
 -- the lengths of such lists, for a below n
-abbrev pub HasRoom : {F D : Type 0} → (D → Domain F) → Tree (List F) (Values F D) → ℕ → ℕ → Type 0
-HasRoom domain (Few p) n len = len ≤ n
-HasRoom domain (Halves' p q low v b high w) n len = len ≡ (domain v.domain).size
+abbrev pub HasRoom : {F : Type 0} → Tree (List F) (List F) (Vec F Global) → ℕ → ℕ → ℕ → Type 0
+HasRoom (Few p) n count len = len ≤ n
+HasRoom (Halves' p q low v b high w) n count len = len ≡ count
+
+-- the product over these points, or a tree of products by a table of as many roots
+abbrev pub IsLeafOver : {F : Type 0} → FieldOn F → List F → Leaf F → Type 0
+IsLeafOver K points (Plain p) = of_list K p ≡ nodes K points
+IsLeafOver K points (Blocks roots tree) = (length points ≤ size_of roots) × IsBlockTreeOver K roots (size_of roots) points tree.value
+
+-- what a leaf has for all of its points
+abbrev pub product_of_leaf : {F : Type 0} → Leaf F → List F
+product_of_leaf (Plain p) = p
+product_of_leaf (Blocks roots tree) = whole_of_blocks tree.value
+
+-- what a tree has for all of its points
+abbrev pub whole : {F D : Type 0} → Tree (Leaf F) (List F) (Values F D) → List F
+whole (Few p) = product_of_leaf p
+whole (Halves' p a low v b high w) = p
 
 -- the products over these points and over the halves of each part
-abbrev pub IsTreeOver : {F D : Type 0} → FieldOn F → (D → Domain F) → List F → Tree (List F) (Values F D) → Type 0
-IsTreeOver K domain points (Few p) = of_list K p ≡ nodes K points
+abbrev pub IsTreeOver : {F D : Type 0} → FieldOn F → (D → Domain F) → List F → Tree (Leaf F) (List F) (Values F D) → Type 0
+IsTreeOver K domain points (Few p) = IsLeafOver K points p
 IsTreeOver K domain points (Halves' p a low v b high w) =
     (of_list K p ≡ nodes K points)
     × HaveValues K points (domain v.domain) (domain w.domain) v.evals w.evals

@@ -8,7 +8,6 @@ ghost use Rattle.ark_points.specs.Points.{AreValuesAt};
 ghost use Rattle.ark_points.specs.Tree.{IsMonic, IsTreeOver, StandsForShares};
 
 use crate::items::{has_zero, multiply_by_gaps, raise_each};
-use crate::levels::Levels;
 use crate::parts::part;
 use crate::tree::Products;
 use ark_base::{FftField, PolyError, Polynomial};
@@ -23,7 +22,6 @@ const COSETS: usize = 32;
 /// there are points or coefficients, or each of the first cosets of it has one of the points.
 pub fn values_by_coset<F: FftField, D: EvaluationDomain<F>>(
     alloc: Global,
-    levels: &Levels<F, D>,
     tree: &Products<F, D>,
     polynomial: &DensePolynomial<F>,
     points: &[F],
@@ -41,7 +39,7 @@ pub fn values_by_coset<F: FftField, D: EvaluationDomain<F>>(
     let mut powers = Vec::from_slice(alloc, points)?;
     raise_each(powers.as_mut_slice(), subgroup.size());
     match free_coset(subgroup, &powers) {
-        Some(coset) => values_over(alloc, levels, tree, polynomial, points, coset, &powers),
+        Some(coset) => values_over(alloc, tree, polynomial, points, coset, &powers),
         None => Ok(None),
     }
 }
@@ -64,7 +62,6 @@ fn free_coset<F: FftField, D: EvaluationDomain<F>>(subgroup: D, powers: &[F]) ->
 // The values at the points by this coset, unless one of the points is in it.
 fn values_over<F: FftField, D: EvaluationDomain<F>>(
     alloc: Global,
-    levels: &Levels<F, D>,
     tree: &Products<F, D>,
     polynomial: &DensePolynomial<F>,
     points: &[F],
@@ -86,7 +83,7 @@ fn values_over<F: FftField, D: EvaluationDomain<F>>(
     let Some(scaled) = found else {
         return Ok(None);
     };
-    let mut values = tree.values(alloc, levels, points, &scaled)?;
+    let mut values = tree.values(alloc, points, &scaled)?;
     multiply_by_gaps(values.as_mut_slice(), coset.coset_offset_pow_size(), powers);
     Ok(Some(values))
 }

@@ -20,7 +20,7 @@ use ark_poly::{DenseUVPolynomial, EvaluationDomain, GeneralEvaluationDomain};
 use std::alloc::{AllocError, Global};
 
 // Up to so many pairs are taken one by one.
-const FEW: usize = 128;
+const FEW: usize = 80;
 
 /// The polynomial through the given pairs of x and y, of a degree below their number: it has the value y at each x, and
 /// no other one has. `RepeatedPoint` where two pairs have one x.
@@ -63,13 +63,12 @@ fn through_many<F: FftField, D: EvaluationDomain<F>>(
     let xs = first_parts(alloc, points)?;
     let levels = Levels::<F, D>::new(alloc, points.len())?;
     let tree = Products::new(alloc, &levels, &xs)?;
-    through_tree(alloc, &levels, &tree, &xs, points)
+    through_tree(alloc, &tree, &xs, points)
 }
 
 // The polynomial through pairs that have these x.
 fn through_tree<F: FftField, D: EvaluationDomain<F>>(
     alloc: Global,
-    levels: &Levels<F, D>,
     tree: &Products<F, D>,
     xs: &[F],
     points: &[(F, F)],
@@ -82,20 +81,19 @@ fn through_tree<F: FftField, D: EvaluationDomain<F>>(
         → HasRepeated (length points.now) (x_of F.field points.now) }
     ensures errors { IsOkUnlessEither result PointsError.Memory PointsError.RepeatedPoint }
 {
-    let slopes = slopes(alloc, levels, tree, xs)?;
+    let slopes = slopes(alloc, tree, xs)?;
     if has_zero(&slopes) {
         // Two points are one, as the plain way tells.
         let polynomial = naive_from_points(alloc, points)?;
         return Ok(polynomial);
     }
     let weights = weights(alloc, &slopes, points)?;
-    Ok(tree.weighed(alloc, levels, xs, &weights)?)
+    Ok(tree.weighed(alloc, xs, &weights)?)
 }
 
 // The slope at each point of the product of x - z over all of them.
 fn slopes<F: FftField, D: EvaluationDomain<F>>(
     alloc: Global,
-    levels: &Levels<F, D>,
     tree: &Products<F, D>,
     points: &[F],
 ) -> Result<Vec<F>, PolyError>
@@ -108,7 +106,7 @@ fn slopes<F: FftField, D: EvaluationDomain<F>>(
 {
     let coeffs = derivative(alloc, tree.product().coeffs())?;
     let derivative = DensePolynomial::from_coefficients_vec(coeffs);
-    values_with_tree(alloc, levels, tree, &derivative, points)
+    values_with_tree(alloc, tree, &derivative, points)
 }
 
 // The coefficients of the formal derivative.

@@ -73,62 +73,48 @@ fn raise_one_by_one<F: Field>(items: &mut [F], exponent: usize)
     }
 }
 
-/// The items of two lists of one length in turn, of each two that of the first list before that of the second; `count` is
-/// how many there are.
-pub fn interleaved<F: Field>(
-    alloc: Global,
-    first: &[F],
-    second: &[F],
-    count: usize,
-) -> Result<Vec<F>, AllocError>
-    requires same { length first.now ≡ length second.now }
-    requires count { length first.now + length second.now ≡ count }
-    ensures len { IfOk result (λ v. length v.items ≡ count) }
-    ensures first { IfOk result (λ v. (i : ℕ) → i < length first.now
-        → of_list F.field v.items (i + i) ≡ of_list F.field first.now i) }
-    ensures second { IfOk result (λ v. (i : ℕ) → i < length first.now
-        → of_list F.field v.items (i + i + 1) ≡ of_list F.field second.now i) }
-{
-    let mut items = Vec::with_capacity(alloc, count)?;
-    for i in 0..first.len() {
-        items.push(first[i])?;
-        items.push(second[i])?;
-    }
-    Ok(items)
-}
-
-/// The products of every other item of two lists, from `start` on, so many.
-pub fn products_in_turn<F: Field>(
+/// The products of the items of two lists, in a list with room for so many.
+pub fn place_products<F: Field>(
     alloc: Global,
     left: &[F],
     right: &[F],
-    start: usize,
-    count: usize,
+    room: usize,
 ) -> Result<Vec<F>, AllocError>
-    requires start { start < 2 }
-    requires left { count + count ≤ length left.now }
-    requires right { count + count ≤ length right.now }
-    ensures len { IfOk result (λ v. length v.items ≡ count) }
-    ensures products { IfOk result (λ v. (i : ℕ) → i < count → of_list F.field v.items i ≡ F.field.times
-        (of_list F.field left.now (i + i + start)) (of_list F.field right.now (i + i + start))) }
+    requires { length left.now ≡ length right.now }
+    ensures len { IfOk result (λ v. length v.items ≡ length left.now) }
+    ensures products { IfOk result (λ v. (i : ℕ) → i < length left.now → of_list F.field v.items i
+        ≡ F.field.times (of_list F.field left.now i) (of_list F.field right.now i)) }
 {
-    let mut products = Vec::with_capacity(alloc, count)?;
-    for i in 0..count {
-        let place = i + i + start;
-        products.push(left[place] * right[place])?;
-    }
+    let mut products = Vec::with_capacity(alloc, room)?;
+    products.extend_from_slice(left)?;
+    multiply_places(products.as_mut_slice(), right);
     Ok(products)
 }
 
-/// What is left of each item without the one at its place, times the factor.
-pub fn scale_differences<F: Field>(items: &mut [F], other: &[F], factor: F)
-    requires { length items.old ≡ length other.now }
+// Multiplies each item by the other list's.
+fn multiply_places<F: Field>(items: &mut [F], others: &[F])
+    requires { length others.now ≡ length items.old }
     ensures len { length items.new ≡ length items.old }
-    ensures halves { (i : ℕ) → i < length other.now → of_list F.field items.new i ≡ F.field.times
-        (minus F.field (of_list F.field items.old i) (of_list F.field other.now i)) factor }
+    ensures products { (i : ℕ) → i < length items.old → of_list F.field items.new i
+        ≡ F.field.times (of_list F.field items.old i) (of_list F.field others.now i) }
 {
-    for i in 0..other.len() {
-        items[i] = (items[i] - other[i]) * factor;
+    for i in 0..others.len() {
+        items[i] = items[i] * others[i];
+    }
+}
+
+/// Multiplies each item by a factor, and adds another one times its own.
+pub fn add_products<F: Field>(items: &mut [F], factors: &[F], others: &[F], other_factors: &[F])
+    requires factors { length factors.now ≡ length items.old }
+    requires others { length others.now ≡ length items.old }
+    requires other_factors { length other_factors.now ≡ length items.old }
+    ensures len { length items.new ≡ length items.old }
+    ensures sums { (i : ℕ) → i < length items.old → of_list F.field items.new i ≡ F.field.plus
+        (F.field.times (of_list F.field items.old i) (of_list F.field factors.now i))
+        (F.field.times (of_list F.field others.now i) (of_list F.field other_factors.now i)) }
+{
+    for i in 0..factors.len() {
+        items[i] = items[i] * factors[i] + others[i] * other_factors[i];
     }
 }
 

@@ -2,13 +2,15 @@
 //! polynomial through given ones, and the weights by which values at points give the value at another.
 #![tactic(auto)]
 
+mod blocks;
 mod coset;
 mod division;
-mod doubled;
 mod error;
+mod few;
 mod interpolation;
 mod items;
 mod laws;
+mod leaf;
 mod levels;
 mod lookup;
 mod pairs;

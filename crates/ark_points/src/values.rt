@@ -16,7 +16,7 @@ use ark_poly::{DenseUVPolynomial, EvaluationDomain, GeneralEvaluationDomain};
 use std::alloc::Global;
 
 // Up to so many points or coefficients each value is found for itself.
-const FEW: usize = 384;
+const FEW: usize = 256;
 
 /// The values of a polynomial at points, in their order. Points may be repeated.
 ///
@@ -71,13 +71,12 @@ fn values_by_own_tree<F: FftField, D: EvaluationDomain<F>>(
 {
     let levels = Levels::<F, D>::new(alloc, points.len())?;
     let tree = Products::new(alloc, &levels, points)?;
-    values_by_tree(alloc, &levels, &tree, polynomial, points)
+    values_by_tree(alloc, &tree, polynomial, points)
 }
 
 /// The values at the points of a tree, of which there are some: looked up, or down the tree.
 pub fn values_with_tree<F: FftField, D: EvaluationDomain<F>>(
     alloc: Global,
-    levels: &Levels<F, D>,
     tree: &Products<F, D>,
     polynomial: &DensePolynomial<F>,
     points: &[F],
@@ -89,14 +88,13 @@ pub fn values_with_tree<F: FftField, D: EvaluationDomain<F>>(
 {
     match values_by_lookup::<F, D>(alloc, polynomial, points)? {
         Some(values) => Ok(values),
-        None => values_by_tree(alloc, levels, tree, polynomial, points),
+        None => values_by_tree(alloc, tree, polynomial, points),
     }
 }
 
 // The values at the points of a tree, of which there are some, down the tree.
 fn values_by_tree<F: FftField, D: EvaluationDomain<F>>(
     alloc: Global,
-    levels: &Levels<F, D>,
     tree: &Products<F, D>,
     polynomial: &DensePolynomial<F>,
     points: &[F],
@@ -106,16 +104,15 @@ fn values_by_tree<F: FftField, D: EvaluationDomain<F>>(
     ensures values { IfOk result (λ v. AreValuesAt F.field points.now v.items (of_list F.field polynomial.now)) }
     ensures memory { IsOkUnless result PolyError.Memory }
 {
-    match values_by_coset(alloc, levels, tree, polynomial, points)? {
+    match values_by_coset(alloc, tree, polynomial, points)? {
         Some(values) => Ok(values),
-        None => values_by_series(alloc, levels, tree, polynomial, points),
+        None => values_by_series(alloc, tree, polynomial, points),
     }
 }
 
 // The same through an inverse power series of the product, or a division where the field has no domain for that.
 fn values_by_series<F: FftField, D: EvaluationDomain<F>>(
     alloc: Global,
-    levels: &Levels<F, D>,
     tree: &Products<F, D>,
     polynomial: &DensePolynomial<F>,
     points: &[F],
@@ -126,7 +123,7 @@ fn values_by_series<F: FftField, D: EvaluationDomain<F>>(
     ensures memory { IsOkUnless result PolyError.Memory }
 {
     let scaled = scaled_by(alloc, polynomial, tree.product(), points.len())?;
-    let values = tree.values(alloc, levels, points, &scaled)?;
+    let values = tree.values(alloc, points, &scaled)?;
     Ok(values)
 }
 

@@ -1,9 +1,8 @@
-use Rattle.std.proofs.Common.{◌≡◌, ◌-◌, ◌/◌, ◌≤◌, length, take, drop, sym, ap, subst, ◌∙◌, arith}
-use Rattle.std.proofs.lemmas.List.{length-drop, take_all}
+use Rattle.std.proofs.Common.{◌≡◌, ◌/◌, ◌≤◌, length, take, drop, sym, ap, subst, ◌∙◌}
 use Rattle.ark_math.specs.Points.{AreValues}
-use Rattle.ark_math.specs.Univariate.{product}
-use Rattle.ark_points.specs.Tree.{IsMonic, IsTreeOver, nodes}
-use Rattle.ark_points.proofs.Nodes.{nodes-halves, nodes_monic}
+use Rattle.ark_math.specs.Univariate.{of_list, product}
+use Rattle.ark_points.specs.Tree.{IsMonic, IsTreeOver, nodes, whole}
+use Rattle.ark_points.proofs.Nodes.{nodes-halves, nodes_monic, tree-whole}
 use Rattle.ark_points.proofs.tree.joined.Goals as goal
 
 pub returns-clause-tree : goal.returns-clause-tree
@@ -19,10 +18,14 @@ returns-clause-tree g c =
     let w = c.in_ok-high_values.high_values in
     let first : domain c.args.domain ≡ domain v.domain = sym (ap domain c.in_ok-low_values.ensures.domain) in
     let second : domain w.domain ≡ domain c.args.domain = ap domain c.in_ok-high_values.ensures.domain in
-    let upper : take (length points - half) (drop half points) ≡ drop half points = take_all (length points - half) (drop half points) (omega (arith, length-drop half points)) in
-    let V : AreValues K (domain v.domain) fronts v.evals = subst (λ e. AreValues K e fronts v.evals) first c.in_ok-low_values.ensures.values in
+    let low : of_list K c.product.result.now ≡ fronts =
+    ap (of_list K) (c.product.ensures ∙ ap (λ t. whole t) c.deref.ensures) ∙ tree-whole K N domain (take half points) c.args.low.value c.requires.low in
+    let high : of_list K c.product-2.result.now ≡ backs =
+    ap (of_list K) (c.product-2.ensures ∙ ap (λ t. whole t) c.deref-2.ensures) ∙ tree-whole K N domain (drop half points) c.args.high.value c.requires.high in
+    let V : AreValues K (domain v.domain) fronts v.evals =
+    subst (λ e. AreValues K e fronts v.evals) first (subst (λ a. AreValues K (domain c.args.domain) a v.evals) low c.in_ok-low_values.ensures.values) in
     let W : AreValues K (domain v.domain) backs w.evals =
-    subst (λ e. AreValues K e backs w.evals) first (subst (λ xs. AreValues K (domain c.args.domain) (nodes K xs) w.evals) upper c.in_ok-high_values.ensures.values) in
+    subst (λ e. AreValues K e backs w.evals) first (subst (λ a. AreValues K (domain c.args.domain) a w.evals) high c.in_ok-high_values.ensures.values) in
     let both : product K fronts backs ≡ nodes K points = nodes-halves K N points half in
     subst (IsTreeOver K domain points) (sym c.in_ok-new.ensures.ok) (
       c.in_ok-product.ensures.product fronts backs V W (subst (IsMonic K (length points)) (sym both) (nodes_monic K N points)) ∙ both,

@@ -1,0 +1,18 @@
+use Rattle.std.proofs.Common.{sym, subst, arith}
+use Rattle.std.proofs.lemmas.Result.{on_ok_weaker}
+use Rattle.ark_math.specs.Univariate.{of_list}
+use Rattle.ark_math.proofs.Polynomials.UnivariateLists.{of_list-past}
+use Rattle.ark_points.specs.Tree.{IsGiven}
+use Rattle.ark_points.proofs.blocks.BlockProducts+F.write_values.Goals as goal
+
+pub returns-clause-values : goal.returns-clause-values
+returns-clause-values g c =
+    let K = g.F.Field.field in
+    let coeffs = c.args.coeffs.now in
+    on_ok_weaker c.write_given.result
+    (λ h p stands.
+    h p (of_list K coeffs)
+    (λ i l. of_list-past K coeffs i (omega (arith, l, c.requires.few)))
+    (subst (IsGiven K c.args.blocks.now c.args.self.now c.args.count (of_list K coeffs)) (sym c.deref.ensures.value) c.in_ok-given.ensures.given)
+    stands)
+    c.write_given.ensures.values

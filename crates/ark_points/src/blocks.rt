@@ -1,0 +1,363 @@
+//! The tree of products over points by transforms over blocks of roots of unity: no list is moved, and values over twice as
+//! many elements are the known ones with as many behind them.
+
+ghost use Rattle.std.specs.Prelude.{◌≡◌, ℕ, ◌+◌, ◌-◌, ◌/◌, ◌<◌, ◌≤◌, drop, length, take, IfOk, IfSome, OnOk};
+ghost use Rattle.ark_blocks.specs.Blocks.{AreValuesFrom, IsPowerOfTwo, element_of, size_of};
+ghost use Rattle.ark_math.specs.Univariate.{IsBelow, added, of_list, product};
+ghost use Rattle.ark_points.specs.Points.{HasValues};
+ghost use Rattle.ark_points.specs.Tree.{HasRoom, IsBlockTreeOver, IsGiven, IsMonic, StandsFor, nodes, power_less_one};
+ghost use Rattle.ark_points.specs.Tree.{weighed, whole_of_blocks};
+
+use crate::few::{FEW_POINTS, product_of_few, weighed_few, write_few_values};
+use crate::items::{add_products, place_products};
+use crate::tree::Tree;
+use ark_base::{FftField, Field};
+use ark_blocks::BlockRoots;
+use ark_poly::DenseUVPolynomial;
+use ark_poly::univariate::DensePolynomial;
+use std::alloc::{AllocError, Global};
+
+/// The product of x - z over points; and of many points the products of both halves, each with its values over the first
+/// elements of a table, of which there is at least one for each point.
+pub type BlockProducts<F> = Tree<DensePolynomial<F>, DensePolynomial<F>, Vec<F>>;
+
+impl<F: FftField> BlockProducts<F> {
+    /// Over these points, in their order, with values over `count` elements.
+    pub fn new(
+        alloc: Global,
+        blocks: &BlockRoots<F>,
+        points: &[F],
+        count: usize,
+    ) -> Result<Box<Self>, AllocError>
+        requires power { IsPowerOfTwo count }
+        requires within { count ≤ size_of blocks.now }
+        requires room { length points.now ≤ count }
+        ensures tree { IfOk result (λ t. IsBlockTreeOver F.field blocks.now count points.now t.value) }
+    {
+        if points.len() <= FEW_POINTS {
+            let product = product_of_few(alloc, points)?;
+            return Ok(Box::new(alloc, Tree::Few(product))?);
+        }
+        let half = points.len() / 2;
+        let low = BlockProducts::new(alloc, blocks, &points[..half], count / 2)?;
+        let high = BlockProducts::new(alloc, blocks, &points[half..], count / 2)?;
+        joined(alloc, blocks, points, count, low, high)
+    }
+
+    /// The product of x - z over all points.
+    pub fn product(&self) -> &DensePolynomial<F>
+        ensures { result.now ≡ whole_of_blocks self.now }
+    {
+        match self {
+            Tree::Few(product) => product,
+            Tree::Halves(product, _, _, _, _) => product,
+        }
+    }
+
+    // The product's values over `count` elements. Those over half of them are the products of the halves'.
+    fn values_over(
+        &self,
+        alloc: Global,
+        blocks: &BlockRoots<F>,
+        points: &[F],
+        count: usize,
+    ) -> Result<Vec<F>, AllocError>
+        requires power { IsPowerOfTwo count }
+        requires within { count ≤ size_of blocks.now }
+        requires room { length points.now < count }
+        requires tree { IsBlockTreeOver F.field blocks.now (count / 2) points.now self.now }
+        ensures values { IfOk result (λ v. AreValuesFrom F.field (element_of F.field blocks.now) 0 count
+            (nodes F.field points.now) v.items) }
+    {
+        match self {
+            Tree::Few(product) => blocks.values(alloc, product.coeffs(), count),
+            Tree::Halves(product, _, low_values, _, high_values) => {
+                let mut values = place_products(alloc, low_values, high_values, count)?;
+                blocks.double(&mut values, product.coeffs())?;
+                Ok(values)
+            }
+        }
+    }
+
+    /// Writes the values at the points, in their order, of what the polynomial with the given coefficients stands for.
+    pub fn write_values(
+        &self,
+        alloc: Global,
+        blocks: &BlockRoots<F>,
+        points: &[F],
+        coeffs: &[F],
+        values: &mut [F],
+        count: usize,
+    ) -> Result<(), AllocError>
+        requires power { IsPowerOfTwo count }
+        requires within { count ≤ size_of blocks.now }
+        requires room { length points.now ≤ count }
+        requires not_empty { 0 < length points.now }
+        requires tree { IsBlockTreeOver F.field blocks.now count points.now self.now }
+        requires few { length coeffs.now ≤ length points.now }
+        requires len { length values.old ≡ length points.now }
+        ensures len { length values.new ≡ length values.old }
+        ensures values { OnOk result ((p : ℕ → F) → StandsFor F.field (length points.now)
+            (nodes F.field points.now) p (of_list F.field coeffs.now) → HasValues F.field (length points.now)
+            (of_list F.field points.now) (of_list F.field values.new) p) }
+    {
+        let given = given_to(alloc, blocks, self, coeffs, count)?;
+        self.write_given(alloc, blocks, points, &given, values, count)
+    }
+
+    // The same, where a list gives the polynomial to the tree.
+    fn write_given(
+        &self,
+        alloc: Global,
+        blocks: &BlockRoots<F>,
+        points: &[F],
+        given: &[F],
+        values: &mut [F],
+        count: usize,
+    ) -> Result<(), AllocError>
+        requires power { IsPowerOfTwo count }
+        requires within { count ≤ size_of blocks.now }
+        requires room { length points.now ≤ count }
+        requires not_empty { 0 < length points.now }
+        requires tree { IsBlockTreeOver F.field blocks.now count points.now self.now }
+        requires given { HasRoom self.now (length points.now) count (length given.now) }
+        requires len { length values.old ≡ length points.now }
+        ensures len { length values.new ≡ length values.old }
+        ensures values { OnOk result ((p s : ℕ → F) → IsBelow F.field (length points.now) s
+            → IsGiven F.field blocks.now self.now count s given.now
+            → StandsFor F.field (length points.now) (nodes F.field points.now) p s
+            → HasValues F.field (length points.now) (of_list F.field points.now) (of_list F.field values.new) p) }
+    {
+        match self {
+            Tree::Few(product) => write_few_values(alloc, product, points, given, values),
+            Tree::Halves(_, low, low_values, high, high_values) => {
+                let n = points.len();
+                let half = n / 2;
+                let part = count / 2;
+                let (to_low, to_high) = values.split_at_mut(half);
+                let for_low = handed(alloc, blocks, low, high_values, given, n - half, n, part)?;
+                low.write_given(alloc, blocks, &points[..half], &for_low, to_low, part)?;
+                let for_high = handed(alloc, blocks, high, low_values, given, half, n, part)?;
+                high.write_given(alloc, blocks, &points[half..], &for_high, to_high, part)
+            }
+        }
+    }
+
+    /// The sum of each weight times the product of x - z over the other points; and its values over `count` elements, where
+    /// the tree has halves.
+    pub fn weighed(
+        &self,
+        alloc: Global,
+        blocks: &BlockRoots<F>,
+        points: &[F],
+        weights: &[F],
+        count: usize,
+    ) -> Result<(Vec<F>, Option<Vec<F>>), AllocError>
+        requires power { IsPowerOfTwo count }
+        requires within { count ≤ size_of blocks.now }
+        requires room { length points.now ≤ count }
+        requires tree { IsBlockTreeOver F.field blocks.now count points.now self.now }
+        requires weights { length weights.now ≡ length points.now }
+        ensures sum { IfOk result (λ p. of_list F.field p.0.items
+            ≡ weighed F.field points.now (of_list F.field weights.now)) }
+        ensures few { IfOk result (λ p. length p.0.items ≤ count) }
+        ensures values { IfOk result (λ p. IfSome p.1 (λ v. AreValuesFrom F.field (element_of F.field blocks.now) 0
+            count (of_list F.field p.0.items) v.items)) }
+    {
+        match self {
+            Tree::Few(_) => Ok((weighed_few(alloc, points, weights)?, None)),
+            Tree::Halves(_, low, low_values, high, high_values) => {
+                let half = points.len() / 2;
+                let part = count / 2;
+                let of_low = low.weighed(alloc, blocks, &points[..half], &weights[..half], part)?;
+                let first = extended(alloc, blocks, of_low, count)?;
+                let of_high = high.weighed(alloc, blocks, &points[half..], &weights[half..], part)?;
+                let second = extended(alloc, blocks, of_high, count)?;
+                sum_of_products(alloc, blocks, first, high_values, &second, low_values)
+            }
+        }
+    }
+}
+
+// The tree over all points from those over their halves.
+fn joined<F: FftField>(
+    alloc: Global,
+    blocks: &BlockRoots<F>,
+    points: &[F],
+    count: usize,
+    low: Box<BlockProducts<F>>,
+    high: Box<BlockProducts<F>>,
+) -> Result<Box<BlockProducts<F>>, AllocError>
+    requires power { IsPowerOfTwo count }
+    requires within { count ≤ size_of blocks.now }
+    requires many { 2 < length points.now }
+    requires room { length points.now ≤ count }
+    requires low { IsBlockTreeOver F.field blocks.now (count / 2) (take (length points.now / 2) points.now) low.value }
+    requires high { IsBlockTreeOver F.field blocks.now (count / 2) (drop (length points.now / 2) points.now) high.value }
+    ensures tree { IfOk result (λ t. IsBlockTreeOver F.field blocks.now count points.now t.value) }
+{
+    let half = points.len() / 2;
+    let low_values = low.values_over(alloc, blocks, &points[..half], count)?;
+    let high_values = high.values_over(alloc, blocks, &points[half..], count)?;
+    let product = product_of_degree(alloc, blocks, &low_values, &high_values, points.len())?;
+    Ok(Box::new(
+        alloc,
+        Tree::Halves(product, low, low_values, high, high_values),
+    )?)
+}
+
+// The product of polynomials with these values, whose leading coefficient is one, at `degree`.
+fn product_of_degree<F: FftField>(
+    alloc: Global,
+    blocks: &BlockRoots<F>,
+    left: &[F],
+    right: &[F],
+    degree: usize,
+) -> Result<DensePolynomial<F>, AllocError>
+    requires power { IsPowerOfTwo (length left.now) }
+    requires within { length left.now ≤ size_of blocks.now }
+    requires same { length right.now ≡ length left.now }
+    requires room { degree ≤ length left.now }
+    ensures product { IfOk result (λ p. (a b : ℕ → F)
+        → AreValuesFrom F.field (element_of F.field blocks.now) 0 (length left.now) a left.now
+        → AreValuesFrom F.field (element_of F.field blocks.now) 0 (length left.now) b right.now
+        → IsMonic F.field degree (product F.field a b) → of_list F.field p ≡ product F.field a b) }
+{
+    // With room for a coefficient more.
+    let room = left.len().saturating_add(1);
+    let mut coeffs = place_products(alloc, left, right, room)?;
+    blocks.interpolate(coeffs.as_mut_slice());
+    if left.len() == degree {
+        add_vanishing(&mut coeffs)?;
+    }
+    Ok(DensePolynomial::from_coefficients_vec(coeffs))
+}
+
+// Adds x^n - 1 to a polynomial of n coefficients.
+fn add_vanishing<F: Field>(coeffs: &mut Vec<F>) -> Result<(), AllocError>
+    requires some { 0 < length coeffs.old.items }
+    ensures { OnOk result (of_list F.field coeffs.new.items ≡ added F.field (of_list F.field coeffs.old.items)
+        (power_less_one F.field (length coeffs.old.items))) }
+{
+    let one = F::one();
+    coeffs[0] = coeffs[0] - one;
+    coeffs.push(one)?;
+    Ok(())
+}
+
+// The list that gives this polynomial to the tree.
+fn given_to<F: FftField>(
+    alloc: Global,
+    blocks: &BlockRoots<F>,
+    tree: &BlockProducts<F>,
+    coeffs: &[F],
+    count: usize,
+) -> Result<Vec<F>, AllocError>
+    requires power { IsPowerOfTwo count }
+    requires within { count ≤ size_of blocks.now }
+    requires few { length coeffs.now ≤ count }
+    ensures room { IfOk result (λ v. (n : ℕ) → length coeffs.now ≤ n → HasRoom tree.now n count (length v.items)) }
+    ensures given { IfOk result (λ v. IsGiven F.field blocks.now tree.now count (of_list F.field coeffs.now) v.items) }
+{
+    match tree {
+        Tree::Few(_) => Vec::from_slice(alloc, coeffs),
+        Tree::Halves(_, _, _, _, _) => blocks.values(alloc, coeffs, count),
+    }
+}
+
+// The list that gives a tree with values over `count` elements the coefficients from `start` on and below `end` of a product,
+// of which one factor has these values, and the other the given ones, over twice as many.
+fn handed<F: FftField>(
+    alloc: Global,
+    blocks: &BlockRoots<F>,
+    tree: &BlockProducts<F>,
+    left: &[F],
+    right: &[F],
+    start: usize,
+    end: usize,
+    count: usize,
+) -> Result<Vec<F>, AllocError>
+    requires power { IsPowerOfTwo count }
+    requires within { count + count ≤ size_of blocks.now }
+    requires left { length left.now ≡ count + count }
+    requires right { length right.now ≡ count + count }
+    requires order { start ≤ end }
+    requires room { end ≤ count + count }
+    requires few { end - start ≤ count }
+    ensures room { IfOk result (λ v. HasRoom tree.now (end - start) count (length v.items)) }
+    ensures given { IfOk result (λ v. (a b c : ℕ → F)
+        → AreValuesFrom F.field (element_of F.field blocks.now) 0 (count + count) a left.now
+        → AreValuesFrom F.field (element_of F.field blocks.now) 0 (count + count) b right.now
+        → IsBelow F.field (start + (count + count)) (product F.field a b)
+        → IsBelow F.field (end - start) c
+        → ((i : ℕ) → start + i < end → c i ≡ product F.field a b (start + i))
+        → IsGiven F.field blocks.now tree.now count c v.items) }
+{
+    if let Tree::Halves(_, _, _, _, _) = tree {
+        if start == count && end - start == count {
+            return blocks.upper_half(alloc, left, right, count);
+        }
+    }
+    let mut coeffs = place_products(alloc, left, right, left.len())?;
+    blocks.interpolate(coeffs.as_mut_slice());
+    given_to(alloc, blocks, tree, &coeffs[start..end], count)
+}
+
+// A polynomial's values over `count` elements, of which those over half of them may be known.
+fn extended<F: FftField>(
+    alloc: Global,
+    blocks: &BlockRoots<F>,
+    summand: (Vec<F>, Option<Vec<F>>),
+    count: usize,
+) -> Result<Vec<F>, AllocError>
+    requires power { IsPowerOfTwo count }
+    requires many { 1 < count }
+    requires within { count ≤ size_of blocks.now }
+    requires few { length summand.0.items ≤ count }
+    requires known { IfSome summand.1 (λ v. AreValuesFrom F.field (element_of F.field blocks.now) 0 (count / 2)
+        (of_list F.field summand.0.items) v.items) }
+    ensures values { IfOk result (λ v. AreValuesFrom F.field (element_of F.field blocks.now) 0 count
+        (of_list F.field summand.0.items) v.items) }
+{
+    let (coeffs, known) = summand;
+    match known {
+        Some(half) => {
+            let mut values = half;
+            blocks.double(&mut values, &coeffs)?;
+            Ok(values)
+        }
+        None => blocks.values(alloc, &coeffs, count),
+    }
+}
+
+// From values of four polynomials the sum of the first two's product and the other two's, and its values.
+fn sum_of_products<F: FftField>(
+    alloc: Global,
+    blocks: &BlockRoots<F>,
+    first: Vec<F>,
+    first_factor: &[F],
+    second: &[F],
+    second_factor: &[F],
+) -> Result<(Vec<F>, Option<Vec<F>>), AllocError>
+    requires power { IsPowerOfTwo (length first.items) }
+    requires within { length first.items ≤ size_of blocks.now }
+    requires first_factor { length first_factor.now ≡ length first.items }
+    requires second { length second.now ≡ length first.items }
+    requires second_factor { length second_factor.now ≡ length first.items }
+    ensures sum { IfOk result (λ p. (f a s b : ℕ → F)
+        → AreValuesFrom F.field (element_of F.field blocks.now) 0 (length first.items) f first.items
+        → AreValuesFrom F.field (element_of F.field blocks.now) 0 (length first.items) a first_factor.now
+        → AreValuesFrom F.field (element_of F.field blocks.now) 0 (length first.items) s second.now
+        → AreValuesFrom F.field (element_of F.field blocks.now) 0 (length first.items) b second_factor.now
+        → IsBelow F.field (length first.items) (added F.field (product F.field f a) (product F.field s b))
+        → (of_list F.field p.0.items ≡ added F.field (product F.field f a) (product F.field s b))
+        × IfSome p.1 (λ v. AreValuesFrom F.field (element_of F.field blocks.now) 0 (length first.items)
+        (of_list F.field p.0.items) v.items)) }
+    ensures few { IfOk result (λ p. length p.0.items ≡ length first.items) }
+{
+    let mut values = first;
+    add_products(values.as_mut_slice(), first_factor, second, second_factor);
+    let mut coeffs = Vec::from_slice(alloc, &values)?;
+    blocks.interpolate(coeffs.as_mut_slice());
+    Ok((coeffs, Some(values)))
+}

@@ -1,0 +1,97 @@
+//! Parts of points that no domain is needed for.
+
+ghost use Rattle.std.specs.Prelude.{◌≡◌, ℕ, ◌<◌, ◌≤◌, length, IfOk, OnOk, IsOkUnless};
+ghost use Rattle.ark_math.specs.Univariate.{of_list};
+ghost use Rattle.ark_points.specs.Points.{HasValues};
+ghost use Rattle.ark_points.specs.Tree.{IsLeafOver, StandsFor, nodes, product_of_leaf, weighed};
+
+use crate::blocks::BlockProducts;
+use crate::few::{FEW_POINTS, product_of_few, weighed_few, write_few_values};
+use ark_base::{FftField, PolyError};
+use ark_blocks::BlockRoots;
+use ark_poly::DenseUVPolynomial;
+use ark_poly::univariate::DensePolynomial;
+use std::alloc::Global;
+
+/// The product of x - z over points that are taken one by one, since they are few or the field has no roots of unity for them;
+/// or roots, and by them a tree of products.
+#[derive(Drop)]
+pub enum Leaf<F: FftField> {
+    Plain(DensePolynomial<F>),
+    Blocks(BlockRoots<F>, Box<BlockProducts<F>>),
+}
+
+impl<F: FftField> Leaf<F> {
+    /// Over these points, in their order.
+    pub fn new(alloc: Global, points: &[F]) -> Result<Self, PolyError>
+        ensures leaf { IfOk result (λ l. IsLeafOver F.field points.now l) }
+        ensures memory { IsOkUnless result PolyError.Memory }
+    {
+        if points.len() > FEW_POINTS {
+            if let Some(blocks) = BlockRoots::new(alloc, points.len())? {
+                let tree = BlockProducts::new(alloc, &blocks, points, blocks.size())?;
+                return Ok(Leaf::Blocks(blocks, tree));
+            }
+        }
+        Ok(Leaf::Plain(product_of_few(alloc, points)?))
+    }
+
+    /// The product of x - z over all points.
+    pub fn product(&self) -> &DensePolynomial<F>
+        ensures { result.now ≡ product_of_leaf self.now }
+    {
+        match self {
+            Leaf::Plain(product) => product,
+            Leaf::Blocks(_, tree) => tree.product(),
+        }
+    }
+
+    /// Writes the values at the points, in their order, of what the polynomial with the given coefficients stands for.
+    pub fn write_values(
+        &self,
+        alloc: Global,
+        points: &[F],
+        given: &[F],
+        values: &mut [F],
+    ) -> Result<(), PolyError>
+        requires not_empty { 0 < length points.now }
+        requires leaf { IsLeafOver F.field points.now self.now }
+        requires few { length given.now ≤ length points.now }
+        requires len { length values.old ≡ length points.now }
+        ensures len { length values.new ≡ length values.old }
+        ensures values { OnOk result ((p : ℕ → F) → StandsFor F.field (length points.now)
+            (nodes F.field points.now) p (of_list F.field given.now) → HasValues F.field (length points.now)
+            (of_list F.field points.now) (of_list F.field values.new) p) }
+        ensures memory { IsOkUnless result PolyError.Memory }
+    {
+        match self {
+            Leaf::Plain(product) => Ok(write_few_values(alloc, product, points, given, values)?),
+            Leaf::Blocks(blocks, tree) => {
+                Ok(tree.write_values(alloc, blocks, points, given, values, blocks.size())?)
+            }
+        }
+    }
+
+    /// The sum of each weight times the product of x - z over the other points.
+    pub fn weighed(
+        &self,
+        alloc: Global,
+        points: &[F],
+        weights: &[F],
+    ) -> Result<DensePolynomial<F>, PolyError>
+        requires leaf { IsLeafOver F.field points.now self.now }
+        requires len { length weights.now ≡ length points.now }
+        ensures sum { IfOk result (λ p. of_list F.field p
+            ≡ weighed F.field points.now (of_list F.field weights.now)) }
+        ensures memory { IsOkUnless result PolyError.Memory }
+    {
+        let coeffs = match self {
+            Leaf::Plain(_) => weighed_few(alloc, points, weights)?,
+            Leaf::Blocks(blocks, tree) => {
+                tree.weighed(alloc, blocks, points, weights, blocks.size())?
+                    .0
+            }
+        };
+        Ok(DensePolynomial::from_coefficients_vec(coeffs))
+    }
+}
