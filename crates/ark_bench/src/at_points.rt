@@ -94,25 +94,35 @@ impl<F: Field + Number> Benchmark for Shares<F> {
     }
 }
 
-/// Values at as many points as a polynomial has coefficients, the polynomial through as many, and shares at five points.
+/// Values at as many points as a polynomial has coefficients, and the polynomial through as many, under these names.
 pub fn report_at_points<F: Counted>(
     rt: &(impl Print + Clock),
     alloc: Global,
     timed: bool,
+    names: [&'static str; 2],
 ) -> anyhow::Result<()> {
+    let [at, through] = names;
     let mut draws = Draws::new();
     let len = 1 << 12;
     let mut values = ValuesAtPoints::<F> {
         polynomial: draws.dense(alloc, len)?,
         points: draws.list(alloc, len)?,
     };
-    report(rt, alloc, timed, "evaluate_at", len, &mut values)?;
+    report(rt, alloc, timed, at, len, &mut values)?;
     let mut points = Vec::with_capacity(alloc, len)?;
     for i in 0..len {
         points.push((F::from(i as u64), draws.element()))?;
     }
-    let mut through = ThroughPoints::<F> { points };
-    report(rt, alloc, timed, "from_points", len, &mut through)?;
+    let mut polynomial = ThroughPoints::<F> { points };
+    report(rt, alloc, timed, through, len, &mut polynomial)
+}
+
+/// Shares of secrets at five points.
+pub fn report_shares<F: Counted>(
+    rt: &(impl Print + Clock),
+    alloc: Global,
+    timed: bool,
+) -> anyhow::Result<()> {
     let mut points = Vec::new(alloc);
     for i in 1..=5 {
         points.push(F::from(i))?;

@@ -23,7 +23,7 @@ use ark_poly::{
     DenseMultilinearExtension, DenseUVPolynomial, EvaluationDomain, MixedRadixEvaluationDomain,
     MultilinearExtension, Radix2EvaluationDomain, SparseMultilinearExtension,
 };
-use at_points::report_at_points;
+use at_points::{report_at_points, report_shares};
 use batches::{Counted, Number, report};
 use bytes::{ReadBack, Written};
 use codes::report_codes;
@@ -63,10 +63,14 @@ fn report_all<F: Counted, M: Counted, B: Counted, K: Counted, G: Counted, C: Str
     report_radix2::<F>(rt, alloc, timed, &mut draws, names, &sizes)?;
     report_mixed_radix::<M>(rt, alloc, timed, &mut draws)?;
     report_polynomials::<F>(rt, alloc, timed, &mut draws)?;
-    report_at_points::<F>(rt, alloc, timed)?;
+    report_at_points::<F>(rt, alloc, timed, ["evaluate_at", "from_points"])?;
+    report_shares::<F>(rt, alloc, timed)?;
     report_codes::<F>(rt, alloc, timed)?;
     let names = ["baby_bear_fft_in_place", "baby_bear_ifft_in_place"];
+    report_radix2::<B>(rt, alloc, timed, &mut draws, names, &[1 << 12])?;
     report_large_field::<B>(rt, alloc, timed, names)?;
+    let names = ["baby_bear_evaluate_at", "baby_bear_from_points"];
+    report_at_points::<B>(rt, alloc, timed, names)?;
     let names = ["koala_bear_fft_in_place", "koala_bear_ifft_in_place"];
     report_large_field::<K>(rt, alloc, timed, names)?;
     let names = ["goldilocks_fft_in_place", "goldilocks_ifft_in_place"];
