@@ -90,7 +90,8 @@ impl<F: FftField> BlockRoots<F> {
         backward(items, &self.inverses, 1, levels);
         scale_each(items, self.half.pow(levels as u64));
         forward(items, &self.roots, 0, levels);
-        subtract_from_products(items, &left[..half], &right[..half], self.half);
+        subtract_from_products(items, &left[..half], &right[..half]);
+        scale_each(items, self.half);
         Ok(turned)
     }
 }
@@ -169,16 +170,16 @@ fn multiply_places<F: Field>(items: &mut [F], others: &[F])
     }
 }
 
-// Puts what is left of the products of two lists' items without each item, times the factor, in its place.
-fn subtract_from_products<F: Field>(items: &mut [F], left: &[F], right: &[F], factor: F)
+// Puts what is left of the products of two lists' items without each item in its place.
+fn subtract_from_products<F: Field>(items: &mut [F], left: &[F], right: &[F])
     requires left { length left.now ≡ length items.old }
     requires right { length right.now ≡ length items.old }
     ensures len { length items.new ≡ length items.old }
-    ensures differences { (i : ℕ) → i < length items.old → of_list F.field items.new i ≡ F.field.times
-        (minus F.field (F.field.times (of_list F.field left.now i) (of_list F.field right.now i))
-        (of_list F.field items.old i)) factor }
+    ensures differences { (i : ℕ) → i < length items.old → of_list F.field items.new i
+        ≡ minus F.field (F.field.times (of_list F.field left.now i) (of_list F.field right.now i))
+        (of_list F.field items.old i) }
 {
     for i in 0..items.len() {
-        items[i] = (left[i] * right[i] - items[i]) * factor;
+        items[i] = left[i] * right[i] - items[i];
     }
 }

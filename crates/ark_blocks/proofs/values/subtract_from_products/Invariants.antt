@@ -8,6 +8,6 @@ invariant-loop-i g l =
     let K = g.F.Field.field in
     record {
       len : length l.items ≡ length l.initial.items;
-      done : (k : ℕ) → k < l.i → of_list K l.items k ≡ K.times (minus K (K.times (of_list K l.left k) (of_list K l.right k)) (of_list K l.initial.items k)) l.factor;
+      done : (k : ℕ) → k < l.i → of_list K l.items k ≡ minus K (K.times (of_list K l.left k) (of_list K l.right k)) (of_list K l.initial.items k);
       rest : (k : ℕ) → l.i ≤ k → of_list K l.items k ≡ of_list K l.initial.items k;
     }

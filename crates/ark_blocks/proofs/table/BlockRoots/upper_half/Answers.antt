@@ -39,7 +39,8 @@ returns-clause-values g c = λ a b d A B below few upper.
     let first = c.in_ok-turned.turned.items in
     let items = c.as_mut_slice-items.result.now in
     let scaled = c.scale_each.new.items in
-    let last = c.subtract_from_products.new.items in
+    let left_over = c.subtract_from_products.new.items in
+    let last = c.scale_each-2.new.items in
     let table = c.args.self.now in
     let x = element_of K table in
     let p = product K a b in
@@ -52,7 +53,8 @@ returns-clause-values g c = λ a b d A B below few upper.
     let from = length-take-le (length left - s) (drop s left) (omega (arith, length-drop s left)) in
     let len : length items ≡ s = omega (arith, c.in_ok-turned.ensures.len, from, c.requires.left, ap length c.as_mut_slice-items.ensures.value) in
     let many : length scaled ≡ s = omega (arith, len, c.scale_each.ensures.len, c.backward.ensures.len) in
-    let whole : length last ≡ s = omega (arith, many, c.subtract_from_products.ensures.len, c.forward.ensures.len) in
+    let rest : length left_over ≡ s = omega (arith, many, c.subtract_from_products.ensures.len, c.forward.ensures.len) in
+    let whole : length last ≡ s = c.scale_each-2.ensures.len ∙ rest in
     let back = written_back last (drop (length last) first) c.in_ok-turned.turned.len (omega (arith, whole, len, c.as_mut_slice-items.ensures.len)) in
     -- the products at the second block's elements
     let there : (i : ℕ) → i < m → of_list K items i ≡ value_below K m (turned K N s p) (x (1 * m + i)) = λ i l.
@@ -76,5 +78,6 @@ returns-clause-values g c = λ a b d A B below few upper.
     ∙ ap₂ (λ t j. value_below K t (turned K N s p) (x j)) (sym size) place in
     subst (AreValuesFrom K x 0 s d) (sym back)
     (upper_values K N (size_of table) s x rev c.requires.power room a b left right A B below half own.half_of d last (of_list K c.forward.new.values) few upper here whole (λ i l.
-    c.subtract_from_products.ensures.differences i (omega (arith, l, many, c.forward.ensures.len))
-    ∙ ap₂ (λ t r. K.times (minus K (K.times t r) (of_list K c.forward.new.values i)) half) (get_or-take s left i K.zero l) (get_or-take s right i K.zero l)))
+    c.scale_each-2.ensures.products i (omega (arith, l, rest))
+    ∙ ap (λ t. K.times t half) (c.subtract_from_products.ensures.differences i (omega (arith, l, many, c.forward.ensures.len))
+    ∙ ap₂ (λ t r. minus K (K.times t r) (of_list K c.forward.new.values i)) (get_or-take s left i K.zero l) (get_or-take s right i K.zero l))))
