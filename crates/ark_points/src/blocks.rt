@@ -9,7 +9,7 @@ ghost use Rattle.ark_points.specs.Tree.{HasRoom, IsBlockTreeOver, IsGiven, IsMon
 ghost use Rattle.ark_points.specs.Tree.{weighed, whole_of_blocks};
 
 use crate::few::{FEW_POINTS, product_of_few, weighed_few, write_few_values};
-use crate::items::{add_products, place_products};
+use crate::items::{add_products, multiply_places, place_products};
 use crate::tree::Tree;
 use ark_base::{FftField, Field};
 use ark_blocks::BlockRoots;
@@ -34,13 +34,30 @@ impl<F: FftField> BlockProducts<F> {
         requires room { length points.now ≤ count }
         ensures tree { IfOk result (λ t. IsBlockTreeOver F.field blocks.now count points.now t.value) }
     {
+        Ok(BlockProducts::with_values(alloc, blocks, points, count)?.0)
+    }
+
+    // The same; and where the tree has halves the product's values over these elements.
+    fn with_values(
+        alloc: Global,
+        blocks: &BlockRoots<F>,
+        points: &[F],
+        count: usize,
+    ) -> Result<(Box<Self>, Option<Vec<F>>), AllocError>
+        requires power { IsPowerOfTwo count }
+        requires within { count ≤ size_of blocks.now }
+        requires room { length points.now ≤ count }
+        ensures tree { IfOk result (λ t. IsBlockTreeOver F.field blocks.now count points.now t.0.value) }
+        ensures values { IfOk result (λ t. IfSome t.1 (λ v. AreValuesFrom F.field (element_of F.field blocks.now) 0
+            count (nodes F.field points.now) v.items)) }
+    {
         if points.len() <= FEW_POINTS {
             let product = product_of_few(alloc, points)?;
-            return Ok(Box::new(alloc, Tree::Few(product))?);
+            return Ok((Box::new(alloc, Tree::Few(product))?, None));
         }
         let half = points.len() / 2;
-        let low = BlockProducts::new(alloc, blocks, &points[..half], count / 2)?;
-        let high = BlockProducts::new(alloc, blocks, &points[half..], count / 2)?;
+        let low = BlockProducts::with_values(alloc, blocks, &points[..half], count / 2)?;
+        let high = BlockProducts::with_values(alloc, blocks, &points[half..], count / 2)?;
         joined(alloc, blocks, points, count, low, high)
     }
 
@@ -51,31 +68,6 @@ impl<F: FftField> BlockProducts<F> {
         match self {
             Tree::Few(product) => product,
             Tree::Halves(product, _, _, _, _) => product,
-        }
-    }
-
-    // The product's values over `count` elements. Those over half of them are the products of the halves'.
-    fn values_over(
-        &self,
-        alloc: Global,
-        blocks: &BlockRoots<F>,
-        points: &[F],
-        count: usize,
-    ) -> Result<Vec<F>, AllocError>
-        requires power { IsPowerOfTwo count }
-        requires within { count ≤ size_of blocks.now }
-        requires room { length points.now < count }
-        requires tree { IsBlockTreeOver F.field blocks.now (count / 2) points.now self.now }
-        ensures values { IfOk result (λ v. AreValuesFrom F.field (element_of F.field blocks.now) 0 count
-            (nodes F.field points.now) v.items) }
-    {
-        match self {
-            Tree::Few(product) => blocks.values(alloc, product.coeffs(), count),
-            Tree::Halves(product, _, low_values, _, high_values) => {
-                let mut values = place_products(alloc, low_values, high_values, count)?;
-                blocks.double(&mut values, product.coeffs())?;
-                Ok(values)
-            }
         }
     }
 
@@ -169,65 +161,74 @@ impl<F: FftField> BlockProducts<F> {
             Tree::Halves(_, low, low_values, high, high_values) => {
                 let half = points.len() / 2;
                 let part = count / 2;
-                let of_low = low.weighed(alloc, blocks, &points[..half], &weights[..half], part)?;
-                let first = extended(alloc, blocks, of_low, count)?;
-                let of_high = high.weighed(alloc, blocks, &points[half..], &weights[half..], part)?;
-                let second = extended(alloc, blocks, of_high, count)?;
+                let (low_sum, low_known) =
+                    low.weighed(alloc, blocks, &points[..half], &weights[..half], part)?;
+                let first = extended(alloc, blocks, &low_sum, low_known, count)?;
+                let (high_sum, high_known) =
+                    high.weighed(alloc, blocks, &points[half..], &weights[half..], part)?;
+                let second = extended(alloc, blocks, &high_sum, high_known, count)?;
                 sum_of_products(alloc, blocks, first, high_values, &second, low_values)
             }
         }
     }
 }
 
-// The tree over all points from those over their halves.
+// The tree over all points from those over their halves, and its product's values.
 fn joined<F: FftField>(
     alloc: Global,
     blocks: &BlockRoots<F>,
     points: &[F],
     count: usize,
-    low: Box<BlockProducts<F>>,
-    high: Box<BlockProducts<F>>,
-) -> Result<Box<BlockProducts<F>>, AllocError>
+    low: (Box<BlockProducts<F>>, Option<Vec<F>>),
+    high: (Box<BlockProducts<F>>, Option<Vec<F>>),
+) -> Result<(Box<BlockProducts<F>>, Option<Vec<F>>), AllocError>
     requires power { IsPowerOfTwo count }
     requires within { count ≤ size_of blocks.now }
     requires many { 2 < length points.now }
     requires room { length points.now ≤ count }
-    requires low { IsBlockTreeOver F.field blocks.now (count / 2) (take (length points.now / 2) points.now) low.value }
-    requires high { IsBlockTreeOver F.field blocks.now (count / 2) (drop (length points.now / 2) points.now) high.value }
-    ensures tree { IfOk result (λ t. IsBlockTreeOver F.field blocks.now count points.now t.value) }
+    requires low { IsBlockTreeOver F.field blocks.now (count / 2) (take (length points.now / 2) points.now)
+        low.0.value }
+    requires high { IsBlockTreeOver F.field blocks.now (count / 2) (drop (length points.now / 2) points.now)
+        high.0.value }
+    requires low_values { IfSome low.1 (λ v. AreValuesFrom F.field (element_of F.field blocks.now) 0 (count / 2)
+        (nodes F.field (take (length points.now / 2) points.now)) v.items) }
+    requires high_values { IfSome high.1 (λ v. AreValuesFrom F.field (element_of F.field blocks.now) 0 (count / 2)
+        (nodes F.field (drop (length points.now / 2) points.now)) v.items) }
+    ensures tree { IfOk result (λ t. IsBlockTreeOver F.field blocks.now count points.now t.0.value) }
+    ensures values { IfOk result (λ t. IfSome t.1 (λ v. AreValuesFrom F.field (element_of F.field blocks.now) 0
+        count (nodes F.field points.now) v.items)) }
 {
-    let half = points.len() / 2;
-    let low_values = low.values_over(alloc, blocks, &points[..half], count)?;
-    let high_values = high.values_over(alloc, blocks, &points[half..], count)?;
-    let product = product_of_degree(alloc, blocks, &low_values, &high_values, points.len())?;
-    Ok(Box::new(
-        alloc,
-        Tree::Halves(product, low, low_values, high, high_values),
-    )?)
+    let (low, low_known) = low;
+    let (high, high_known) = high;
+    let low_values = extended(alloc, blocks, low.product().coeffs(), low_known, count)?;
+    let high_values = extended(alloc, blocks, high.product().coeffs(), high_known, count)?;
+    // With room for as many more values.
+    let room = count.saturating_add(count);
+    let values = place_products(alloc, &low_values, &high_values, room)?;
+    let product = monic_with(alloc, blocks, &values, points.len())?;
+    let tree = Tree::Halves(product, low, low_values, high, high_values);
+    Ok((Box::new(alloc, tree)?, Some(values)))
 }
 
-// The product of polynomials with these values, whose leading coefficient is one, at `degree`.
-fn product_of_degree<F: FftField>(
+// The polynomial of this degree with these values whose leading coefficient is one.
+fn monic_with<F: FftField>(
     alloc: Global,
     blocks: &BlockRoots<F>,
-    left: &[F],
-    right: &[F],
+    values: &[F],
     degree: usize,
 ) -> Result<DensePolynomial<F>, AllocError>
-    requires power { IsPowerOfTwo (length left.now) }
-    requires within { length left.now ≤ size_of blocks.now }
-    requires same { length right.now ≡ length left.now }
-    requires room { degree ≤ length left.now }
-    ensures product { IfOk result (λ p. (a b : ℕ → F)
-        → AreValuesFrom F.field (element_of F.field blocks.now) 0 (length left.now) a left.now
-        → AreValuesFrom F.field (element_of F.field blocks.now) 0 (length left.now) b right.now
-        → IsMonic F.field degree (product F.field a b) → of_list F.field p ≡ product F.field a b) }
+    requires power { IsPowerOfTwo (length values.now) }
+    requires within { length values.now ≤ size_of blocks.now }
+    requires room { degree ≤ length values.now }
+    ensures monic { IfOk result (λ p. (a : ℕ → F)
+        → AreValuesFrom F.field (element_of F.field blocks.now) 0 (length values.now) a values.now
+        → IsMonic F.field degree a → of_list F.field p ≡ a) }
 {
     // With room for a coefficient more.
-    let room = left.len().saturating_add(1);
-    let mut coeffs = place_products(alloc, left, right, room)?;
+    let mut coeffs = Vec::with_capacity(alloc, values.len().saturating_add(1))?;
+    coeffs.extend_from_slice(values)?;
     blocks.interpolate(coeffs.as_mut_slice());
-    if left.len() == degree {
+    if values.len() == degree {
         add_vanishing(&mut coeffs)?;
     }
     Ok(DensePolynomial::from_coefficients_vec(coeffs))
@@ -303,30 +304,30 @@ fn handed<F: FftField>(
     given_to(alloc, blocks, tree, &coeffs[start..end], count)
 }
 
-// A polynomial's values over `count` elements, of which those over half of them may be known.
+// The values over `count` elements of the polynomial with these coefficients; those over half of them may be known.
 fn extended<F: FftField>(
     alloc: Global,
     blocks: &BlockRoots<F>,
-    summand: (Vec<F>, Option<Vec<F>>),
+    coeffs: &[F],
+    known: Option<Vec<F>>,
     count: usize,
 ) -> Result<Vec<F>, AllocError>
     requires power { IsPowerOfTwo count }
     requires many { 1 < count }
     requires within { count ≤ size_of blocks.now }
-    requires few { length summand.0.items ≤ count }
-    requires known { IfSome summand.1 (λ v. AreValuesFrom F.field (element_of F.field blocks.now) 0 (count / 2)
-        (of_list F.field summand.0.items) v.items) }
+    requires few { length coeffs.now ≤ count }
+    requires known { IfSome known (λ v. AreValuesFrom F.field (element_of F.field blocks.now) 0 (count / 2)
+        (of_list F.field coeffs.now) v.items) }
     ensures values { IfOk result (λ v. AreValuesFrom F.field (element_of F.field blocks.now) 0 count
-        (of_list F.field summand.0.items) v.items) }
+        (of_list F.field coeffs.now) v.items) }
 {
-    let (coeffs, known) = summand;
     match known {
         Some(half) => {
             let mut values = half;
-            blocks.double(&mut values, &coeffs)?;
+            blocks.double(&mut values, coeffs)?;
             Ok(values)
         }
-        None => blocks.values(alloc, &coeffs, count),
+        None => blocks.values(alloc, coeffs, count),
     }
 }
 
@@ -356,7 +357,9 @@ fn sum_of_products<F: FftField>(
     ensures few { IfOk result (λ p. length p.0.items ≡ length first.items) }
 {
     let mut values = first;
-    add_products(values.as_mut_slice(), first_factor, second, second_factor);
+    let items = values.as_mut_slice();
+    multiply_places(items, first_factor);
+    add_products(items, second, second_factor);
     let mut coeffs = Vec::from_slice(alloc, &values)?;
     blocks.interpolate(coeffs.as_mut_slice());
     Ok((coeffs, Some(values)))

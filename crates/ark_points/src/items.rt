@@ -91,8 +91,8 @@ pub fn place_products<F: Field>(
     Ok(products)
 }
 
-// Multiplies each item by the other list's.
-fn multiply_places<F: Field>(items: &mut [F], others: &[F])
+/// Multiplies each item by the other list's.
+pub fn multiply_places<F: Field>(items: &mut [F], others: &[F])
     requires { length others.now ≡ length items.old }
     ensures len { length items.new ≡ length items.old }
     ensures products { (i : ℕ) → i < length items.old → of_list F.field items.new i
@@ -103,18 +103,17 @@ fn multiply_places<F: Field>(items: &mut [F], others: &[F])
     }
 }
 
-/// Multiplies each item by a factor, and adds another one times its own.
-pub fn add_products<F: Field>(items: &mut [F], factors: &[F], others: &[F], other_factors: &[F])
-    requires factors { length factors.now ≡ length items.old }
-    requires others { length others.now ≡ length items.old }
-    requires other_factors { length other_factors.now ≡ length items.old }
+/// Adds to each item the product of the other two lists'.
+pub fn add_products<F: Field>(items: &mut [F], left: &[F], right: &[F])
+    requires left { length left.now ≡ length items.old }
+    requires right { length right.now ≡ length items.old }
     ensures len { length items.new ≡ length items.old }
     ensures sums { (i : ℕ) → i < length items.old → of_list F.field items.new i ≡ F.field.plus
-        (F.field.times (of_list F.field items.old i) (of_list F.field factors.now i))
-        (F.field.times (of_list F.field others.now i) (of_list F.field other_factors.now i)) }
+        (of_list F.field items.old i)
+        (F.field.times (of_list F.field left.now i) (of_list F.field right.now i)) }
 {
-    for i in 0..factors.len() {
-        items[i] = items[i] * factors[i] + others[i] * other_factors[i];
+    for i in 0..items.len() {
+        items[i] = items[i] + left[i] * right[i];
     }
 }
 

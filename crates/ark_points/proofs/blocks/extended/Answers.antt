@@ -12,22 +12,19 @@ double-requires-clause-power g c =
 pub double-requires-clause-few : goal.double-requires-clause-few
 double-requires-clause-few g c =
     let known = rw c.in-Some.is at c.requires.known in
-    omega (arith, c.deref.ensures.len, ap length c.deref.ensures.value, c.requires.few, known.len, two_halves c.args.count c.requires.many c.requires.power)
+    omega (arith, c.requires.few, known.len, two_halves c.args.count c.requires.many c.requires.power)
 
-pub returns-in-Some : goal.returns-in-Some
-returns-in-Some g c =
+pub returns-in_ok-double-in-Some : goal.returns-in_ok-double-in-Some
+returns-in_ok-double-in-Some g c =
     let K = g.F.Field.field in
     let x = element_of K c.args.blocks.now in
     let count = c.args.count in
     let known = rw c.in-Some.is at c.requires.known in
     let half = c.in-Some.half.items in
-    let coeffs = c.deref.result.now in
-    let is : of_list K coeffs ≡ of_list K c.args.summand.0.items = ap (of_list K) c.deref.ensures.value in
+    let a = of_list K c.args.coeffs.now in
     let whole : length half + length half ≡ count = ap (λ t. t + t) known.len ∙ two_halves count c.requires.many c.requires.power in
     record {
-      values = subst (λ a. AreValuesFrom K x 0 count a c.double.new.values.items) is
-          (subst (λ n. AreValuesFrom K x 0 n (of_list K coeffs) c.double.new.values.items) whole
+      values = subst (λ n. AreValuesFrom K x 0 n a c.double.new.values.items) whole
           (c.in_ok-double-in-Some.ensures.values
-          (subst (λ n. AreValuesFrom K x 0 n (of_list K coeffs) half) (sym known.len)
-          (subst (λ a. AreValuesFrom K x 0 (count / 2) a half) (sym is) known))));
+          (subst (λ n. AreValuesFrom K x 0 n a half) (sym known.len) known));
     }

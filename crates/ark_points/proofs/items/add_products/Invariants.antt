@@ -7,6 +7,6 @@ invariant-loop-i g l =
     let K = g.F.Field.field in
     record {
       len : length l.items ≡ length l.initial.items;
-      done : (k : ℕ) → k < l.i → of_list K l.items k ≡ K.plus (K.times (of_list K l.initial.items k) (of_list K l.factors k)) (K.times (of_list K l.others k) (of_list K l.other_factors k));
+      done : (k : ℕ) → k < l.i → of_list K l.items k ≡ K.plus (of_list K l.initial.items k) (K.times (of_list K l.left k) (of_list K l.right k));
       rest : (k : ℕ) → l.i ≤ k → of_list K l.items k ≡ of_list K l.initial.items k;
     }

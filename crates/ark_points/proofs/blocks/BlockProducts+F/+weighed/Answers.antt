@@ -62,7 +62,7 @@ weighed-requires-in-Halves g t c κs within =
             (
               omega (arith, back, c.requires.room, twice),
               (
-                subst₂ (IsBlockTreeOver g.F.Field.field c.args.blocks.now (count / 2)) (sym all) (sym c.deref-in-Halves.ensures) tree.3,
+                subst₂ (IsBlockTreeOver g.F.Field.field c.args.blocks.now (count / 2)) (sym all) (sym c.deref-in-Halves-2.ensures) tree.3,
                 omega (arith, rest, back, c.requires.weights),
               ),
             ),
@@ -85,14 +85,15 @@ returns-in_ok-second-in-Halves-clause-sum g t c =
     let second = c.in_ok-second-in-Halves in
     IfOk-weaker c.sum_of_products.result _ _
     (λ p h.
-    (weighed_by_halves K N x count (length first.first.items) points weights first.first.items c.deref-in-Halves-4.result.now c.deref-in-Halves-3.result.now c.deref-in-Halves-2.result.now _ _
+    (weighed_by_halves K N x count (length first.first.items) points weights first.first.items c.deref-in-Halves-6.result.now c.deref-in-Halves-5.result.now c.deref-in-Halves-4.result.now _ _
     (λ a. (of_list K p.0.items ≡ a) × IfSome p.1 (λ v. AreValuesFrom K x 0 (length first.first.items) (of_list K p.0.items) v.items))
     c.requires.room c.requires.weights first.ensures.values.len
-    c.in_ok-of_low-in-Halves.ensures.sum c.in_ok-of_high-in-Halves.ensures.sum
-    first.ensures.values
-    (subst (AreValuesFrom K x 0 count (nodes K (drop half points))) (sym c.deref-in-Halves-2.ensures.value) values.high)
-    (subst (AreValuesFrom K x 0 count (of_list K c.in_ok-of_high-in-Halves.of_high.0.items)) (sym c.deref-in-Halves-3.ensures.value) second.ensures.values)
-    (subst (AreValuesFrom K x 0 count (nodes K (take half points))) (sym c.deref-in-Halves-4.ensures.value) values.low)
+    c.in_ok-low_sum-in-Halves.ensures.sum c.in_ok-high_sum-in-Halves.ensures.sum
+    (subst (λ v. AreValuesFrom K x 0 count (of_list K v) first.first.items) c.deref-in-Halves.ensures.value first.ensures.values)
+    (subst (AreValuesFrom K x 0 count (nodes K (drop half points))) (sym c.deref-in-Halves-4.ensures.value) values.high)
+    (subst (AreValuesFrom K x 0 count (of_list K c.in_ok-high_sum-in-Halves.high_sum.items)) (sym c.deref-in-Halves-5.ensures.value)
+    (subst (λ v. AreValuesFrom K x 0 count (of_list K v) second.second.items) c.deref-in-Halves-3.ensures.value second.ensures.values))
+    (subst (AreValuesFrom K x 0 count (nodes K (take half points))) (sym c.deref-in-Halves-6.ensures.value) values.low)
     h).0)
     c.sum_of_products.ensures.sum
 
@@ -111,13 +112,14 @@ returns-in_ok-second-in-Halves-clause-values g t c =
     IfOk-weaker c.sum_of_products.result _ _
     (λ p h.
     subst (λ n. IfSome p.1 (λ v. AreValuesFrom K x 0 n (of_list K p.0.items) v.items)) first.ensures.values.len
-    (weighed_by_halves K N x count (length first.first.items) points weights first.first.items c.deref-in-Halves-4.result.now c.deref-in-Halves-3.result.now c.deref-in-Halves-2.result.now _ _
+    (weighed_by_halves K N x count (length first.first.items) points weights first.first.items c.deref-in-Halves-6.result.now c.deref-in-Halves-5.result.now c.deref-in-Halves-4.result.now _ _
     (λ a. (of_list K p.0.items ≡ a) × IfSome p.1 (λ v. AreValuesFrom K x 0 (length first.first.items) (of_list K p.0.items) v.items))
     c.requires.room c.requires.weights first.ensures.values.len
-    c.in_ok-of_low-in-Halves.ensures.sum c.in_ok-of_high-in-Halves.ensures.sum
-    first.ensures.values
-    (subst (AreValuesFrom K x 0 count (nodes K (drop half points))) (sym c.deref-in-Halves-2.ensures.value) values.high)
-    (subst (AreValuesFrom K x 0 count (of_list K c.in_ok-of_high-in-Halves.of_high.0.items)) (sym c.deref-in-Halves-3.ensures.value) second.ensures.values)
-    (subst (AreValuesFrom K x 0 count (nodes K (take half points))) (sym c.deref-in-Halves-4.ensures.value) values.low)
+    c.in_ok-low_sum-in-Halves.ensures.sum c.in_ok-high_sum-in-Halves.ensures.sum
+    (subst (λ v. AreValuesFrom K x 0 count (of_list K v) first.first.items) c.deref-in-Halves.ensures.value first.ensures.values)
+    (subst (AreValuesFrom K x 0 count (nodes K (drop half points))) (sym c.deref-in-Halves-4.ensures.value) values.high)
+    (subst (AreValuesFrom K x 0 count (of_list K c.in_ok-high_sum-in-Halves.high_sum.items)) (sym c.deref-in-Halves-5.ensures.value)
+    (subst (λ v. AreValuesFrom K x 0 count (of_list K v) second.second.items) c.deref-in-Halves-3.ensures.value second.ensures.values))
+    (subst (AreValuesFrom K x 0 count (nodes K (take half points))) (sym c.deref-in-Halves-6.ensures.value) values.low)
     h).1)
     c.sum_of_products.ensures.sum

@@ -1,10 +1,10 @@
 use Rattle.std.proofs.Common.{rules, arith, ◌≡◌, ◌-◌, ◌/◌, ◌<◌, length, take, drop}
 use Rattle.std.proofs.lemmas.List.{length-drop, length-take-le}
 use Rattle.ark_points.proofs.PowersOfTwo.{half_is_power, two_halves}
-use Rattle.ark_points.proofs.blocks.BlockProducts+F.+new.Goals as goal
+use Rattle.ark_points.proofs.blocks.BlockProducts+F.+with_values.Goals as goal
 
-pub new-requires-2 : goal.new-requires-2
-new-requires-2 g t c κs within =
+pub with_values-requires : goal.with_values-requires
+with_values-requires g t c κs within =
     let points = c.args.points.now in
     let count = c.args.count in
     let n = length points in
@@ -18,8 +18,8 @@ new-requires-2 g t c κs within =
       ),
     )
 
-pub new-requires-3 : goal.new-requires-3
-new-requires-3 g t c κs within =
+pub with_values-requires-2 : goal.with_values-requires-2
+with_values-requires-2 g t c κs within =
     let points = c.args.points.now in
     let count = c.args.count in
     let n = length points in
