@@ -20,7 +20,7 @@ use ark_poly::{DenseUVPolynomial, EvaluationDomain, GeneralEvaluationDomain};
 use std::alloc::{AllocError, Global};
 
 // Up to so many pairs are taken one by one.
-const FEW: usize = 80;
+const FEW: usize = 64;
 
 /// The polynomial through the given pairs of x and y, of a degree below their number: it has the value y at each x, and
 /// no other one has. `RepeatedPoint` where two pairs have one x.

@@ -1,14 +1,14 @@
 //! Values at elements of a domain that has not many more of them: they are looked up among the values over
 //! all of it.
 
-ghost use Rattle.std.specs.Prelude.{◌≡◌, ℕ, ◌<◌, length, get_or, IfOk, IfSome, IsOkUnless};
+ghost use Rattle.std.specs.Prelude.{◌≡◌, ℕ, ◌<◌, ◌↔◌, ◌⊎◌, length, get_or, IfOk, IfSome, IsOkUnless, IsTrue};
 ghost use Rattle.ark_math.specs.Field.{power};
 ghost use Rattle.ark_math.specs.Points.{AreValues};
 ghost use Rattle.ark_math.specs.Univariate.{IsValue, of_list};
 ghost use Rattle.ark_points.specs.Points.{AreValuesAt};
 
 use crate::places::take_places;
-use ark_base::{FftField, PolyError, Polynomial};
+use ark_base::{FftField, Field, PolyError, Polynomial};
 use ark_poly::univariate::DensePolynomial;
 use ark_poly::{DenseUVPolynomial, EvaluationDomain, Evaluations};
 use std::alloc::Global;
@@ -84,9 +84,26 @@ fn values_in<F: FftField, D: EvaluationDomain<F>>(
         domain.group_gen_inv(),
         domain.size(),
     )?;
+    if !are_found(points, &rests) {
+        return Ok(None);
+    }
     let at_zero = polynomial.evaluate(alloc, &F::zero())?;
     let all = polynomial.evaluate_over_domain_by_ref(alloc, domain)?;
     looked_up(alloc, points, &rests, &places, &all, at_zero)
+}
+
+// Whether each of the points is zero or has one as its rest.
+fn are_found<F: Field>(points: &[F], rests: &[F]) -> bool
+    requires { length rests.now ≡ length points.now }
+    ensures { IsTrue result ↔ ((i : ℕ) → i < length points.now
+        → (of_list F.field rests.now i ≡ F.field.one) ⊎ (of_list F.field points.now i ≡ F.field.zero)) }
+{
+    for i in 0..points.len() {
+        if !rests[i].is_one() && !points[i].is_zero() {
+            return false;
+        }
+    }
+    true
 }
 
 // The values at points from those over a subgroup and at zero, where each of the points is a root's power at
