@@ -1,11 +1,22 @@
--- Tables of roots, made by halves: the second half's are the first half's times one root. And their inverses, one after another.
+-- The sizes of tables of roots. The tables, made by halves: the second half's are the first half's times one
+-- root. And their inverses, one after another.
 use Rattle.std.proofs.Common.{◌≡◌, ◌≢◌, ◌^◌, zero, ℕ, suc, Bool, true, false, if◌then◌else◌, ◌==◌, ◌+◌, ◌*◌, ◌-◌, ◌/◌, ◌%◌, ◌<◌, List, ◌++◌, length, sym, ◌∙◌, ap, ap₂, refl, subst, arith, inl, inr}
+use Rattle.std.proofs.Common.{◌≤◌, Option, None, Some, mod-eq_of_lt}
+use Rattle.std.proofs.Math.Nat.{mul-div_cancel_left, mul-one, pow-zero}
 use Rattle.std.proofs.lemmas.Bool.{cases_lt}
 use Rattle.std.proofs.lemmas.Nat.{pow_pos}
 use Rattle.std.proofs.lemmas.List.{get_or_append_left, get_or-append-add, length-append}
-use Rattle.ark_math.specs.Field.{FieldOn, IsField, power}
+use Rattle.std.specs.Int.{IsNextPowerOfTwo}
+use Rattle.ark_math.specs.Domain.{radix2, HasNone, IsLeast, IsSize}
+use Rattle.ark_math.specs.Field.{FieldOn, IsField, natural, power}
 use Rattle.ark_math.proofs.Algebra.Powers.{half_of_order, power-add, power-times}
-use Rattle.ark_math.specs.Root.{HasOrder}
+use Rattle.ark_math.proofs.Domains.Domains.{size_supported}
+use Rattle.ark_math.proofs.Domains.Exponents.{splits_with_base, splits_without_base}
+use Rattle.ark_math.proofs.Domains.GeneralSizes.{none_from_no_least}
+use Rattle.ark_math.proofs.Domains.Sizes.{next_at_most, next_is_least, none_past_word}
+use Rattle.ark_math.proofs.Domains.Sizes.{power_le, power_lt, radix2_splits, size_power}
+use Rattle.ark_math.proofs.Numbers.GreatestPowers.{greatest_power}
+use Rattle.ark_math.specs.Root.{Adicity, HasOrder, IsAdicity, IsGreatestPower, IsSupported}
 use Rattle.ark_math.specs.Univariate.{of_list}
 use Rattle.ark_math.proofs.Algebra.Solve.{◌⊗◌, negative}
 use Rattle.ark_math.proofs.Algebra.Ring.{ring1, ring2}
@@ -26,7 +37,88 @@ power_of_few n (suc k, e) none =
     let twice : 2 ^ suc k ≡ 2 * 2 ^ k = pow_suc k in
     absurd (omega (arith, e, twice, none, pow_pos k))
 
+-- a supported power of two is a size of radix 2, since no other power of the odd base than one divides it
+module _ (s : Adicity) (lawful : IsAdicity s) (n a : ℕ) (is : n ≡ 2 ^ a) (supported : IsSupported s n) where
+  -- it is a power of two times one
+  times_one : n ≡ 2 ^ a * 1
+  times_one = is ∙ sym (mul-one (2 ^ a))
+
+  greatest_twos : IsGreatestPower 2 n a
+  greatest_twos =
+      let greatest = greatest_power 2 a 1 (omega arith) (λ z. absurd (omega (arith, z))) in
+      subst (λ m. IsGreatestPower 2 m a) (sym times_one) greatest
+
+  size_with_base : (base most : ℕ) → s.odd ≡ Some (base, most) → IsSize s radix2 n
+  size_with_base base most some =
+      let three : 3 ≤ base = (lawful (base, most) some).0 in
+      let one : 1 % base ≡ 1 = mod-eq_of_lt (omega (arith, three)) in
+      let greatest = greatest_power base 0 1 (omega (arith, three)) (λ z. absurd (omega (arith, one, z))) in
+      let rest : n / 2 ^ a ≡ 1 = ap (λ m. m / 2 ^ a) times_one ∙ mul-div_cancel_left 1 (pow_pos a) in
+      let same : base ^ 0 * 1 ≡ n / 2 ^ a = ap (λ t. t * 1) (pow-zero base) ∙ sym rest in
+      let none = subst (λ m. IsGreatestPower base m 0) same greatest in
+      (a, splits_with_base s n lawful supported a 0 base most some greatest_twos (λ ne. none))
+
+  size_by_base : (odd : Option (ℕ × ℕ)) → s.odd ≡ odd → IsSize s radix2 n
+  size_by_base None none = (a, splits_without_base s n lawful supported a none greatest_twos)
+  size_by_base (Some p) some = size_with_base p.0 p.1 some
+
+  pub size_from_supported : IsSize s radix2 n
+  size_from_supported = size_by_base s.odd refl
+
+-- where there is a least number there is one
+pub least_is_some : (P : ℕ → Type 0) (k n : ℕ) → IsLeast P k n → HasNone P k → ⊥
+least_is_some P k n least none =
+    let above : k ≤ n = least.above in
+    let below : n < k = none n least.holds in
+    omega arith
+
+module _ (s : Adicity) where
+  -- the least power of two from a number on is a size where any that isn't below the number is
+  next_size : (k p n : ℕ) → IsNextPowerOfTwo k p → IsSize s radix2 n → k ≤ n → IsSize s radix2 p
+  next_size k p n next size room =
+      let a = next.0.0 in
+      let b = size_power s n size in
+      let less : p ≤ 2 ^ b.0 = next_at_most k p a b.0 next.0.1 next.2 (omega (arith, b.1, room)) in
+      let within : a ≤ b.0 = power_le a b.0 (omega (arith, less, next.0.1)) in
+      let fits : p < 2 ^ 64 = omega (arith, less, b.1, b.3) in
+      (a, radix2_splits s p a next.0.1 (omega (arith, within, b.2)) fits)
+
+  -- then it is the least size
+  pub next_least : (k p : ℕ) → IsNextPowerOfTwo k p → IsSize s radix2 p → IsLeast (IsSize s radix2) k p
+  next_least k p next size =
+      let r = size_power s p size in
+      let above : p < 2 * 2 ^ r.0 = omega (arith, r.1, pow_pos r.0) in
+      let few : r.0 < 64 = power_lt r.0 64 (omega (arith, r.1, r.3)) in
+      next_is_least s k p r.0 next (omega (arith, r.1)) above few r.2
+
+  -- and else there is none
+  pub none_unsupported : (k p : ℕ) → IsNextPowerOfTwo k p → (IsSupported s p → ⊥)
+      → HasNone (IsSize s radix2) k
+  none_unsupported k p next none n size = elim (cases_lt n k) [
+    | inl less ↦ less
+    | inr room ↦ absurd (none (size_supported s radix2 p (next_size k p n next size room)))
+  ]
+
+  -- nor past the greatest power of two of 64 bits
+  pub none_past_64_bits : (k : ℕ) → 2 ^ 63 < k → HasNone (IsSize s radix2) k
+  none_past_64_bits k past = none_from_no_least (IsSize s radix2) k (none_past_word s k past)
+
+  -- two is a size where any from two on is
+  two_is_size : (n : ℕ) → IsSize s radix2 n → 2 ≤ n → IsSize s radix2 2
+  two_is_size n size some =
+      let b = size_power s n size in
+      let within : 1 ≤ b.0 = power_le 1 b.0 (omega (arith, b.1, some)) in
+      (1, radix2_splits s 2 1 refl (omega (arith, within, b.2)) (omega arith))
+
 module _ {F : Type 0} (K : FieldOn F) (N : IsField K) where
+  -- where there is a size from two on, two isn't zero
+  pub two_not_zero : (s : Adicity) → ((n : ℕ) → IsSupported s n → natural K n ≢ K.zero)
+      → (n : ℕ) → IsSize s radix2 n → 2 ≤ n → K.plus K.one K.one ≢ K.zero
+  two_not_zero s invertible n size some zeros =
+      let one : K.plus K.zero K.one ≡ K.one = N.plus_comm K.zero K.one ∙ N.plus_zero K.one in
+      let two = size_supported s radix2 2 (two_is_size s n size some) in
+      invertible 2 two (ap (λ t. K.plus t K.one) one ∙ zeros)
+
   -- a value, or minus it
   abbrev signed : Bool → F → F
   signed s v = if s then v else K.negated v

@@ -1,6 +1,7 @@
 //! Tables of roots of unity.
 
-ghost use Rattle.std.specs.Prelude.{◌≡◌, ℕ, ◌+◌, ◌<◌, ◌≤◌, length, IfOk, IfSome};
+ghost use Rattle.std.specs.Prelude.{◌≡◌, ◌↔◌, ℕ, ◌+◌, ◌<◌, ◌≤◌, max, length, IfOk, IfSome, IsNone};
+ghost use Rattle.ark_math.specs.Domain.{radix2, HasNone, IsLeast, IsSize};
 ghost use Rattle.ark_math.specs.Field.{power};
 ghost use Rattle.ark_math.specs.Univariate.{of_list};
 ghost use Rattle.ark_blocks.specs.Blocks.{AreInverseRoots, AreReversed, AreRoots, IsPowerOfTwo, element_of, size_of};
@@ -34,10 +35,13 @@ impl<F: FftField> Model for BlockRoots<F> {
 }
 
 impl<F: FftField> BlockRoots<F> {
-    /// The table of the least power of two, from two on, that isn't below `count`. `None` where the field has no such
-    /// root.
+    /// The table of the least power of two, from two on, that isn't below `count`. `None` exactly where the
+    /// field has no root of unity of such an order that fits 64 bits.
     pub fn new(alloc: Global, count: usize) -> Result<Option<Self>, AllocError>
         ensures room { IfOk result (λ found. IfSome found (λ b. count ≤ size_of b)) }
+        ensures least { IfOk result (λ found. IfSome found
+            (λ b. IsLeast (IsSize F.adicity radix2) (max count 2) (size_of b))) }
+        ensures none { IfOk result (λ found. IsNone found ↔ HasNone (IsSize F.adicity radix2) (max count 2)) }
     {
         let Some(size) = count.max(2).checked_next_power_of_two() else {
             return Ok(None);
