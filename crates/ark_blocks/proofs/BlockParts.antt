@@ -1,4 +1,4 @@
--- The polynomials whose values a block's halves and quarters have, and what the levels back make of their coefficients.
+-- The polynomials whose values a block's halves and rows of four have, and what the levels back make of their coefficients.
 use Rattle.std.proofs.Common.{◌≡◌, ℕ, zero, suc, ◌+◌, ◌*◌, ◌-◌, ◌^◌, ◌<◌, ◌≤◌, List, length, sym, ◌∙◌, ap, arith, subst}
 use Rattle.std.proofs.lemmas.Nat.{mul-le}
 use Rattle.ark_math.specs.Field.{FieldOn, IsField, minus, power}
@@ -6,19 +6,15 @@ use Rattle.ark_math.specs.Univariate.{of_list, scaled, value_below}
 use Rattle.ark_math.proofs.Algebra.Groups.{itself_is_module, zero_plus}
 use Rattle.ark_math.proofs.Algebra.Powers.{power-add}
 use Rattle.ark_math.proofs.Polynomials.UnivariateValues.{value_below-scaled}
-use Rattle.ark_blocks.specs.Blocks.{AreReversed, AreInverseRoots, AreTurnedBack}
+use Rattle.ark_blocks.specs.Blocks.{AreReversed, AreInverseRoots}
 use Rattle.ark_blocks.proofs.Elements.{power_of_block}
 use Rattle.ark_blocks.proofs.Splits.{value_by_strides, value_of_same}
-use Rattle.ark_blocks.proofs.Undone.{two, two_back, four_back}
+use Rattle.ark_blocks.proofs.Undone.{two, two_back}
 
 module _ {F : Type 0} (K : FieldOn F) (x : ℕ → F) where
   -- the sums of coefficients that are m apart, by the powers of the element that a block is named by
   abbrev pub gathered : (s m b : ℕ) → (ℕ → F) → ℕ → F
   gathered s m b a i = value_below K s (λ p. a (m * p + i)) (x b)
-
-  -- the coefficients in each of four rows are known by their values at a block of m elements
-  abbrev pub AreFours : (m b : ℕ) (a v : ℕ → F) → Type 0
-  AreFours m b a v = (r j : ℕ) → r < m → j < 4 → v (4 * r + j) ≡ value_below K m (λ k. a (4 * k + j)) (x (b * m + r))
 
 module _ {F : Type 0} (K : FieldOn F) (N : IsField K) where
   -- two more levels double twice more
@@ -36,27 +32,6 @@ module _ {F : Type 0} (K : FieldOn F) (N : IsField K) (size : ℕ) (x : ℕ → 
       let z = x (b * 2 ^ l + r) in
       value_by_strides K N (2 ^ l) s a z
       ∙ value_of_same K N (2 ^ l) _ _ z (λ k h. ap (value_below K s (λ p. a (2 ^ l * p + k))) (power_of_block K N size x R l b r inside within))
-
-  -- the rows of a quarter of a block
-  pub fours_of_quarter : (l m b q d : ℕ) (a v w : ℕ → F) → m ≡ 2 ^ l * 4 → d ≡ 4 * b + q → q < 4 → suc b * m ≤ size → AreFours K x m b a v → ((i : ℕ) → i < m → w i ≡ v (q * m + i)) → AreFours K x (2 ^ l) d (gathered K x 4 m d a) w
-  fours_of_quarter l m b q d a v w whole named few within known part = λ r j lr lj.
-      let h = 2 ^ l in
-      let bound : suc q * h ≤ 4 * h = mul-le (suc q) h 4 h few (omega arith) in
-      let here : 4 * r + j < m = omega (arith, whole, lr, lj) in
-      let there : q * h + r < m = omega (arith, whole, lr, bound) in
-      let place : q * m + (4 * r + j) ≡ 4 * (q * h + r) + j = ap (λ t. q * t + (4 * r + j)) whole ∙ omega arith in
-      let element : b * m + (q * h + r) ≡ d * h + r = ap (λ t. b * t + (q * h + r)) whole ∙ omega arith ∙ ap (λ t. t * h + r) (sym named) in
-      let inside : d * h + r < size = omega (arith, element, there, within) in
-      let z = x (d * h + r) in
-      part (4 * r + j) here
-      ∙ ap v place
-      ∙ known (q * h + r) j there lj
-      ∙ ap (λ t. value_below K m (λ k. a (4 * k + j)) (x t)) element
-      ∙ ap (λ t. value_below K t (λ k. a (4 * k + j)) z) whole
-      ∙ gathered_values l 4 d r (λ k. a (4 * k + j)) lr inside
-      ∙ value_of_same K N h _ _ z (λ k lk. value_of_same K N 4 _ _ (x d) (λ p lp.
-      let index : 4 * (h * p + k) + j ≡ m * p + (4 * k + j) = omega arith ∙ ap (λ t. t * p + (4 * k + j)) (sym whole) in
-      ap a index))
 
   -- the values in a half of a block
   pub values_of_half : (l n b q d : ℕ) (a v w : ℕ → F) → n ≡ 2 ^ l * 2 → d ≡ 2 * b + q → q < 2 → suc b * n ≤ size → ((i : ℕ) → i < n → v i ≡ value_below K n a (x (b * n + i))) → ((i : ℕ) → i < 2 ^ l → w i ≡ v (q * 2 ^ l + i)) → (i : ℕ) → i < 2 ^ l → w i ≡ value_below K (2 ^ l) (gathered K x 2 (2 ^ l) d a) (x (d * 2 ^ l + i))
@@ -91,46 +66,23 @@ module _ {F : Type 0} (K : FieldOn F) (N : IsField K) (x : ℕ → F) (inverses 
   scaled_value : (s b : ℕ) (c : F) (f : ℕ → F) (p : F) → p ≡ K.times c (value_below K s f (x b)) → p ≡ value_below K s (scaled K c f) (x b)
   scaled_value s b c f p e = e ∙ sym (value_below-scaled K N s c f (x b))
 
-  -- what a level back makes of a block's halves, of which some multiple is known
+  -- what a level back makes of two values at opposite elements, of which some multiple is known
+  pub pair_back : (b : ℕ) (s : F) (f : ℕ → F) (p q : F) → 2 * b + 1 < length inverses + length inverses
+      → p ≡ K.times s (value_below K 2 f (x (2 * b))) → q ≡ K.times s (value_below K 2 f (x (2 * b + 1)))
+      → (K.plus p q ≡ K.times (K.times (two K) s) (f 0)) × (K.times (of_list K inverses b) (minus K p q) ≡ K.times (K.times (two K) s) (f 1))
+  pair_back b s f p q within first second =
+      let back = two_back K N x inverses known b within (scaled K s f) p q (scaled_value 2 (2 * b) s f p first) (scaled_value 2 (2 * b + 1) s f q second) in
+      (back.0 ∙ sym (N.times_assoc (two K) s (f 0)), back.1 ∙ sym (N.times_assoc (two K) s (f 1)))
+
+  -- the same of a block's halves
   pub halves_back : (b m k : ℕ) (s : F) (a : ℕ → F) (p q : F) → 2 * b + 1 < length inverses + length inverses
       → p ≡ K.times s (gathered K x 2 m (2 * b) a k) → q ≡ K.times s (gathered K x 2 m (2 * b + 1) a k)
       → (K.plus p q ≡ K.times (K.times (two K) s) (a k)) × (K.times (of_list K inverses b) (minus K p q) ≡ K.times (K.times (two K) s) (a (m + k)))
   halves_back b m k s a p q within first second =
       let i0 : m * 0 + k ≡ k = omega arith in
       let i1 : m * 1 + k ≡ m + k = omega arith in
-      let row = λ (j : ℕ). a (m * j + k) in
-      let back = two_back K N x inverses known b within (scaled K s row) p q (scaled_value 2 (2 * b) s row p first) (scaled_value 2 (2 * b + 1) s row q second) in (
-        back.0 ∙ sym (N.times_assoc (two K) s (a (m * 0 + k))) ∙ ap (λ t. K.times (K.times (two K) s) (a t)) i0,
-        back.1 ∙ sym (N.times_assoc (two K) s (a (m * 1 + k))) ∙ ap (λ t. K.times (K.times (two K) s) (a t)) i1,
-      )
-
-  -- and two levels of its quarters
-  pub quarters_back : (b m k : ℕ) (s : F) (a : ℕ → F) (p q r t d e f g : F) → 4 * b + 3 < length inverses + length inverses
-      → p ≡ K.times s (gathered K x 4 m (4 * b) a k) → q ≡ K.times s (gathered K x 4 m (4 * b + 1) a k) → r ≡ K.times s (gathered K x 4 m (4 * b + 2) a k) → t ≡ K.times s (gathered K x 4 m (4 * b + 3) a k)
-      → AreTurnedBack K (of_list K inverses b) (of_list K inverses (2 * b)) (of_list K inverses (2 * b + 1)) p q r t d e f g
-      → (w : F) → K.times (power K (two K) 2) s ≡ w
-      → (d ≡ K.times w (a k)) × (e ≡ K.times w (a (m + k))) × (f ≡ K.times w (a (2 * m + k))) × (g ≡ K.times w (a (3 * m + k)))
-  quarters_back b m k s a p q r t d e f g within first second third fourth turned w all =
-      let i0 : m * 0 + k ≡ k = omega arith in
-      let i1 : m * 1 + k ≡ m + k = omega arith in
-      let i2 : m * 2 + k ≡ 2 * m + k = omega arith in
-      let i3 : m * 3 + k ≡ 3 * m + k = omega arith in
-      let whole : (i j : ℕ) → i ≡ j → K.times (power K (two K) 2) (K.times s (a i)) ≡ K.times w (a j) = λ i j same. sym (N.times_assoc (power K (two K) 2) s (a i)) ∙ ap (λ t. K.times t (a i)) all ∙ ap (λ t. K.times w (a t)) same in
-      let row = λ (j : ℕ). a (m * j + k) in
-      let back = four_back K N x inverses known b within (scaled K s row) p q r t d e f g
-      (scaled_value 4 (4 * b) s row p first) (scaled_value 4 (4 * b + 1) s row q second) (scaled_value 4 (4 * b + 2) s row r third) (scaled_value 4 (4 * b + 3) s row t fourth)
-      turned in
-      (back.0 ∙ whole _ _ i0, back.1 ∙ whole _ _ i1, back.2 ∙ whole _ _ i2, back.3 ∙ whole _ _ i3)
-
-  -- one block of four items is its own coefficients
-  fours_alone : (b : ℕ) (a v : ℕ → F) → AreFours K x 1 b a v → (i : ℕ) → i < 4 → v i ≡ K.times K.one (a i)
-  fours_alone b a v fours i l =
-      let e : 4 * 0 + i ≡ i = omega arith in
-      ap v (sym e) ∙ fours 0 i (omega arith) l ∙ zero_plus (itself_is_module K N) (K.times K.one (a (4 * 0 + i))) ∙ ap (λ t. K.times K.one (a t)) e
-
-  -- the same where no level is left
-  pub fours_at_last : (n b : ℕ) (a v : ℕ → F) → 2 ≡ n → AreFours K x (2 ^ (n - 2)) b a v → (i : ℕ) → i < 2 ^ n → v i ≡ K.times (power K (two K) (n - 2)) (a i)
-  fours_at_last n b a v e = subst (λ t. AreFours K x (2 ^ (t - 2)) b a v → (i : ℕ) → i < 2 ^ t → v i ≡ K.times (power K (two K) (t - 2)) (a i)) e (fours_alone b a v)
+      let back = pair_back b s (λ j. a (m * j + k)) p q within first second in
+      (back.0 ∙ ap (λ t. K.times (K.times (two K) s) (a t)) i0, back.1 ∙ ap (λ t. K.times (K.times (two K) s) (a t)) i1)
 
   -- one level back of two values
   two_alone : (b : ℕ) (a v w : ℕ → F) → 2 * b + 1 < length inverses + length inverses → w 0 ≡ K.plus (v 0) (v 1) → w 1 ≡ K.times (of_list K inverses b) (minus K (v 0) (v 1)) → ((i : ℕ) → i < 2 → v i ≡ value_below K 2 a (x (b * 2 + i))) → (i : ℕ) → i < 2 → w i ≡ K.times (K.times (two K) K.one) (a i)

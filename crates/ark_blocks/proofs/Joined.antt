@@ -34,6 +34,14 @@ module _ {X : Type 0} (z : X) where
   pub back_item : (xs ys : List X) (m i : ℕ) → length xs ≡ m → get_or (xs ++ ys) (m + i) z ≡ get_or ys i z
   back_item xs ys m i len = ap (λ t. get_or (xs ++ ys) (t + i) z) (sym len) ∙ get_or-append-add xs ys i z
 
+  -- and those of a part between two others, and of the last one
+  module _ (before own after : List X) (p m i : ℕ) (len_before : length before ≡ p) (len_own : length own ≡ m) where
+    pub own_item : i < m → get_or (before ++ (own ++ after)) (p + i) z ≡ get_or own i z
+    own_item l = back_item before (own ++ after) p i len_before ∙ front_item own after m i len_own l
+
+    pub after_item : get_or (before ++ (own ++ after)) (p + (m + i)) z ≡ get_or after i z
+    after_item = back_item before (own ++ after) p (m + i) len_before ∙ back_item own after m i len_own
+
   -- the items of four quarters
   module _ (a b c d : List X) (m : ℕ) (len_a : length a ≡ m) (len_b : length b ≡ m) (len_c : length c ≡ m) where
     -- the first two together

@@ -1,4 +1,5 @@
 -- Proofs of the transforms over blocks, and of what they rest on.
+pub mod Ascent
 pub mod BlockParts
 pub mod Elements
 pub mod Evaluations

@@ -9,7 +9,7 @@ ghost use Rattle.ark_blocks.specs.Blocks.{AreInverseRoots, AreTurnedBack};
 use ark_traits::Field;
 
 // Above so many levels each half is taken for itself, so that it is near at hand.
-const FEW_LEVELS: u32 = 10;
+const FEW_LEVELS: u32 = 16;
 
 /// Puts the coefficients of a polynomial, times two for each level, in the place of its values at the elements of a
 /// block.
@@ -26,12 +26,12 @@ pub(crate) fn backward<F: Field>(values: &mut [F], inverses: &[F], block: usize,
 {
     if levels == 1 {
         pair(values, inverses[block]);
-    } else if levels % 2 == 1 || levels > FEW_LEVELS {
+    } else if levels > FEW_LEVELS {
         let half = values.len() / 2;
         let (low, high) = values.split_at_mut(half);
         backward(low, inverses, 2 * block, levels - 1);
         backward(high, inverses, 2 * block + 1, levels - 1);
-        butterflies(low, high, inverses[block]);
+        join_halves(low, high, inverses, block);
     } else if levels > 1 {
         fours(values, inverses, block * (values.len() / 4));
         up_from_fours(values, inverses, block, levels);
@@ -53,6 +53,75 @@ fn pair<F: Field>(values: &mut [F], inverse: F)
     values[1] = inverse * (first - second);
 }
 
+// The levels above blocks of four items, one after the other: the coefficients, times two for each level, of
+// a polynomial. Each four has the values of every fourth one of them, at the element that it is named by.
+fn up_from_fours<F: Field>(values: &mut [F], inverses: &[F], block: usize, levels: u32)
+    requires some { 2 ≤ levels }
+    requires size { length values.old ≡ 2 ^ levels }
+    requires within { suc block * 2 ^ levels ≤ length inverses.now + length inverses.now }
+    requires fits { length inverses.now + length inverses.now < 2 ^ 64 }
+    ensures len { length values.new ≡ length values.old }
+    ensures coefficients { (x a : ℕ → F) → AreInverseRoots F.field x inverses.now
+        → ((r j : ℕ) → r < 2 ^ (levels - 2) → j < 4 → of_list F.field values.old (4 * r + j)
+        ≡ value_below F.field (2 ^ (levels - 2)) (λ k. a (4 * k + j)) (x (block * 2 ^ (levels - 2) + r)))
+        → (i : ℕ) → i < 2 ^ levels → of_list F.field values.new i
+        ≡ F.field.times (power F.field (F.field.plus F.field.one F.field.one) (levels - 2)) (a i) }
+{
+    let mut half = 4;
+    for _level in 2..levels {
+        let blocks = values.len() / (2 * half);
+        join_blocks(values, inverses, block * blocks, half);
+        half *= 2;
+    }
+}
+
+// One level: butterflies across the two halves, of so many items each, of every block from block `start` on.
+fn join_blocks<F: Field>(values: &mut [F], inverses: &[F], start: usize, half: usize)
+    requires some { 0 < half }
+    requires whole { length values.old ≡ 2 * half * (length values.old / (2 * half)) }
+    requires within { start + length values.old / (2 * half) ≤ length inverses.now }
+    requires fits { 2 * half < 2 ^ 64 }
+    ensures len { length values.new ≡ length values.old }
+    ensures sums { (r i : ℕ) → r < length values.old / (2 * half) → i < half
+        → of_list F.field values.new (2 * half * r + i) ≡ F.field.plus
+        (of_list F.field values.old (2 * half * r + i))
+        (of_list F.field values.old (2 * half * r + (half + i))) }
+    ensures differences { (x : ℕ → F) → AreInverseRoots F.field x inverses.now
+        → (r i : ℕ) → r < length values.old / (2 * half) → i < half
+        → of_list F.field values.new (2 * half * r + (half + i)) ≡ F.field.times
+        (of_list F.field inverses.now (start + r)) (minus F.field
+        (of_list F.field values.old (2 * half * r + i))
+        (of_list F.field values.old (2 * half * r + (half + i)))) }
+{
+    let len = 2 * half;
+    for r in 0..values.len() / len {
+        let (_before, rest) = values.split_at_mut(len * r);
+        let (own, _after) = rest.split_at_mut(len);
+        let (low, high) = own.split_at_mut(half);
+        join_halves(low, high, inverses, start + r);
+    }
+}
+
+// Butterflies across the halves of a block. The root of block 0 is one, and so is its inverse.
+#[inline(always)]
+fn join_halves<F: Field>(low: &mut [F], high: &mut [F], inverses: &[F], block: usize)
+    requires same { length low.old ≡ length high.old }
+    requires within { block < length inverses.now }
+    ensures low_len { length low.new ≡ length low.old }
+    ensures high_len { length high.new ≡ length high.old }
+    ensures sums { (i : ℕ) → i < length low.old → of_list F.field low.new i ≡ F.field.plus
+        (of_list F.field low.old i) (of_list F.field high.old i) }
+    ensures differences { (x : ℕ → F) → AreInverseRoots F.field x inverses.now → (i : ℕ) → i < length low.old
+        → of_list F.field high.new i ≡ F.field.times (of_list F.field inverses.now block) (minus F.field
+        (of_list F.field low.old i) (of_list F.field high.old i)) }
+{
+    if block == 0 {
+        sums_and_differences(low, high);
+    } else {
+        butterflies(low, high, inverses[block]);
+    }
+}
+
 // Butterflies across two halves, all with the inverse of one root.
 fn butterflies<F: Field>(low: &mut [F], high: &mut [F], inverse: F)
     requires same { length low.old ≡ length high.old }
@@ -71,75 +140,21 @@ fn butterflies<F: Field>(low: &mut [F], high: &mut [F], inverse: F)
     }
 }
 
-// The levels above blocks of four items, two at a time: the coefficients, times two for each level, of a polynomial
-// of which each four has those that `down_to_fours` leaves it.
-fn up_from_fours<F: Field>(values: &mut [F], inverses: &[F], block: usize, levels: u32)
-    requires even { levels % 2 ≡ 0 }
-    requires some { 2 ≤ levels }
-    requires size { length values.old ≡ 2 ^ levels }
-    requires within { suc block * 2 ^ levels ≤ length inverses.now + length inverses.now }
-    requires fits { length inverses.now + length inverses.now < 2 ^ 64 }
-    ensures len { length values.new ≡ length values.old }
-    ensures coefficients { (x a : ℕ → F) → AreInverseRoots F.field x inverses.now
-        → ((r j : ℕ) → r < 2 ^ (levels - 2) → j < 4 → of_list F.field values.old (4 * r + j)
-        ≡ value_below F.field (2 ^ (levels - 2)) (λ k. a (4 * k + j)) (x (block * 2 ^ (levels - 2) + r)))
-        → (i : ℕ) → i < 2 ^ levels → of_list F.field values.new i
-        ≡ F.field.times (power F.field (F.field.plus F.field.one F.field.one) (levels - 2)) (a i) }
+// Butterflies across two halves whose root is one.
+fn sums_and_differences<F: Field>(low: &mut [F], high: &mut [F])
+    requires same { length low.old ≡ length high.old }
+    ensures low_len { length low.new ≡ length low.old }
+    ensures high_len { length high.new ≡ length high.old }
+    ensures sums { (i : ℕ) → i < length low.old → of_list F.field low.new i ≡ F.field.plus
+        (of_list F.field low.old i) (of_list F.field high.old i) }
+    ensures differences { (i : ℕ) → i < length low.old → of_list F.field high.new i ≡ minus F.field
+        (of_list F.field low.old i) (of_list F.field high.old i) }
 {
-    if levels > 2 {
-        let quarter = values.len() / 4;
-        let (low, high) = values.split_at_mut(2 * quarter);
-        let (first, second) = low.split_at_mut(quarter);
-        let (third, fourth) = high.split_at_mut(quarter);
-        up_from_fours(first, inverses, 4 * block, levels - 2);
-        up_from_fours(second, inverses, 4 * block + 1, levels - 2);
-        up_from_fours(third, inverses, 4 * block + 2, levels - 2);
-        up_from_fours(fourth, inverses, 4 * block + 3, levels - 2);
-        quarters(
-            first,
-            second,
-            third,
-            fourth,
-            inverses[block],
-            inverses[2 * block],
-            inverses[2 * block + 1],
-        );
-    }
-}
-
-// Two levels of butterflies across four quarters, with the inverses of the roots of the block and of its halves.
-fn quarters<F: Field>(
-    first: &mut [F],
-    second: &mut [F],
-    third: &mut [F],
-    fourth: &mut [F],
-    inverse: F,
-    low_inverse: F,
-    high_inverse: F,
-)
-    requires second { length second.old ≡ length first.old }
-    requires third { length third.old ≡ length first.old }
-    requires fourth { length fourth.old ≡ length first.old }
-    ensures first_len { length first.new ≡ length first.old }
-    ensures second_len { length second.new ≡ length first.old }
-    ensures third_len { length third.new ≡ length first.old }
-    ensures fourth_len { length fourth.new ≡ length first.old }
-    ensures turned { (i : ℕ) → i < length first.old → AreTurnedBack F.field inverse low_inverse high_inverse
-        (of_list F.field first.old i) (of_list F.field second.old i) (of_list F.field third.old i)
-        (of_list F.field fourth.old i) (of_list F.field first.new i) (of_list F.field second.new i)
-        (of_list F.field third.new i) (of_list F.field fourth.new i) }
-{
-    for i in 0..first.len() {
-        let (a, b, c, d) = four(
-            (first[i], second[i], third[i], fourth[i]),
-            inverse,
-            low_inverse,
-            high_inverse,
-        );
-        first[i] = a;
-        second[i] = b;
-        third[i] = c;
-        fourth[i] = d;
+    for i in 0..low.len() {
+        let first = low[i];
+        let second = high[i];
+        low[i] = first + second;
+        high[i] = first - second;
     }
 }
 

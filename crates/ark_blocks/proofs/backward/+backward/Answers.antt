@@ -17,12 +17,6 @@ overflow_mul-block-then-levels-gt-FEW_LEVELS g t c = omega (arith, halves_within
 pub overflow_add-block : goal.overflow_add-block
 overflow_add-block g t c = omega (arith, halves_within c.args.block c.args.levels (length c.args.inverses.now + length c.args.inverses.now) (omega arith) c.requires.within)
 
-pub offset_bounds-inverses-block-then-levels-gt-FEW_LEVELS : goal.offset_bounds-inverses-block-then-levels-gt-FEW_LEVELS
-offset_bounds-inverses-block-then-levels-gt-FEW_LEVELS g t c = omega (arith, halves_within c.args.block c.args.levels (length c.args.inverses.now + length c.args.inverses.now) (omega arith) c.requires.within)
-
-pub bounds-inverses-block-then-levels-gt-FEW_LEVELS : goal.bounds-inverses-block-then-levels-gt-FEW_LEVELS
-bounds-inverses-block-then-levels-gt-FEW_LEVELS g t c = omega (arith, halves_within c.args.block c.args.levels (length c.args.inverses.now + length c.args.inverses.now) (omega arith) c.requires.within)
-
 pub backward-requires : goal.backward-requires
 backward-requires g t c κs within =
     let n = c.args.levels in
@@ -52,15 +46,14 @@ backward-requires-then-levels-gt-FEW_LEVELS g t c κs within =
       ),
     )
 
-pub butterflies-requires : goal.butterflies-requires
-butterflies-requires g t c =
-    let n = c.args.levels in
-    let some : 1 ≤ n = omega arith in
-    record {
-      same = c.backward.ensures.len
-          ∙ omega (arith, c.split_at_mut-low.ensures.front_len, c.split_at_mut-low.ensures.back_len, c.requires.size, pow_half n some)
-          ∙ sym c.backward-then-levels-gt-FEW_LEVELS.ensures.len;
-    }
+pub join_halves-requires-clause-same : goal.join_halves-requires-clause-same
+join_halves-requires-clause-same g t c =
+    c.backward.ensures.len
+    ∙ omega (arith, c.split_at_mut-low.ensures.front_len, c.split_at_mut-low.ensures.back_len, c.requires.size, pow_half c.args.levels (omega arith))
+    ∙ sym c.backward-then-levels-gt-FEW_LEVELS.ensures.len
+
+pub join_halves-requires-clause-within : goal.join_halves-requires-clause-within
+join_halves-requires-clause-within g t c = omega (arith, halves_within c.args.block c.args.levels (length c.args.inverses.now + length c.args.inverses.now) (omega arith) c.requires.within)
 
 pub fours-requires-clause-whole : goal.fours-requires-clause-whole
 fours-requires-clause-whole g t c = omega (arith, c.requires.size, pow_fourth c.args.levels (omega arith))
@@ -129,7 +122,7 @@ returns-then-levels-gt-FEW_LEVELS-clause-coefficients g t c = λ x a known value
     let low = c.split_at_mut-low in
     let q0 = c.backward in
     let q1 = c.backward-then-levels-gt-FEW_LEVELS in
-    let new = c.butterflies.new in
+    let new = c.join_halves.new in
     let some : 1 ≤ n = omega arith in
     let both : 2 ^ n ≡ 2 * 2 ^ (n - 1) = pow_half n some in
     let half : length old / 2 ≡ 2 ^ (n - 1) = omega (arith, c.requires.size, both) in
@@ -145,12 +138,11 @@ returns-then-levels-gt-FEW_LEVELS-clause-coefficients g t c = λ x a known value
     let up_1 = q1.ensures.coefficients x (gathered K x 2 m (2 * b + 1) a) known
     (values_of_half K N size x known.reversed (n - 1) (2 ^ n) b 1 (2 * b + 1) a (of_list K old) (of_list K low.result.1.now) parts refl (omega arith) c.requires.within values item_1) in
     let len_0 : length q0.new.values ≡ m = q0.ensures.len ∙ omega (arith, low.ensures.front_len, half) in
-    let len_a : length new.low ≡ m = c.butterflies.ensures.low_len ∙ len_0 in
-    let inverse = get_or_read inverses b _ (omega (arith, named)) c.index-inverses-block-then-levels-gt-FEW_LEVELS.is K.zero in
+    let len_a : length new.low ≡ m = c.join_halves.ensures.low_len ∙ len_0 in
     let back = λ (k : ℕ) (h : k < m). halves_back K N x inverses known b m k (power K (two K) (n - 1)) a (of_list K q0.new.values k) (of_list K q1.new.values k) named (up_0 k h) (up_1 k h) in
     let more = one_more K N n some in
     by_halves (λ j. of_list K _ j ≡ K.times (power K (two K) n) (a j)) m
-    (λ k h. front_item K.zero new.low new.high m k len_a h ∙ c.butterflies.ensures.sums k (omega (arith, h, len_0)) ∙ (back k h).0 ∙ ap (λ u. K.times u (a k)) more)
-    (λ k h. back_item K.zero new.low new.high m k len_a ∙ c.butterflies.ensures.differences k (omega (arith, h, len_0))
-    ∙ ap (λ u. K.times u (minus K (of_list K q0.new.values k) (of_list K q1.new.values k))) inverse ∙ (back k h).1 ∙ ap (λ u. K.times u (a (m + k))) more)
+    (λ k h. front_item K.zero new.low new.high m k len_a h ∙ c.join_halves.ensures.sums k (omega (arith, h, len_0)) ∙ (back k h).0 ∙ ap (λ u. K.times u (a k)) more)
+    (λ k h. back_item K.zero new.low new.high m k len_a ∙ c.join_halves.ensures.differences x known k (omega (arith, h, len_0))
+    ∙ (back k h).1 ∙ ap (λ u. K.times u (a (m + k))) more)
     i (subst (λ u. i < u) added l)
