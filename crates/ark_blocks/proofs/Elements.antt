@@ -36,20 +36,6 @@ module _ {F : Type 0} (K : FieldOn F) (N : IsField K) (n : ℕ) (x : ℕ → F) 
       ap (power K z) (pow_suc l) ∙ power-mul K N z 2 m ∙ ap (λ y. power K y m) square
       ∙ power_of_block l b (i / 2) (omega (arith, inside, pow_suc l)) (subst (λ t. t < n) place less)
 
-  -- the same in the first half of a block: the half's own root
-  pub power_in_low : (l b i : ℕ) → i < 2 ^ l → b * 2 ^ suc l + i < n → power K (x (b * 2 ^ suc l + i)) (2 ^ l) ≡ x (b + b)
-  power_in_low l b i inside within =
-      let e : b * 2 ^ suc l + i ≡ (b + b) * 2 ^ l + i = ap (λ t. b * t + i) (pow_suc l) ∙ omega arith in
-      ap (λ t. power K (x t) (2 ^ l)) e ∙ power_of_block l (b + b) i inside (subst (λ t. t < n) e within)
-
-  -- and in the second half: minus that
-  pub power_in_high : (l b i : ℕ) → i < 2 ^ l → b * 2 ^ suc l + (2 ^ l + i) < n → power K (x (b * 2 ^ suc l + (2 ^ l + i))) (2 ^ l) ≡ K.negated (x (b + b))
-  power_in_high l b i inside within =
-      let e : b * 2 ^ suc l + (2 ^ l + i) ≡ suc (b + b) * 2 ^ l + i = ap (λ t. b * t + (2 ^ l + i)) (pow_suc l) ∙ omega arith in
-      let there : suc (b + b) * 2 ^ l + i < n = subst (λ t. t < n) e within in
-      ap (λ t. power K (x t) (2 ^ l)) e ∙ power_of_block l (suc (b + b)) i inside there
-      ∙ R.opposites b (block_within n l (suc (b + b)) i there)
-
   -- two levels down: the roots of a block's first half
   pub root_of_low : (b : ℕ) → 4 * b < n → K.times (x (4 * b)) (x (4 * b)) ≡ x (2 * b)
   root_of_low b l = R.squares (4 * b) l ∙ ap x (omega arith)

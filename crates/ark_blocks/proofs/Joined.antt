@@ -1,8 +1,8 @@
--- Items of lists that are two halves or four quarters, and what holds of each place in them.
-use Rattle.std.proofs.Common.{◌≡◌, ℕ, suc, ◌+◌, ◌*◌, ◌-◌, ◌/◌, ◌^◌, ◌<◌, ◌≤◌, ◌++◌, List, length, get_or, ap, sym, ◌∙◌, subst, arith, ⊎_elim}
+-- Items of lists that are two halves or blocks, and what holds of each place in them.
+use Rattle.std.proofs.Common.{◌≡◌, ◌⊎◌, ℕ, suc, ◌+◌, ◌*◌, ◌-◌, ◌/◌, ◌%◌, ◌^◌, ◌<◌, ◌≤◌, ◌++◌, List, length, get_or, ap, sym, ◌∙◌, subst, arith, ⊎_elim}
 use Rattle.std.proofs.lemmas.Bool.{cases_lt}
 use Rattle.std.proofs.lemmas.List.{get_or_append_left, get_or-append-add, length-append}
-use Rattle.std.proofs.lemmas.Nat.{mul-le, pow_pos}
+use Rattle.std.proofs.lemmas.Nat.{div-add-mod', div_below, mod_below, mul-le, pow_pos}
 use Rattle.ark_blocks.proofs.Elements.{pow_suc}
 
 -- what holds in both halves holds everywhere
@@ -15,16 +15,12 @@ by_halves P m low high r l =
     subst P e (high i (omega (arith, h, l))))
     (cases_lt r m)
 
--- what holds in each quarter holds everywhere
-pub by_quarters : (P : ℕ → Type 0) (m : ℕ) → ((i : ℕ) → i < m → P i) → ((i : ℕ) → i < m → P (m + i)) → ((i : ℕ) → i < m → P (2 * m + i)) → ((i : ℕ) → i < m → P (3 * m + i)) → (r : ℕ) → r < 4 * m → P r
-by_quarters P m first second third fourth r l =
-    let e : 4 * m ≡ (m + m) + (m + m) = omega arith in
-    by_halves P (m + m) (by_halves P m first second)
-    (λ i h. by_halves (λ j. P ((m + m) + j)) m
-    (λ j s. let f : 2 * m + j ≡ (m + m) + j = omega arith in subst P f (third j s))
-    (λ j s. let f : 3 * m + j ≡ (m + m) + (m + j) = omega arith in subst P f (fourth j s))
-    i h)
-    r (subst (λ t. r < t) e l)
+-- what holds at each place of so many blocks holds everywhere
+pub by_blocks : (P : ℕ → Type 0) (s c : ℕ) → 0 < s → ((r j : ℕ) → r < c → j < s → P (s * r + j)) → (i : ℕ) → i < s * c → P i
+by_blocks P s c some each i l =
+    let e : s * c ≡ c * s = omega arith in
+    let here : s * (i / s) + i % s ≡ i = omega (arith, div-add-mod' i s) in
+    subst P here (each (i / s) (i % s) (div_below i s c some (subst (λ t. i < t) e l)) (mod_below i s some))
 
 module _ {X : Type 0} (z : X) where
   -- the items of a list's front and back
@@ -42,28 +38,16 @@ module _ {X : Type 0} (z : X) where
     pub after_item : get_or (before ++ (own ++ after)) (p + (m + i)) z ≡ get_or after i z
     after_item = back_item before (own ++ after) p (m + i) len_before ∙ back_item own after m i len_own
 
-  -- the items of four quarters
-  module _ (a b c d : List X) (m : ℕ) (len_a : length a ≡ m) (len_b : length b ≡ m) (len_c : length c ≡ m) where
-    -- the first two together
-    both : length (a ++ b) ≡ m + m
-    both = length-append a b ∙ omega (arith, len_a, len_b)
-
-    -- each is read in its own list
-    pub first_item : (i : ℕ) → i < m → get_or ((a ++ b) ++ (c ++ d)) i z ≡ get_or a i z
-    first_item i l = front_item (a ++ b) (c ++ d) (m + m) i both (omega (arith, l)) ∙ front_item a b m i len_a l
-
-    pub second_item : (i : ℕ) → i < m → get_or ((a ++ b) ++ (c ++ d)) (m + i) z ≡ get_or b i z
-    second_item i l = front_item (a ++ b) (c ++ d) (m + m) (m + i) both (omega (arith, l)) ∙ back_item a b m i len_a
-
-    pub third_item : (i : ℕ) → i < m → get_or ((a ++ b) ++ (c ++ d)) (2 * m + i) z ≡ get_or c i z
-    third_item i l =
-        let e : 2 * m + i ≡ (m + m) + i = omega arith in
-        ap (λ t. get_or ((a ++ b) ++ (c ++ d)) t z) e ∙ back_item (a ++ b) (c ++ d) (m + m) i both ∙ front_item c d m i len_c l
-
-    pub fourth_item : (i : ℕ) → i < m → get_or ((a ++ b) ++ (c ++ d)) (3 * m + i) z ≡ get_or d i z
-    fourth_item i l =
-        let e : 3 * m + i ≡ (m + m) + (m + i) = omega arith in
-        ap (λ t. get_or ((a ++ b) ++ (c ++ d)) t z) e ∙ back_item (a ++ b) (c ++ d) (m + m) (m + i) both ∙ back_item c d m i len_c
+  -- where another block of as many stands in its place, the other items stay
+  pub outside_item : (before own after own1 : List X) (m s : ℕ) → length before ≡ m → length own ≡ s → length own1 ≡ s → (i : ℕ) → (i < m) ⊎ (m + s ≤ i) → get_or (before ++ (own1 ++ after)) i z ≡ get_or (before ++ (own ++ after)) i z
+  outside_item before own after own1 m s len_before len_own len_own1 i = ⊎_elim
+      (λ (l : i < m). front_item before (own1 ++ after) m i len_before l ∙ sym (front_item before (own ++ after) m i len_before l))
+      (λ (l : m + s ≤ i).
+      let k = i - (m + s) in
+      let place : i ≡ m + (s + k) = omega (arith, l) in
+      let item : (block : List X) → length block ≡ s → get_or (before ++ (block ++ after)) i z ≡ get_or after k z =
+      λ block len. ap (λ t. get_or (before ++ (block ++ after)) t z) place ∙ back_item before (block ++ after) m (s + k) len_before ∙ back_item block after s k len in
+      item own1 len_own1 ∙ sym (item own len_own))
 
 -- a power of two is four times the one two before
 pub pow_fourth : (n : ℕ) → 2 ≤ n → 2 ^ n ≡ 4 * 2 ^ (n - 2)
@@ -87,21 +71,20 @@ named_within b m n p some within =
     let whole : suc b * (p * suc q) ≤ n = subst (λ t. suc b * (p * t) ≤ n) e within in
     omega (arith, whole)
 
--- the names of a block's quarters
-pub quarters_within : (b n len : ℕ) → 2 ≤ n → suc b * 2 ^ n ≤ len → 4 * b + 3 < len
-quarters_within b n len le within =
-    let m = 2 ^ (n - 2) in
-    let whole : suc b * (4 * m) ≤ len = subst (λ t. suc b * t ≤ len) (pow_fourth n le) within in
-    let named : suc b * 4 ≤ len = named_within b m len 4 (pow_pos (n - 2)) whole in
-    omega (arith, named)
-
--- and of its halves
+-- the names of a block's halves
 pub halves_within : (b n len : ℕ) → 1 ≤ n → suc b * 2 ^ n ≤ len → 2 * b + 1 < len
 halves_within b n len le within =
     let m = 2 ^ (n - 1) in
     let whole : suc b * (2 * m) ≤ len = subst (λ t. suc b * t ≤ len) (pow_half n le) within in
     let named : suc b * 2 ≤ len = named_within b m len 2 (pow_pos (n - 1)) whole in
     omega (arith, named)
+
+-- and of so many pairs of parts of it
+pub blocks_within : (b n len c h e : ℕ) → h ≡ 2 ^ e → 2 ^ n ≡ c * (2 * h) → suc b * 2 ^ n ≤ len → suc b * (2 * c) ≤ len
+blocks_within b n len c h e power is within =
+    let some : 0 < h = subst (λ t. 0 < t) (sym power) (pow_pos e) in
+    let same : c * (2 * h) ≡ 2 * c * h = omega arith in
+    named_within b h len (2 * c) some (subst (λ t. suc b * t ≤ len) (is ∙ same) within)
 
 -- a quarter's share of a list of so many items
 pub quarter_len : (n len : ℕ) → 2 ≤ n → len ≡ 2 ^ n → len / 4 ≡ 2 ^ (n - 2)
@@ -111,16 +94,7 @@ quarter_len n len le is = omega (arith, is, pow_fourth n le)
 pub half_len : (n len : ℕ) → 1 ≤ n → len ≡ 2 ^ n → len / 2 ≡ 2 ^ (n - 1)
 half_len n len le is = omega (arith, is, pow_half n le)
 
--- the quarters of a block lie within
-pub quarter_within : (b n len q : ℕ) → 2 ≤ n → q < 4 → suc b * 2 ^ n ≤ len → suc (4 * b + q) * 2 ^ (n - 2) ≤ len
-quarter_within b n len q le few within =
-    let m = 2 ^ (n - 2) in
-    let whole : suc b * (4 * m) ≤ len = subst (λ t. suc b * t ≤ len) (pow_fourth n le) within in
-    let more : suc (4 * b + q) * m ≤ (4 * suc b) * m = mul-le (suc (4 * b + q)) m (4 * suc b) m (omega (arith, few)) (omega arith) in
-    let same : (4 * suc b) * m ≡ suc b * (4 * m) = omega arith in
-    omega (arith, whole, more, same)
-
--- and so do its halves
+-- the halves of a block lie within
 pub half_within : (b n len q : ℕ) → 1 ≤ n → q < 2 → suc b * 2 ^ n ≤ len → suc (2 * b + q) * 2 ^ (n - 1) ≤ len
 half_within b n len q le few within =
     let m = 2 ^ (n - 1) in

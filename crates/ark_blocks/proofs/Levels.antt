@@ -1,104 +1,158 @@
--- The steps of the transform: one level of butterflies over two halves, and fours over what the levels above leave them.
-use Rattle.std.proofs.Common.{◌≡◌, ℕ, zero, suc, ◌+◌, ◌*◌, ◌-◌, ◌/◌, ◌%◌, ◌^◌, ◌<◌, ◌≤◌, ◌++◌, List, length, ap, ap₂, sym, ◌∙◌, refl, subst, arith}
+-- The steps of the transform: butterflies of two items, of halves and of blocks, and levels over what the levels above leave.
+use Rattle.std.proofs.Common.{◌≡◌, ◌≢◌, ℕ, zero, suc, ◌+◌, ◌*◌, ◌-◌, ◌^◌, ◌<◌, ◌≤◌, ◌++◌, List, length, inl, ap, ap₂, sym, ◌∙◌, refl, subst, arith, ⊎_elim}
+use Rattle.std.proofs.lemmas.Bool.{cases_eq}
+use Rattle.std.proofs.lemmas.Nat.{mul-le, pow_pos}
 use Rattle.ark_math.specs.Field.{FieldOn, IsField, minus, power}
 use Rattle.ark_math.specs.Univariate.{of_list, value_below}
+use Rattle.ark_math.proofs.Algebra.Groups.{one_times}
+use Rattle.ark_math.proofs.Algebra.Solve.{◌⊗◌, ◌⊕◌, ◌⊖◌, negative, nought, raised}
+use Rattle.ark_math.proofs.Algebra.Ring.{ring3}
 use Rattle.ark_blocks.specs.Blocks.{AreReversed}
 use Rattle.ark_blocks.proofs.Elements.{power_of_block}
-use Rattle.ark_blocks.proofs.Joined.{back_item, by_halves, front_item, halves_within, pow_fourth, pow_half}
-use Rattle.ark_blocks.proofs.Splits.{high_turned, low_turned, value_by_strides, value_of_one, value_of_same}
+use Rattle.ark_blocks.proofs.Joined.{back_item, by_blocks, front_item, outside_item, own_item, pow_half}
+use Rattle.ark_blocks.proofs.Splits.{value_by_strides, value_of_same}
 
-module _ {F : Type 0} (K : FieldOn F) (N : IsField K) (n : ℕ) (x : ℕ → F) (R : AreReversed K n x) (b k : ℕ) (within : suc b * 2 ^ k ≤ n) where
-  -- one level of butterflies, and the levels below over each half
-  pub halves_joined : 1 ≤ k → (t : F) (old new lo hi lo1 hi1 lo2 hi2 : List F) → t ≡ x (b + b)
-      → old ≡ lo ++ hi → new ≡ lo2 ++ hi2 → length lo ≡ 2 ^ (k - 1) → length lo2 ≡ 2 ^ (k - 1)
-      → ((i : ℕ) → i < 2 ^ (k - 1) → of_list K lo1 i ≡ K.plus (of_list K lo i) (K.times t (of_list K hi i)))
-      → ((i : ℕ) → i < 2 ^ (k - 1) → of_list K hi1 i ≡ minus K (of_list K lo i) (K.times t (of_list K hi i)))
-      → ((i : ℕ) → i < 2 ^ (k - 1) → of_list K lo2 i ≡ value_below K (2 ^ (k - 1)) (of_list K lo1) (x (2 * b * 2 ^ (k - 1) + i)))
-      → ((i : ℕ) → i < 2 ^ (k - 1) → of_list K hi2 i ≡ value_below K (2 ^ (k - 1)) (of_list K hi1) (x ((2 * b + 1) * 2 ^ (k - 1) + i)))
-      → (i : ℕ) → i < 2 ^ k → of_list K new i ≡ value_below K (2 ^ k) (of_list K old) (x (b * 2 ^ k + i))
-  halves_joined some t old new lo hi lo1 hi1 lo2 hi2 is_t joins joined len len2 sums differences A B i l =
-      let m = 2 ^ (k - 1) in
-      let z = K.zero in
-      let all = lo2 ++ hi2 in
-      let size : 2 ^ k ≡ m + m = omega (arith, pow_half k some) in
-      let wide : suc b * (m + m) ≤ n = subst (λ q. suc b * q ≤ n) size within in
-      let room : 2 * b + 1 < n = halves_within b k n some within in
-      let twice : 2 * b ≡ b + b = omega arith in
-      let next : 2 * b + 1 ≡ suc (b + b) = omega arith in
-      let low : (i : ℕ) → i < m → of_list K lo i ≡ of_list K old i = λ i l. sym (ap (λ q. of_list K q i) joins ∙ front_item z lo hi m i len l) in
-      let high : (i : ℕ) → of_list K hi i ≡ of_list K old (m + i) = λ i. sym (ap (λ q. of_list K q (m + i)) joins ∙ back_item z lo hi m i len) in
-      let whole : (i : ℕ) → i < m + m → of_list K all i ≡ value_below K (m + m) (of_list K old) (x (b * (m + m) + i)) =
-      by_halves (λ i. of_list K all i ≡ value_below K (m + m) (of_list K old) (x (b * (m + m) + i))) m
-      (λ i l.
-      let place : 2 * b * m + i ≡ b * (m + m) + i = omega arith in
-      front_item z lo2 hi2 m i len2 l ∙ A i l
-      ∙ low_turned K N m (of_list K old) (of_list K lo1) (x (2 * b * m + i)) t (λ i l. sums i l ∙ ap₂ (λ p q. K.plus p (K.times t q)) (low i l) (high i))
-      (power_of_block K N n x R (k - 1) (2 * b) i l (omega (arith, wide, l)) ∙ ap x twice ∙ sym is_t)
-      ∙ ap (λ q. value_below K (m + m) (of_list K old) (x q)) place)
-      (λ i l.
-      let place : (2 * b + 1) * m + i ≡ b * (m + m) + (m + i) = omega arith in
-      back_item z lo2 hi2 m i len2 ∙ B i l
-      ∙ high_turned K N m (of_list K old) (of_list K hi1) (x ((2 * b + 1) * m + i)) t (λ i l. differences i l ∙ ap₂ (λ p q. minus K p (K.times t q)) (low i l) (high i))
-      (power_of_block K N n x R (k - 1) (2 * b + 1) i l (omega (arith, wide, l)) ∙ ap x next ∙ R.opposites b (omega (arith, room)) ∙ ap K.negated (sym is_t))
-      ∙ ap (λ q. value_below K (m + m) (of_list K old) (x q)) place) in
-      ap (λ q. of_list K q i) joined ∙ subst (λ s. (i : ℕ) → i < s → of_list K all i ≡ value_below K s (of_list K old) (x (b * s + i))) (sym size) whole i l
-
-  -- two coefficients
-  pub pair_values : k ≡ 1 → (t : F) (a v : ℕ → F) → t ≡ x (b + b) → v 0 ≡ K.plus (a 0) (K.times t (a 1)) → v 1 ≡ minus K (a 0) (K.times t (a 1)) → (i : ℕ) → i < 2 ^ k → v i ≡ value_below K (2 ^ k) a (x (b * 2 ^ k + i))
-  pair_values one t a v is_t sum difference i l =
-      subst (λ s. (i : ℕ) → i < s → v i ≡ value_below K s a (x (b * s + i))) (sym size)
-      (by_halves (λ i. v i ≡ value_below K 2 a (x (b * 2 + i))) 1 low high) i l
+module _ {F : Type 0} (K : FieldOn F) (N : IsField K) (n : ℕ) (x : ℕ → F) (R : AreReversed K n x) (b : ℕ) where
+  -- two coefficients become the values at a block's two elements
+  pub pair_values : 2 * b + 1 < n → (t : F) (a v : ℕ → F) → t ≡ x (b + b) → v 0 ≡ K.plus (a 0) (K.times t (a 1)) → v 1 ≡ minus K (a 0) (K.times t (a 1)) → (i : ℕ) → i < 2 → v i ≡ value_below K 2 a (x (2 * b + i))
+  pair_values within t a v is_t sum difference = at
     where
-      size : 2 ^ k ≡ 2
-      size = ap (λ q. 2 ^ q) one
+      at : (i : ℕ) → i < 2 → v i ≡ value_below K 2 a (x (2 * b + i))
+      at zero l =
+          let there : b + b ≡ 2 * b + 0 = omega arith in
+          sum
+          ∙ ring3 K N (λ t p q. (p ⊕ t ⊗ q, nought ⊕ raised t 0 ⊗ p ⊕ raised t 1 ⊗ q)) refl t (a 0) (a 1)
+          ∙ ap (value_below K 2 a) (is_t ∙ ap x there)
+      at (suc zero) l =
+          let there : suc (b + b) ≡ 2 * b + 1 = omega arith in
+          difference
+          ∙ ring3 K N (λ t p q. (p ⊖ t ⊗ q, nought ⊕ raised (negative t) 0 ⊗ p ⊕ raised (negative t) 1 ⊗ q)) refl t (a 0) (a 1)
+          ∙ ap (value_below K 2 a) (ap K.negated is_t ∙ sym (R.opposites b (omega (arith, within))) ∙ ap x there)
+      at (suc (suc i)) l = absurd (omega arith)
 
-      wide : suc b * 2 ≤ n
-      wide = subst (λ q. suc b * q ≤ n) size within
+  -- butterflies across two halves: each two items that are half apart
+  pub halves_turned : 2 * b + 1 < n → (t : F) → t ≡ x (b + b) → (h : ℕ) (low high low1 high1 old new : List F)
+      → old ≡ low ++ high → new ≡ low1 ++ high1 → length low ≡ h → length low1 ≡ h
+      → ((j : ℕ) → j < h → of_list K low1 j ≡ K.plus (of_list K low j) (K.times t (of_list K high j)))
+      → ((j : ℕ) → j < h → of_list K high1 j ≡ minus K (of_list K low j) (K.times t (of_list K high j)))
+      → (i j : ℕ) → i < 2 → j < h → of_list K new (h * i + j) ≡ value_below K 2 (λ k. of_list K old (h * k + j)) (x (2 * b + i))
+  halves_turned within t is_t h low high low1 high1 old new joins joined len len1 sums differences i j two few =
+      let first : h * 0 + j ≡ j = omega arith in
+      let second : h * 1 + j ≡ h + j = omega arith in
+      let own : of_list K old (h * 0 + j) ≡ of_list K low j = ap₂ (of_list K) joins first ∙ front_item K.zero low high h j len few in
+      let other : of_list K old (h * 1 + j) ≡ of_list K high j = ap₂ (of_list K) joins second ∙ back_item K.zero low high h j len in
+      pair_values within t (λ k. of_list K old (h * k + j)) (λ k. of_list K new (h * k + j)) is_t
+      (ap₂ (of_list K) joined first ∙ front_item K.zero low1 high1 h j len1 few ∙ sums j few ∙ sym (ap₂ (λ p q. K.plus p (K.times t q)) own other))
+      (ap₂ (of_list K) joined second ∙ back_item K.zero low1 high1 h j len1 ∙ differences j few ∙ sym (ap₂ (λ p q. minus K p (K.times t q)) own other))
+      i two
 
-      low : (i : ℕ) → i < 1 → v i ≡ value_below K 2 a (x (b * 2 + i))
-      low zero l =
-          let z = x (b * 2 + 0) in
-          let there : b * 2 + 0 ≡ b + b = omega arith in
-          value_of_one K N 1 v z 0 refl l
-          ∙ low_turned K N 1 a v z t (sums) (N.times_one z ∙ ap x there ∙ sym is_t)
-        where
-          sums : (i : ℕ) → i < 1 → v i ≡ K.plus (a i) (K.times t (a (1 + i)))
-          sums zero l = sum
-          sums (suc i) l = absurd (omega arith)
-      low (suc i) l = absurd (omega arith)
+  -- the same in the first block, whose root is one
+  pub halves_summed : 2 * b + 1 < n → b ≡ 0 → (h : ℕ) (low high low1 high1 old new : List F)
+      → old ≡ low ++ high → new ≡ low1 ++ high1 → length low ≡ h → length low1 ≡ h
+      → ((j : ℕ) → j < h → of_list K low1 j ≡ K.plus (of_list K low j) (of_list K high j))
+      → ((j : ℕ) → j < h → of_list K high1 j ≡ minus K (of_list K low j) (of_list K high j))
+      → (i j : ℕ) → i < 2 → j < h → of_list K new (h * i + j) ≡ value_below K 2 (λ k. of_list K old (h * k + j)) (x (2 * b + i))
+  halves_summed within first h low high low1 high1 old new joins joined len len1 sums differences =
+      let here : 0 ≡ b + b = omega (arith, first) in
+      halves_turned within K.one (sym R.first ∙ ap x here) h low high low1 high1 old new joins joined len len1
+      (λ j l. sums j l ∙ ap (K.plus (of_list K low j)) (sym (one_times K N (of_list K high j))))
+      (λ j l. differences j l ∙ ap (minus K (of_list K low j)) (sym (one_times K N (of_list K high j))))
 
-      high : (i : ℕ) → i < 1 → v (1 + i) ≡ value_below K 2 a (x (b * 2 + (1 + i)))
-      high zero l =
-          let z = x (b * 2 + 1) in
-          let there : b * 2 + 1 ≡ suc (b + b) = omega arith in
-          value_of_one K N 1 (λ i. v (1 + i)) z 0 refl l
-          ∙ high_turned K N 1 a (λ i. v (1 + i)) z t (differences) (N.times_one z ∙ ap x there ∙ R.opposites b (omega (arith, wide)) ∙ ap K.negated (sym is_t))
-        where
-          differences : (i : ℕ) → i < 1 → v (1 + i) ≡ minus K (a i) (K.times t (a (1 + i)))
-          differences zero l = difference
-          differences (suc i) l = absurd (omega arith)
-      high (suc i) l = absurd (omega arith)
+  -- one block more of a level, where the blocks before are done
+  pub block_more : (h q : ℕ) (old before own after own1 : List F) → length before ≡ 2 * h * q → length own ≡ 2 * h → length own1 ≡ 2 * h
+      → ((k : ℕ) → 2 * h * q ≤ k → of_list K (before ++ (own ++ after)) k ≡ of_list K old k)
+      → ((r i j : ℕ) → r < q → i < 2 → j < h → of_list K (before ++ (own ++ after)) (h * (2 * r + i) + j) ≡ value_below K 2 (λ k. of_list K old (h * (2 * r + k) + j)) (x (2 * (b + r) + i)))
+      → ((i j : ℕ) → i < 2 → j < h → of_list K own1 (h * i + j) ≡ value_below K 2 (λ k. of_list K own (h * k + j)) (x (2 * (b + q) + i)))
+      → (r i j : ℕ) → r < q + 1 → i < 2 → j < h → of_list K (before ++ (own1 ++ after)) (h * (2 * r + i) + j) ≡ value_below K 2 (λ k. of_list K old (h * (2 * r + k) + j)) (x (2 * (b + r) + i))
+  block_more h q old before own after own1 len_before len_own len_own1 rest done here r i j less two few = ⊎_elim
+      (λ (is : r ≡ q).
+      let bound : (k : ℕ) → k < 2 → h * k + j < 2 * h = λ k l. omega (arith, mul-le (suc k) h 2 h l (omega arith), few) in
+      let place : (k : ℕ) → h * (2 * q + k) + j ≡ 2 * h * q + (h * k + j) = λ k. omega arith in
+      let start : (k : ℕ) → 2 * h * q ≤ 2 * h * q + (h * k + j) = λ k. omega arith in
+      let z = x (2 * (b + q) + i) in
+      subst (λ t. of_list K (before ++ (own1 ++ after)) (h * (2 * t + i) + j) ≡ value_below K 2 (λ k. of_list K old (h * (2 * t + k) + j)) (x (2 * (b + t) + i))) (sym is)
+      (ap (of_list K (before ++ (own1 ++ after))) (place i)
+      ∙ own_item K.zero before own1 after (2 * h * q) (2 * h) (h * i + j) len_before len_own1 (bound i two)
+      ∙ here i j two few
+      ∙ value_of_same K N 2 _ _ z (λ k l.
+      sym (own_item K.zero before own after (2 * h * q) (2 * h) (h * k + j) len_before len_own (bound k l))
+      ∙ rest (2 * h * q + (h * k + j)) (start k)
+      ∙ ap (of_list K old) (sym (place k)))))
+      (λ (ne : r ≢ q).
+      let earlier : r < q = omega (arith, less, ne) in
+      let bound : suc (2 * r + i) * h ≤ 2 * q * h = mul-le (suc (2 * r + i)) h (2 * q) h (omega (arith, earlier, two)) (omega arith) in
+      outside_item K.zero before own after own1 (2 * h * q) (2 * h) len_before len_own len_own1 (h * (2 * r + i) + j) (inl (omega (arith, bound, few)))
+      ∙ done r i j earlier two few)
+      (cases_eq r q)
 
-  -- the values of each four, which the levels above have left
-  pub fours_joined : 2 ≤ k → (old mid new : ℕ → F)
-      → ((r j : ℕ) → r < 2 ^ (k - 2) → j < 4 → mid (4 * r + j) ≡ value_below K (2 ^ (k - 2)) (λ i. old (4 * i + j)) (x (b * 2 ^ (k - 2) + r)))
-      → ((r j : ℕ) → r < 2 ^ (k - 2) → j < 4 → new (4 * r + j) ≡ value_below K 4 (λ i. mid (4 * r + i)) (x (4 * (b * 2 ^ (k - 2) + r) + j)))
-      → (i : ℕ) → i < 2 ^ k → new i ≡ value_below K (2 ^ k) old (x (b * 2 ^ k + i))
-  fours_joined some old mid new above last i l =
-      let m = 2 ^ (k - 2) in
-      let size = pow_fourth k some in
-      let wide : suc b * (4 * m) ≤ n = subst (λ q. suc b * q ≤ n) size within in
-      let r = i / 4 in
-      let j = i % 4 in
-      let here : 4 * r + j ≡ i = omega arith in
-      let inside : r < m = omega (arith, l, size) in
-      let few : j < 4 = omega arith in
-      let p = b * m + r in
-      let turn : 4 * p + j ≡ p * 4 + j = omega arith in
-      let z = x (4 * p + j) in
-      let place : 4 * p + j ≡ b * (4 * m) + i = omega (arith, here) in
-      ap new (sym here) ∙ last r j inside few
-      ∙ value_of_same K N 4 (λ i. mid (4 * r + i)) (λ j. value_below K m (λ i. old (4 * i + j)) (power K z 4)) z
-      (λ c s. above r c inside s ∙ ap (value_below K m (λ i. old (4 * i + c))) (sym (ap (λ q. power K (x q) 4) turn ∙ power_of_block K N n x R 2 p j few (omega (arith, wide, inside, few)))))
-      ∙ sym (value_by_strides K N 4 m old z)
-      ∙ ap₂ (λ s q. value_below K s old (x q)) (sym size) (place ∙ ap (λ s. b * s + i) (sym size))
+  -- the values of each block of 2 ^ l items, which the levels above have left
+  pub blocks_joined : (l c : ℕ) → suc b * (2 ^ l * c) ≤ n → (old mid new : ℕ → F)
+      → ((r j : ℕ) → r < c → j < 2 ^ l → mid (2 ^ l * r + j) ≡ value_below K c (λ k. old (2 ^ l * k + j)) (x (b * c + r)))
+      → ((r j : ℕ) → r < c → j < 2 ^ l → new (2 ^ l * r + j) ≡ value_below K (2 ^ l) (λ k. mid (2 ^ l * r + k)) (x (2 ^ l * (b * c + r) + j)))
+      → (i : ℕ) → i < 2 ^ l * c → new i ≡ value_below K (2 ^ l * c) old (x (b * (2 ^ l * c) + i))
+  blocks_joined l c within old mid new above last = by_blocks (λ i. new i ≡ value_below K (2 ^ l * c) old (x (b * (2 ^ l * c) + i))) (2 ^ l) c (pow_pos l) at
+    where
+      at : (r j : ℕ) → r < c → j < 2 ^ l → new (2 ^ l * r + j) ≡ value_below K (2 ^ l * c) old (x (b * (2 ^ l * c) + (2 ^ l * r + j)))
+      at r j inside few =
+          let s = 2 ^ l in
+          let p = b * c + r in
+          let z = x (s * p + j) in
+          let turn : s * p + j ≡ p * s + j = omega arith in
+          let place : s * p + j ≡ b * (s * c) + (s * r + j) = omega arith in
+          let bound : suc r * s ≤ c * s = mul-le (suc r) s c s inside (omega arith) in
+          let there : p * s + j < n = omega (arith, bound, few, within) in
+          last r j inside few
+          ∙ value_of_same K N s (λ k. mid (s * r + k)) (λ k. value_below K c (λ q. old (s * q + k)) (power K z s)) z
+          (λ k l_k. above r k inside l_k ∙ ap (value_below K c (λ q. old (s * q + k))) (sym (ap (λ q. power K (x q) s) turn ∙ power_of_block K N n x R l p j few there)))
+          ∙ sym (value_by_strides K N s c old z)
+          ∙ ap (λ q. value_below K (s * c) old (x q)) place
+
+  -- one level down: twice as many blocks of half as many items
+  pub level_down : (c h : ℕ) → suc b * (2 * c) ≤ n → (old mid new : ℕ → F)
+      → ((r j : ℕ) → r < c → j < 2 * h → mid (2 * h * r + j) ≡ value_below K c (λ k. old (2 * h * k + j)) (x (b * c + r)))
+      → ((r i j : ℕ) → r < c → i < 2 → j < h → new (h * (2 * r + i) + j) ≡ value_below K 2 (λ k. mid (h * (2 * r + k) + j)) (x (2 * (b * c + r) + i)))
+      → (r j : ℕ) → r < 2 * c → j < h → new (h * r + j) ≡ value_below K (2 * c) (λ k. old (h * k + j)) (x (b * (2 * c) + r))
+  level_down c h within old mid new above last r j inside few =
+      blocks_joined 1 c within (λ k. old (h * k + j)) (λ k. mid (h * k + j)) (λ k. new (h * k + j))
+      (λ r i less two.
+      let bound : suc i * h ≤ 2 * h = mul-le (suc i) h 2 h two (omega arith) in
+      let place : h * (2 * r + i) + j ≡ 2 * h * r + (h * i + j) = omega arith in
+      let back : (k : ℕ) → 2 * h * k + (h * i + j) ≡ h * (2 * k + i) + j = λ k. omega arith in
+      ap mid place ∙ above r (h * i + j) less (omega (arith, bound, few)) ∙ value_of_same K N c _ _ (x (b * c + r)) (λ k l. ap old (back k)))
+      (λ r i less two. last r i j less two few)
+      r inside
+
+  -- the values of two halves, each known of its own list
+  values_of_halves : (s : ℕ) (mid new low high low1 high1 : List F) → mid ≡ low ++ high → new ≡ low1 ++ high1 → length low ≡ s → length low1 ≡ s
+      → ((i : ℕ) → i < s → of_list K low1 i ≡ value_below K s (of_list K low) (x (2 * b * s + i)))
+      → ((i : ℕ) → i < s → of_list K high1 i ≡ value_below K s (of_list K high) (x ((2 * b + 1) * s + i)))
+      → (i j : ℕ) → i < 2 → j < s → of_list K new (s * i + j) ≡ value_below K s (λ p. of_list K mid (s * i + p)) (x (s * (b * 2 + i) + j))
+  values_of_halves s mid new low high low1 high1 joins joined len len1 A B zero j two few =
+      let first : (p : ℕ) → s * 0 + p ≡ p = λ p. omega arith in
+      let place : 2 * b * s + j ≡ s * (b * 2 + 0) + j = omega arith in
+      ap₂ (of_list K) joined (first j) ∙ front_item K.zero low1 high1 s j len1 few ∙ A j few
+      ∙ value_of_same K N s _ _ (x (2 * b * s + j)) (λ p l. sym (ap₂ (of_list K) joins (first p) ∙ front_item K.zero low high s p len l))
+      ∙ ap (λ q. value_below K s (λ p. of_list K mid (s * 0 + p)) (x q)) place
+  values_of_halves s mid new low high low1 high1 joins joined len len1 A B (suc zero) j two few =
+      let second : (p : ℕ) → s * 1 + p ≡ s + p = λ p. omega arith in
+      let place : (2 * b + 1) * s + j ≡ s * (b * 2 + 1) + j = omega arith in
+      ap₂ (of_list K) joined (second j) ∙ back_item K.zero low1 high1 s j len1 ∙ B j few
+      ∙ value_of_same K N s _ _ (x ((2 * b + 1) * s + j)) (λ p l. sym (ap₂ (of_list K) joins (second p) ∙ back_item K.zero low high s p len))
+      ∙ ap (λ q. value_below K s (λ p. of_list K mid (s * 1 + p)) (x q)) place
+  values_of_halves s mid new low high low1 high1 joins joined len len1 A B (suc (suc i)) j two few = absurd (omega arith)
+
+  -- one level of butterflies, and the levels below over each half
+  pub halves_joined : (k : ℕ) → 1 ≤ k → suc b * 2 ^ k ≤ n → (old mid new low high low1 high1 : List F)
+      → mid ≡ low ++ high → new ≡ low1 ++ high1 → length low ≡ 2 ^ (k - 1) → length low1 ≡ 2 ^ (k - 1)
+      → ((i j : ℕ) → i < 2 → j < 2 ^ (k - 1) → of_list K mid (2 ^ (k - 1) * i + j) ≡ value_below K 2 (λ p. of_list K old (2 ^ (k - 1) * p + j)) (x (2 * b + i)))
+      → ((i : ℕ) → i < 2 ^ (k - 1) → of_list K low1 i ≡ value_below K (2 ^ (k - 1)) (of_list K low) (x (2 * b * 2 ^ (k - 1) + i)))
+      → ((i : ℕ) → i < 2 ^ (k - 1) → of_list K high1 i ≡ value_below K (2 ^ (k - 1)) (of_list K high) (x ((2 * b + 1) * 2 ^ (k - 1) + i)))
+      → (i : ℕ) → i < 2 ^ k → of_list K new i ≡ value_below K (2 ^ k) (of_list K old) (x (b * 2 ^ k + i))
+  halves_joined k some within old mid new low high low1 high1 joins joined len len1 above A B =
+      let s = 2 ^ (k - 1) in
+      let size : 2 ^ k ≡ s * 2 = omega (arith, pow_half k some) in
+      let twice : 2 * b ≡ b * 2 = omega arith in
+      subst (λ q. (i : ℕ) → i < q → of_list K new i ≡ value_below K q (of_list K old) (x (b * q + i))) (sym size)
+      (blocks_joined (k - 1) 2 (subst (λ q. suc b * q ≤ n) size within) (of_list K old) (of_list K mid) (of_list K new)
+      (λ i j two few. above i j two few ∙ ap (λ q. value_below K 2 (λ p. of_list K old (s * p + j)) (x (q + i))) twice)
+      (values_of_halves s mid new low high low1 high1 joins joined len len1 A B))

@@ -4,7 +4,6 @@ pub mod BlockParts
 pub mod Elements
 pub mod Evaluations
 pub mod FourItems
-pub mod Fourths
 pub mod Joined
 pub mod Levels
 pub mod Padded

@@ -1,6 +1,6 @@
 -- The values of polynomials by those of their parts: halves, quarters, and coefficients so many apart.
 use Rattle.std.proofs.Common.{◌≡◌, ℕ, zero, suc, ◌+◌, ◌*◌, ◌<◌, ap, ap₂, sym, ◌∙◌, refl, arith}
-use Rattle.ark_math.specs.Field.{FieldOn, IsField, minus, power}
+use Rattle.ark_math.specs.Field.{FieldOn, IsField, power}
 use Rattle.ark_math.specs.Module.{itself}
 use Rattle.ark_math.specs.Univariate.{added, nothing, scaled, value_below}
 use Rattle.ark_blocks.specs.Blocks.{AreTurned}
@@ -8,7 +8,7 @@ use Rattle.ark_math.proofs.Algebra.Groups.{itself_is_module}
 use Rattle.ark_math.proofs.Algebra.Powers.{power-add, power-mul, times_zero}
 use Rattle.ark_math.proofs.Algebra.Sums.{sum_below-add, sum_below-same, sum_below-scale}
 use Rattle.ark_math.proofs.Algebra.Solve.{◌⊗◌, ◌⊕◌, ◌⊖◌, negative, nought, unit}
-use Rattle.ark_math.proofs.Algebra.Ring.{ring1, ring3, ring6}
+use Rattle.ark_math.proofs.Algebra.Ring.{ring1, ring6}
 use Rattle.ark_math.proofs.Polynomials.UnivariateValues.{value_below-added, value_below-scaled}
 
 module _ {F : Type 0} (K : FieldOn F) (N : IsField K) where
@@ -66,23 +66,6 @@ module _ {F : Type 0} (K : FieldOn F) (N : IsField K) where
       ∙ value_split (s * m) s a z
       ∙ ap₂ K.plus (value_by_strides s m a z) (ap (λ p. K.times p (value_below K s (λ j. a (s * m + j)) z)) (power-mul K N z s m) ∙ sym (value_below-scaled K N s (power K y m) (λ j. a (s * m + j)) z))
       ∙ sym (value_below-added K N s (λ j. value_below K m (λ k. a (s * k + j)) y) (scaled K (power K y m) (λ j. a (s * m + j))) z)
-
-  -- the values of what butterflies make of two halves are the whole polynomial's
-  half_turned : (m : ℕ) (a made : ℕ → F) (z w : F) → ((i : ℕ) → i < m → made i ≡ K.plus (a i) (K.times w (a (m + i)))) → power K z m ≡ w → value_below K m made z ≡ value_below K (m + m) a z
-  half_turned m a made z w same is =
-      value_of_same m made (added K a (scaled K w (λ i. a (m + i)))) z same
-      ∙ value_below-added K N m a (scaled K w (λ i. a (m + i))) z
-      ∙ ap (K.plus (value_below K m a z)) (value_below-scaled K N m w (λ i. a (m + i)) z)
-      ∙ sym (value_by_halves m a z w is)
-
-  -- the sums, at the elements whose power is the root
-  pub low_turned : (m : ℕ) (a e : ℕ → F) (z t : F) → ((i : ℕ) → i < m → e i ≡ K.plus (a i) (K.times t (a (m + i)))) → power K z m ≡ t → value_below K m e z ≡ value_below K (m + m) a z
-  low_turned = half_turned
-
-  -- the differences, at those whose power is minus the root
-  pub high_turned : (m : ℕ) (a e : ℕ → F) (z t : F) → ((i : ℕ) → i < m → e i ≡ minus K (a i) (K.times t (a (m + i)))) → power K z m ≡ K.negated t → value_below K m e z ≡ value_below K (m + m) a z
-  high_turned m a e z t same is =
-      half_turned m a e z (K.negated t) (λ i l. same i l ∙ ring3 K N (λ a b t. (a ⊖ (t ⊗ b), a ⊕ (negative t ⊗ b))) refl (a i) (a (m + i)) t) is
 
   -- of what two levels of butterflies make of four quarters, all with one square root w of s
   value_of_turned : (m : ℕ) (a b c d : ℕ → F) (z w s : F) → value_below K m (added K (added K a (scaled K s c)) (scaled K w (added K b (scaled K s d)))) z ≡ K.plus (K.plus (value_below K m a z) (K.times s (value_below K m c z))) (K.times w (K.plus (value_below K m b z) (K.times s (value_below K m d z))))
