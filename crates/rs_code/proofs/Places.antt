@@ -1,13 +1,16 @@
 -- Reads of places, beginnings of lists, and words with places erased as marks and values.
-use Rattle.std.proofs.Common.{◌≡◌, ℕ, zero, suc, ◌+◌, ◌-◌, ◌<◌, ◌≤◌, Bool, true, false, List, [], ◌∷◌, ◌++◌, length, map, get_or, take, drop, length-drop, Option, Some, None, unwrap_or, cond, sym, ◌∙◌, ap, refl, arith, true≢false, ⊎_elim}
+use Rattle.std.proofs.Common.{◌≡◌, ℕ, zero, suc, ◌+◌, ◌-◌, ◌<◌, ◌≤◌, Bool, true, false, List, [], ◌∷◌, ◌++◌, length, map, get_or, take, drop, length-drop, Option, Some, None, unwrap_or, cond, if◌then◌else◌, sym, ◌∙◌, ap, ap₂, refl, arith, true≢false, ⊎_elim}
 use Rattle.std.specs.Prelude.{is_none}
 use Rattle.std.proofs.lemmas.Bool.{cases_lt}
 use Rattle.std.proofs.lemmas.Option.{none-some}
 use Rattle.std.proofs.lemmas.List.{take-append-drop, get_or-map, get_or_past, length-map}
 use Rattle.std.proofs.Math.Seq.{take-length}
-use Rattle.std.proofs.lemmas.List.Sums.{count_by_more_yes, count_by_more_no, sum_by-cons}
-use Rattle.ark_math.specs.Module.{ModuleOn}
+use Rattle.std.proofs.lemmas.List.Sums.{sum_by-cons}
+use Rattle.ark_math.specs.Field.{FieldOn, IsField}
+use Rattle.ark_math.specs.Module.{ModuleOn, IsModule}
+use Rattle.ark_math.proofs.Algebra.Groups.{zero_scale}
 use Rattle.rs_code.specs.Codeword.{AgreesWith, AgreesElsewhere, mark_count, erasure_count}
+use Rattle.rs_code.specs.Locator.{weighed, filled}
 
 -- a read is the item, whatever the default
 pub at_default : {X : Type 0} (xs : List X) (i : ℕ) (d e y : X) → i < length xs → get_or xs i d ≡ y → get_or xs i e ≡ y
@@ -18,6 +21,18 @@ at_default (x ∷ xs) (suc i) d e y l h = at_default xs i d e y (omega arith) h
 pub is_read : {X : Type 0} (xs : List X) (i : ℕ) (x e : X) → i < length xs → x ≡ get_or xs i x → get_or xs i e ≡ x
 is_read xs i x e l h = at_default xs i x e x l (sym h)
 
+-- ---- values times factors that marks choose
+
+module _ {F M : Type 0} {K : FieldOn F} {V : ModuleOn F M} (N : IsField K) (L : IsModule K V) where
+  pub weighed-by : (mark : Bool) (own factor : F) (y z : M) → factor ≡ (if mark then K.zero else own) → z ≡ y → V.scale factor z ≡ weighed V mark own y
+  weighed-by true own factor y z e h = ap₂ V.scale e h ∙ zero_scale N L y
+  weighed-by false own factor y z e h = ap₂ V.scale e h
+
+  pub filled-by : (mark : Bool) (own factor : F) (known found z : M) → factor ≡ (if mark then own else K.one) → z ≡ (if mark then found else known) →
+      V.scale factor z ≡ filled V mark own known found
+  filled-by true own factor known found z e h = ap₂ V.scale e h
+  filled-by false own factor known found z e h = ap₂ V.scale e h ∙ L.one_scale known
+
 -- ---- beginnings
 
 take_push : {X : Type 0} (xs : List X) (i : ℕ) (x : X) → i < length xs → get_or xs i x ≡ x → take (suc i) xs ≡ take i xs ++ x ∷ []
@@ -27,12 +42,6 @@ take_push (y ∷ xs) (suc i) x l h = ap (λ t. y ∷ t) (take_push xs i x (omega
 
 pub take-one_more : {X : Type 0} (xs : List X) (i : ℕ) (x : X) → i < length xs → x ≡ get_or xs i x → take (i + 1) xs ≡ take i xs ++ x ∷ []
 take-one_more xs i x l h = let e : i + 1 ≡ suc i = omega arith in ap (λ t. take t xs) e ∙ take_push xs i x l (sym h)
-
-pub mark_count-more : (marks : List Bool) (i : ℕ) → i < length marks → get_or marks i true ≡ true → mark_count (take (i + 1) marks) ≡ mark_count (take i marks) + 1
-mark_count-more marks i l e = count_by_more_yes (λ mark. mark) marks i true l e
-
-pub mark_count-same : (marks : List Bool) (i : ℕ) → i < length marks → get_or marks i true ≡ false → mark_count (take (i + 1) marks) ≡ mark_count (take i marks)
-mark_count-same marks i l e = count_by_more_no (λ mark. mark) marks i true l e
 
 pub tail : {X : Type 0} (xs : List X) (i : ℕ) → take (length xs - i) (drop i xs) ≡ drop i xs
 tail xs i = ap (λ n. take n (drop i xs)) (sym (length-drop i xs)) ∙ take-length (drop i xs)

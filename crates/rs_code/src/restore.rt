@@ -171,7 +171,8 @@ fn kept_values<T: Copy>(alloc: Global, word: &[Option<T>], other: T) -> Result<V
         .collect(alloc)
 }
 
-// At a kept place the value times its factor, and zero at an erased one. A product for each kept place.
+// At a kept place the value times its factor, and zero at an erased one. A product for each place: the factor is
+// chosen before, so that no branch waits for a mark.
 fn weigh<F: Field, T: DomainCoeff<F>>(
     values: &mut [T],
     marks: &[bool],
@@ -183,17 +184,14 @@ fn weigh<F: Field, T: DomainCoeff<F>>(
     ensures values { (i : ℕ) → i < length marks.now → item T.group (map T.meaning values.new) i
         ≡ weighed T.group (get_or marks.now i true) (of_list F.field factors.now i)
         (item T.group (map T.meaning values.old) i) }
-    ensures products { work.new.products + mark_count marks.now ≡ work.old.products + length marks.now }
+    ensures products { work.new.products ≡ work.old.products + length marks.now }
     ensures butterflies { work.new.butterflies ≡ work.old.butterflies }
     ensures steps { work.new.steps ≡ work.old.steps }
 {
     for i in 0..marks.len() {
-        let mut value = T::zero();
-        if !marks[i] {
-            value = values[i];
-            work.scale(&mut value, factors[i]);
-        }
-        values[i] = value;
+        let own = factors[i];
+        let factor = if marks[i] { F::zero() } else { own };
+        work.scale(&mut values[i], factor);
     }
 }
 
@@ -217,7 +215,8 @@ pub(crate) fn derive<F: Field, T: DomainCoeff<F>>(coeffs: &mut [T], work: &mut W
     }
 }
 
-// The kept values, and at an erased place the value that is there times its factor. A product for each erased place.
+// The kept values, and at an erased place the value that is there times its factor. A product for each place: value
+// and factor are chosen before, so that no branch waits for a mark.
 fn fill<F: Field, T: DomainCoeff<F>>(
     values: &mut [T],
     word: &[T],
@@ -231,16 +230,15 @@ fn fill<F: Field, T: DomainCoeff<F>>(
     ensures values { (i : ℕ) → i < length marks.now → item T.group (map T.meaning values.new) i
         ≡ filled T.group (get_or marks.now i true) (of_list F.field factors.now i)
         (item T.group (map T.meaning word.now) i) (item T.group (map T.meaning values.old) i) }
-    ensures products { work.new.products ≡ work.old.products + mark_count marks.now }
+    ensures products { work.new.products ≡ work.old.products + length marks.now }
     ensures butterflies { work.new.butterflies ≡ work.old.butterflies }
     ensures steps { work.new.steps ≡ work.old.steps }
 {
     for i in 0..marks.len() {
-        let mut value = word[i];
-        if marks[i] {
-            value = values[i];
-            work.scale(&mut value, factors[i]);
-        }
+        let (known, found, own) = (word[i], values[i], factors[i]);
+        let mut value = if marks[i] { found } else { known };
+        let factor = if marks[i] { own } else { F::one() };
+        work.scale(&mut value, factor);
         values[i] = value;
     }
 }

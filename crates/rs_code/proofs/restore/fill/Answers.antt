@@ -1,12 +1,12 @@
-use Rattle.std.proofs.Common.{◌≡◌, ◌<◌, ℕ, true, false, map, length, get_or, sym, ap, ap₂, ◌∙◌, arith}
+use Rattle.std.proofs.Common.{◌≡◌, ◌<◌, ℕ, true, false, map, length, get_or, if◌then◌else◌, sym, ap, ◌∙◌, arith}
 use Rattle.std.proofs.lemmas.List.{get_or_read}
 use Rattle.ark_math.specs.Module.{item}
 use Rattle.ark_math.specs.Univariate.{of_list}
 use Rattle.ark_math.proofs.Lists.Lists.{written_more, written_rest, read_as}
 use Rattle.rs_code.specs.Locator.{filled}
-use Rattle.rs_code.proofs.Places.{at_default, mark_count-more, mark_count-same}
+use Rattle.rs_code.proofs.Places.{at_default, filled-by}
 use Rattle.rs_code.proofs.restore.fill.Goals as goal
-use Rattle.rs_code.proofs.restore.fill.Goals.{then-marks-i, else-marks-i}
+use Rattle.rs_code.proofs.restore.fill.Goals.{then-marks-i, else-marks-i, then-marks-i-2, else-marks-i-2}
 
 pub loop-i-preserved : goal.loop-i-preserved
 loop-i-preserved g c =
@@ -14,6 +14,7 @@ loop-i-preserved g c =
     let m = g.T.DomainCoeff.meaning in
     let K = g.F.Field.field in
     let v = c.loop-i.invariant in
+    let s = c.scale.ensures in
     let i = c.loop-i.i in
     let xs = c.loop-i.values in
     let marks = c.args.marks.now in
@@ -25,31 +26,29 @@ loop-i-preserved g c =
     let in_word : i < length c.args.word.now = omega arith in
     let in_factors : i < length f = omega arith in
     let P = λ (k : ℕ). filled V (get_or marks k true) (of_list K f k) (own k) (old k) in
-    let rest = written_rest m V.zero old xs i c.if-marks-i.value v.rest in
+    let value : m c.if-marks-i.value ≡ (if get_or marks i true then old i else own i) =
     elim c.if-marks-i.branch [
       | then-marks-i w ↦
-          let e : get_or marks i true ≡ true = at_default marks i _ true true in_marks w.if-marks-i.true in
-          let read : w.index-factors-i.result ≡ of_list K f i = get_or_read f i w.index-factors-i.result in_factors w.index-factors-i.is K.zero in
-          let here : m w.index-values-i.result ≡ old i = read_as m V.zero xs i w.index-values-i.result inside w.index-values-i.is ∙ v.rest i (omega arith) in
-          let more = mark_count-more marks i in_marks e in
-          let s = w.scale.ensures in
-          record {
-            before = written_more m V.zero P xs i c.if-marks-i.value inside v.before
-                (ap m w.value-is ∙ s.product ∙ ap₂ V.scale read here ∙ sym (ap (λ o. filled V o (of_list K f i) (own i) (old i)) e));
-            rest = rest;
-            products_are = omega (arith, ap (λ t. t.products) w.work-is, s.counted.products, v.products_are, more);
-            butterflies_are = omega (arith, ap (λ t. t.butterflies) w.work-is, s.counted.butterflies, v.butterflies_are);
-            steps_are = omega (arith, ap (λ t. t.steps) w.work-is, s.counted.steps, v.steps_are);
-          }
+          ap m w.value-is ∙ read_as m V.zero xs i c.index-values-i.result inside c.index-values-i.is ∙ v.rest i (omega arith)
+          ∙ sym (ap (λ o. if o then old i else own i) (at_default marks i _ true true in_marks w.if-marks-i.true))
       | else-marks-i w ↦
-          let e : get_or marks i true ≡ false = at_default marks i _ true false in_marks w.if-marks-i.false in
-          let same = mark_count-same marks i in_marks e in
-          record {
-            before = written_more m V.zero P xs i c.if-marks-i.value inside v.before
-                (ap m w.value-is ∙ read_as m V.zero c.args.word.now i c.index-word-i.result in_word c.index-word-i.is ∙ sym (ap (λ o. filled V o (of_list K f i) (own i) (old i)) e));
-            rest = rest;
-            products_are = omega (arith, ap (λ t. t.products) w.work-is, v.products_are, same);
-            butterflies_are = ap (λ t. t.butterflies) w.work-is ∙ v.butterflies_are;
-            steps_are = ap (λ t. t.steps) w.work-is ∙ v.steps_are;
-          }
-    ]
+          ap m w.value-is ∙ read_as m V.zero c.args.word.now i c.index-word-i.result in_word c.index-word-i.is
+          ∙ sym (ap (λ o. if o then old i else own i) (at_default marks i _ true false in_marks w.if-marks-i.false))
+    ] in
+    let factor : c.if-marks-i-2.factor ≡ (if get_or marks i true then of_list K f i else K.one) =
+    elim c.if-marks-i-2.branch [
+      | then-marks-i-2 w ↦
+          w.factor-is ∙ get_or_read f i c.index-factors-i.result in_factors c.index-factors-i.is K.zero
+          ∙ sym (ap (λ o. if o then of_list K f i else K.one) (at_default marks i _ true true in_marks w.if-marks-i-2.true))
+      | else-marks-i-2 w ↦
+          w.factor-is ∙ w.one-factor.ensures ∙ g.met.F.Field.one_law
+          ∙ sym (ap (λ o. if o then of_list K f i else K.one) (at_default marks i _ true false in_marks w.if-marks-i-2.false))
+    ] in
+    record {
+      before = written_more m V.zero P xs i c.scale.new.value inside v.before
+          (s.product ∙ filled-by g.met.F.Field.field_laws g.met.T.DomainCoeff.module_laws (get_or marks i true) (of_list K f i) _ (own i) (old i) _ factor value);
+      rest = written_rest m V.zero old xs i c.scale.new.value v.rest;
+      products_are = omega (arith, s.counted.products, v.products_are);
+      butterflies_are = omega (arith, s.counted.butterflies, v.butterflies_are);
+      steps_are = omega (arith, s.counted.steps, v.steps_are);
+    }

@@ -1,7 +1,6 @@
-use Rattle.std.proofs.Common.{◌≡◌, ◌+◌, ◌<◌, ◌≤◌, ℕ, true, map, take, get_or}
+use Rattle.std.proofs.Common.{◌≡◌, ◌+◌, ◌<◌, ◌≤◌, ℕ, true, map, get_or}
 use Rattle.ark_math.specs.Module.{item}
 use Rattle.ark_math.specs.Univariate.{of_list}
-use Rattle.rs_code.specs.Codeword.{mark_count}
 use Rattle.rs_code.specs.Locator.{filled}
 use Rattle.rs_code.proofs.restore.fill.Given as goal
 
@@ -13,7 +12,7 @@ invariant-loop-i g l =
     record {
       before : (k : ℕ) → k < l.i → item V (map m l.values) k ≡ filled V (get_or l.marks k true) (of_list K l.factors k) (item V (map m l.word) k) (item V (map m l.initial.values) k);
       rest : (k : ℕ) → l.i ≤ k → item V (map m l.values) k ≡ item V (map m l.initial.values) k;
-      products_are : l.work.products ≡ l.initial.work.products + mark_count (take l.i l.marks);
+      products_are : l.work.products ≡ l.initial.work.products + l.i;
       butterflies_are : l.work.butterflies ≡ l.initial.work.butterflies;
       steps_are : l.work.steps ≡ l.initial.work.steps;
     }

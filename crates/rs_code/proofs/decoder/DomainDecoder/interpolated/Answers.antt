@@ -100,15 +100,12 @@ returns-then-not-are_zeros-clause-cost g c =
     let base = g.met.F.FftField.roots_law.base in
     let d = g.D.EvaluationDomain.domain c.self.inside.domain in
     let w = c.args.work.now in
-    let lost = mark_count c.self.inside.erased.items in
     let e = c.weigh.ensures in
-    let few = c.self.invariant.few in
     let marks : length c.deref.result.now ≡ d.size = ap length c.deref.ensures.value ∙ c.self.invariant.len in
-    let count : mark_count c.deref.result.now ≡ lost = ap mark_count c.deref.ensures.value in
     let word : length c.args.word.now ≡ d.size = omega (arith, c.if-word-size.false, c.size.ensures) in
     let first : length c.weigh.new.values ≡ d.size = omega (arith, c.weigh.auto.values, ap length c.as_mut_slice.ensures.value, ap length c.in_ok-values.ensures.items, word) in
     let back = written_back c.weigh.new.values _ _ (omega (arith, c.weigh.auto.values, c.as_mut_slice.ensures.len)) in
-    let weighing = scalings_within s base d 0 0 (d.size - lost) w w c.weigh.new.work (none_within s base d c.self.invariant.code.lawful.size_of w) e.butterflies e.steps (omega (arith, e.products, marks, count, few)) in
+    let weighing = scalings_within s base d 0 0 d.size w w c.weigh.new.work (none_within s base d c.self.invariant.code.lawful.size_of w) e.butterflies e.steps (omega (arith, e.products, marks)) in
     let interpolating = inverse_within s base d 0 _ _ w c.weigh.new.work c.ifft_counted.new.work weighing (ap length back ∙ first) c.in_ok-ifft_counted.ensures.cost in
     subst (λ r. GrowsWithin s r.code.domain 1 (2 * r.code.domain.size) w c.ifft_counted.new.work) c.self.view_is
     (within_more s base d 1 1 _ (2 * d.size) w _ interpolating (omega arith) (omega arith))
@@ -119,15 +116,12 @@ returns-clause-cost g c =
     let base = g.met.F.FftField.roots_law.base in
     let d = g.D.EvaluationDomain.domain c.self.inside.domain in
     let w = c.args.work.now in
-    let lost = mark_count c.self.inside.erased.items in
     let e = c.weigh.ensures in
-    let few = c.self.invariant.few in
     let marks : length c.deref.result.now ≡ d.size = ap length c.deref.ensures.value ∙ c.self.invariant.len in
-    let count : mark_count c.deref.result.now ≡ lost = ap mark_count c.deref.ensures.value in
     let word : length c.args.word.now ≡ d.size = omega (arith, c.if-word-size.false, c.size.ensures) in
     let first : length c.weigh.new.values ≡ d.size = omega (arith, c.weigh.auto.values, ap length c.as_mut_slice.ensures.value, ap length c.in_ok-values.ensures.items, word) in
     let back = written_back c.weigh.new.values _ _ (omega (arith, c.weigh.auto.values, c.as_mut_slice.ensures.len)) in
-    let weighing = scalings_within s base d 0 0 (d.size - lost) w w c.weigh.new.work (none_within s base d c.self.invariant.code.lawful.size_of w) e.butterflies e.steps (omega (arith, e.products, marks, count, few)) in
+    let weighing = scalings_within s base d 0 0 d.size w w c.weigh.new.work (none_within s base d c.self.invariant.code.lawful.size_of w) e.butterflies e.steps (omega (arith, e.products, marks)) in
     let interpolating = inverse_within s base d 0 _ _ w c.weigh.new.work c.ifft_counted.new.work weighing (ap length back ∙ first) c.in_ok-ifft_counted.ensures.cost in
     subst (λ r. GrowsWithin s r.code.domain 1 (2 * r.code.domain.size) w c.ifft_counted.new.work) c.self.view_is
     (within_more s base d 1 1 _ (2 * d.size) w _ interpolating (omega arith) (omega arith))

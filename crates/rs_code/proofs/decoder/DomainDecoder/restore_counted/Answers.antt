@@ -6,7 +6,7 @@ use Rattle.ark_math.specs.Transform.{transform}
 use Rattle.ark_math.proofs.Lists.Lists.{written_back}
 use Rattle.ark_math.proofs.Callers.Transforms.{transform-length}
 use Rattle.ark_math.proofs.Domains.LawfulDomains.{lawful_domain, order}
-use Rattle.rs_code.specs.Codeword.{AgreesElsewhere, IsCodeword, mark_count}
+use Rattle.rs_code.specs.Codeword.{AgreesElsewhere, IsCodeword}
 use Rattle.rs_code.specs.Cost.{GrowsWithin}
 use Rattle.rs_code.specs.Locator.{by_factors, derived, filled, lost}
 use Rattle.rs_code.proofs.Places.{unmarked_within}
@@ -148,9 +148,7 @@ returns-clause-cost g c =
     let base = g.met.F.FftField.roots_law.base in
     let d = g.D.EvaluationDomain.domain c.self.inside.domain in
     let w = c.args.work.now in
-    let lost = mark_count c.self.inside.erased.items in
     let h = c.derive.ensures in
-    let few = c.self.invariant.few in
     let interpolating : GrowsWithin s d 1 (2 * d.size) w c.interpolated.new.work =
     subst (λ r. GrowsWithin s r.code.domain 1 (2 * r.code.domain.size) w c.interpolated.new.work) (sym c.self.view_is) c.interpolated.ensures.cost in
     let second : length c.in_ok-values.values.items ≡ d.size = c.in_ok-values.ensures.len ∙ sym (ap (λ r. r.code.domain.size) c.self.view_is) in
@@ -159,6 +157,6 @@ returns-clause-cost g c =
     let lowered_back = written_back c.derive.new.coeffs _ _ (omega (arith, c.derive.auto.coeffs, c.as_mut_slice.ensures.len)) in
     let transforming = forward_within s base d 1 _ _ w c.derive.new.work c.fft_counted.new.work lowering (ap length lowered_back ∙ lowered) c.in_ok-fft_counted.ensures.cost in
     let f = c.fill.ensures in
-    let filling = scalings_within s base d 2 _ lost w c.fft_counted.new.work c.fill.new.work transforming f.butterflies f.steps (omega (arith, f.products, ap mark_count c.deref.ensures.value)) in
+    let filling = scalings_within s base d 2 _ d.size w c.fft_counted.new.work c.fill.new.work transforming f.butterflies f.steps (omega (arith, f.products, ap length c.deref.ensures.value, c.self.invariant.len)) in
     subst (λ r. GrowsWithin s r.code.domain 3 (5 * r.code.domain.size) w c.fill.new.work) c.self.view_is
-    (within_more s base d 2 3 _ (5 * d.size) w _ filling (omega arith) (omega (arith, few)))
+    (within_more s base d 2 3 _ (5 * d.size) w _ filling (omega arith) (omega arith))
