@@ -53,6 +53,11 @@ module _ {F : Type 0} (K : FieldOn F) where
       erased_factor K x a b c e f g h i ≡ erased_factor K x2 a2 b2 c2 e2 f2 g2 h2 i2
   erased_same x a b c e f g h i = ap₂ K.times (ap₂ K.times (ap₂ K.times x a) (ap₂ K.times b i)) (ap₂ K.times (ap₂ K.times c (ap₂ K.times e f)) (ap₂ K.times g h))
 
+  -- a kept place's values are multiplied as those of an erased one, times one
+  pub kept_as_erased : IsField K → (a b c e f g h i : F) → erased_factor K K.one a b c e f g h i ≡ kept_factor K a b c e f g h i
+  kept_as_erased N a b c e f g h i =
+      ring7 K N (λ a b c p g h i. (((unit ⊗ a) ⊗ (b ⊗ i)) ⊗ ((c ⊗ p) ⊗ (g ⊗ h)), ((a ⊗ b) ⊗ c) ⊗ (p ⊗ (g ⊗ (h ⊗ i))))) refl a b c (K.times e f) g h i
+
 module _ {F : Type 0} (K : FieldOn F) (N : IsField K) (d : Domain F) (q : ℕ) (o : HasOrder K d.root d.size) (one : d.offset ≡ K.one) (size : d.size ≡ q + (q + (q + q))) (some : 0 < q) where
   -- places that differ by rounds
   pub element-rounds : (i c : ℕ) → element K d (i + d.size * c) ≡ element K d i

@@ -205,46 +205,77 @@ fn fill<F: Field>(
 {
     for j in 0..all.len() {
         let i = at.here + j;
-        let mut factor = factors[i];
-        if erased[i] {
-            factor = erased_factor(
-                factor,
+        factors[i] = factor_of(
+            erased[i],
+            factors[i],
+            (
                 none[j],
                 opposite[at.other + j],
-                (one[at.back + j], one[at.over + j], one[at.ahead + j]),
-                (two[at.over + j], two[at.ahead + j]),
+                one[at.back + j],
+                one[at.over + j],
+                one[at.ahead + j],
+                two[at.over + j],
+                two[at.ahead + j],
                 three[at.ahead + j],
-            );
-        } else {
-            factor = kept_factor(
+            ),
+            (
                 all[j],
                 opposite[at.square + j],
                 one[i],
-                (two[i], two[at.back + j]),
-                (three[i], three[at.back + j], three[at.over + j]),
-            );
-        }
-        factors[i] = factor;
+                two[i],
+                two[at.back + j],
+                three[i],
+                three[at.back + j],
+                three[at.over + j],
+            ),
+        );
     }
 }
 
-// The factor of a kept place, from values at it, and at its turns back and over.
-fn kept_factor<F: Field>(all: F, opposite: F, one: F, two: (F, F), three: (F, F, F)) -> F
-    ensures { result ≡ kept_factor F.field all opposite one two.0 two.1 three.0 three.1 three.2 }
+// The factor of a place, from what is multiplied at an erased one, and at a kept one. Each value is chosen of two
+// that are there already, and the products come after, so that no branch waits for a mark.
+#[inline(always)]
+fn factor_of<F: Field>(
+    mark: bool,
+    place: F,
+    erased: (F, F, F, F, F, F, F, F),
+    kept: (F, F, F, F, F, F, F, F),
+) -> F
+    ensures erased { mark ≡ true → result ≡ erased_factor F.field place erased.0 erased.1 erased.2 erased.3 erased.4
+        erased.5 erased.6 erased.7 }
+    ensures kept { mark ≡ false → result ≡ kept_factor F.field kept.0 kept.1 kept.2 kept.3 kept.4 kept.5 kept.6
+        kept.7 }
 {
-    ((all * opposite) * one) * ((two.0 * two.1) * (three.0 * (three.1 * three.2)))
+    product(
+        chosen(mark, place, F::one()),
+        (
+            chosen(mark, erased.0, kept.0),
+            chosen(mark, erased.1, kept.1),
+            chosen(mark, erased.2, kept.2),
+            chosen(mark, erased.3, kept.3),
+            chosen(mark, erased.4, kept.4),
+            chosen(mark, erased.5, kept.5),
+            chosen(mark, erased.6, kept.6),
+            chosen(mark, erased.7, kept.7),
+        ),
+    )
 }
 
-// The factor of an erased place, from values at its turns back, over and ahead.
-fn erased_factor<F: Field>(
-    place: F,
-    none: F,
-    opposite: F,
-    one: (F, F, F),
-    two: (F, F),
-    three: F,
-) -> F
-    ensures { result ≡ erased_factor F.field place none opposite one.0 one.1 one.2 two.0 two.1 three }
+// The first where there is a mark, else the second: a select, as both are there.
+#[inline(always)]
+fn chosen<F: Field>(mark: bool, first: F, second: F) -> F
+    ensures marked { mark ≡ true → result ≡ first }
+    ensures unmarked { mark ≡ false → result ≡ second }
 {
-    ((place * none) * (opposite * three)) * ((one.0 * (one.1 * one.2)) * (two.0 * two.1))
+    if mark { first } else { second }
+}
+
+// A place times eight values.
+#[inline(always)]
+fn product<F: Field>(place: F, values: (F, F, F, F, F, F, F, F)) -> F
+    ensures { result ≡ erased_factor F.field place values.0 values.1 values.2 values.3 values.4 values.5 values.6
+        values.7 }
+{
+    ((place * values.0) * (values.1 * values.7))
+        * ((values.2 * (values.3 * values.4)) * (values.5 * values.6))
 }
