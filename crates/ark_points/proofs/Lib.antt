@@ -11,9 +11,11 @@ pub mod Newton
 pub mod Nodes
 pub mod PairParts
 pub mod PastProducts
+pub mod PowerSums
 pub mod PowersOfTwo
 pub mod Root
 pub mod Shares
 pub mod StandIns
+pub mod Sums
 pub mod Weighed
 pub mod Wrapped

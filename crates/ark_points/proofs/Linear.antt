@@ -2,7 +2,7 @@
 use Rattle.std.proofs.Common.{◌≡◌, ◌≢◌, ℕ, zero, suc, ◌+◌, ◌-◌, ◌<◌, ◌≤◌, inl, inr, ⊎_elim, List, [], ◌∷◌, ◌++◌, length, refl, sym, ◌∙◌, ap, ap₂, arith, add-one}
 use Rattle.std.proofs.lemmas.Bool.{cases_eq, cases_lt}
 use mathlib.Core.Path.{fun_ext}
-use Rattle.std.proofs.lemmas.List.{drop_all, get_or_append_left, get_or_past, get_or_push, length-append}
+use Rattle.std.proofs.lemmas.List.{drop_all, take_all}
 use Rattle.ark_math.specs.Field.{FieldOn, IsField, minus}
 use Rattle.ark_math.specs.Linear.{constant, linear_factor}
 use Rattle.ark_math.specs.Module.{itself}
@@ -11,13 +11,18 @@ use Rattle.ark_math.specs.Univariate.{IsBelow, IsQuotient, added, difference, mo
 use Rattle.ark_math.proofs.Algebra.Solve.{◌⊗◌, ◌⊕◌, ◌⊖◌, negative, nought, unit}
 use Rattle.ark_math.proofs.Algebra.Ring.{ring1, ring2, ring3}
 use Rattle.ark_math.proofs.Polynomials.Univariate.{monomial-other}
-use Rattle.ark_math.proofs.Polynomials.UnivariateLists.{of_list-past, of_list-below}
-use Rattle.ark_math.proofs.Polynomials.UnivariateProducts.{product_comm, difference-product, monomial-product_before, monomial-product_past}
+use Rattle.ark_math.proofs.Polynomials.UnivariateLists.{of_list-past, of_list-below, of_list-padded}
+use Rattle.ark_math.proofs.Polynomials.UnivariateProducts.{product_comm, difference-product, monomial-product_before, monomial-product_past, product-below}
 use Rattle.ark_math.proofs.Polynomials.UnivariateValues.{value_from, value_from-one}
 
 -- no coefficients from there on
 pub value_from-past : {F : Type 0} (K : FieldOn F) (c : List F) (z : F) (i : ℕ) → length c ≤ i → value_from K c z i ≡ K.zero
 value_from-past K c z i l = ap (λ t. value_at K (itself K) t z) (drop_all i c l)
+
+-- with one zero more
+pub of_list-pushed_zero : {F : Type 0} (K : FieldOn F) (c : List F) (x : F) → x ≡ K.zero → of_list K (c ++ x ∷ []) ≡ of_list K c
+of_list-pushed_zero K c x e =
+    ap (λ t. of_list K (t ++ x ∷ [])) (sym (take_all (length c) c (omega arith))) ∙ of_list-padded K c (length c) 1 x (omega arith) e
 
 -- the coefficient before
 abbrev pub before : {F : Type 0} → FieldOn F → (ℕ → F) → ℕ → F
@@ -49,30 +54,18 @@ module _ {F : Type 0} (K : FieldOn F) (N : IsField K) where
           let e : suc i - 1 ≡ i = omega arith in
           monomial-product_past K N 1 K.one q (suc i) (omega arith) ∙ ap (λ t. K.times K.one (q t)) e ∙ N.times_comm K.one (q i) ∙ N.times_one (q i)
 
-  -- a list of all but the last coefficient of such a product, and that one
-  pub by_linear-end : (z : F) (xs ys : List F) (b : F) → length xs ≡ length ys → ((k : ℕ) → k < length ys → of_list K xs k ≡ product K (of_list K ys) (linear_factor K z) k) → b ≡ before K (of_list K ys) (length ys)
-      → of_list K (xs ++ b ∷ []) ≡ product K (of_list K ys) (linear_factor K z)
-  by_linear-end z xs ys b len done last = fun_ext (λ k. ⊎_elim
-      (λ (l : k < length ys). get_or_append_left xs (b ∷ []) K.zero k (omega arith) ∙ done k l)
-      (λ (m : length ys ≤ k).
-      ⊎_elim
-      (λ (e : k ≡ length ys).
-      get_or_push xs b K.zero k (len ∙ sym e) ∙ last ∙ ap (before K (of_list K ys)) (sym e)
-      ∙ ring2 K N (λ a z. (a, a ⊖ (z ⊗ nought))) refl (before K (of_list K ys) k) z
-      ∙ ap (λ t. minus K (before K (of_list K ys) k) (K.times z t)) (sym (get_or_past ys k K.zero m))
-      ∙ sym (linear-product (of_list K ys) z k))
-      (λ (ne : k ≢ length ys).
-      get_or_past (xs ++ b ∷ []) k K.zero (omega (arith, length-append xs (b ∷ [])))
-      ∙ sym (far z ys k (omega arith)))
-      (cases_eq k (length ys)))
-      (cases_lt k (length ys)))
-    where
-      far : (z : F) (ys : List F) (k : ℕ) → length ys < k → product K (of_list K ys) (linear_factor K z) k ≡ K.zero
-      far z ys zero l = absurd (omega arith)
-      far z ys (suc k) l =
-          linear-product (of_list K ys) z (suc k)
-          ∙ ap₂ (λ s t. minus K s (K.times z t)) (get_or_past ys k K.zero (omega arith)) (get_or_past ys (suc k) K.zero (omega arith))
-          ∙ ring1 K N (λ z. (nought ⊖ (z ⊗ nought), nought)) refl z
+  pub linear-product_past : (q : ℕ → F) (z : F) (i : ℕ) → 0 < i → product K q (linear_factor K z) i ≡ minus K (q (i - 1)) (K.times z (q i))
+  linear-product_past q z zero l = absurd (omega arith)
+  linear-product_past q z (suc i) l =
+      let e : suc i - 1 ≡ i = omega arith in linear-product q z (suc i) ∙ ap (λ k. minus K (q k) (K.times z (q (suc i)))) (sym e)
+
+  pub linear-product_first : (q : ℕ → F) (z : F) → product K q (linear_factor K z) 0 ≡ K.negated (K.times z (q 0))
+  linear-product_first q z = linear-product q z 0 ∙ ring1 K N (λ x. (nought ⊖ x, negative x)) refl (K.times z (q 0))
+
+  -- one coefficient more than the list has
+  pub linear-product_below : (c : List F) (z : F) → IsBelow K (length c + 1) (product K (of_list K c) (linear_factor K z))
+  linear-product_below c z i l =
+      product-below K N (length c) 2 (of_list K c) (linear_factor K z) (of_list-below K c) (of_list-below K (K.negated z ∷ K.one ∷ [])) i (omega arith)
 
   -- Horner's step, past the last coefficient too
   step : (c : List F) (z : F) (i : ℕ) → K.plus (K.times (value_from K c z (i + 1)) z) (of_list K c i) ≡ value_from K c z i

@@ -27,14 +27,6 @@ take_push [] i x l h = absurd (omega arith)
 take_push (y ∷ xs) zero x l h = ap (λ t. t ∷ []) h
 take_push (y ∷ xs) (suc i) x l h = ap (λ t. y ∷ t) (take_push xs i x (omega arith) h)
 
-take_suc : {X : Type 0} (xs : List X) (i : ℕ) (d : X) → i < length xs → take (suc i) xs ≡ take i xs ++ get_or xs i d ∷ []
-take_suc [] i d l = absurd (omega arith)
-take_suc (y ∷ xs) zero d l = refl
-take_suc (y ∷ xs) (suc i) d l = ap (λ t. y ∷ t) (take_suc xs i d (omega arith))
-
-pub take_next : {X : Type 0} (xs : List X) (i : ℕ) (d : X) → i < length xs → take (i + 1) xs ≡ take i xs ++ get_or xs i d ∷ []
-take_next xs i d l = let e : i + 1 ≡ suc i = omega arith in ap (λ t. take t xs) e ∙ take_suc xs i d l
-
 pub take-one_more : {X : Type 0} (xs : List X) (i : ℕ) (x : X) → i < length xs → x ≡ get_or xs i x → take (i + 1) xs ≡ take i xs ++ x ∷ []
 take-one_more xs i x l h = let e : i + 1 ≡ suc i = omega arith in ap (λ t. take t xs) e ∙ take_push xs i x l (sym h)
 

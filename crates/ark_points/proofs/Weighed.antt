@@ -76,19 +76,6 @@ module _ {F : Type 0} (K : FieldOn F) (N : IsField K) where
       ∙ sym (weighed-joined (take h zs) (drop h zs) (of_list K ws))
       ∙ ap (λ t. weighed K t (of_list K ws)) (take-append-drop h zs)
 
-  -- one more at the end
-  pub weighed-push : (xs : List F) (x : F) (w : ℕ → F) → weighed K (xs ++ (x ∷ [])) w ≡ added K (product K (weighed K xs w) (linear_factor K x)) (scaled K (w (length xs)) (nodes K xs))
-  weighed-push xs x w =
-      let e : length xs + 0 ≡ length xs = omega arith in
-      let v : F = w (length xs + 0) in
-      weighed-joined xs (x ∷ []) w
-      ∙ ap₂ (λ s t. added K (product K (weighed K xs w) s) (product K t (nodes K xs)))
-      (nodes-one K N x)
-      (ap (added K (scaled K v (monomial K 0 K.one))) (product-nothing K N (linear_factor K x))
-      ∙ fun_ext (λ i. ring1 K N (λ x. (x ⊕ nought, x)) refl (scaled K v (monomial K 0 K.one) i)))
-      ∙ ap (added K (product K (weighed K xs w) (linear_factor K x)))
-      (sym (scaled-product v (monomial K 0 K.one) (nodes K xs)) ∙ (ap (scaled K v) (one-product K N (nodes K xs)) ∙ ap (λ j. scaled K (w j) (nodes K xs)) e))
-
   -- at one of the list: its weight times what the others make there
   pub weighed-value : (zs : List F) (w : ℕ → F) (i : ℕ) (d : F) → i < length zs → IsValue K (cofactor K N zs i) (of_list K zs i) d → IsValue K (weighed K zs w) (of_list K zs i) (K.times (w i) d)
   unfolding cofactor

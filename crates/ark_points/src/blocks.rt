@@ -157,7 +157,7 @@ impl<F: FftField> BlockProducts<F> {
             count (of_list F.field p.0.items) v.items)) }
     {
         match self {
-            Tree::Few(_) => Ok((weighed_few(alloc, points, weights)?, None)),
+            Tree::Few(product) => Ok((weighed_few(alloc, product, points, weights)?, None)),
             Tree::Halves(_, low, low_values, high, high_values) => {
                 let half = points.len() / 2;
                 let part = count / 2;

@@ -1,14 +1,16 @@
 //! Products of `x - z` over few points, what they weigh, and values at few points, a point or a coefficient at a time.
 
-ghost use Rattle.std.specs.Prelude.{◌≡◌, ℕ, ◌+◌, ◌<◌, ◌≤◌, length, IfOk, OnOk};
+ghost use Rattle.std.specs.Prelude.{◌≡◌, ℕ, ◌+◌, ◌-◌, ◌<◌, ◌≤◌, length, IfOk, OnOk};
 ghost use Rattle.ark_math.specs.Linear.{linear_factor};
 ghost use Rattle.ark_math.specs.Univariate.{of_list, product};
 ghost use Rattle.ark_points.specs.Points.{HasValues};
+ghost use Rattle.ark_points.specs.Steps.{power_sum};
 ghost use Rattle.ark_points.specs.Tree.{StandsFor, nodes, weighed};
 
+use crate::items::{multiply_places, sum_of};
 use crate::parts::add_product_past;
 use ark_base::Field;
-use ark_coeffs::dense::{add_scaled, zeros};
+use ark_coeffs::dense::zeros;
 use ark_poly::DenseUVPolynomial;
 use ark_poly::univariate::DensePolynomial;
 use std::alloc::{AllocError, Global};
@@ -31,19 +33,17 @@ pub fn product_of_few<F: Field>(
     Ok(DensePolynomial::from_coefficients_vec(coeffs))
 }
 
-// Multiplies the polynomial with these coefficients by x - z, in place.
+// Multiplies the polynomial with these coefficients by x - z, in place, from the highest one down.
 fn multiply_by_linear<F: Field>(coeffs: &mut Vec<F>, z: F) -> Result<(), AllocError>
     ensures product { OnOk result (of_list F.field coeffs.new.items
         ≡ product F.field (of_list F.field coeffs.old.items) (linear_factor F.field z)) }
     ensures len { OnOk result (length coeffs.new.items ≡ length coeffs.old.items + 1) }
 {
-    let mut below = F::zero();
-    for i in 0..coeffs.len() {
-        let own = coeffs[i];
-        coeffs[i] = below - z * own;
-        below = own;
+    coeffs.push(F::zero())?;
+    for i in (1..coeffs.len()).rev() {
+        coeffs[i] = coeffs[i - 1] - z * coeffs[i];
     }
-    coeffs.push(below)?;
+    coeffs[0] = -(z * coeffs[0]);
     Ok(())
 }
 
@@ -64,10 +64,27 @@ pub fn write_few_values<F: Field>(
         (nodes F.field points.now) p (of_list F.field given.now) → HasValues F.field (length points.now)
         (of_list F.field points.now) (of_list F.field values.new) p) }
 {
-    let mut past = zeros(alloc, points.len())?;
-    add_product_past(past.as_mut_slice(), product.coeffs(), given);
+    let past = product_past(alloc, product, points, given)?;
     write_values_of(&past, points, values);
     Ok(())
+}
+
+// The coefficients from the points' number on of the product over all points times the given polynomial.
+fn product_past<F: Field>(
+    alloc: Global,
+    over_points: &DensePolynomial<F>,
+    points: &[F],
+    given: &[F],
+) -> Result<Vec<F>, AllocError>
+    requires over_points { of_list F.field over_points.now ≡ nodes F.field points.now }
+    requires few { length given.now ≤ length points.now }
+    ensures past { IfOk result (λ v. of_list F.field v.items ≡ (λ i. product F.field (nodes F.field points.now)
+        (of_list F.field given.now) (i + length points.now))) }
+    ensures len { IfOk result (λ v. length v.items ≡ length points.now) }
+{
+    let mut past = zeros(alloc, points.len())?;
+    add_product_past(past.as_mut_slice(), over_points.coeffs(), given);
+    Ok(past)
 }
 
 // Writes the values at the points of the polynomial with these coefficients, the highest first: at all points in turn, so that
@@ -106,24 +123,35 @@ fn multiply_and_add<F: Field>(values: &mut [F], points: &[F], coefficient: F)
     }
 }
 
-/// The sum of each weight times the product of x - z over the other points, a point at a time.
+/// The sum of each weight times the product of x - z over the other points, from the product over all of them.
 pub fn weighed_few<F: Field>(
     alloc: Global,
+    product: &DensePolynomial<F>,
     points: &[F],
     weights: &[F],
 ) -> Result<Vec<F>, AllocError>
+    requires product { of_list F.field product.now ≡ nodes F.field points.now }
     requires len { length weights.now ≡ length points.now }
     ensures sum { IfOk result (λ s. of_list F.field s.items
         ≡ weighed F.field points.now (of_list F.field weights.now)) }
     ensures len { IfOk result (λ s. length s.items ≡ length points.now) }
 {
-    let mut sum = Vec::with_capacity(alloc, FEW_POINTS + 1)?;
-    let mut product = Vec::with_capacity(alloc, FEW_POINTS + 1)?;
-    product.push(F::one())?;
-    for i in 0..points.len() {
-        multiply_by_linear(&mut sum, points[i])?;
-        add_scaled(sum.as_mut_slice(), weights[i], &product);
-        multiply_by_linear(&mut product, points[i])?;
+    let sums = power_sums(alloc, points, weights)?;
+    product_past(alloc, product, points, &sums)
+}
+
+// The sums of the weights times powers of their points, that of the power 0 last.
+fn power_sums<F: Field>(alloc: Global, points: &[F], weights: &[F]) -> Result<Vec<F>, AllocError>
+    requires { length weights.now ≡ length points.now }
+    ensures sums { IfOk result (λ s. (k : ℕ) → k < length points.now → of_list F.field s.items k
+        ≡ power_sum F.field points.now (of_list F.field weights.now) (length points.now - 1 - k)) }
+    ensures len { IfOk result (λ s. length s.items ≡ length points.now) }
+{
+    let mut terms = Vec::from_slice(alloc, weights)?;
+    let mut sums = zeros(alloc, points.len())?;
+    for place in (0..points.len()).rev() {
+        sums[place] = sum_of(&terms);
+        multiply_places(terms.as_mut_slice(), points);
     }
-    Ok(sum)
+    Ok(sums)
 }

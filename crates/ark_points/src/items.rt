@@ -1,7 +1,8 @@
 //! Loops over lists of field elements.
 
-ghost use Rattle.std.specs.Prelude.{◌≡◌, ◌≢◌, ℕ, ◌+◌, ◌<◌, ◌≤◌, false, length, IfOk};
+ghost use Rattle.std.specs.Prelude.{◌≡◌, ◌≢◌, ℕ, ◌+◌, ◌*◌, ◌/◌, ◌<◌, ◌≤◌, false, length, IfOk};
 ghost use Rattle.ark_math.specs.Field.{minus, power};
+ghost use Rattle.ark_math.specs.Module.{itself, sum_below};
 ghost use Rattle.ark_math.specs.Univariate.{of_list};
 
 use ark_base::Field;
@@ -130,4 +131,32 @@ pub fn powers<F: Field>(alloc: Global, element: F, count: usize) -> Result<Vec<F
         next *= element;
     }
     Ok(powers)
+}
+
+/// The sum of all items: of those in whole fours, and then of the rest.
+pub fn sum_of<F: Field>(items: &[F]) -> F
+    ensures { result ≡ sum_below (itself F.field) (length items.now) (of_list F.field items.now) }
+{
+    let mut sum = sum_of_fours(items);
+    for i in 4 * (items.len() / 4)..items.len() {
+        sum += items[i];
+    }
+    sum
+}
+
+// The sum of the items in whole fours, by four sums, so that no addition waits for the last one.
+fn sum_of_fours<F: Field>(items: &[F]) -> F
+    ensures { result ≡ sum_below (itself F.field) (4 * (length items.now / 4)) (of_list F.field items.now) }
+{
+    let mut first = F::zero();
+    let mut second = F::zero();
+    let mut third = F::zero();
+    let mut fourth = F::zero();
+    for k in 0..items.len() / 4 {
+        first += items[4 * k];
+        second += items[4 * k + 1];
+        third += items[4 * k + 2];
+        fourth += items[4 * k + 3];
+    }
+    (first + second) + (third + fourth)
 }

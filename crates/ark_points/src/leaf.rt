@@ -86,7 +86,7 @@ impl<F: FftField> Leaf<F> {
         ensures memory { IsOkUnless result PolyError.Memory }
     {
         let coeffs = match self {
-            Leaf::Plain(_) => weighed_few(alloc, points, weights)?,
+            Leaf::Plain(product) => weighed_few(alloc, product, points, weights)?,
             Leaf::Blocks(blocks, tree) => {
                 tree.weighed(alloc, blocks, points, weights, blocks.size())?
                     .0

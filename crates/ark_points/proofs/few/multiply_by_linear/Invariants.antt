@@ -1,16 +1,15 @@
-use Rattle.std.proofs.Common.{◌≡◌, ◌<◌, ◌≤◌, ℕ, length}
+use Rattle.std.proofs.Common.{◌≡◌, ◌+◌, ◌<◌, ◌≤◌, ℕ, length}
 use Rattle.ark_math.specs.Linear.{linear_factor}
 use Rattle.ark_math.specs.Univariate.{of_list, product}
-use Rattle.ark_points.proofs.Linear.{before}
 use Rattle.ark_points.proofs.few.multiply_by_linear.Given as goal
 
 abbrev pub invariant-loop-i : goal.invariant-loop-i
 invariant-loop-i g l =
     let K = g.F.Field.field in
-    let a = of_list K l.initial.coeffs.items in
+    let a = of_list K l.fn.coeffs.items in
     record {
-      len : length l.coeffs.items ≡ length l.initial.coeffs.items;
-      below_is : l.below ≡ before K a l.i;
-      done : (k : ℕ) → k < l.i → of_list K l.coeffs.items k ≡ product K a (linear_factor K l.z) k;
-      rest : (k : ℕ) → l.i ≤ k → of_list K l.coeffs.items k ≡ a k;
+      len : length l.coeffs.items ≡ length l.fn.coeffs.items + 1;
+      some : 0 < l.i;
+      done : (k : ℕ) → l.i ≤ k → of_list K l.coeffs.items k ≡ product K a (linear_factor K l.z) k;
+      rest : (k : ℕ) → k < l.i → of_list K l.coeffs.items k ≡ a k;
     }
