@@ -32,6 +32,10 @@ IsPowerOfTwo n = (levels : ℕ) × (n ≡ 2 ^ levels)
 abbrev pub element_of : {F : Type 0} → FieldOn F → List F → ℕ → F
 element_of K roots i = if i % 2 == 0 then of_list K roots (i / 2) else K.negated (of_list K roots (i / 2))
 
+-- the values of a at the first n of these
+abbrev pub AreFirstValues : {F : Type 0} → FieldOn F → List F → ℕ → (ℕ → F) → List F → Type 0
+AreFirstValues K roots n a v = AreValuesFrom K (element_of K roots) 0 n a v
+
 -- and how many
 abbrev pub size_of : {F : Type 0} → List F → ℕ
 size_of roots = length roots + length roots

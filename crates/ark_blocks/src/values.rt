@@ -3,7 +3,7 @@
 ghost use Rattle.std.specs.Prelude.{◌≡◌, ℕ, suc, ◌+◌, ◌*◌, ◌^◌, ◌<◌, ◌≤◌, length, take, IfOk, OnOk};
 ghost use Rattle.ark_math.specs.Field.{minus};
 ghost use Rattle.ark_math.specs.Univariate.{IsBelow, of_list, product, value_below};
-ghost use Rattle.ark_blocks.specs.Blocks.{AreReversed, AreRoots, AreValuesFrom, IsPowerOfTwo, element_of, size_of};
+ghost use Rattle.ark_blocks.specs.Blocks.{AreFirstValues, AreReversed, AreRoots, IsPowerOfTwo, element_of, size_of};
 
 use crate::backward::backward;
 use crate::forward::forward;
@@ -18,8 +18,8 @@ impl<F: FftField> BlockRoots<F> {
         requires power { IsPowerOfTwo count }
         requires room { count ≤ size_of self.now }
         requires few { length coeffs.now ≤ count }
-        ensures values { IfOk result (λ v. AreValuesFrom F.field (element_of F.field self.now) 0 count
-            (of_list F.field coeffs.now) v.items) }
+        ensures values { IfOk result (λ v. AreFirstValues F.field self.now count (of_list F.field coeffs.now)
+            v.items) }
     {
         let mut values = Vec::with_capacity(alloc, count)?;
         let len = coeffs.len().next_power_of_two();
@@ -34,9 +34,10 @@ impl<F: FftField> BlockRoots<F> {
         requires power { IsPowerOfTwo (length values.old.items) }
         requires room { length values.old.items + length values.old.items ≤ size_of self.now }
         requires few { length coeffs.now ≤ length values.old.items + length values.old.items }
-        ensures values { OnOk result (AreValuesFrom F.field (element_of F.field self.now) 0 (length values.old.items)
-            (of_list F.field coeffs.now) values.old.items → AreValuesFrom F.field (element_of F.field self.now) 0
-            (length values.old.items + length values.old.items) (of_list F.field coeffs.now) values.new.items) }
+        ensures values { OnOk result (AreFirstValues F.field self.now (length values.old.items)
+            (of_list F.field coeffs.now) values.old.items
+            → AreFirstValues F.field self.now (length values.old.items + length values.old.items)
+            (of_list F.field coeffs.now) values.new.items) }
     {
         let len = values.len();
         let (low, high) = coeffs.split_at(len.min(coeffs.len()));
@@ -54,7 +55,7 @@ impl<F: FftField> BlockRoots<F> {
         requires room { length values.old ≤ size_of self.now }
         ensures len { length values.new ≡ length values.old }
         ensures coefficients { (a : ℕ → F) → IsBelow F.field (length values.old) a
-            → AreValuesFrom F.field (element_of F.field self.now) 0 (length values.old) a values.old
+            → AreFirstValues F.field self.now (length values.old) a values.old
             → of_list F.field values.new ≡ a }
         ensures elements { AreReversed F.field (size_of self.now) (element_of F.field self.now) }
     {
@@ -78,11 +79,11 @@ impl<F: FftField> BlockRoots<F> {
         requires room { half + half ≤ size_of self.now }
         ensures len { IfOk result (λ v. length v.items ≡ half) }
         ensures values { IfOk result (λ v. (a b c : ℕ → F)
-            → AreValuesFrom F.field (element_of F.field self.now) 0 (half + half) a left.now
-            → AreValuesFrom F.field (element_of F.field self.now) 0 (half + half) b right.now
+            → AreFirstValues F.field self.now (half + half) a left.now
+            → AreFirstValues F.field self.now (half + half) b right.now
             → IsBelow F.field (half + (half + half)) (product F.field a b) → IsBelow F.field half c
             → ((i : ℕ) → i < half → c i ≡ product F.field a b (half + i))
-            → AreValuesFrom F.field (element_of F.field self.now) 0 half c v.items) }
+            → AreFirstValues F.field self.now half c v.items) }
     {
         let levels = half.ilog2();
         let mut turned = products(alloc, &left[half..], &right[half..])?;

@@ -6,7 +6,7 @@ use Rattle.ark_math.specs.Field.{FieldOn, minus, natural, power}
 use Rattle.ark_math.specs.Linear.{linear_factor}
 use Rattle.ark_math.specs.Points.{AreValues}
 use Rattle.ark_math.specs.Univariate.{IsBelow, IsValue, added, difference, monomial, nothing, of_list, product, scaled}
-use Rattle.ark_blocks.specs.Blocks.{AreValuesFrom, element_of, size_of}
+use Rattle.ark_blocks.specs.Blocks.{AreFirstValues, size_of}
 use Rattle.ark_poly.specs.Values.{Values}
 use Rattle.ark_points.specs.declared.leaf.Leaf.{Leaf}
 use Rattle.ark_points.specs.declared.leaf.Leaf.TheVariants.{Plain, Blocks}
@@ -59,8 +59,8 @@ power_less_one K n = difference K (monomial K n K.one) (monomial K 0 K.one)
 -- the values of both halves' products over the first elements of a table, of which there are as many as told
 pub record HaveBlockValues {F : Type 0} (K : FieldOn F) (roots : List F) (count : ℕ) (points v w : List F) : Type 0 where
   pub many : 2 < length points
-  pub low : AreValuesFrom K (element_of K roots) 0 count (nodes K (take (length points / 2) points)) v
-  pub high : AreValuesFrom K (element_of K roots) 0 count (nodes K (drop (length points / 2) points)) w
+  pub low : AreFirstValues K roots count (nodes K (take (length points / 2) points)) v
+  pub high : AreFirstValues K roots count (nodes K (drop (length points / 2) points)) w
 
 -- the products over these points and over the halves of each part, with values over this many elements, and half as many for
 -- each half
@@ -80,7 +80,7 @@ whole_of_blocks (Halves' p a low v b high w) = p
 -- a list gives a to such a tree: its coefficients, or where the tree has halves its values over as many elements as told
 abbrev pub IsGiven : {F : Type 0} → FieldOn F → List F → Tree (List F) (List F) (Vec F Global) → ℕ → (ℕ → F) → List F → Type 0
 IsGiven K roots (Few p) count a c = of_list K c ≡ a
-IsGiven K roots (Halves' p q low v b high w) count a c = AreValuesFrom K (element_of K roots) 0 count a c
+IsGiven K roots (Halves' p q low v b high w) count a c = AreFirstValues K roots count a c
 
 -- the lengths of such lists, for a below n
 abbrev pub HasRoom : {F : Type 0} → Tree (List F) (List F) (Vec F Global) → ℕ → ℕ → ℕ → Type 0

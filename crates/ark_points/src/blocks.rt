@@ -2,7 +2,7 @@
 //! many elements are the known ones with as many behind them.
 
 ghost use Rattle.std.specs.Prelude.{◌≡◌, ℕ, ◌+◌, ◌-◌, ◌/◌, ◌<◌, ◌≤◌, drop, length, take, IfOk, IfSome, OnOk};
-ghost use Rattle.ark_blocks.specs.Blocks.{AreValuesFrom, IsPowerOfTwo, element_of, size_of};
+ghost use Rattle.ark_blocks.specs.Blocks.{AreFirstValues, IsPowerOfTwo, size_of};
 ghost use Rattle.ark_math.specs.Univariate.{IsBelow, added, of_list, product};
 ghost use Rattle.ark_points.specs.Points.{HasValues};
 ghost use Rattle.ark_points.specs.Tree.{HasRoom, IsBlockTreeOver, IsGiven, IsMonic, StandsFor, nodes, power_less_one};
@@ -48,8 +48,8 @@ impl<F: FftField> BlockProducts<F> {
         requires within { count ≤ size_of blocks.now }
         requires room { length points.now ≤ count }
         ensures tree { IfOk result (λ t. IsBlockTreeOver F.field blocks.now count points.now t.0.value) }
-        ensures values { IfOk result (λ t. IfSome t.1 (λ v. AreValuesFrom F.field (element_of F.field blocks.now) 0
-            count (nodes F.field points.now) v.items)) }
+        ensures values { IfOk result (λ t. IfSome t.1 (λ v. AreFirstValues F.field blocks.now count
+            (nodes F.field points.now) v.items)) }
     {
         if points.len() <= FEW_POINTS {
             let product = product_of_few(alloc, points)?;
@@ -153,19 +153,29 @@ impl<F: FftField> BlockProducts<F> {
         ensures sum { IfOk result (λ p. of_list F.field p.0.items
             ≡ weighed F.field points.now (of_list F.field weights.now)) }
         ensures few { IfOk result (λ p. length p.0.items ≤ count) }
-        ensures values { IfOk result (λ p. IfSome p.1 (λ v. AreValuesFrom F.field (element_of F.field blocks.now) 0
-            count (of_list F.field p.0.items) v.items)) }
+        ensures values { IfOk result (λ p. IfSome p.1 (λ v. AreFirstValues F.field blocks.now count
+            (of_list F.field p.0.items) v.items)) }
     {
         match self {
             Tree::Few(product) => Ok((weighed_few(alloc, product, points, weights)?, None)),
             Tree::Halves(_, low, low_values, high, high_values) => {
                 let half = points.len() / 2;
                 let part = count / 2;
-                let (low_sum, low_known) =
-                    low.weighed(alloc, blocks, &points[..half], &weights[..half], part)?;
+                let (low_sum, low_known) = low.weighed(
+                    alloc,
+                    blocks,
+                    &points[..half],
+                    &weights[..half],
+                    part,
+                )?;
                 let first = extended(alloc, blocks, &low_sum, low_known, count)?;
-                let (high_sum, high_known) =
-                    high.weighed(alloc, blocks, &points[half..], &weights[half..], part)?;
+                let (high_sum, high_known) = high.weighed(
+                    alloc,
+                    blocks,
+                    &points[half..],
+                    &weights[half..],
+                    part,
+                )?;
                 let second = extended(alloc, blocks, &high_sum, high_known, count)?;
                 sum_of_products(alloc, blocks, first, high_values, &second, low_values)
             }
@@ -190,13 +200,13 @@ fn joined<F: FftField>(
         low.0.value }
     requires high { IsBlockTreeOver F.field blocks.now (count / 2) (drop (length points.now / 2) points.now)
         high.0.value }
-    requires low_values { IfSome low.1 (λ v. AreValuesFrom F.field (element_of F.field blocks.now) 0 (count / 2)
+    requires low_values { IfSome low.1 (λ v. AreFirstValues F.field blocks.now (count / 2)
         (nodes F.field (take (length points.now / 2) points.now)) v.items) }
-    requires high_values { IfSome high.1 (λ v. AreValuesFrom F.field (element_of F.field blocks.now) 0 (count / 2)
+    requires high_values { IfSome high.1 (λ v. AreFirstValues F.field blocks.now (count / 2)
         (nodes F.field (drop (length points.now / 2) points.now)) v.items) }
     ensures tree { IfOk result (λ t. IsBlockTreeOver F.field blocks.now count points.now t.0.value) }
-    ensures values { IfOk result (λ t. IfSome t.1 (λ v. AreValuesFrom F.field (element_of F.field blocks.now) 0
-        count (nodes F.field points.now) v.items)) }
+    ensures values { IfOk result (λ t. IfSome t.1 (λ v. AreFirstValues F.field blocks.now count
+        (nodes F.field points.now) v.items)) }
 {
     let (low, low_known) = low;
     let (high, high_known) = high;
@@ -221,7 +231,7 @@ fn monic_with<F: FftField>(
     requires within { length values.now ≤ size_of blocks.now }
     requires room { degree ≤ length values.now }
     ensures monic { IfOk result (λ p. (a : ℕ → F)
-        → AreValuesFrom F.field (element_of F.field blocks.now) 0 (length values.now) a values.now
+        → AreFirstValues F.field blocks.now (length values.now) a values.now
         → IsMonic F.field degree a → of_list F.field p ≡ a) }
 {
     // With room for a coefficient more.
@@ -287,8 +297,8 @@ fn handed<F: FftField>(
     requires few { end - start ≤ count }
     ensures room { IfOk result (λ v. HasRoom tree.now (end - start) count (length v.items)) }
     ensures given { IfOk result (λ v. (a b c : ℕ → F)
-        → AreValuesFrom F.field (element_of F.field blocks.now) 0 (count + count) a left.now
-        → AreValuesFrom F.field (element_of F.field blocks.now) 0 (count + count) b right.now
+        → AreFirstValues F.field blocks.now (count + count) a left.now
+        → AreFirstValues F.field blocks.now (count + count) b right.now
         → IsBelow F.field (start + (count + count)) (product F.field a b)
         → IsBelow F.field (end - start) c
         → ((i : ℕ) → start + i < end → c i ≡ product F.field a b (start + i))
@@ -316,9 +326,9 @@ fn extended<F: FftField>(
     requires many { 1 < count }
     requires within { count ≤ size_of blocks.now }
     requires few { length coeffs.now ≤ count }
-    requires known { IfSome known (λ v. AreValuesFrom F.field (element_of F.field blocks.now) 0 (count / 2)
+    requires known { IfSome known (λ v. AreFirstValues F.field blocks.now (count / 2)
         (of_list F.field coeffs.now) v.items) }
-    ensures values { IfOk result (λ v. AreValuesFrom F.field (element_of F.field blocks.now) 0 count
+    ensures values { IfOk result (λ v. AreFirstValues F.field blocks.now count
         (of_list F.field coeffs.now) v.items) }
 {
     match known {
@@ -346,13 +356,13 @@ fn sum_of_products<F: FftField>(
     requires second { length second.now ≡ length first.items }
     requires second_factor { length second_factor.now ≡ length first.items }
     ensures sum { IfOk result (λ p. (f a s b : ℕ → F)
-        → AreValuesFrom F.field (element_of F.field blocks.now) 0 (length first.items) f first.items
-        → AreValuesFrom F.field (element_of F.field blocks.now) 0 (length first.items) a first_factor.now
-        → AreValuesFrom F.field (element_of F.field blocks.now) 0 (length first.items) s second.now
-        → AreValuesFrom F.field (element_of F.field blocks.now) 0 (length first.items) b second_factor.now
+        → AreFirstValues F.field blocks.now (length first.items) f first.items
+        → AreFirstValues F.field blocks.now (length first.items) a first_factor.now
+        → AreFirstValues F.field blocks.now (length first.items) s second.now
+        → AreFirstValues F.field blocks.now (length first.items) b second_factor.now
         → IsBelow F.field (length first.items) (added F.field (product F.field f a) (product F.field s b))
         → (of_list F.field p.0.items ≡ added F.field (product F.field f a) (product F.field s b))
-        × IfSome p.1 (λ v. AreValuesFrom F.field (element_of F.field blocks.now) 0 (length first.items)
+        × IfSome p.1 (λ v. AreFirstValues F.field blocks.now (length first.items)
         (of_list F.field p.0.items) v.items)) }
     ensures few { IfOk result (λ p. length p.0.items ≡ length first.items) }
 {
