@@ -6,6 +6,7 @@ ghost use Rattle.ark_math.specs.Field.{minus, power};
 ghost use Rattle.ark_math.specs.Univariate.{of_list, value_below};
 ghost use Rattle.ark_blocks.specs.Blocks.{AreInverseRoots, AreTurnedBack};
 
+use crate::forward::sums_and_differences;
 use ark_traits::Field;
 
 // Above so many levels each half is taken for itself, so that it is near at hand.
@@ -137,24 +138,6 @@ fn butterflies<F: Field>(low: &mut [F], high: &mut [F], inverse: F)
         let second = high[i];
         low[i] = first + second;
         high[i] = inverse * (first - second);
-    }
-}
-
-// Butterflies across two halves whose root is one.
-fn sums_and_differences<F: Field>(low: &mut [F], high: &mut [F])
-    requires same { length low.old ≡ length high.old }
-    ensures low_len { length low.new ≡ length low.old }
-    ensures high_len { length high.new ≡ length high.old }
-    ensures sums { (i : ℕ) → i < length low.old → of_list F.field low.new i ≡ F.field.plus
-        (of_list F.field low.old i) (of_list F.field high.old i) }
-    ensures differences { (i : ℕ) → i < length low.old → of_list F.field high.new i ≡ minus F.field
-        (of_list F.field low.old i) (of_list F.field high.old i) }
-{
-    for i in 0..low.len() {
-        let first = low[i];
-        let second = high[i];
-        low[i] = first + second;
-        high[i] = first - second;
     }
 }
 

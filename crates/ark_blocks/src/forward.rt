@@ -126,8 +126,8 @@ fn butterflies<F: Field>(low: &mut [F], high: &mut [F], root: F)
     }
 }
 
-// Butterflies across two halves with the root one.
-fn sums_and_differences<F: Field>(low: &mut [F], high: &mut [F])
+/// Butterflies across two halves whose root is one.
+pub(crate) fn sums_and_differences<F: Field>(low: &mut [F], high: &mut [F])
     requires same { length low.old ≡ length high.old }
     ensures low_len { length low.new ≡ length low.old }
     ensures high_len { length high.new ≡ length high.old }
