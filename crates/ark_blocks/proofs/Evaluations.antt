@@ -1,18 +1,18 @@
--- What the values over blocks are by: coefficients from values, values at as many elements more, and those of the second of a
+-- What the values over blocks are by: coefficients from values, values at further blocks, and those of the second of a
 -- polynomial's three parts.
-use Rattle.std.proofs.Common.{◌≡◌, ℕ, ◌+◌, ◌-◌, ◌*◌, ◌<◌, ◌≤◌, List, length, refl, sym, ◌∙◌, ap, ap₂, subst, arith, inl, inr}
+use Rattle.std.proofs.Common.{◌≡◌, ℕ, suc, ◌+◌, ◌*◌, ◌<◌, ◌≤◌, List, length, refl, sym, ◌∙◌, ap, ap₂, subst, arith, inl, inr}
 use mathlib.Core.Path.{fun_ext}
 use Rattle.std.proofs.lemmas.Bool.{cases_lt}
 use Rattle.ark_math.specs.Field.{FieldOn, IsField, power, minus}
-use Rattle.ark_math.specs.Univariate.{difference, product, IsBelow, IsValue, value_below, of_list}
+use Rattle.ark_math.specs.Univariate.{added, difference, scaled, product, IsBelow, value_below, of_list}
 use Rattle.ark_math.proofs.Algebra.Powers.{powers_inverse}
 use Rattle.ark_math.proofs.Algebra.Solve.{◌⊗◌, ◌⊕◌, ◌⊖◌, negative, unit}
-use Rattle.ark_math.proofs.Algebra.Ring.{ring2, ring3, ring4}
+use Rattle.ark_math.proofs.Algebra.Ring.{ring3, ring4}
 use Rattle.ark_math.proofs.Polynomials.UnivariateLists.{of_list-past}
-use Rattle.ark_math.proofs.Polynomials.UnivariateValues.{value_is, value_below-added, value_below-difference}
+use Rattle.ark_math.proofs.Polynomials.UnivariateValues.{value_is, value_below-added, value_below-difference, value_below-scaled}
 use Rattle.ark_math.proofs.Polynomials.UnivariateProducts.{value-product}
 use Rattle.ark_blocks.specs.Blocks.{AreReversed, AreValuesFrom, IsPowerOfTwo}
-use Rattle.ark_blocks.proofs.Runs.{power_at_first, power_at_next, value_item, values_from}
+use Rattle.ark_blocks.proofs.Runs.{power_at_block, power_at_first, power_at_next, first_item, first_values}
 use Rattle.ark_blocks.proofs.Splits.{value_by_halves, value_of_same, value_split}
 
 module _ {F : Type 0} (K : FieldOn F) (N : IsField K) where
@@ -39,36 +39,21 @@ module _ {F : Type 0} (K : FieldOn F) (N : IsField K) where
   -- values at the first elements, as those of the first block
   pub at_first_block : (x : ℕ → F) (n m : ℕ) (a : ℕ → F) (v : List F) → n ≡ m → IsBelow K n a → AreValuesFrom K x 0 n a v → (i : ℕ) → i < m → of_list K v i ≡ value_below K m a (x (0 * m + i))
   at_first_block x n m a v e below V i l =
-      let place : 0 + i ≡ 0 * m + i = omega arith in
-      value_item K N x 0 n n a v below V i (subst (λ t. i < t) (sym e) l)
+      let place : i ≡ 0 * m + i = omega arith in
+      first_item K N x n n a v below V i (subst (λ t. i < t) (sym e) l)
       ∙ ap₂ (λ t j. value_below K t a (x j)) e place
 
-  -- ---- values at as many elements more
+  -- ---- values at further blocks
 
-  -- where the power m is minus one, coefficients from m on count as minus those before them
-  pub value_at_next : (size m : ℕ) (x c d : ℕ → F) → AreReversed K size x → IsPowerOfTwo m → m + m ≤ size → ((i : ℕ) → i < m → d i ≡ minus K (c i) (c (m + i))) → (i : ℕ) → i < m → value_below K m d (x (m + i)) ≡ value_below K (m + m) c (x (m + i))
-  value_at_next size m x c d rev p room each i l =
-      let z = x (m + i) in
+  -- at the elements of a block coefficients from its length on count as those before them, times the element that it is named by
+  pub value_at_block : (size m b : ℕ) (x c d : ℕ → F) → AreReversed K size x → IsPowerOfTwo m → suc b * m ≤ size → ((i : ℕ) → i < m → d i ≡ K.plus (c i) (K.times (x b) (c (m + i)))) → (i : ℕ) → i < m → value_below K m d (x (b * m + i)) ≡ value_below K (m + m) c (x (b * m + i))
+  value_at_block size m b x c d rev p room each i l =
+      let z = x (b * m + i) in
       let high : ℕ → F = λ j. c (m + j) in
-      value_of_same K N m d (difference K c high) z each
-      ∙ value_below-difference K N m c high z
-      ∙ ring2 K N (λ a b. (a ⊖ b, a ⊕ (negative unit ⊗ b))) refl (value_below K m c z) (value_below K m high z)
-      ∙ sym (value_by_halves K N m c z (K.negated K.one) (power_at_next K N size m x rev p room i l))
-
-  -- the known values and those behind them
-  pub values-joined : (x : ℕ → F) (m : ℕ) (a : ℕ → F) (u w : List F) → AreValuesFrom K x 0 m a u → IsBelow K (m + m) a → length w ≡ m + m → ((i : ℕ) → i < m → of_list K w i ≡ of_list K u i) → ((i : ℕ) → i < m → of_list K w (m + i) ≡ value_below K (m + m) a (x (m + i))) → AreValuesFrom K x 0 (m + m) a w
-  values-joined x m a u w U below len known added = record {
-    len = len;
-    values = λ i l. elim (cases_lt i m) [
-      | inl inside ↦ subst (IsValue K a (x (0 + i))) (sym (known i inside)) (U.values i inside)
-      | inr past ↦
-          let k = i - m in
-          let place : m + k ≡ i = omega (arith, past) in
-          let start : 0 + i ≡ i = omega arith in
-          subst (λ j. IsValue K a (x j) (of_list K w i)) (sym start)
-          (subst (λ j. IsValue K a (x j) (of_list K w j)) place (m + m, below, added k (omega (arith, place, l))))
-    ];
-  }
+      value_of_same K N m d (added K c (scaled K (x b) high)) z each
+      ∙ value_below-added K N m c (scaled K (x b) high) z
+      ∙ ap (K.plus (value_below K m c z)) (value_below-scaled K N m (x b) high z)
+      ∙ sym (value_by_halves K N m c z (x b) (power_at_block K N size m b x rev p room i l))
 
   -- ---- the second of three parts
 
@@ -136,10 +121,8 @@ module _ {F : Type 0} (K : FieldOn F) (N : IsField K) where
     pub upper_values : (half : F) → K.times two half ≡ K.one → (d : ℕ → F) (w : List F) (y : ℕ → F) → IsBelow K s d → ((i : ℕ) → i < s → d i ≡ product K a b (s + i)) → ((i : ℕ) → i < s → y i ≡ value_below K s (turned s (product K a b)) (x i)) → length w ≡ s → ((i : ℕ) → i < s → of_list K w i ≡ K.times (minus K (K.times (of_list K u i) (of_list K v i)) (y i)) half) → AreValuesFrom K x 0 s d w
     upper_values half is d w y few upper others len each =
         let p = product K a b in
-        values_from K N x 0 s s d w few len (λ i l.
-        let start : i ≡ 0 + i = omega arith in
+        first_values K N x s s d w few len (λ i l.
         each i l
         ∙ ap₂ (λ t r. K.times (minus K t r) half) (product_item i (omega (arith, l))) (others i l)
         ∙ second_part s p half is (x i) (power_at_first K N size s x rev two_to (omega (arith, room)) i l)
-        ∙ value_of_same K N s (λ j. p (s + j)) d (x i) (λ j b. sym (upper j b))
-        ∙ ap (λ j. value_below K s d (x j)) start)
+        ∙ value_of_same K N s (λ j. p (s + j)) d (x i) (λ j b. sym (upper j b)))

@@ -3,7 +3,7 @@ use Rattle.std.proofs.Common.{◌≡◌, ◌/◌, ◌%◌, max, ◌-◌, drop, �
 use Rattle.std.proofs.Math.Nat.{mod-add-div', mul-mod_left}
 use Rattle.std.proofs.lemmas.Nat.{pow-add}
 use Rattle.std.proofs.lemmas.Bool.{cases_lt}
-use Rattle.std.proofs.lemmas.List.{get_or-append-add, length-append, get_or_append_left, get_or-drop, get_or-take, length-take-le}
+use Rattle.std.proofs.lemmas.List.{get_or-append-add, length-append, get_or-drop, get_or-take, length-take-le}
 use Rattle.ark_math.specs.Field.{FieldOn}
 use Rattle.ark_math.specs.Univariate.{of_list}
 use Rattle.ark_math.proofs.Domains.Sizes.{next_at_most, power_between, power_le}
@@ -50,12 +50,6 @@ module _ {F : Type 0} (K : FieldOn F) where
     | inl less ↦ of_list-past K c (min m (length c) + i) (omega (arith, less)) ∙ sym (of_list-past K c (m + i) (omega (arith, less)))
     | inr many ↦ let same : min m (length c) ≡ m = omega (arith, many) in ap (λ t. of_list K c (t + i)) same
   ]
-
-  -- the items of the list itself
-  pub padded_front : (old c : List F) (m k : ℕ) (x : F) → length old + length c ≤ m → x ≡ K.zero → (i : ℕ) → i < length old → of_list K (take m (old ++ c) ++ replicate k x) i ≡ of_list K old i
-  padded_front old c m k x room none i l =
-      ap (λ f. f i) (of_list-padded K (old ++ c) m k x (omega (arith, length-append old c, room)) none)
-      ∙ get_or_append_left old c K.zero i l
 
   -- the items of a list from a place on
   pub item_from : (c : List F) (s i : ℕ) → i < length c - s → of_list K (take (length c - s) (drop s c)) i ≡ of_list K c (s + i)

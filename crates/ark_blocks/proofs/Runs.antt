@@ -1,6 +1,6 @@
 -- The values of polynomials over runs of elements: sums and products item by item, one list for one polynomial, and polynomials
 -- that have the same values at the first elements.
-use Rattle.std.proofs.Common.{◌≡◌, ℕ, ◌+◌, ◌*◌, ◌^◌, ◌<◌, ◌≤◌, List, length, sym, ◌∙◌, ap, subst, arith}
+use Rattle.std.proofs.Common.{◌≡◌, ℕ, suc, ◌+◌, ◌*◌, ◌<◌, ◌≤◌, List, length, sym, ◌∙◌, ap, subst, arith}
 use mathlib.Core.Path.{fun_ext}
 use Rattle.std.proofs.lemmas.List.{ext_get_or}
 use Rattle.ark_math.specs.Field.{FieldOn, IsField, power, minus}
@@ -13,24 +13,23 @@ use Rattle.ark_blocks.proofs.Elements.{power_of_block}
 use Rattle.ark_blocks.proofs.Splits.{value_by_halves, value_of_same}
 
 module _ {F : Type 0} (K : FieldOn F) (N : IsField K) where
-  -- at the first elements, as many as a power of two, that power is one
+  -- at the elements of a block, as many as a power of two, that power is the element that the block is named by
+  pub power_at_block : (n m b : ℕ) (x : ℕ → F) → AreReversed K n x → IsPowerOfTwo m → suc b * m ≤ n → (i : ℕ) → i < m → power K (x (b * m + i)) m ≡ x b
+  power_at_block n m b x rev p within i l =
+      subst (λ t. i < t → b * t + i < n → power K (x (b * t + i)) t ≡ x b) (sym p.1) (power_of_block K N n x rev p.0 b i) l (omega (arith, l, within))
+
+  -- at the first elements it is one
   pub power_at_first : (n m : ℕ) (x : ℕ → F) → AreReversed K n x → IsPowerOfTwo m → m ≤ n → (i : ℕ) → i < m → power K (x i) m ≡ K.one
   power_at_first n m x rev p within i l =
-      let e : m ≡ 2 ^ p.0 = p.1 in
-      let place : 0 * 2 ^ p.0 + i ≡ i = omega arith in
-      ap (power K (x i)) e
-      ∙ ap (λ j. power K (x j) (2 ^ p.0)) (sym place)
-      ∙ power_of_block K N n x rev p.0 0 i (subst (λ t. i < t) e l) (omega (arith, place, l, within))
-      ∙ rev.first
+      let place : i ≡ 0 * m + i = omega arith in
+      ap (λ j. power K (x j) m) place ∙ power_at_block n m 0 x rev p (omega (arith, within)) i l ∙ rev.first
 
   -- and at as many more it is minus one
   pub power_at_next : (n m : ℕ) (x : ℕ → F) → AreReversed K n x → IsPowerOfTwo m → m + m ≤ n → (i : ℕ) → i < m → power K (x (m + i)) m ≡ K.negated K.one
   power_at_next n m x rev p within i l =
-      let e : m ≡ 2 ^ p.0 = p.1 in
-      let place : 1 * 2 ^ p.0 + i ≡ m + i = omega (arith, e) in
-      ap (power K (x (m + i))) e
-      ∙ ap (λ j. power K (x j) (2 ^ p.0)) (sym place)
-      ∙ power_of_block K N n x rev p.0 1 i (subst (λ t. i < t) e l) (omega (arith, place, l, within))
+      let place : m + i ≡ 1 * m + i = omega arith in
+      ap (λ j. power K (x j) m) place
+      ∙ power_at_block n m 1 x rev p (omega (arith, within)) i l
       ∙ rev.opposites 0 (omega (arith, l, within))
       ∙ ap K.negated rev.first
 
@@ -74,6 +73,14 @@ module _ {F : Type 0} (K : FieldOn F) (N : IsField K) where
     -- and back
     pub value_item : (k : ℕ) (a : ℕ → F) (u : List F) → IsBelow K k a → AreValuesFrom K x s n a u → (i : ℕ) → i < n → of_list K u i ≡ value_below K k a (x (s + i))
     value_item k a u below U i l = value_is K N k a (x (s + i)) (of_list K u i) below (U.values i l)
+
+  -- the same of the first elements
+  module _ (x : ℕ → F) (n k : ℕ) (a : ℕ → F) (u : List F) (below : IsBelow K k a) where
+    pub first_values : length u ≡ n → ((i : ℕ) → i < n → of_list K u i ≡ value_below K k a (x i)) → AreValuesFrom K x 0 n a u
+    first_values len each = values_from x 0 n k a u below len (λ i l. let place : i ≡ 0 + i = omega arith in each i l ∙ ap (λ j. value_below K k a (x j)) place)
+
+    pub first_item : AreValuesFrom K x 0 n a u → (i : ℕ) → i < n → of_list K u i ≡ value_below K k a (x i)
+    first_item U i l = let place : 0 + i ≡ i = omega arith in value_item x 0 n k a u below U i l ∙ ap (λ j. value_below K k a (x j)) place
 
   -- the values at the first of the elements
   pub values-fewer : (x : ℕ → F) (s m n : ℕ) (a : ℕ → F) (u v : List F) → m ≤ n → AreValuesFrom K x s n a u → length v ≡ m → ((i : ℕ) → i < m → of_list K v i ≡ of_list K u i) → AreValuesFrom K x s m a v

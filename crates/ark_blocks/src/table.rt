@@ -36,12 +36,15 @@ impl<F: FftField> Model for BlockRoots<F> {
 
 impl<F: FftField> BlockRoots<F> {
     /// The table of the least power of two, from two on, that isn't below `count`. `None` exactly where the
-    /// field has no root of unity of such an order that fits 64 bits.
+    /// field has no root of unity of such an order that fits 64 bits. An element of the second half is the one as many
+    /// places before times the root of unity of the table's order.
     pub fn new(alloc: Global, count: usize) -> Result<Option<Self>, AllocError>
         ensures room { IfOk result (λ found. IfSome found (λ b. count ≤ size_of b)) }
         ensures least { IfOk result (λ found. IfSome found
             (λ b. IsLeast (IsSize F.adicity radix2) (max count 2) (size_of b))) }
         ensures none { IfOk result (λ found. IsNone found ↔ HasNone (IsSize F.adicity radix2) (max count 2)) }
+        ensures next { IfOk result (λ found. IfSome found (λ b. (i : ℕ) → i < length b
+            → element_of F.field b (length b + i) ≡ F.field.times (element_of F.field b i) (F.root (size_of b)))) }
     {
         let Some(size) = count.max(2).checked_next_power_of_two() else {
             return Ok(None);

@@ -23,9 +23,7 @@ impl<F: FftField> BlockRoots<F> {
     {
         let mut values = Vec::with_capacity(alloc, count)?;
         let len = coeffs.len().next_power_of_two();
-        for block in 0..count / len {
-            push_block(&mut values, coeffs, &self.roots, block, len)?;
-        }
+        push_blocks(&mut values, coeffs, &self.roots, 0, count / len, len)?;
         Ok(values)
     }
 
@@ -39,14 +37,25 @@ impl<F: FftField> BlockRoots<F> {
             → AreFirstValues F.field self.now (length values.old.items + length values.old.items)
             (of_list F.field coeffs.now) values.new.items) }
     {
+        let count = 2 * values.len();
+        self.extend(values, coeffs, count)
+    }
+
+    /// Behind the values at the first elements those up to `count`, of the polynomial with these coefficients, of which
+    /// there are at most twice as many as values known.
+    pub fn extend(&self, values: &mut Vec<F>, coeffs: &[F], count: usize) -> Result<(), AllocError>
+        requires power { IsPowerOfTwo (length values.old.items) }
+        requires whole { IsPowerOfTwo count }
+        requires more { length values.old.items ≤ count }
+        requires room { count ≤ size_of self.now }
+        requires few { length coeffs.now ≤ length values.old.items + length values.old.items }
+        ensures values { OnOk result (AreFirstValues F.field self.now (length values.old.items)
+            (of_list F.field coeffs.now) values.old.items
+            → AreFirstValues F.field self.now count (of_list F.field coeffs.now) values.new.items) }
+    {
         let len = values.len();
-        let (low, high) = coeffs.split_at(len.min(coeffs.len()));
-        values.extend_from_slice(low)?;
-        values.resize(2 * len, F::zero())?;
-        let (_known, added) = values.as_mut_slice().split_at_mut(len);
-        subtract(added, high);
-        forward(added, &self.roots, 1, len.ilog2());
-        Ok(())
+        values.reserve(count - len)?;
+        push_blocks(values, coeffs, &self.roots, 1, count / len, len)
     }
 
     /// Puts the coefficients of the polynomial that has these values at the first elements in their place.
@@ -97,7 +106,37 @@ impl<F: FftField> BlockRoots<F> {
     }
 }
 
-// Adds the values, at the elements of a block of `len`, of the polynomial with these coefficients.
+// Adds the values, at the elements of the blocks of `len` from `first` to before `end`, of the polynomial with these
+// coefficients.
+fn push_blocks<F: Field>(
+    values: &mut Vec<F>,
+    coeffs: &[F],
+    roots: &[F],
+    first: usize,
+    end: usize,
+    len: usize,
+) -> Result<(), AllocError>
+    requires power { IsPowerOfTwo len }
+    requires few { length coeffs.now ≤ len + len }
+    requires start { length values.old.items ≡ first * len }
+    requires order { first ≤ end }
+    requires within { end * len ≤ length roots.now + length roots.now }
+    requires fits { length roots.now + length roots.now < 2 ^ 64 }
+    ensures len { OnOk result (length values.new.items ≡ end * len) }
+    ensures values { OnOk result ((x : ℕ → F) → AreRoots F.field x roots.now
+        → ((i : ℕ) → i < first * len → of_list F.field values.old.items i
+        ≡ value_below F.field (len + len) (of_list F.field coeffs.now) (x i))
+        → (i : ℕ) → i < end * len → of_list F.field values.new.items i
+        ≡ value_below F.field (len + len) (of_list F.field coeffs.now) (x i)) }
+{
+    for block in first..end {
+        push_block(values, coeffs, roots, block, len)?;
+    }
+    Ok(())
+}
+
+// Adds the values, at the elements of a block of `len`, of the polynomial with these coefficients, of which there are at
+// most twice as many.
 fn push_block<F: Field>(
     values: &mut Vec<F>,
     coeffs: &[F],
@@ -106,7 +145,7 @@ fn push_block<F: Field>(
     len: usize,
 ) -> Result<(), AllocError>
     requires power { IsPowerOfTwo len }
-    requires few { length coeffs.now ≤ len }
+    requires few { length coeffs.now ≤ len + len }
     requires room { length values.old.items + len < 2 ^ 64 }
     requires within { suc block * len ≤ length roots.now + length roots.now }
     requires fits { length roots.now + length roots.now < 2 ^ 64 }
@@ -114,14 +153,54 @@ fn push_block<F: Field>(
     ensures before { OnOk result (take (length values.old.items) values.new.items ≡ values.old.items) }
     ensures values { OnOk result ((x : ℕ → F) → AreRoots F.field x roots.now → (i : ℕ) → i < len
         → of_list F.field values.new.items (length values.old.items + i)
-        ≡ value_below F.field len (of_list F.field coeffs.now) (x (block * len + i))) }
+        ≡ value_below F.field (len + len) (of_list F.field coeffs.now) (x (block * len + i))) }
 {
     let start = values.len();
-    values.extend_from_slice(coeffs)?;
+    let (low, high) = coeffs.split_at(len.min(coeffs.len()));
+    values.extend_from_slice(low)?;
     values.resize(start + len, F::zero())?;
     let (_before, added) = values.as_mut_slice().split_at_mut(start);
+    fold_in(added, high, roots, block);
     forward(added, roots, block, len.ilog2());
     Ok(())
+}
+
+// Adds to each low coefficient the high one of its place, times the element that names the block: to the power of their
+// number all the block's elements are that. Block 1 is named by minus one, and needs no products.
+fn fold_in<F: Field>(low: &mut [F], high: &[F], roots: &[F], block: usize)
+    requires few { length high.now ≤ length low.old }
+    requires within { block < length roots.now + length roots.now }
+    ensures len { length low.new ≡ length low.old }
+    ensures sums { (x : ℕ → F) → AreRoots F.field x roots.now → (i : ℕ) → i < length low.old
+        → of_list F.field low.new i ≡ F.field.plus (of_list F.field low.old i)
+        (F.field.times (x block) (of_list F.field high.now i)) }
+{
+    if block == 1 {
+        subtract(low, high);
+    } else {
+        add_multiples(low, high, element(roots, block));
+    }
+}
+
+// The element of this index: each second is minus the one before.
+fn element<F: Field>(roots: &[F], index: usize) -> F
+    requires { index < length roots.now + length roots.now }
+    ensures { (x : ℕ → F) → AreRoots F.field x roots.now → result ≡ x index }
+{
+    let root = roots[index / 2];
+    if index % 2 == 0 { root } else { -root }
+}
+
+// Adds to each item the other list's times the factor, as far as that goes.
+fn add_multiples<F: Field>(items: &mut [F], others: &[F], factor: F)
+    requires { length others.now ≤ length items.old }
+    ensures len { length items.new ≡ length items.old }
+    ensures sums { (i : ℕ) → i < length items.old → of_list F.field items.new i
+        ≡ F.field.plus (of_list F.field items.old i) (F.field.times factor (of_list F.field others.now i)) }
+{
+    for i in 0..others.len() {
+        items[i] = items[i] + factor * others[i];
+    }
 }
 
 // Subtracts from each item the other list's, as far as that goes.

@@ -1,4 +1,4 @@
-use Rattle.std.proofs.Common.{◌≡◌, ◌≢◌, ◌/◌, ◌++◌, ◌≤◌, length, max, take, drop, refl}
+use Rattle.std.proofs.Common.{◌≡◌, ◌≢◌, ℕ, ◌+◌, ◌/◌, ◌++◌, ◌<◌, ◌≤◌, length, max, take, drop, refl}
 use Rattle.std.proofs.Common.{sym, ap, ap₂, subst, ◌∙◌, arith}
 use Rattle.std.specs.Int.{IsNextPowerOfTwo}
 use Rattle.ark_math.specs.Domain.{radix2, HasNone, IsLeast, IsSize}
@@ -51,6 +51,7 @@ invariant_of-result g c =
 
 pub returns : goal.returns
 returns g c =
+    let K = g.F.Field.field in
     let s = g.F.FftField.adicity in
     let size = c.in-Some.size in
     let roots = c.fill.new.roots in
@@ -74,6 +75,10 @@ returns g c =
       room = omega (arith, least.above);
       least = least;
       none = ((λ h. cc), (λ none. absurd (least_is_some (IsSize s radix2) k (size_of all) least none)));
+      next = subst (λ r. (i : ℕ) → i < length r → element_of K r (length r + i) ≡ K.times (element_of K r i) (g.F.FftField.root (size_of all))) (sym back) (λ i l.
+          ap (λ t. element_of K roots (t + i)) c.fill.ensures.len
+          ∙ c.fill.ensures.next i (subst (λ t. i < t) c.fill.ensures.len l)
+          ∙ ap (K.times (element_of K roots i)) (c.in-Some-get_root_of_unity.ensures.some ∙ ap g.F.FftField.root whole));
     }
 
 pub returns-in_default-clause-none : goal.returns-in_default-clause-none
