@@ -1,8 +1,7 @@
 -- The polynomial with known roots: its coefficients, its values and those of its derivative.
-use Rattle.std.proofs.Common.{◌≡◌, ◌≢◌, ℕ, zero, suc, ◌+◌, ◌-◌, ◌/◌, ◌<◌, ◌≤◌, List, [], ◌∷◌, ◌++◌, length, take, drop, sym, ◌∙◌, ap, ap₂, refl, subst, arith, ⊎_elim}
+use Rattle.std.proofs.Common.{◌≡◌, ℕ, zero, suc, ◌+◌, ◌-◌, ◌/◌, ◌<◌, List, [], ◌∷◌, ◌++◌, length, take, drop, sym, ◌∙◌, ap, ap₂, refl, subst, arith}
 use mathlib.Core.Path.{fun_ext}
-use Rattle.std.proofs.lemmas.Bool.{cases_eq, cases_lt}
-use Rattle.std.proofs.lemmas.List.{get_or_push, get_or_append_left, get_or_past, length-append, length-drop, length-take-le}
+use Rattle.std.proofs.lemmas.List.{get_or_past, length-drop, length-take-le, take_all}
 use Rattle.ark_math.specs.Field.{FieldOn, IsField, minus}
 use Rattle.ark_math.specs.Module.{itself}
 use Rattle.ark_math.specs.Univariate.{monomial, product, IsBelow, IsValue, of_list}
@@ -10,6 +9,7 @@ use Rattle.ark_math.proofs.Algebra.Groups.{itself_is_module}
 use Rattle.ark_math.proofs.Algebra.Solve.{◌⊕◌, ◌⊖◌, ◌⊗◌, negative, unit, nought}
 use Rattle.ark_math.proofs.Algebra.Ring.{ring1, ring2, ring3}
 use Rattle.ark_math.proofs.Polynomials.Univariate.{monomial-below, IsBelow-more}
+use Rattle.ark_math.proofs.Polynomials.UnivariateLists.{of_list-padded}
 use Rattle.ark_math.proofs.Polynomials.UnivariateProducts.{product_comm, product_assoc, difference-product, monomial-product_past, monomial-product_before, one-product}
 use Rattle.ark_math.proofs.Polynomials.UnivariateValues.{value_below-monomial, value_below-past}
 use Rattle.rs_code.specs.Locator.{linear, locator, located, slope, derived, by_factor, by_factors}
@@ -20,6 +20,11 @@ use Rattle.rs_code.proofs.Locators.{value, IsShort, by_factors-short, by_factors
 abbrev pub before : {F : Type 0} → FieldOn F → (ℕ → F) → ℕ → F
 before K a zero = K.zero
 before K a (suc i) = a i
+
+-- with one zero more
+pub of_list-pushed_zero : {F : Type 0} (K : FieldOn F) (c : List F) (x : F) → x ≡ K.zero → of_list K (c ++ x ∷ []) ≡ of_list K c
+of_list-pushed_zero K c x e =
+    ap (λ t. of_list K (t ++ x ∷ [])) (sym (take_all (length c) c (omega arith))) ∙ of_list-padded K c (length c) 1 x (omega arith) e
 
 module _ {F : Type 0} (K : FieldOn F) (N : IsField K) where
   pub by_factor-step : (r : F) (a : ℕ → F) (i : ℕ) → minus K (before K a i) (K.times r (a i)) ≡ by_factor K (itself K) r a i
@@ -64,7 +69,7 @@ module _ {F : Type 0} (K : FieldOn F) (N : IsField K) where
   pub length-other_half : (rs : List F) → length (other_half rs) ≡ length rs - length rs / 2
   length-other_half rs = length-take-le (length rs - length rs / 2) (drop (length rs / 2) rs) (omega (arith, length-drop (length rs / 2) rs))
 
-  locator_halves : (rs : List F) → product K (locator K (half rs)) (locator K (other_half rs)) ≡ locator K rs
+  pub locator_halves : (rs : List F) → product K (locator K (half rs)) (locator K (other_half rs)) ≡ locator K rs
   locator_halves rs = locator-append (half rs) (other_half rs) ∙ ap (locator K) (halves rs (length rs / 2))
 
   pub locator-quarters : (rs : List F) (a b c d : ℕ → F) → a ≡ locator K (half (half rs)) → b ≡ locator K (other_half (half rs)) → c ≡ locator K (half (other_half rs)) → d ≡ locator K (other_half (other_half rs)) →
@@ -108,27 +113,14 @@ module _ {F : Type 0} (K : FieldOn F) (N : IsField K) where
             ∙ ring2 K N (λ s l. (s ⊗ unit ⊕ l ⊗ nought, s)) refl (slope K rs x) (located K rs x)),
       )
 
-  -- the coefficients after the last step of a loop that multiplies by x - r in place
-  pub by_linear-end : (r : F) (xs ys : List F) (b : F) → length xs ≡ length ys → ((k : ℕ) → k < length ys → of_list K xs k ≡ by_factor K (itself K) r (of_list K ys) k) → b ≡ before K (of_list K ys) (length ys) →
-      of_list K (xs ++ b ∷ []) ≡ product K (linear K r) (of_list K ys)
-  by_linear-end r xs ys b len done last = fun_ext (λ k. ⊎_elim
-      (λ (l : k < length ys). get_or_append_left xs (b ∷ []) K.zero k (omega arith) ∙ done k l)
-      (λ (m : length ys ≤ k).
-      let past : of_list K ys k ≡ K.zero = get_or_past ys k K.zero m in
-      ⊎_elim
-      (λ (e : k ≡ length ys).
-      get_or_push xs b K.zero k (len ∙ sym e) ∙ last ∙ ap (before K (of_list K ys)) (sym e)
-      ∙ sym (N.plus_zero _)
-      ∙ ap (K.plus (before K (of_list K ys) k)) (ring1 K N (λ r. (nought, negative (r ⊗ nought))) refl r ∙ ap (λ t. K.negated (K.times r t)) (sym past))
-      ∙ by_factor-step r (of_list K ys) k)
-      (λ (ne : k ≢ length ys).
-      get_or_past (xs ++ b ∷ []) k K.zero (omega (arith, length-append xs (b ∷ [])))
-      ∙ sym (by_factor-past r ys k (omega arith)))
-      (cases_eq k (length ys)))
-      (cases_lt k (length ys))) ∙ sym (linear-product r (of_list K ys))
-    where
-      by_factor-past : (r : F) (ys : List F) (k : ℕ) → length ys < k → by_factor K (itself K) r (of_list K ys) k ≡ K.zero
-      by_factor-past r ys zero l = absurd (omega arith)
-      by_factor-past r ys (suc k) l =
-          ap₂ (λ s t. K.plus s (K.times (K.negated r) t)) (get_or_past ys k K.zero (omega arith)) (get_or_past ys (suc k) K.zero (omega arith))
-          ∙ ring1 K N (λ r. (nought ⊕ negative r ⊗ nought, nought)) refl r
+  -- past the first coefficient
+  pub by_factor-later : (r : F) (a : ℕ → F) (i : ℕ) → 0 < i → minus K (a (i - 1)) (K.times r (a i)) ≡ by_factor K (itself K) r a i
+  by_factor-later r a zero l = absurd (omega arith)
+  by_factor-later r a (suc i) l = let e : suc i - 1 ≡ i = omega arith in ap (λ k. minus K (a k) (K.times r (a (suc i)))) e ∙ by_factor-step r a (suc i)
+
+  -- and past those of a list and one more
+  pub by_factor-past : (r : F) (ys : List F) (k : ℕ) → length ys < k → by_factor K (itself K) r (of_list K ys) k ≡ K.zero
+  by_factor-past r ys zero l = absurd (omega arith)
+  by_factor-past r ys (suc k) l =
+      ap₂ (λ s t. K.plus s (K.times (K.negated r) t)) (get_or_past ys k K.zero (omega arith)) (get_or_past ys (suc k) K.zero (omega arith))
+      ∙ ring1 K N (λ r. (nought ⊕ negative r ⊗ nought, nought)) refl r

@@ -1,4 +1,5 @@
 -- Lemmas of this crate: the mathematics of restoration, and what the steps of its functions need.
+pub mod BlockProducts
 pub mod ChosenFactors
 pub mod Divided
 pub mod Factors
@@ -14,5 +15,7 @@ pub mod QuarterTurns
 pub mod Restored
 pub mod Sizes
 pub mod Spent
+pub mod TableOrder
+pub mod TurnFactors
 pub mod TurnedPlaces
 pub mod UpperParts

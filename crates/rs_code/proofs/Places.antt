@@ -8,7 +8,7 @@ use Rattle.std.proofs.Math.Seq.{take-length}
 use Rattle.std.proofs.lemmas.List.Sums.{sum_by-cons}
 use Rattle.ark_math.specs.Field.{FieldOn, IsField}
 use Rattle.ark_math.specs.Module.{ModuleOn, IsModule}
-use Rattle.ark_math.proofs.Algebra.Groups.{zero_scale}
+use Rattle.ark_math.proofs.Algebra.Groups.{scale_zero}
 use Rattle.rs_code.specs.Codeword.{AgreesWith, AgreesElsewhere, mark_count, erasure_count}
 use Rattle.rs_code.specs.Locator.{weighed, filled}
 
@@ -24,9 +24,9 @@ is_read xs i x e l h = at_default xs i x e x l (sym h)
 -- ---- values times factors that marks choose
 
 module _ {F M : Type 0} {K : FieldOn F} {V : ModuleOn F M} (N : IsField K) (L : IsModule K V) where
-  pub weighed-by : (mark : Bool) (own factor : F) (y z : M) → factor ≡ (if mark then K.zero else own) → z ≡ y → V.scale factor z ≡ weighed V mark own y
-  weighed-by true own factor y z e h = ap₂ V.scale e h ∙ zero_scale N L y
-  weighed-by false own factor y z e h = ap₂ V.scale e h
+  pub weighed-by : (mark : Bool) (own : F) (y z : M) → z ≡ (if mark then V.zero else y) → V.scale own z ≡ weighed V mark own y
+  weighed-by true own y z e = ap (V.scale own) e ∙ scale_zero L own
+  weighed-by false own y z e = ap (V.scale own) e
 
   pub filled-by : (mark : Bool) (own factor : F) (known found z : M) → factor ≡ (if mark then own else K.one) → z ≡ (if mark then found else known) →
       V.scale factor z ≡ filled V mark own known found

@@ -1,17 +1,16 @@
 -- Factors of places from the values at their turns.
-use Rattle.std.proofs.Common.{◌≡◌, ℕ, ◌+◌, ◌*◌, ◌/◌, ◌%◌, ◌-◌, ◌⊎◌, inl, inr, ⊎_elim, ◌<◌, ◌≤◌, Bool, true, false, List, length, map, get_or, sym, ◌∙◌, ap, ap₂, refl, subst, arith, mod-lt}
+use Rattle.std.proofs.Common.{◌≡◌, ℕ, ◌+◌, ◌*◌, ◌/◌, ◌%◌, ◌<◌, ◌≤◌, Bool, true, false, List, length, map, get_or, sym, ◌∙◌, ap, ap₂, refl, subst, arith}
 use Rattle.std.specs.Prelude.{not}
 use Rattle.std.proofs.Math.Nat.{mod-add-div, mul-le-mul_right}
-use Rattle.std.proofs.lemmas.Bool.{cases_lt}
 use Rattle.ark_math.specs.Field.{FieldOn, IsField, natural, power}
-use Rattle.ark_math.specs.Root.{Adicity, HasOrder}
-use Rattle.ark_math.specs.Domain.{Domain, IsSize, element}
+use Rattle.ark_math.specs.Root.{HasOrder}
+use Rattle.ark_math.specs.Domain.{Domain, element}
 use Rattle.ark_math.proofs.Algebra.Powers.{power-add, power-mul, power-one}
 use Rattle.ark_math.proofs.Algebra.Solve.{◌⊗◌, negative, unit}
 use Rattle.ark_math.proofs.Algebra.Ring.{ring3, ring4, ring6, ring7, ring2_by}
 use Rattle.ark_math.specs.Univariate.{of_list}
-use Rattle.rs_code.specs.Locator.{HasSizeFor, lost, located, slope, IsFactor}
-use Rattle.rs_code.specs.Turns.{HoldValues, four, Sorted, over_kept, AreSorted, kept_factor, erased_factor, kept_from, erased_from}
+use Rattle.rs_code.specs.Locator.{lost, located, slope, IsFactor}
+use Rattle.rs_code.specs.Turns.{four, Sorted, over_kept, AreSorted, kept_factor, erased_factor}
 use Rattle.rs_code.proofs.QuarterTurns.{turn-square, element-turned, element-opposite, element-back}
 use Rattle.rs_code.proofs.Places.{at_default, is_read}
 use Rattle.rs_code.proofs.Kept.{inverse-slope}
@@ -19,17 +18,6 @@ use Rattle.rs_code.proofs.Kept.{inverse-slope}
 -- a later place of four is within
 pub first_fits : (q j f n : ℕ) → {m : ℕ} → m ≡ q + (q + (q + q)) → n ≡ m → j < q → f < 4 → j + f * q < n
 first_fits q j f n whole len l b = let e : f * q ≤ 3 * q = mul-le-mul_right q (omega (arith, b)) in omega (arith, whole, len, l, e)
-
--- a list of no more roots than a quarter of the elements has room
-pub list_room : {F : Type 0} (s : Adicity) (d : Domain F) → IsSize s d.kind d.size → 0 < d.size → (xs ys zs : List F) → length xs ≡ d.size → length zs ≤ length xs / 4 → ys ≡ zs → HasSizeFor s (length ys + 1)
-list_room s d size some xs ys zs len few same = (d.kind, d.size, size, omega (arith, len, few, some, ap length same))
-
--- a quarter, or one of two halves of a half, ends within
-pub turn_end : (t q n : ℕ) → t < 4 → n ≡ q * 4 → t * q + q ≤ n
-turn_end t q n l e = let f : t * q ≤ 3 * q = mul-le-mul_right q (omega (arith, l)) in omega (arith, e, f)
-
-pub half_end : (t q n : ℕ) → t < 2 → n ≡ q * 2 → t * q + q ≤ n
-half_end t q n l e = let f : t * q ≤ 1 * q = mul-le-mul_right q (omega (arith, l)) in omega (arith, e, f)
 
 -- the marks of four places as they are read
 pub four_read : (marks : List Bool) (q j : ℕ) → j + q + q + q < length marks →
@@ -83,7 +71,7 @@ module _ {F : Type 0} (K : FieldOn F) (N : IsField K) (d : Domain F) (q : ℕ) (
           omega (arith, f, g, h, k)
 
   -- the square of an element, and the other one of its half of the squares
-  element-square : (i : ℕ) → element K d (i * 2) ≡ K.times (element K d i) (element K d i)
+  pub element-square : (i : ℕ) → element K d (i * 2) ≡ K.times (element K d i) (element K d i)
   element-square i =
       let e : i * 2 ≡ i + i = omega arith in
       ap (element K d) e
@@ -91,7 +79,7 @@ module _ {F : Type 0} (K : FieldOn F) (N : IsField K) (d : Domain F) (q : ℕ) (
       ∙ ring3 K N (λ o p w. (unit ⊗ (p ⊗ p), (unit ⊗ p) ⊗ (unit ⊗ p))) refl K.one (power K d.root i) K.one
       ∙ sym (ap₂ (λ s t. K.times (K.times s (power K d.root i)) (K.times t (power K d.root i))) one one)
 
-  element-fourth : (i : ℕ) → element K d (i * 4) ≡ K.times (K.times (element K d i) (element K d i)) (K.times (element K d i) (element K d i))
+  pub element-fourth : (i : ℕ) → element K d (i * 4) ≡ K.times (K.times (element K d i) (element K d i)) (K.times (element K d i) (element K d i))
   element-fourth i =
       let e : i * 4 ≡ (i * 2) * 2 = omega arith in
       ap (element K d) e ∙ element-square (i * 2) ∙ ap (λ t. K.times t t) (element-square i)
@@ -196,73 +184,3 @@ module _ {F : Type 0} (K : FieldOn F) (N : IsField K) (d : Domain F) (q : ℕ) (
         subst (λ b. IsFactor K (lost K d marks) x b formula) (sym e)
         (ap (λ y. K.times y (slope K (lost K d marks) x)) same
         ∙ inverse-slope K N d o one marks len (t * q + j) inside e inverse inverse_is)
-
-  quarter_fits : (t j : ℕ) → t < 4 → j < q → t * q + j < d.size
-  quarter_fits t j l h = let e : t * q ≤ 3 * q = mul-le-mul_right q (omega (arith, l)) in omega (arith, size, e, h)
-
-  half_fits : (t j : ℕ) → t < 2 → j < q → t * q + j < q + q
-  half_fits t j l h = let e : t * q ≤ 1 * q = mul-le-mul_right q (omega (arith, l)) in omega (arith, e, h)
-
-  -- so what is made of them is a factor
-  pub turn-factor : (marks : List Bool) (len : length marks ≡ d.size) (s : Sorted F) (sorted : AreSorted K d q marks s) (inverse : F) (inverse_is : K.times inverse (natural K d.size) ≡ K.one)
-      (one_list two_list three_list opposite_list all_list none_list : List F) → HoldValues K d q s inverse one_list two_list three_list opposite_list all_list none_list →
-      (t j : ℕ) → t < 4 → j < q → (y : F) →
-      (get_or marks (t * q + j) true ≡ false → y ≡ kept_from K all_list opposite_list one_list two_list three_list (t * q) ((t + 3) % 4 * q) ((t + 2) % 4 * q) (t % 2 * q) j) →
-      (get_or marks (t * q + j) true ≡ true → y ≡ erased_from K (element K d (t * q + j)) none_list opposite_list one_list two_list three_list ((t + 1) % 4 * q) ((t + 2) % 4 * q) ((t + 3) % 4 * q) ((t + 1) % 2 * q) j) →
-      IsFactor K (lost K d marks) (element K d (t * q + j)) (get_or marks (t * q + j) true) y
-  turn-factor marks len s sorted inverse inverse_is ones twos threes opposites alls nones h t j l m y kept erased =
-      let here = quarter_fits t j l m in
-      let ahead = quarter_fits ((t + 1) % 4) j (mod-lt (t + 1) (omega arith)) m in
-      let over = quarter_fits ((t + 2) % 4) j (mod-lt (t + 2) (omega arith)) m in
-      let back = quarter_fits ((t + 3) % 4) j (mod-lt (t + 3) (omega arith)) m in
-      let square = half_fits (t % 2) j (mod-lt t (omega arith)) m in
-      let other = half_fits ((t + 1) % 2) j (mod-lt (t + 1) (omega arith)) m in
-      elim (get_or marks (t * q + j) true) as (λ b. get_or marks (t * q + j) true ≡ b → IsFactor K (lost K d marks) (element K d (t * q + j)) b y) [
-        | true ↦ λ e.
-            subst (λ z. K.times z (slope K (lost K d marks) (element K d (t * q + j))) ≡ K.one) (sym (erased e))
-            (subst (λ b. IsFactor K (lost K d marks) (element K d (t * q + j)) b (erased_from K (element K d (t * q + j)) nones opposites ones twos threes ((t + 1) % 4 * q) ((t + 2) % 4 * q) ((t + 3) % 4 * q) ((t + 1) % 2 * q) j)) e
-            (erased-place marks len s sorted t j here inverse _ _ _ _ _ _ _ _ e inverse_is (h.none_is j m) (h.opposite_is _ other) (h.one_is _ back) (h.one_is _ over) (h.one_is _ ahead) (h.two_is _ over) (h.two_is _ ahead) (h.three_is _ ahead)))
-        | false ↦ λ e.
-            kept e
-            ∙ subst (λ b. IsFactor K (lost K d marks) (element K d (t * q + j)) b (kept_from K alls opposites ones twos threes (t * q) ((t + 3) % 4 * q) ((t + 2) % 4 * q) (t % 2 * q) j)) e
-            (kept-place marks len s sorted t j here _ _ _ _ _ _ _ _ e (h.all_is j m) (h.opposite_is _ square) (h.one_is _ here) (h.two_is _ here) (h.two_is _ back) (h.three_is _ here) (h.three_is _ back) (h.three_is _ over))
-      ] refl
-
-  -- one more turn is written
-  pub turn-written : (marks : List Bool) (len : length marks ≡ d.size) (s : Sorted F) (sorted : AreSorted K d q marks s) (inverse : F) (inverse_is : K.times inverse (natural K d.size) ≡ K.one)
-      (ones twos threes opposites alls nones : List F) → HoldValues K d q s inverse ones twos threes opposites alls nones → length alls ≡ q →
-      (t : ℕ) → t < 4 → (here ahead over back square other : ℕ) →
-      here ≡ t * q → ahead ≡ (t + 1) % 4 * q → over ≡ (t + 2) % 4 * q → back ≡ (t + 3) % 4 * q → square ≡ t % 2 * q → other ≡ (t + 1) % 2 * q →
-      (old new : List F) →
-      ((i : ℕ) → (i < here) ⊎ (here + length alls ≤ i) → of_list K new i ≡ of_list K old i) →
-      ((j : ℕ) → j < length alls → get_or marks (here + j) true ≡ false → of_list K new (here + j) ≡ kept_from K alls opposites ones twos threes here back over square j) →
-      ((j : ℕ) → j < length alls → get_or marks (here + j) true ≡ true → of_list K new (here + j) ≡ erased_from K (of_list K old (here + j)) nones opposites ones twos threes ahead over back other j) →
-      ((i : ℕ) → i < t * q → IsFactor K (lost K d marks) (element K d i) (get_or marks i true) (of_list K old i)) →
-      ((i : ℕ) → t * q ≤ i → i < d.size → of_list K old i ≡ element K d i) →
-      ((i : ℕ) → i < (t + 1) * q → IsFactor K (lost K d marks) (element K d i) (get_or marks i true) (of_list K new i)) × ((i : ℕ) → (t + 1) * q ≤ i → i < d.size → of_list K new i ≡ element K d i)
-  turn-written marks len s sorted inverse inverse_is ones twos threes opposites alls nones hold wide t l here ahead over back square other here_is ahead_is over_is back_is square_is other_is old new rest kept erased done after =
-      let next : (t + 1) * q ≡ t * q + q = omega arith in (
-        λ i h. ⊎_elim
-            (λ (before : i < t * q).
-            subst (IsFactor K (lost K d marks) (element K d i) (get_or marks i true)) (sym (rest i (inl (omega (arith, before, here_is))))) (done i before))
-            (λ (from : t * q ≤ i).
-            let j = i - t * q in
-            let is : i ≡ t * q + j = omega (arith, from) in
-            let below : j < q = omega (arith, from, h, next) in
-            let place : here + j ≡ t * q + j = omega (arith, here_is) in
-            subst (λ k. IsFactor K (lost K d marks) (element K d k) (get_or marks k true) (of_list K new k)) (sym is)
-            (turn-factor marks len s sorted inverse inverse_is ones twos threes opposites alls nones hold t j l below (of_list K new (t * q + j))
-            (λ e.
-            ap (of_list K new) (sym place)
-            ∙ kept j (omega (arith, below, wide)) (ap (λ k. get_or marks k true) place ∙ e)
-            ∙ ap₂ (λ a b. kept_from K alls opposites ones twos threes a b over square j) here_is back_is
-            ∙ ap₂ (λ a b. kept_from K alls opposites ones twos threes (t * q) ((t + 3) % 4 * q) a b j) over_is square_is)
-            (λ e.
-            ap (of_list K new) (sym place)
-            ∙ erased j (omega (arith, below, wide)) (ap (λ k. get_or marks k true) place ∙ e)
-            ∙ ap (λ x. erased_from K x nones opposites ones twos threes ahead over back other j) (ap (of_list K old) place ∙ after (t * q + j) (omega arith) (quarter_fits t j l below))
-            ∙ ap₂ (λ a b. erased_from K (element K d (t * q + j)) nones opposites ones twos threes a b back other j) ahead_is over_is
-            ∙ ap₂ (λ a b. erased_from K (element K d (t * q + j)) nones opposites ones twos threes ((t + 1) % 4 * q) ((t + 2) % 4 * q) a b j) back_is other_is)))
-            (cases_lt i (t * q)),
-        λ i h m. rest i (inr (omega (arith, h, next, here_is, wide))) ∙ after i (omega (arith, h, next)) m,
-      )

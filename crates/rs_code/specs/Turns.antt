@@ -1,10 +1,11 @@
 -- Words of the private steps that look at four places together of which each is a quarter turn of the last.
-use Rattle.std.specs.Prelude.{◌≡◌, ℕ, zero, suc, ◌+◌, ◌*◌, ◌≤◌, ◌<◌, Bool, true, false, List, length, get_or, map, not, ◌++◌, [], ◌∷◌, if◌then◌else◌}
+use Rattle.std.specs.Prelude.{◌≡◌, ℕ, zero, suc, ◌+◌, ◌*◌, ◌%◌, ◌≤◌, ◌<◌, Bool, true, false, List, length, get_or, map, not, ◌++◌, [], ◌∷◌, if◌then◌else◌}
 use Rattle.ark_math.specs.Field.{FieldOn, minus}
 use Rattle.ark_math.specs.Root.{HasOrder}
 use Rattle.ark_math.specs.Domain.{Domain, element}
 use Rattle.ark_math.specs.Multilinear.{product_below}
 use Rattle.ark_math.specs.Univariate.{of_list}
+use Rattle.ark_blocks.specs.Blocks.{AreReversed, IsPowerOfTwo, element_of, size_of}
 use Rattle.rs_code.specs.Locator.{located, lost}
 
 -- which of four places are marked
@@ -140,25 +141,55 @@ abbrev pub erased_factor : {F : Type 0} → FieldOn F → F → F → F → F �
 erased_factor K x none opposite one_back one_over one_ahead two_over two_ahead three_ahead =
     K.times (K.times (K.times x none) (K.times opposite three_ahead)) (K.times (K.times one_back (K.times one_over one_ahead)) (K.times two_over two_ahead))
 
--- the factor of place j of a turn, from the lists of values and where each turn of it begins
-abbrev pub kept_from : {F : Type 0} → FieldOn F → List F → List F → List F → List F → List F → ℕ → ℕ → ℕ → ℕ → ℕ → F
-kept_from K all opposite one two three here back over square j =
-    kept_factor K (of_list K all j) (of_list K opposite (square + j)) (of_list K one (here + j))
-    (of_list K two (here + j)) (of_list K two (back + j))
-    (of_list K three (here + j)) (of_list K three (back + j)) (of_list K three (over + j))
+-- which of four neighbours in a table is the first one after t quarter turns: they are x, -x, w * x and -w * x
+abbrev pub turn_place : ℕ → ℕ
+turn_place zero = 0
+turn_place (suc zero) = 2
+turn_place (suc (suc zero)) = 1
+turn_place (suc (suc (suc t))) = 3
 
-abbrev pub erased_from : {F : Type 0} → FieldOn F → F → List F → List F → List F → List F → List F → ℕ → ℕ → ℕ → ℕ → ℕ → F
-erased_from K x none opposite one two three ahead over back other j =
-    erased_factor K x (of_list K none j) (of_list K opposite (other + j))
-    (of_list K one (back + j)) (of_list K one (over + j)) (of_list K one (ahead + j))
-    (of_list K two (over + j)) (of_list K two (ahead + j)) (of_list K three (ahead + j))
+-- the value there, of the four of index k of a list
+abbrev pub at_turn : {F : Type 0} → FieldOn F → List F → ℕ → ℕ → F
+at_turn K v k t = of_list K v (4 * k + turn_place (t % 4))
 
--- what the lists of values hold, for a quarter of q places: the products over the sorted lists at the elements, at the
--- squares, and at the fourth powers times their scales; inverse is that of the domain's size
-pub record HoldValues {F : Type 0} (K : FieldOn F) (d : Domain F) (q : ℕ) (s : Sorted F) (inverse : F) (one two three opposite all none : List F) : Type 0 where
-  pub one_is : (i : ℕ) → i < d.size → of_list K one i ≡ located K s.one (element K d i)
-  pub two_is : (i : ℕ) → i < d.size → of_list K two i ≡ located K s.two (element K d i)
-  pub three_is : (i : ℕ) → i < d.size → of_list K three i ≡ located K s.three (element K d i)
-  pub opposite_is : (i : ℕ) → i < q + q → of_list K opposite i ≡ located K s.opposite (element K d (i * 2))
-  pub all_is : (j : ℕ) → j < q → of_list K all j ≡ K.times s.erased_scale (located K s.all (element K d (j * 4)))
-  pub none_is : (j : ℕ) → j < q → of_list K none j ≡ K.times (K.times s.kept_scale inverse) (located K s.none (element K d (j * 4)))
+-- the factor of a place that is t quarter turns after the first of four, from the values of the four, whose index is k
+abbrev pub kept_from : {F : Type 0} → FieldOn F → List F → List F → List F → List F → List F → ℕ → ℕ → F
+kept_from K all opposite one two three k t =
+    kept_factor K (of_list K all k) (of_list K opposite (2 * k + t % 2))
+    (at_turn K one k t)
+    (at_turn K two k t) (at_turn K two k (t + 3))
+    (at_turn K three k t) (at_turn K three k (t + 3)) (at_turn K three k (t + 2))
+
+abbrev pub erased_from : {F : Type 0} → FieldOn F → F → List F → List F → List F → List F → List F → ℕ → ℕ → F
+erased_from K x none opposite one two three k t =
+    erased_factor K x (of_list K none k) (of_list K opposite (2 * k + (t + 1) % 2))
+    (at_turn K one k (t + 3)) (at_turn K one k (t + 2)) (at_turn K one k (t + 1))
+    (at_turn K two k (t + 2)) (at_turn K two k (t + 1)) (at_turn K three k (t + 1))
+
+-- y is that factor of the place x, which may be marked
+pub record IsMadeOf {F : Type 0} (K : FieldOn F) (all none opposite one two three : List F) (k t : ℕ) (mark : Bool) (x y : F) : Type 0 where
+  pub kept : mark ≡ false → y ≡ kept_from K all opposite one two three k t
+  pub erased : mark ≡ true → y ≡ erased_from K x none opposite one two three k t
+
+-- a table of a subgroup's elements in bit-reversed order
+pub record IsTableOf {F : Type 0} (K : FieldOn F) (d : Domain F) (table : List F) : Type 0 where
+  pub size : size_of table ≡ d.size
+  pub power : IsPowerOfTwo d.size
+  pub reversed : AreReversed K d.size (element_of K table)
+  pub next : (i : ℕ) → i < length table → element_of K table (length table + i) ≡ K.times (element_of K table i) d.root
+
+-- what the lists of values hold: the products over the sorted lists at a table's elements, those of squares and of fourth
+-- powers at as many as there are of these; inverse is that of the domain's size
+pub record HoldValues {F : Type 0} (K : FieldOn F) (table : List F) (q : ℕ) (s : Sorted F) (inverse : F) (one two three opposite all none : List F) : Type 0 where
+  pub one_is : (i : ℕ) → i < 4 * q → of_list K one i ≡ located K s.one (element_of K table i)
+  pub two_is : (i : ℕ) → i < 4 * q → of_list K two i ≡ located K s.two (element_of K table i)
+  pub three_is : (i : ℕ) → i < 4 * q → of_list K three i ≡ located K s.three (element_of K table i)
+  pub opposite_is : (i : ℕ) → i < 2 * q → of_list K opposite i ≡ located K s.opposite (element_of K table i)
+  pub all_is : (i : ℕ) → i < q → of_list K all i ≡ K.times s.erased_scale (located K s.all (element_of K table i))
+  pub none_is : (i : ℕ) → i < q → of_list K none i ≡ K.times (K.times s.kept_scale inverse) (located K s.none (element_of K table i))
+
+-- the factors of the first n places of a quarter, t turns after the first one, are put in a list; the others are as they were
+pub record AreMadeBelow {F : Type 0} (K : FieldOn F) (all none opposite one two three : List F) (fours : List ℕ) (marks : List Bool) (t n : ℕ) (old new : List F) : Type 0 where
+  pub len : length new ≡ length old
+  pub made : (j : ℕ) → j < n → IsMadeOf K all none opposite one two three (get_or fours j 0) t (get_or marks (t * length fours + j) true) (of_list K old j) (of_list K new j)
+  pub rest : (j : ℕ) → n ≤ j → of_list K new j ≡ of_list K old j

@@ -7,6 +7,7 @@ mod decoder;
 mod error;
 mod locator;
 mod part;
+mod product;
 mod restore;
 mod sorted;
 mod turns;

@@ -9,14 +9,17 @@ ghost use Rattle.ark_math.specs.Univariate.{of_list, product, IsBelow, IsTrimmed
 ghost use Rattle.rs_code.specs.Codeword.{mark_count};
 ghost use Rattle.rs_code.specs.Locator.{AreFactors, DegreesWithin, HasSizeFor, derived, linear, locator, lost};
 
-use crate::part::every;
 use crate::turns::factors_by_turns;
 use ark_base::{FftField, Field, PolyError, batch_inversion};
+use ark_blocks::BlockRoots;
 use ark_poly::univariate::DensePolynomial;
 use ark_poly::{
     DenseUVPolynomial, EvaluationDomain, Evaluations, GeneralEvaluationDomain, Polynomial,
 };
 use std::alloc::{AllocError, Global};
+
+// Of fewer places all go by slopes.
+const FEW_PLACES: usize = 256;
 
 // Up to so many roots are multiplied in one by one.
 const FEW_ROOTS: usize = 68;
@@ -38,10 +41,14 @@ pub fn factors<F: FftField, D: EvaluationDomain<F>>(
     ensures factors { IfOk result (λ f. AreFactors F.field (D.domain domain) erased.now f.items) }
     ensures memory { IsOkUnless result PolyError.Memory }
 {
-    if erased.iter().filter(|place| **place).count() > domain.size() / 4 {
-        if let Some(half) = every(domain, 2) {
-            if let Some(quarter) = every(domain, 4) {
-                return factors_by_turns(alloc, domain, half, quarter, erased);
+    let n = domain.size();
+    if n >= FEW_PLACES
+        && n.is_power_of_two()
+        && erased.iter().filter(|place| **place).count() > n / 4
+    {
+        if let Some(table) = BlockRoots::new(alloc, n)? {
+            if table.size() == n {
+                return Ok(factors_by_turns(alloc, domain, &table, erased)?);
             }
         }
     }
@@ -90,16 +97,13 @@ fn lost_elements<F: FftField, D: EvaluationDomain<F>>(
 }
 
 // The product of x - r for each r of the list.
-pub(crate) fn with_roots<F: FftField>(
-    alloc: Global,
-    roots: &[F],
-) -> Result<DensePolynomial<F>, PolyError>
+fn with_roots<F: FftField>(alloc: Global, roots: &[F]) -> Result<DensePolynomial<F>, PolyError>
     requires room { HasSizeFor F.adicity (length roots.now + 1) }
     ensures product { IfOk result (λ p. of_list F.field p ≡ locator F.field roots.now) }
     ensures memory { IsOkUnless result PolyError.Memory }
 {
     if roots.len() <= FEW_ROOTS {
-        return Ok(with_few_roots(alloc, roots)?);
+        return Ok(DensePolynomial::from_coefficients_vec(with_few_roots(alloc, roots)?));
     }
     let past = MOST_PAST.min(roots.len() / 16);
     let Some(domain) = GeneralEvaluationDomain::<F>::new(roots.len() - past) else {
@@ -196,7 +200,7 @@ fn upper_part<F: Field>(
 
 // Puts the coefficients of the product with a factor in place of the coefficients: those from the factor's
 // degree on.
-fn multiply_upper<F: Field>(coeffs: &mut [F], factor: &[F])
+pub(crate) fn multiply_upper<F: Field>(coeffs: &mut [F], factor: &[F])
     ensures { (i : ℕ) → of_list F.field coeffs.new i ≡ product F.field (of_list F.field coeffs.old)
         (of_list F.field factor.now) (length factor.now - 1 + i) }
 {
@@ -217,30 +221,30 @@ fn coefficient_at_degree<F: Field>(coeffs: &[F], factor: &[F]) -> F
     sum
 }
 
-// The product of x - r over few roots, one by one.
-fn with_few_roots<F: Field>(alloc: Global, roots: &[F]) -> Result<DensePolynomial<F>, AllocError>
-    ensures { IfOk result (λ p. of_list F.field p ≡ locator F.field roots.now) }
+/// The coefficients of the product of x - r over few roots, one by one.
+pub(crate) fn with_few_roots<F: Field>(alloc: Global, roots: &[F]) -> Result<Vec<F>, AllocError>
+    ensures product { IfOk result (λ v. of_list F.field v.items ≡ locator F.field roots.now) }
+    ensures len { IfOk result (λ v. length v.items ≡ length roots.now + 1) }
 {
-    let mut coeffs = Vec::with_capacity(alloc, FEW_ROOTS + 1)?;
+    let mut coeffs = Vec::with_capacity(alloc, roots.len().saturating_add(1))?;
     coeffs.push(F::one())?;
     for root in roots {
         multiply_by_linear(&mut coeffs, *root)?;
     }
-    Ok(DensePolynomial::from_coefficients_vec(coeffs))
+    Ok(coeffs)
 }
 
-// Multiplies the polynomial with these coefficients by x - root, in place.
+// Multiplies the polynomial with these coefficients by x - root, in place, from the highest one down.
 fn multiply_by_linear<F: Field>(coeffs: &mut Vec<F>, root: F) -> Result<(), AllocError>
-    ensures { OnOk result (of_list F.field coeffs.new.items
+    ensures product { OnOk result (of_list F.field coeffs.new.items
         ≡ product F.field (linear F.field root) (of_list F.field coeffs.old.items)) }
+    ensures len { OnOk result (length coeffs.new.items ≡ length coeffs.old.items + 1) }
 {
-    let mut below = F::zero();
-    for i in 0..coeffs.len() {
-        let own = coeffs[i];
-        coeffs[i] = below - root * own;
-        below = own;
+    coeffs.push(F::zero())?;
+    for i in (1..coeffs.len()).rev() {
+        coeffs[i] = coeffs[i - 1] - root * coeffs[i];
     }
-    coeffs.push(below)?;
+    coeffs[0] = -(root * coeffs[0]);
     Ok(())
 }
 

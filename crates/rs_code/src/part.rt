@@ -29,21 +29,6 @@ pub fn spaced_part<F: FftField, D: EvaluationDomain<F>>(domain: D, k: usize) -> 
     (domain, 1)
 }
 
-/// The subgroup of every so many elements, where the domain's type has it.
-pub fn every<F: FftField, D: EvaluationDomain<F>>(domain: D, stride: usize) -> Option<D>
-    requires subgroup { (D.domain domain).offset ≡ F.field.one }
-    requires positive { 0 < stride }
-    ensures { IfSome result (λ part. IsSpaced F.field (D.domain domain) (D.domain part) stride) }
-{
-    let n = domain.size();
-    let part = D::new(n / stride)?;
-    let m = part.size();
-    if n % m == 0 && n / m == stride {
-        return Some(part);
-    }
-    None
-}
-
 /// Adds each item to the one that is `m` places before it, from the end on: where the `m`-th power of `x` is one, the
 /// polynomial with the first `m` items as its coefficients then has the value at `x` that the whole list had.
 pub fn fold<F: Field, T: DomainCoeff<F>>(coeffs: &mut [T], m: usize)

@@ -1,7 +1,7 @@
 //! Words with places erased, restored by two transforms. `Work` is told of every product of a module's value by an
 //! element of the field, and `Work::scale` alone makes one.
 
-ghost use Rattle.std.specs.Prelude.{◌≡◌, ◌≢◌, ◌↔◌, ℕ, ◌+◌, ◌-◌, ◌*◌, ◌<◌, ◌≤◌, true, List, get_or};
+ghost use Rattle.std.specs.Prelude.{◌≡◌, ◌≢◌, ◌↔◌, ℕ, ◌+◌, ◌-◌, ◌*◌, ◌<◌, ◌≤◌, true, false, List, get_or};
 ghost use Rattle.std.specs.Prelude.{length, map, is_none, unwrap_or, IsTrue, IfOk, Err, IsOkUnless};
 ghost use Rattle.ark_math.specs.Module.{item};
 ghost use Rattle.ark_math.specs.Transform.{transform};
@@ -16,6 +16,7 @@ use crate::error::RsError;
 use ark_base::{DomainCoeff, FftField, Field, PolyError, Work};
 use ark_poly::EvaluationDomain;
 use std::alloc::{AllocError, Global};
+use std::mem;
 
 impl<F: FftField, D: EvaluationDomain<F>> DomainCode<F, D> {
     /// `restore` with its cost told, whatever it answers: at most three times the butterflies and the steps of one
@@ -171,8 +172,34 @@ fn kept_values<T: Copy>(alloc: Global, word: &[Option<T>], other: T) -> Result<V
         .collect(alloc)
 }
 
-// At a kept place the value times its factor, and zero at an erased one. A product for each place: the factor is
-// chosen before, so that no branch waits for a mark.
+// Whether an item has more than two words: then a product by it takes longer than a branch that waits for a mark.
+#[inline(always)]
+fn is_wide<T>(items: &[T]) -> bool {
+    mem::size_of_val(items) / 16 > items.len()
+}
+
+// Scales a value; one that the factor leaves as it is need not be, and isn't where it is wide.
+#[inline(always)]
+fn scale_where<F: Field, T: DomainCoeff<F>>(
+    changes: bool,
+    is_wide: bool,
+    value: &mut T,
+    factor: F,
+    work: &mut Work,
+)
+    requires { changes ≡ false → T.group.scale factor (T.meaning value.old) ≡ T.meaning value.old }
+    ensures product { T.meaning value.new ≡ T.group.scale factor (T.meaning value.old) }
+    ensures products { work.new.products ≤ work.old.products + 1 }
+    ensures butterflies { work.new.butterflies ≡ work.old.butterflies }
+    ensures steps { work.new.steps ≡ work.old.steps }
+{
+    if changes || !is_wide {
+        work.scale(value, factor);
+    }
+}
+
+// At a kept place the value times its factor, and zero at an erased one. The value is chosen before it is scaled, so that
+// no branch waits for a mark where values are narrow.
 fn weigh<F: Field, T: DomainCoeff<F>>(
     values: &mut [T],
     marks: &[bool],
@@ -184,14 +211,16 @@ fn weigh<F: Field, T: DomainCoeff<F>>(
     ensures values { (i : ℕ) → i < length marks.now → item T.group (map T.meaning values.new) i
         ≡ weighed T.group (get_or marks.now i true) (of_list F.field factors.now i)
         (item T.group (map T.meaning values.old) i) }
-    ensures products { work.new.products ≡ work.old.products + length marks.now }
+    ensures products { work.new.products ≤ work.old.products + length marks.now }
     ensures butterflies { work.new.butterflies ≡ work.old.butterflies }
     ensures steps { work.new.steps ≡ work.old.steps }
 {
+    let is_wide = is_wide(values);
     for i in 0..marks.len() {
-        let own = factors[i];
-        let factor = if marks[i] { F::zero() } else { own };
-        work.scale(&mut values[i], factor);
+        let (erased, own) = (marks[i], values[i]);
+        let mut value = if erased { T::zero() } else { own };
+        scale_where(!erased, is_wide, &mut value, factors[i], work);
+        values[i] = value;
     }
 }
 
@@ -215,8 +244,8 @@ pub(crate) fn derive<F: Field, T: DomainCoeff<F>>(coeffs: &mut [T], work: &mut W
     }
 }
 
-// The kept values, and at an erased place the value that is there times its factor. A product for each place: value
-// and factor are chosen before, so that no branch waits for a mark.
+// The kept values, and at an erased place the value that is there times its factor. Value and factor are chosen before,
+// so that no branch waits for a mark where values are narrow.
 fn fill<F: Field, T: DomainCoeff<F>>(
     values: &mut [T],
     word: &[T],
@@ -230,15 +259,17 @@ fn fill<F: Field, T: DomainCoeff<F>>(
     ensures values { (i : ℕ) → i < length marks.now → item T.group (map T.meaning values.new) i
         ≡ filled T.group (get_or marks.now i true) (of_list F.field factors.now i)
         (item T.group (map T.meaning word.now) i) (item T.group (map T.meaning values.old) i) }
-    ensures products { work.new.products ≡ work.old.products + length marks.now }
+    ensures products { work.new.products ≤ work.old.products + length marks.now }
     ensures butterflies { work.new.butterflies ≡ work.old.butterflies }
     ensures steps { work.new.steps ≡ work.old.steps }
 {
+    let is_wide = is_wide(values);
     for i in 0..marks.len() {
         let (known, found, own) = (word[i], values[i], factors[i]);
-        let mut value = if marks[i] { found } else { known };
-        let factor = if marks[i] { own } else { F::one() };
-        work.scale(&mut value, factor);
+        let erased = marks[i];
+        let mut value = if erased { found } else { known };
+        let factor = if erased { own } else { F::one() };
+        scale_where(erased, is_wide, &mut value, factor, work);
         values[i] = value;
     }
 }

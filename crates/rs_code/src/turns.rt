@@ -6,56 +6,58 @@
 //! part for each pattern of erased places among four, which one polynomial gives by its values at turns of `x`: so no more
 //! than `n / 4` roots are multiplied, however the places are erased.
 
-ghost use Rattle.std.specs.Prelude.{◌≡◌, ◌⊎◌, ℕ, ◌+◌, ◌*◌, ◌<◌, ◌≤◌, true, false, length, get_or, replicate, IfOk, IsOkUnless};
-ghost use Rattle.std.specs.Prelude.{◌%◌};
+ghost use Rattle.std.specs.Prelude.{◌≡◌, ℕ, ◌+◌, ◌*◌, ◌^◌, ◌<◌, ◌≤◌, true, false, length, get_or, replicate, IfOk};
+ghost use Rattle.ark_blocks.specs.Blocks.{IsPowerOfTwo, element_of, size_of};
+ghost use Rattle.ark_fft.specs.Halves.{reversed};
 ghost use Rattle.ark_math.specs.Domain.{element};
 ghost use Rattle.ark_math.specs.Univariate.{of_list};
-ghost use Rattle.rs_code.specs.Code.{IsSpaced};
-ghost use Rattle.rs_code.specs.Locator.{AreFactors, HasSizeFor, located};
-ghost use Rattle.rs_code.specs.Turns.{AreElements, erased_factor, erased_from, kept_factor, kept_from};
+ghost use Rattle.rs_code.specs.Locator.{AreFactors, located};
+ghost use Rattle.rs_code.specs.Turns.{AreElements, IsMadeOf, IsTableOf, at_turn, erased_factor, kept_factor};
 
-use crate::locator::with_roots;
+use crate::product::values_over;
 use crate::sorted::sorted_by_turns;
-use ark_base::{FftField, Field, PolyError};
-use ark_poly::{EvaluationDomain, Evaluations};
+use ark_base::{FftField, Field};
+use ark_blocks::BlockRoots;
+use ark_poly::EvaluationDomain;
 use std::alloc::{AllocError, Global};
 
-/// The factors of the places of a subgroup that has quarter turns: at a kept one the value of the polynomial that is zero at
-/// the erased ones, and at an erased one the inverse of its derivative's.
+/// The factors of the places of a subgroup of a power of two elements, by a table of these: at a kept one the value of the
+/// polynomial that is zero at the erased ones, and at an erased one the inverse of its derivative's.
 pub fn factors_by_turns<F: FftField, D: EvaluationDomain<F>>(
     alloc: Global,
     domain: D,
-    half: D,
-    quarter: D,
+    table: &BlockRoots<F>,
     erased: &[bool],
-) -> Result<Vec<F>, PolyError>
+) -> Result<Vec<F>, AllocError>
     requires len { length erased.now ≡ (D.domain domain).size }
+    requires many { 256 ≤ (D.domain domain).size }
     requires subgroup { (D.domain domain).offset ≡ F.field.one }
-    requires half { IsSpaced F.field (D.domain domain) (D.domain half) 2 }
-    requires quarter { IsSpaced F.field (D.domain domain) (D.domain quarter) 4 }
+    requires table { IsTableOf F.field (D.domain domain) table.now }
     ensures factors { IfOk result (λ f. AreFactors F.field (D.domain domain) erased.now f.items) }
-    ensures memory { IsOkUnless result PolyError.Memory }
 {
     let mut factors = elements(alloc, &domain)?;
     let sorted = sorted_by_turns(alloc, &factors, erased)?;
-    let (one, two, three) = three_lists(alloc, domain, &sorted.one, &sorted.two, &sorted.three)?;
-    let opposite = values_over(alloc, half, &sorted.opposite)?;
-    let all = scaled_values(alloc, quarter, &sorted.all, sorted.erased_scale)?;
+    let n = erased.len();
+    let quarter = n / 4;
+    let one = values_over(alloc, table, &sorted.one, n)?;
+    let two = values_over(alloc, table, &sorted.two, n)?;
+    let three = values_over(alloc, table, &sorted.three, n)?;
+    let opposite = values_over(alloc, table, &sorted.opposite, n / 2)?;
+    let all = scaled_values(alloc, table, &sorted.all, sorted.erased_scale, quarter)?;
     let none_scale = sorted.kept_scale * domain.size_inv();
-    let none = scaled_values(alloc, quarter, &sorted.none, none_scale)?;
-    for turn in 0..4 {
-        fill(
-            factors.as_mut_slice(),
-            erased,
-            one.evals(),
-            two.evals(),
-            three.evals(),
-            opposite.evals(),
-            all.evals(),
-            none.evals(),
-            starts_of(turn, quarter.size()),
-        );
-    }
+    let none = scaled_values(alloc, table, &sorted.none, none_scale, quarter)?;
+    let fours = reversed_places(alloc, quarter)?;
+    fill(
+        factors.as_mut_slice(),
+        erased,
+        &fours,
+        &one,
+        &two,
+        &three,
+        &opposite,
+        &all,
+        &none,
+    );
     Ok(factors)
 }
 
@@ -81,155 +83,188 @@ fn ones<F: Field>(alloc: Global, len: usize) -> Result<Vec<F>, AllocError>
     Ok(items)
 }
 
-// The values, at the elements, of the product of x - r over the roots.
-fn values_over<F: FftField, D: EvaluationDomain<F>>(
+// The values of the product over the roots, each times a factor.
+fn scaled_values<F: FftField>(
     alloc: Global,
-    domain: D,
-    roots: &[F],
-) -> Result<Evaluations<F, D>, PolyError>
-    requires room { HasSizeFor F.adicity (length roots.now + 1) }
-    ensures values { IfOk result (λ v. (i : ℕ) → i < (D.domain domain).size → of_list F.field v.evals i
-        ≡ located F.field roots.now (element F.field (D.domain domain) i)) }
-    ensures domain { IfOk result (λ v. v.domain ≡ domain) }
-    ensures memory { IsOkUnless result PolyError.Memory }
-{
-    with_roots(alloc, roots)?.evaluate_over_domain(alloc, domain)
-}
-
-// The same of three lists.
-fn three_lists<F: FftField, D: EvaluationDomain<F>>(
-    alloc: Global,
-    domain: D,
-    first: &[F],
-    second: &[F],
-    third: &[F],
-) -> Result<(Evaluations<F, D>, Evaluations<F, D>, Evaluations<F, D>), PolyError>
-    requires first { HasSizeFor F.adicity (length first.now + 1) }
-    requires second { HasSizeFor F.adicity (length second.now + 1) }
-    requires third { HasSizeFor F.adicity (length third.now + 1) }
-    ensures first { IfOk result (λ v. (i : ℕ) → i < (D.domain domain).size → of_list F.field v.0.evals i
-        ≡ located F.field first.now (element F.field (D.domain domain) i)) }
-    ensures second { IfOk result (λ v. (i : ℕ) → i < (D.domain domain).size → of_list F.field v.1.evals i
-        ≡ located F.field second.now (element F.field (D.domain domain) i)) }
-    ensures third { IfOk result (λ v. (i : ℕ) → i < (D.domain domain).size → of_list F.field v.2.evals i
-        ≡ located F.field third.now (element F.field (D.domain domain) i)) }
-    ensures domains { IfOk result (λ v. (v.0.domain ≡ domain) × (v.1.domain ≡ domain) × (v.2.domain ≡ domain)) }
-    ensures memory { IsOkUnless result PolyError.Memory }
-{
-    let first = values_over(alloc, domain, first)?;
-    let second = values_over(alloc, domain, second)?;
-    let third = values_over(alloc, domain, third)?;
-    Ok((first, second, third))
-}
-
-// The values of one list, each times a factor.
-fn scaled_values<F: FftField, D: EvaluationDomain<F>>(
-    alloc: Global,
-    domain: D,
+    table: &BlockRoots<F>,
     roots: &[F],
     scale: F,
-) -> Result<Evaluations<F, D>, PolyError>
-    requires room { HasSizeFor F.adicity (length roots.now + 1) }
-    ensures values { IfOk result (λ v. (i : ℕ) → i < (D.domain domain).size → of_list F.field v.evals i
-        ≡ F.field.times scale (located F.field roots.now (element F.field (D.domain domain) i))) }
-    ensures domain { IfOk result (λ v. v.domain ≡ domain) }
-    ensures memory { IsOkUnless result PolyError.Memory }
+    count: usize,
+) -> Result<Vec<F>, AllocError>
+    requires power { IsPowerOfTwo count }
+    requires within { count ≤ size_of table.now }
+    requires few { length roots.now ≤ count }
+    requires many { 64 ≤ count }
+    ensures len { IfOk result (λ v. length v.items ≡ count) }
+    ensures values { IfOk result (λ v. (i : ℕ) → i < count → of_list F.field v.items i ≡ F.field.times scale
+        (located F.field roots.now (element_of F.field table.now i))) }
 {
-    values_over(alloc, domain, roots)?.mul_scalar(alloc, scale)
+    let mut values = values_over(alloc, table, roots, count)?;
+    scale_each(values.as_mut_slice(), scale);
+    Ok(values)
 }
 
-// Where the places of a turn begin, and those of its turns; and where their squares do, and these turned.
-#[derive(Clone, Copy)]
-struct Starts {
-    here: usize,
-    ahead: usize,
-    over: usize,
-    back: usize,
-    square: usize,
-    other: usize,
-}
-
-// Of one of the four turns, with so many places.
-fn starts_of(turn: usize, quarter: usize) -> Starts
-    requires turn { turn < 4 }
-    requires fits { 4 * quarter ≤ usize.MAX }
-    ensures here { result.here ≡ turn * quarter }
-    ensures ahead { result.ahead ≡ (turn + 1) % 4 * quarter }
-    ensures over { result.over ≡ (turn + 2) % 4 * quarter }
-    ensures back { result.back ≡ (turn + 3) % 4 * quarter }
-    ensures square { result.square ≡ turn % 2 * quarter }
-    ensures other { result.other ≡ (turn + 1) % 2 * quarter }
+// Multiplies each item by the factor.
+fn scale_each<F: Field>(items: &mut [F], factor: F)
+    ensures len { length items.new ≡ length items.old }
+    ensures products { (i : ℕ) → i < length items.old → of_list F.field items.new i
+        ≡ F.field.times factor (of_list F.field items.old i) }
 {
-    Starts {
-        here: turn * quarter,
-        ahead: (turn + 1) % 4 * quarter,
-        over: (turn + 2) % 4 * quarter,
-        back: (turn + 3) % 4 * quarter,
-        square: turn % 2 * quarter,
-        other: (turn + 1) % 2 * quarter,
+    for i in 0..items.len() {
+        items[i] = factor * items[i];
     }
 }
 
-// Writes the factors of the places of one turn in the place of their elements.
+// The numbers below a power of two with their bits backwards.
+fn reversed_places(alloc: Global, count: usize) -> Result<Vec<usize>, AllocError>
+    requires { IsPowerOfTwo count }
+    ensures len { IfOk result (λ v. length v.items ≡ count) }
+    ensures places { IfOk result (λ v. (levels i : ℕ) → count ≡ 2 ^ levels → i < count
+        → get_or v.items i 0 ≡ reversed levels i) }
+{
+    let mut places = Vec::with_capacity(alloc, count)?;
+    places.push(0)?;
+    for i in 1..count {
+        let half = places[i / 2] / 2;
+        places.push(if i % 2 == 0 { half } else { count / 2 + half })?;
+    }
+    Ok(places)
+}
+
+// Writes the factors of all places in the place of their elements. Of each four places that are turns of one another the
+// values are neighbours in the lists, at an index that has the bits of the first place's backwards.
 fn fill<F: Field>(
     factors: &mut [F],
     erased: &[bool],
+    fours: &[usize],
     one: &[F],
     two: &[F],
     three: &[F],
     opposite: &[F],
     all: &[F],
     none: &[F],
-    at: Starts,
 )
-    requires factors { at.here + length all.now ≤ length factors.old }
-    requires erased { length erased.now ≡ length factors.old }
-    requires one { length one.now ≡ length factors.old }
-    requires two { length two.now ≡ length factors.old }
-    requires three { length three.now ≡ length factors.old }
-    requires none { length none.now ≡ length all.now }
-    requires ahead { at.ahead + length all.now ≤ length factors.old }
-    requires over { at.over + length all.now ≤ length factors.old }
-    requires back { at.back + length all.now ≤ length factors.old }
-    requires square { at.square + length all.now ≤ length opposite.now }
-    requires other { at.other + length all.now ≤ length opposite.now }
-    ensures rest { (i : ℕ) → (i < at.here) ⊎ (at.here + length all.now ≤ i)
-        → of_list F.field factors.new i ≡ of_list F.field factors.old i }
-    ensures kept { (j : ℕ) → j < length all.now → get_or erased.now (at.here + j) true ≡ false
-        → of_list F.field factors.new (at.here + j) ≡ kept_from F.field all.now opposite.now one.now two.now
-        three.now at.here at.back at.over at.square j }
-    ensures erased { (j : ℕ) → j < length all.now → get_or erased.now (at.here + j) true ≡ true
-        → of_list F.field factors.new (at.here + j) ≡ erased_from F.field
-        (of_list F.field factors.old (at.here + j)) none.now opposite.now one.now two.now three.now at.ahead
-        at.over at.back at.other j }
+    requires factors { length factors.old ≡ 4 * length fours.now }
+    requires erased { length erased.now ≡ 4 * length fours.now }
+    requires fours { (j : ℕ) → j < length fours.now → get_or fours.now j 0 < length fours.now }
+    requires one { length one.now ≡ 4 * length fours.now }
+    requires two { length two.now ≡ 4 * length fours.now }
+    requires three { length three.now ≡ 4 * length fours.now }
+    requires opposite { length opposite.now ≡ 2 * length fours.now }
+    requires all { length all.now ≡ length fours.now }
+    requires none { length none.now ≡ length fours.now }
+    ensures len { length factors.new ≡ length factors.old }
+    ensures made { (t j : ℕ) → t < 4 → j < length fours.now → IsMadeOf F.field all.now none.now opposite.now
+        one.now two.now three.now (get_or fours.now j 0) t (get_or erased.now (t * length fours.now + j) true)
+        (of_list F.field factors.old (t * length fours.now + j))
+        (of_list F.field factors.new (t * length fours.now + j)) }
 {
-    for j in 0..all.len() {
-        let i = at.here + j;
-        factors[i] = factor_of(
-            erased[i],
-            factors[i],
-            (
-                none[j],
-                opposite[at.other + j],
-                one[at.back + j],
-                one[at.over + j],
-                one[at.ahead + j],
-                two[at.over + j],
-                two[at.ahead + j],
-                three[at.ahead + j],
-            ),
-            (
-                all[j],
-                opposite[at.square + j],
-                one[i],
-                two[i],
-                two[at.back + j],
-                three[i],
-                three[at.back + j],
-                three[at.over + j],
-            ),
+    let quarter = fours.len();
+    let (first, rest) = factors.split_at_mut(quarter);
+    let (second, rest) = rest.split_at_mut(quarter);
+    let (third, fourth) = rest.split_at_mut(quarter);
+    for j in 0..quarter {
+        let k = fours[j];
+        let (own, none) = (all[k], none[k]);
+        let (here, other) = (opposite[2 * k], opposite[2 * k + 1]);
+        let ones = four_at(one, k);
+        let twos = four_at(two, k);
+        let threes = four_at(three, k);
+        first[j] = turn_factor(
+            erased[j], first[j], own, none, here, other, ones, twos, threes,
+        );
+        let (ones, twos, threes) = (turned(ones), turned(twos), turned(threes));
+        second[j] = turn_factor(
+            erased[j + quarter],
+            second[j],
+            own,
+            none,
+            other,
+            here,
+            ones,
+            twos,
+            threes,
+        );
+        let (ones, twos, threes) = (turned(ones), turned(twos), turned(threes));
+        third[j] = turn_factor(
+            erased[j + quarter + quarter],
+            third[j],
+            own,
+            none,
+            here,
+            other,
+            ones,
+            twos,
+            threes,
+        );
+        let (ones, twos, threes) = (turned(ones), turned(twos), turned(threes));
+        fourth[j] = turn_factor(
+            erased[j + quarter + quarter + quarter],
+            fourth[j],
+            own,
+            none,
+            other,
+            here,
+            ones,
+            twos,
+            threes,
         );
     }
+}
+
+// The values at the four of this index, each a quarter turn after the last.
+#[inline(always)]
+fn four_at<F: Field>(values: &[F], k: usize) -> (F, F, F, F)
+    requires { 4 * k + 3 < length values.now }
+    ensures { result ≡ (
+      at_turn F.field values.now k 0,
+      at_turn F.field values.now k 1,
+      at_turn F.field values.now k 2,
+      at_turn F.field values.now k 3,
+    ) }
+{
+    (
+        values[4 * k],
+        values[4 * k + 2],
+        values[4 * k + 1],
+        values[4 * k + 3],
+    )
+}
+
+// The same from the second one on.
+#[inline(always)]
+fn turned<F: Field>(four: (F, F, F, F)) -> (F, F, F, F)
+    ensures { result ≡ (four.1, four.2, four.3, four.0) }
+{
+    (four.1, four.2, four.3, four.0)
+}
+
+// The factor of a place, from the values at it and at its turns.
+#[inline(always)]
+fn turn_factor<F: Field>(
+    mark: bool,
+    place: F,
+    all: F,
+    none: F,
+    opposite: F,
+    other: F,
+    one: (F, F, F, F),
+    two: (F, F, F, F),
+    three: (F, F, F, F),
+) -> F
+    ensures erased { mark ≡ true → result ≡ erased_factor F.field place none other one.3 one.2 one.1 two.2 two.1
+        three.1 }
+    ensures kept { mark ≡ false → result ≡ kept_factor F.field all opposite one.0 two.0 two.3 three.0 three.3
+        three.2 }
+{
+    factor_of(
+        mark,
+        place,
+        (none, other, one.3, one.2, one.1, two.2, two.1, three.1),
+        (
+            all, opposite, one.0, two.0, two.3, three.0, three.3, three.2,
+        ),
+    )
 }
 
 // The factor of a place, from what is multiplied at an erased one, and at a kept one. Each value is chosen of two

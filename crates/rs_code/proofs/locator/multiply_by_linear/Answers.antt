@@ -1,44 +1,78 @@
-use Rattle.std.proofs.Common.{◌≡◌, ◌≢◌, ◌<◌, length, get_or, slice_set, sym, ap, ap₂, ◌∙◌, arith, add-one, ⊎_elim}
-use Rattle.std.proofs.lemmas.Bool.{cases_eq}
+use Rattle.std.proofs.Common.{◌≡◌, ◌≢◌, ◌+◌, ◌-◌, ◌<◌, [], ◌∷◌, length, slice_set, refl, sym, ap, ap₂, ◌∙◌, arith, ⊎_elim}
 use Rattle.std.proofs.Common.{get_or-set_same, get_or-set_other}
-use Rattle.std.proofs.lemmas.List.{get_or_read, length-set}
+use Rattle.std.proofs.lemmas.Bool.{cases_eq}
+use Rattle.std.proofs.lemmas.List.{get_or_read, length-append, length-set}
 use Rattle.ark_math.specs.Field.{minus}
 use Rattle.ark_math.specs.Module.{itself}
 use Rattle.ark_math.specs.Univariate.{of_list}
+use Rattle.ark_math.proofs.Algebra.Ring.{ring2}
+use Rattle.ark_math.proofs.Algebra.Solve.{◌⊗◌, negative}
+use Rattle.ark_math.proofs.Polynomials.UnivariateLists.{of_list-past, of_list-set}
 use Rattle.rs_code.specs.Locator.{by_factor}
-use Rattle.rs_code.proofs.Factors.{before, by_factor-step, by_linear-end}
+use Rattle.rs_code.proofs.Factors.{by_factor-later, by_factor-past, linear-product, of_list-pushed_zero}
 use Rattle.rs_code.proofs.locator.multiply_by_linear.Goals as goal
+
+pub loop-i-init : goal.loop-i-init
+loop-i-init g c =
+    let K = g.F.Field.field in
+    let ys = c.args.coeffs.now.items in
+    let zero = c.zero.result in
+    let pushed = c.in_ok-push.ensures.items in
+    let new = c.push.new.self.items in
+    let len : length new ≡ length ys + 1 = ap length pushed ∙ length-append ys (zero ∷ []) in
+    let all : c.len-i.result ≡ length new = omega (arith, c.len-i.ensures) in
+    record {
+      len = len;
+      some = omega (arith, len, all);
+      done = λ k l. of_list-past K new k (omega (arith, l, all)) ∙ sym (by_factor-past K g.met.F.Field.field_laws c.args.root ys k (omega (arith, l, all, len)));
+      rest = λ k l. ap (λ t. of_list K t k) pushed ∙ ap (λ t. t k) (of_list-pushed_zero K ys zero (c.zero.ensures ∙ g.met.F.Field.zero_law));
+    }
 
 pub loop-i-preserved : goal.loop-i-preserved
 loop-i-preserved g c =
     let K = g.F.Field.field in
-    let N = g.met.F.Field.field_laws in
     let v = c.loop-i.invariant in
-    let i = c.loop-i.i in
     let a = of_list K c.args.coeffs.now.items in
     let xs = c.loop-i.coeffs.items in
-    let inside : i < length xs = omega arith in
-    let own : c.index-own.result.now ≡ a i = get_or_read xs i c.index-own.result.now inside c.index-own.ensures K.zero ∙ v.rest i (omega arith) in
-    let new : c.sub.result ≡ by_factor K (itself K) c.args.root a i =
+    let r = c.args.root in
+    let i = c.loop-i.i - 1 in
+    let new = c.sub.result in
+    let next : c.loop-i.i ≡ i + 1 = let t = c.loop-i-test.true in omega arith in
+    let some : 0 < i = let t = c.loop-i-test.true in omega arith in
+    let inside : i < length xs = omega (arith, next, c.loop-i.auto.i, c.len-i.ensures, v.len, ap length c.in_ok-push.ensures.items, length-append c.args.coeffs.now.items (c.zero.result ∷ [])) in
+    let below : c.index.result.now ≡ a (i - 1) = get_or_read xs (i - 1) c.index.result.now (omega (arith, inside)) c.index.ensures K.zero ∙ v.rest (i - 1) (omega (arith, some, next)) in
+    let own : c.index-in-loop-i.result.now ≡ a i = get_or_read xs i c.index-in-loop-i.result.now inside c.index-in-loop-i.ensures K.zero ∙ v.rest i (omega (arith, next)) in
+    let is : new ≡ by_factor K (itself K) r a i =
     g.met.F.Field.sub_law _ _ _ c.sub.ensures
-    ∙ ap₂ (minus K) v.below_is (g.met.F.Field.mul_law _ _ _ c.mul.ensures ∙ ap (K.times c.args.root) own)
-    ∙ by_factor-step K N c.args.root a i in
+    ∙ ap₂ (minus K) below (g.met.F.Field.mul_law _ _ _ c.mul.ensures ∙ ap (K.times r) own)
+    ∙ by_factor-later K g.met.F.Field.field_laws r a i some in
     record {
-      len = length-set xs i c.sub.result ∙ v.len;
-      below_is = own ∙ ap (before K a) (sym (add-one i));
+      len = length-set xs i new ∙ v.len;
+      some = some;
       done = λ k l. ⊎_elim
-          (λ (e : k ≡ i). ap (λ t. get_or (slice_set xs i c.sub.result) t K.zero) e ∙ get_or-set_same xs i c.sub.result K.zero inside ∙ new ∙ ap (by_factor K (itself K) c.args.root a) (sym e))
-          (λ (ne : k ≢ i). get_or-set_other xs i k c.sub.result K.zero ne ∙ v.done k (omega arith))
+          (λ (e : k ≡ i). ap (of_list K (slice_set xs i new)) e ∙ get_or-set_same xs i new K.zero inside ∙ is ∙ ap (by_factor K (itself K) r a) (sym e))
+          (λ (ne : k ≢ i). get_or-set_other xs i k new K.zero ne ∙ v.done k (omega (arith, l, ne, next)))
           (cases_eq k i);
-      rest = λ k l. get_or-set_other xs i k c.sub.result K.zero (omega arith) ∙ v.rest k (omega arith);
+      rest = λ k l. get_or-set_other xs i k new K.zero (omega (arith, l)) ∙ v.rest k (omega (arith, l, next));
     }
 
-pub returns : goal.returns
-returns g c =
+pub returns-clause-product : goal.returns-clause-product
+returns-clause-product g c =
     let K = g.F.Field.field in
     let N = g.met.F.Field.field_laws in
     let v = c.loop-i.invariant in
-    let ys = c.args.coeffs.now.items in
-    let all : c.loop-i.i ≡ length ys = omega arith in
-    ap (of_list K) c.in_ok-push.ensures.items
-    ∙ by_linear-end K N c.args.root c.loop-i.coeffs.items ys c.loop-i.below v.len (λ k l. v.done k (omega arith)) (v.below_is ∙ ap (before K (of_list K ys)) all)
+    let a = of_list K c.args.coeffs.now.items in
+    let xs = c.loop-i.coeffs.items in
+    let r = c.args.root in
+    let last : c.loop-i.i ≡ 1 = let t = c.loop-i-test.false in omega (arith, v.some) in
+    let inside : 0 < length xs = omega (arith, v.len) in
+    let first : c.index-2.result.now ≡ a 0 = get_or_read xs 0 c.index-2.result.now inside c.index-2.ensures K.zero ∙ v.rest 0 v.some in
+    let is : c.neg.result ≡ K.negated (K.times r (a 0)) =
+    g.met.F.Field.neg_law _ _ c.neg.ensures ∙ ap K.negated (g.met.F.Field.mul_law _ _ _ c.mul-2.ensures ∙ ap (K.times r) first) in
+    of_list-set K xs 0 c.neg.result (by_factor K (itself K) r a) inside
+    (ring2 K N (λ r x. (negative r ⊗ x, negative (r ⊗ x))) refl r (a 0) ∙ sym is)
+    (λ k ne. sym (v.done k (omega (arith, ne, last))))
+    ∙ sym (linear-product K N r a)
+
+pub returns-clause-len : goal.returns-clause-len
+returns-clause-len g c = length-set c.loop-i.coeffs.items 0 c.neg.result ∙ c.loop-i.invariant.len

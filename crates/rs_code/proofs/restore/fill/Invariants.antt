@@ -12,7 +12,7 @@ invariant-loop-i g l =
     record {
       before : (k : ℕ) → k < l.i → item V (map m l.values) k ≡ filled V (get_or l.marks k true) (of_list K l.factors k) (item V (map m l.word) k) (item V (map m l.initial.values) k);
       rest : (k : ℕ) → l.i ≤ k → item V (map m l.values) k ≡ item V (map m l.initial.values) k;
-      products_are : l.work.products ≡ l.initial.work.products + l.i;
+      products_are : l.work.products ≤ l.initial.work.products + l.i;
       butterflies_are : l.work.butterflies ≡ l.initial.work.butterflies;
       steps_are : l.work.steps ≡ l.initial.work.steps;
     }

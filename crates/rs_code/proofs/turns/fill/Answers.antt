@@ -1,60 +1,76 @@
-use Rattle.std.proofs.Common.{◌≡◌, ◌+◌, ◌<◌, ◌≤◌, ℕ, true, false, get_or, length, set, sym, ◌∙◌, ap, ◌≢◌, subst, get_or-set_same, get_or-set_other, ⊎_elim, inl, inr, arith}
-use Rattle.std.proofs.lemmas.Bool.{cases_eq}
+use Rattle.std.proofs.Common.{◌≡◌, ℕ, true, false, ◌+◌, ◌*◌, ◌<◌, get_or, length, ◌∙◌, ap, refl, arith}
+use Rattle.std.proofs.lemmas.List.{get_or_default}
 use Rattle.ark_math.specs.Univariate.{of_list}
-use Rattle.rs_code.specs.Turns.{erased_from, kept_from}
-use Rattle.rs_code.proofs.Places.{at_default, is_read}
-use Rattle.rs_code.proofs.TurnedPlaces.{read, kept_same, erased_same}
+use Rattle.rs_code.proofs.TurnedPlaces.{read}
+use Rattle.rs_code.proofs.TurnFactors.{made_more, made_of, made_parts, next_turn}
 use Rattle.rs_code.proofs.turns.fill.Goals as goal
 
 pub loop-j-preserved : goal.loop-j-preserved
 loop-j-preserved g c =
     let K = g.F.Field.field in
     let v = c.loop-j.invariant in
-    let at = c.args.at in
     let j = c.loop-j.j in
-    let i = at.here + j in
-    let inside : i < length c.loop-j.factors = omega (arith, c.loop-j.auto.factors, c.loop-j-test.true, c.requires.factors) in
-    let marked : i < length c.args.erased.now = omega (arith, inside, c.loop-j.auto.factors, c.requires.erased) in
-    let now = set c.loop-j.factors i c.factor_of.result in
-    let written : of_list K now i ≡ c.factor_of.result = get_or-set_same c.loop-j.factors i c.factor_of.result K.zero inside in
-    let other : (k : ℕ) → k ≢ i → of_list K now k ≡ of_list K c.loop-j.factors k = λ k ne. get_or-set_other c.loop-j.factors i k c.factor_of.result K.zero ne in
-    let kept_at = λ (k : ℕ). kept_from K c.args.all.now c.args.opposite.now c.args.one.now c.args.two.now c.args.three.now at.here at.back at.over at.square k in
-    let erased_at = λ (k : ℕ). erased_from K (of_list K c.args.factors.now (at.here + k)) c.args.none.now c.args.opposite.now c.args.one.now c.args.two.now c.args.three.now at.ahead at.over at.back at.other k in
-    let place : c.index-factors-i.result ≡ of_list K c.args.factors.now i =
-    sym (is_read c.loop-j.factors i c.index-factors-i.result K.zero inside c.index-factors-i.is) ∙ v.rest i (inr (omega arith)) in
-    let kept : get_or c.args.erased.now i true ≡ false → c.factor_of.result ≡ kept_at j = λ e.
-    c.factor_of.ensures.kept (at_default c.args.erased.now i true _ false marked e)
-    ∙ kept_same K
-    (read K c.args.all.now j c.index-all-j.result c.loop-j-test.true c.index-all-j.is)
-    (read K c.args.opposite.now (at.square + j) c.index-opposite-at-in-loop-j.result (omega (arith, c.loop-j-test.true, c.requires.square)) c.index-opposite-at-in-loop-j.is)
-    (read K c.args.one.now i c.index-one-i.result (omega (arith, inside, c.loop-j.auto.factors, c.requires.one)) c.index-one-i.is)
-    (read K c.args.two.now i c.index-two-i.result (omega (arith, inside, c.loop-j.auto.factors, c.requires.two)) c.index-two-i.is)
-    (read K c.args.two.now (at.back + j) c.index-two-at-in-loop-j-2.result (omega (arith, c.loop-j-test.true, c.requires.two, c.requires.back)) c.index-two-at-in-loop-j-2.is)
-    (read K c.args.three.now i c.index-three-i.result (omega (arith, inside, c.loop-j.auto.factors, c.requires.three)) c.index-three-i.is)
-    (read K c.args.three.now (at.back + j) c.index-three-at-in-loop-j.result (omega (arith, c.loop-j-test.true, c.requires.three, c.requires.back)) c.index-three-at-in-loop-j.is)
-    (read K c.args.three.now (at.over + j) c.index-three-at-in-loop-j-2.result (omega (arith, c.loop-j-test.true, c.requires.three, c.requires.over)) c.index-three-at-in-loop-j-2.is) in
-    let erased : get_or c.args.erased.now i true ≡ true → c.factor_of.result ≡ erased_at j = λ e.
-    c.factor_of.ensures.erased (at_default c.args.erased.now i true _ true marked e)
-    ∙ erased_same K place
-    (read K c.args.none.now j c.index-none-j.result (omega (arith, c.loop-j-test.true, c.requires.none)) c.index-none-j.is)
-    (read K c.args.opposite.now (at.other + j) c.index-opposite-at.result (omega (arith, c.loop-j-test.true, c.requires.other)) c.index-opposite-at.is)
-    (read K c.args.one.now (at.back + j) c.index-one-at.result (omega (arith, c.loop-j-test.true, c.requires.one, c.requires.back)) c.index-one-at.is)
-    (read K c.args.one.now (at.over + j) c.index-one-at-in-loop-j.result (omega (arith, c.loop-j-test.true, c.requires.one, c.requires.over)) c.index-one-at-in-loop-j.is)
-    (read K c.args.one.now (at.ahead + j) c.index-one-at-in-loop-j-2.result (omega (arith, c.loop-j-test.true, c.requires.one, c.requires.ahead)) c.index-one-at-in-loop-j-2.is)
-    (read K c.args.two.now (at.over + j) c.index-two-at.result (omega (arith, c.loop-j-test.true, c.requires.two, c.requires.over)) c.index-two-at.is)
-    (read K c.args.two.now (at.ahead + j) c.index-two-at-in-loop-j.result (omega (arith, c.loop-j-test.true, c.requires.two, c.requires.ahead)) c.index-two-at-in-loop-j.is)
-    (read K c.args.three.now (at.ahead + j) c.index-three-at.result (omega (arith, c.loop-j-test.true, c.requires.three, c.requires.ahead)) c.index-three-at.is) in
+    let k = get_or c.args.fours.now j 0 in
+    let q = length c.args.fours.now in
+    let within : k < q = c.requires.fours j c.loop-j-test.true in
+    let own = read K c.args.all.now k c.index-all-k.result (omega (arith, within, c.requires.all)) c.index-all-k.is in
+    let none = read K c.args.none.now k c.index-none-k.result (omega (arith, within, c.requires.none)) c.index-none-k.is in
+    let here : c.index-opposite-k.result ≡ of_list K c.args.opposite.now (2 * k + 0) =
+    read K c.args.opposite.now (2 * k) c.index-opposite-k.result (omega (arith, within, c.requires.opposite)) c.index-opposite-k.is ∙ ap (of_list K c.args.opposite.now) (omega arith) in
+    let other = read K c.args.opposite.now (2 * k + 1) c.index-opposite-k-in-loop-j.result (omega (arith, within, c.requires.opposite)) c.index-opposite-k-in-loop-j.is in
+    let mark = λ (i : ℕ) (l : i < length c.args.erased.now). get_or_default c.args.erased.now i false true l in
+    let ones = c.four_at-ones.ensures in
+    let twos = c.four_at-twos.ensures in
+    let threes = c.four_at-threes.ensures in
+    let ones_1 = next_turn c.turned-ones.ensures ones in
+    let twos_1 = next_turn c.turned-twos.ensures twos in
+    let threes_1 = next_turn c.turned-threes.ensures threes in
+    let ones_2 = next_turn c.turned-ones-in-loop-j.ensures ones_1 in
+    let twos_2 = next_turn c.turned-twos-in-loop-j.ensures twos_1 in
+    let threes_2 = next_turn c.turned-threes-in-loop-j.ensures threes_1 in
+    let ones_3 = next_turn c.turned-ones-in-loop-j-2.ensures ones_2 in
+    let twos_3 = next_turn c.turned-twos-in-loop-j-2.ensures twos_2 in
+    let threes_3 = next_turn c.turned-threes-in-loop-j-2.ensures threes_2 in
+    let made = made_of K c.args.all.now c.args.none.now c.args.opposite.now c.args.one.now c.args.two.now c.args.three.now in
+    let more = made_more K c.args.all.now c.args.none.now c.args.opposite.now c.args.one.now c.args.two.now c.args.three.now c.args.fours.now c.args.erased.now in
+    let l = c.loop-j-test.true in
+    let p = c.split_at_mut-first in
+    let r = c.split_at_mut-second in
+    let u = c.split_at_mut-third in
     record {
-      kept = λ k l e. ⊎_elim
-          (λ (same : k ≡ j). subst (λ t. of_list K now (at.here + t) ≡ kept_at t) (sym same) (written ∙ kept (ap (λ t. get_or c.args.erased.now (at.here + t) true) (sym same) ∙ e)))
-          (λ (ne : k ≢ j). other (at.here + k) (omega arith) ∙ v.kept k (omega arith) e)
-          (cases_eq k j);
-      erased = λ k l e. ⊎_elim
-          (λ (same : k ≡ j). subst (λ t. of_list K now (at.here + t) ≡ erased_at t) (sym same) (written ∙ erased (ap (λ t. get_or c.args.erased.now (at.here + t) true) (sym same) ∙ e)))
-          (λ (ne : k ≢ j). other (at.here + k) (omega arith) ∙ v.erased k (omega arith) e)
-          (cases_eq k j);
-      rest = λ k h. ⊎_elim
-          (λ (l : k < at.here). other k (omega arith) ∙ v.rest k (inl l))
-          (λ (l : at.here + (j + 1) ≤ k). other k (omega arith) ∙ v.rest k (inr (omega arith)))
-          h;
+      first = more 0 j p.result.0.now c.loop-j.first c.index-first-j.result c.turn_factor.result j (get_or c.args.erased.now j false)
+          (omega (arith, l, p.ensures.front_len)) v.first c.index-first-j.is (omega arith) (mark j (omega (arith, l, c.requires.erased)))
+          (made k 0 _ _ _ _ _ _ _ _ _ _ own none here other ones twos threes c.turn_factor.ensures.erased c.turn_factor.ensures.kept);
+      second = more 1 j r.result.0.now c.loop-j.second c.index-second-j.result c.turn_factor-in-loop-j.result (j + q) (get_or c.args.erased.now (j + q) false)
+          (omega (arith, l, r.ensures.front_len)) v.second c.index-second-j.is (omega arith) (mark (j + q) (omega (arith, l, c.requires.erased)))
+          (made k 1 _ _ _ _ _ _ _ _ _ _ own none other here ones_1 twos_1 threes_1 c.turn_factor-in-loop-j.ensures.erased c.turn_factor-in-loop-j.ensures.kept);
+      third = more 2 j u.result.0.now c.loop-j.third c.index-third-j.result c.turn_factor-in-loop-j-2.result (j + q + q) (get_or c.args.erased.now (j + q + q) false)
+          (omega (arith, l, u.ensures.front_len)) v.third c.index-third-j.is (omega arith) (mark (j + q + q) (omega (arith, l, c.requires.erased)))
+          (made k 2 _ _ _ _ _ _ _ _ _ _ own none here other ones_2 twos_2 threes_2 c.turn_factor-in-loop-j-2.ensures.erased c.turn_factor-in-loop-j-2.ensures.kept);
+      fourth = more 3 j u.result.1.now c.loop-j.fourth c.index-fourth-j.result c.turn_factor-in-loop-j-3.result (j + q + q + q) (get_or c.args.erased.now (j + q + q + q) false)
+          (omega (arith, l, u.ensures.back_len, r.ensures.back_len, p.ensures.back_len, c.requires.factors)) v.fourth c.index-fourth-j.is (omega arith) (mark (j + q + q + q) (omega (arith, l, c.requires.erased)))
+          (made k 3 _ _ _ _ _ _ _ _ _ _ own none other here ones_3 twos_3 threes_3 c.turn_factor-in-loop-j-3.ensures.erased c.turn_factor-in-loop-j-3.ensures.kept);
     }
+
+pub returns-clause-made : goal.returns-clause-made
+returns-clause-made g c =
+    let K = g.F.Field.field in
+    let z = K.zero in
+    let q = length c.args.fours.now in
+    let v = c.loop-j.invariant in
+    let end : c.loop-j.j ≡ q = omega (arith, c.loop-j-test.false, c.loop-j.auto.j-end) in
+    let s = c.split_at_mut-first.ensures in
+    let u = c.split_at_mut-second.ensures in
+    let w = c.split_at_mut-third.ensures in
+    made_parts K c.args.all.now c.args.none.now c.args.opposite.now c.args.one.now c.args.two.now c.args.three.now c.args.fours.now c.args.erased.now
+    q c.loop-j.j refl end c.args.factors.now
+    c.split_at_mut-first.result.0.now c.split_at_mut-second.result.0.now c.split_at_mut-third.result.0.now c.split_at_mut-third.result.1.now
+    c.loop-j.first c.loop-j.second c.loop-j.third c.loop-j.fourth
+    (v.first.len ∙ omega (arith, s.front_len))
+    (v.second.len ∙ omega (arith, u.front_len))
+    (v.third.len ∙ omega (arith, w.front_len))
+    (λ j l. s.by_index.0 j z l)
+    (λ j l. u.by_index.0 j z l ∙ s.by_index.1 j z)
+    (λ j l. w.by_index.0 j z l ∙ u.by_index.1 j z ∙ s.by_index.1 (q + j) z)
+    (λ j l. w.by_index.1 j z ∙ u.by_index.1 (q + j) z ∙ s.by_index.1 (q + (q + j)) z)
+    v.first v.second v.third v.fourth
