@@ -22,6 +22,16 @@ nodes K (z ∷ zs) = product K (linear_factor K z) (nodes K zs)
 abbrev pub StandsFor : {F : Type 0} → FieldOn F → ℕ → (ℕ → F) → (ℕ → F) → (ℕ → F) → Type 0
 StandsFor {F} K n m p s = (c : ℕ → F) (z : F) → IsBelow K n c → m ≡ product K c (linear_factor K z) → IsValue K p z (product K c s (n - 1))
 
+-- t stands over some of the points for what s stands for over all of them
+pub record StandsForPart {F : Type 0} (K : FieldOn F) (points part : List F) (s t : ℕ → F) : Type 0 where
+  pub below : IsBelow K (length part) t
+  pub stands : (p : ℕ → F) → StandsFor K (length points) (nodes K points) p s → StandsFor K (length part) (nodes K part) p t
+
+-- t does so over the first half of the points, and u over the others
+pub record StandForHalves {F : Type 0} (K : FieldOn F) (points : List F) (s t u : ℕ → F) : Type 0 where
+  pub low : StandsForPart K points (take (length points / 2) points) s t
+  pub high : StandsForPart K points (drop (length points / 2) points) s u
+
 -- where m is zero, p's value is u's times what is left of h without z ^ n, for h the power n of a domain's n elements
 abbrev pub IsShare : {F : Type 0} → FieldOn F → Domain F → (ℕ → F) → (ℕ → F) → (ℕ → F) → Type 0
 IsShare {F} K d m p u = (z y : F) → IsValue K m z K.zero → IsValue K u z y → IsValue K p z (K.times y (minus K (power K d.offset d.size) (power K z d.size)))

@@ -1,7 +1,7 @@
 //! The polynomial through given points.
 
 ghost use Rattle.std.specs.Prelude.{◌≡◌, ◌≢◌, ℕ, ◌<◌, length, map, IfOk, IsOkUnless, Err};
-ghost use Rattle.ark_math.specs.Linear.{constant as constant_of, linear_factor};
+ghost use Rattle.ark_math.specs.Linear.{linear_factor};
 ghost use Rattle.ark_math.specs.Outcome.{IsOkUnlessEither};
 ghost use Rattle.ark_math.specs.Univariate.{IsBelow, of_list};
 ghost use Rattle.ark_points.specs.Points.{AreDifferent, HasRepeated, HasValues, IsThrough, x_of, y_of};
@@ -11,6 +11,7 @@ use crate::error::PointsError;
 use crate::items::has_zero;
 use crate::levels::Levels;
 use crate::pairs::first_parts;
+use crate::parts::constant;
 use crate::repeated::has_repeated;
 use crate::tree::Products;
 use crate::values::values_with_tree;
@@ -87,8 +88,29 @@ fn through_tree<F: FftField, D: EvaluationDomain<F>>(
         let polynomial = naive_from_points(alloc, points)?;
         return Ok(polynomial);
     }
-    let weights = weights(alloc, &slopes, points)?;
-    Ok(tree.weighed(alloc, xs, &weights)?)
+    Ok(summed_up(alloc, tree, xs, &slopes, points)?)
+}
+
+// Lagrange's sum for pairs that have these x, with these slopes of the product of x - z at them.
+fn summed_up<F: FftField, D: EvaluationDomain<F>>(
+    alloc: Global,
+    tree: &Products<F, D>,
+    xs: &[F],
+    slopes: &[F],
+    points: &[(F, F)],
+) -> Result<DensePolynomial<F>, PolyError>
+    requires xs { xs.now ≡ map (λ p. p.0) points.now }
+    requires tree { IsTreeOver F.field D.domain xs.now tree.now }
+    requires len { length slopes.now ≡ length xs.now }
+    requires slopes { HasValues F.field (length xs.now) (of_list F.field xs.now) (of_list F.field slopes.now)
+        (derived F.field (nodes F.field xs.now)) }
+    requires not_zero { (i : ℕ) → i < length slopes.now → of_list F.field slopes.now i ≢ F.field.zero }
+    ensures through { IfOk result (λ p. IsThrough F.field points.now (of_list F.field p)) }
+    ensures memory { IsOkUnless result PolyError.Memory }
+{
+    let weights = weights(alloc, slopes, points)?;
+    let sum = tree.weighed(alloc, xs, &weights)?;
+    Ok(sum)
 }
 
 // The slope at each point of the product of x - z over all of them.
@@ -199,15 +221,6 @@ fn through_different<F: Field>(
         nodes = nodes.naive_mul(alloc, &factor)?;
     }
     Ok(polynomial)
-}
-
-// The polynomial y.
-fn constant<F: Field>(alloc: Global, y: F) -> Result<DensePolynomial<F>, PolyError>
-    ensures { IfOk result (λ p. of_list F.field p ≡ constant_of F.field y) }
-{
-    let mut coeffs = Vec::new(alloc);
-    coeffs.push(y)?;
-    Ok(DensePolynomial::from_coefficients_vec(coeffs))
 }
 
 // The polynomial x - z.

@@ -99,11 +99,18 @@ fn are_found<F: Field>(points: &[F], rests: &[F]) -> bool
         → (of_list F.field rests.now i ≡ F.field.one) ⊎ (of_list F.field points.now i ≡ F.field.zero)) }
 {
     for i in 0..points.len() {
-        if !rests[i].is_one() && !points[i].is_zero() {
+        if !is_found(points[i], rests[i]) {
             return false;
         }
     }
     true
+}
+
+// Whether a point is zero or has one as its rest.
+fn is_found<F: Field>(point: F, rest: F) -> bool
+    ensures { IsTrue result ↔ (rest ≡ F.field.one) ⊎ (point ≡ F.field.zero) }
+{
+    rest.is_one() || point.is_zero()
 }
 
 // The values at points from those over a subgroup and at zero, where each of the points is a root's power at

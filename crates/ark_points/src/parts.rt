@@ -1,6 +1,7 @@
-//! Parts of polynomials and of products.
+//! Constant polynomials, and parts of polynomials and of products.
 
 ghost use Rattle.std.specs.Prelude.{◌≡◌, ℕ, ◌+◌, ◌-◌, ◌<◌, ◌≤◌, length, IfOk, IsOkUnless};
+ghost use Rattle.ark_math.specs.Linear.{constant as constant_of};
 ghost use Rattle.ark_math.specs.Points.{AreValues};
 ghost use Rattle.ark_math.specs.Univariate.{IsBelow, of_list, product};
 
@@ -9,6 +10,16 @@ use ark_coeffs::dense::add_scaled;
 use ark_poly::univariate::DensePolynomial;
 use ark_poly::{DenseUVPolynomial, EvaluationDomain, Evaluations};
 use std::alloc::{AllocError, Global};
+
+/// The polynomial y.
+pub fn constant<F: Field>(alloc: Global, y: F) -> Result<DensePolynomial<F>, PolyError>
+    ensures constant { IfOk result (λ p. of_list F.field p ≡ constant_of F.field y) }
+    ensures memory { IsOkUnless result PolyError.Memory }
+{
+    let mut coeffs = Vec::new(alloc);
+    coeffs.push(y)?;
+    Ok(DensePolynomial::from_coefficients_vec(coeffs))
+}
 
 /// The coefficients from `start` on and below `end`, moved down to zero.
 pub fn part<F: Field>(
@@ -46,6 +57,27 @@ pub fn upper_part<F: FftField, D: EvaluationDomain<F>>(
 {
     let product = left.mul(alloc, right)?.interpolate(alloc)?;
     Ok(part(alloc, &product, start, end)?)
+}
+
+/// The same coefficients of a product, of which the right factor has these values.
+pub fn product_part<F: FftField, D: EvaluationDomain<F>>(
+    alloc: Global,
+    left: &DensePolynomial<F>,
+    right: &Evaluations<F, D>,
+    start: usize,
+    end: usize,
+) -> Result<DensePolynomial<F>, PolyError>
+    requires room { end ≤ (D.domain right.now.domain).size }
+    ensures same { IfOk result (λ p. (b : ℕ → F)
+        → AreValues F.field (D.domain right.now.domain) b right.now.evals
+        → IsBelow F.field (start + (D.domain right.now.domain).size) (product F.field (of_list F.field left.now) b)
+        → (i : ℕ) → start + i < end → of_list F.field p i
+        ≡ product F.field (of_list F.field left.now) b (start + i)) }
+    ensures below { IfOk result (λ p. IsBelow F.field (end - start) (of_list F.field p)) }
+    ensures memory { IsOkUnless result PolyError.Memory }
+{
+    let values = left.evaluate_over_domain_by_ref(alloc, right.domain())?;
+    upper_part(alloc, &values, right, start, end)
 }
 
 /// Adds to each of n items the coefficient of a product as many places past n, of which one factor has at most n

@@ -9,14 +9,14 @@ use crate::parts::part;
 use crate::series::inverse_series;
 use ark_base::{FftField, PolyError, Polynomial};
 use ark_coeffs::dense::zeros;
-use ark_poly::DenseUVPolynomial;
 use ark_poly::univariate::DensePolynomial;
+use ark_poly::{DenseUVPolynomial, EvaluationDomain};
 use ark_quotients::series::reversed;
 use std::alloc::Global;
 
 /// What stands for the polynomial at the roots of a product of n factors x - z: the first n coefficients of its quotient by
 /// the product, once it has been moved up by n places.
-pub fn scaled_by<F: FftField>(
+pub fn scaled_by<F: FftField, D: EvaluationDomain<F>>(
     alloc: Global,
     polynomial: &DensePolynomial<F>,
     product: &DensePolynomial<F>,
@@ -29,14 +29,14 @@ pub fn scaled_by<F: FftField>(
     ensures below { IfOk result (λ s. IsBelow F.field n (of_list F.field s)) }
     ensures memory { IsOkUnless result PolyError.Memory }
 {
-    match scaled_by_series(alloc, polynomial, product, n) {
+    match scaled_by_series::<F, D>(alloc, polynomial, product, n) {
         Err(PolyError::NoDomain) => scaled_by_division(alloc, polynomial, product, n),
         answer => answer,
     }
 }
 
 // In the reversed order the quotient is the product with the inverse series.
-fn scaled_by_series<F: FftField>(
+fn scaled_by_series<F: FftField, D: EvaluationDomain<F>>(
     alloc: Global,
     polynomial: &DensePolynomial<F>,
     product: &DensePolynomial<F>,
@@ -55,7 +55,7 @@ fn scaled_by_series<F: FftField>(
     }
     let backwards = reversed(alloc, product.coeffs(), n, n + 1)?;
     let backwards = DensePolynomial::from_coefficients_vec(backwards);
-    let inverse = inverse_series(alloc, &backwards, len)?;
+    let inverse = inverse_series::<F, D>(alloc, &backwards, len)?;
     let coeffs = reversed(alloc, polynomial.coeffs(), len - 1, len)?;
     let series = DensePolynomial::from_coefficients_vec(coeffs).mul(alloc, &inverse)?;
     let scaled = reversed(alloc, series.coeffs(), len - 1, len.min(n))?;

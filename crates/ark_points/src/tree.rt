@@ -4,7 +4,7 @@ ghost use Rattle.std.specs.Prelude.{◌≡◌, ℕ, ◌+◌, ◌/◌, ◌<◌, �
 ghost use Rattle.ark_math.specs.Points.{AreValues};
 ghost use Rattle.ark_math.specs.Univariate.{IsBelow, added, of_list, product};
 ghost use Rattle.ark_points.specs.Points.{HasValues};
-ghost use Rattle.ark_points.specs.Tree.{IsMonic, IsTreeOver, StandsFor, nodes, weighed, whole};
+ghost use Rattle.ark_points.specs.Tree.{HaveValues, IsMonic, IsTreeOver, StandForHalves, StandsFor, nodes, weighed, whole};
 
 use crate::few::FEW_POINTS;
 use crate::leaf::Leaf;
@@ -98,12 +98,15 @@ impl<F: FftField, D: EvaluationDomain<F>> Products<F, D> {
             Tree::Few(leaf) => leaf.write_values(alloc, points, scaled.coeffs(), values),
             Tree::Halves(_, low, low_values, high, high_values) => {
                 let half = points.len() / 2;
-                let rest = points.len() - half;
+                let (for_low, for_high) = for_halves(
+                    alloc,
+                    points,
+                    scaled,
+                    low_values,
+                    high_values,
+                )?;
                 let (to_low, to_high) = values.split_at_mut(half);
-                let own = scaled.evaluate_over_domain_by_ref(alloc, low_values.domain())?;
-                let for_low = upper_part(alloc, high_values, &own, rest, points.len())?;
                 low.write_values(alloc, &points[..half], &for_low, to_low)?;
-                let for_high = upper_part(alloc, low_values, &own, half, points.len())?;
                 high.write_values(alloc, &points[half..], &for_high, to_high)
             }
         }
@@ -126,12 +129,9 @@ impl<F: FftField, D: EvaluationDomain<F>> Products<F, D> {
             Tree::Few(leaf) => leaf.weighed(alloc, points, weights),
             Tree::Halves(_, low, low_values, high, high_values) => {
                 let half = points.len() / 2;
-                let domain = low_values.domain();
                 let of_low = low.weighed(alloc, &points[..half], &weights[..half])?;
-                let first = of_low.evaluate_over_domain(alloc, domain)?;
                 let of_high = high.weighed(alloc, &points[half..], &weights[half..])?;
-                let second = of_high.evaluate_over_domain(alloc, domain)?;
-                sum_of_products(alloc, first, high_values, second, low_values)
+                sum_of_products(alloc, of_low, high_values, of_high, low_values)
             }
         }
     }
@@ -197,28 +197,51 @@ fn product_of_degree<F: FftField, D: EvaluationDomain<F>>(
     Ok(product)
 }
 
-// From values of four polynomials the sum of the first two's product and the other two's.
-fn sum_of_products<F: FftField, D: EvaluationDomain<F>>(
+// What stands for the polynomial over the first half of the points, and over the others.
+fn for_halves<F: FftField, D: EvaluationDomain<F>>(
     alloc: Global,
-    first: Evaluations<F, D>,
-    first_factor: &Evaluations<F, D>,
-    second: Evaluations<F, D>,
-    second_factor: &Evaluations<F, D>,
-) -> Result<DensePolynomial<F>, PolyError>
-    requires first { D.domain first.domain ≡ D.domain first_factor.now.domain }
-    requires second { D.domain second.domain ≡ D.domain second_factor.now.domain }
-    requires domains { D.domain first.domain ≡ D.domain second.domain }
-    ensures sum { IfOk result (λ p. (f a s b : ℕ → F) → AreValues F.field (D.domain first.domain) f first.evals
-        → AreValues F.field (D.domain first.domain) a first_factor.now.evals
-        → AreValues F.field (D.domain first.domain) s second.evals
-        → AreValues F.field (D.domain first.domain) b second_factor.now.evals
-        → IsBelow F.field (D.domain first.domain).size (added F.field (product F.field f a) (product F.field s b))
-        → of_list F.field p ≡ added F.field (product F.field f a) (product F.field s b)) }
+    points: &[F],
+    scaled: &DensePolynomial<F>,
+    low_values: &Evaluations<F, D>,
+    high_values: &Evaluations<F, D>,
+) -> Result<(DensePolynomial<F>, DensePolynomial<F>), PolyError>
+    requires values { HaveValues F.field points.now (D.domain low_values.now.domain)
+        (D.domain high_values.now.domain) low_values.now.evals high_values.now.evals }
+    requires below { IsBelow F.field (length points.now) (of_list F.field scaled.now) }
+    ensures stand { IfOk result (λ h. StandForHalves F.field points.now (of_list F.field scaled.now)
+        (of_list F.field h.0) (of_list F.field h.1)) }
     ensures memory { IsOkUnless result PolyError.Memory }
 {
-    let mut sum = first;
+    let half = points.len() / 2;
+    let rest = points.len() - half;
+    let own = scaled.evaluate_over_domain_by_ref(alloc, low_values.domain())?;
+    let for_low = upper_part(alloc, high_values, &own, rest, points.len())?;
+    let for_high = upper_part(alloc, low_values, &own, half, points.len())?;
+    Ok((for_low, for_high))
+}
+
+// The sum of two products, each of a polynomial and of another one's values.
+fn sum_of_products<F: FftField, D: EvaluationDomain<F>>(
+    alloc: Global,
+    first: DensePolynomial<F>,
+    first_factor: &Evaluations<F, D>,
+    second: DensePolynomial<F>,
+    second_factor: &Evaluations<F, D>,
+) -> Result<DensePolynomial<F>, PolyError>
+    requires domains { D.domain first_factor.now.domain ≡ D.domain second_factor.now.domain }
+    ensures sum { IfOk result (λ p. (a b : ℕ → F)
+        → AreValues F.field (D.domain first_factor.now.domain) a first_factor.now.evals
+        → AreValues F.field (D.domain first_factor.now.domain) b second_factor.now.evals
+        → IsBelow F.field (D.domain first_factor.now.domain).size
+        (added F.field (product F.field (of_list F.field first) a) (product F.field (of_list F.field second) b))
+        → of_list F.field p
+        ≡ added F.field (product F.field (of_list F.field first) a) (product F.field (of_list F.field second) b)) }
+    ensures memory { IsOkUnless result PolyError.Memory }
+{
+    let domain = first_factor.domain();
+    let mut sum = first.evaluate_over_domain(alloc, domain)?;
     sum.mul_assign(first_factor);
-    let mut other = second;
+    let mut other = second.evaluate_over_domain(alloc, domain)?;
     other.mul_assign(second_factor);
     sum.add_assign(&other);
     let polynomial = sum.interpolate(alloc)?;

@@ -122,7 +122,7 @@ fn values_by_series<F: FftField, D: EvaluationDomain<F>>(
     ensures values { IfOk result (λ v. AreValuesAt F.field points.now v.items (of_list F.field polynomial.now)) }
     ensures memory { IsOkUnless result PolyError.Memory }
 {
-    let scaled = scaled_by(alloc, polynomial, tree.product(), points.len())?;
+    let scaled = scaled_by::<F, D>(alloc, polynomial, tree.product(), points.len())?;
     let values = tree.values(alloc, points, &scaled)?;
     Ok(values)
 }

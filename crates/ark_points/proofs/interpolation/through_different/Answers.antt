@@ -12,7 +12,7 @@ loop-i-init g c =
     let K = g.F.Field.field in
     let points = c.args.points.now in
     reached-zero K g.met.F.Field.field_laws (x_of K points) (y_of K points) (of_list K c.in_ok-polynomial.polynomial) (of_list K c.in_ok-nodes.nodes) c.in_ok-polynomial.ensures.zero
-    (c.in_ok-nodes.ensures ∙ ap (λ t. of_list K (t ∷ [])) (c.one.ensures ∙ g.met.F.Field.one_law))
+    (c.in_ok-nodes.ensures.constant ∙ ap (λ t. of_list K (t ∷ [])) (c.one.ensures ∙ g.met.F.Field.one_law))
 
 pub unwrap-inverse-requires : goal.unwrap-inverse-requires
 unwrap-inverse-requires g c =

@@ -1,11 +1,7 @@
-use Rattle.std.proofs.Common.{◌≡◌, length, sym, ap, subst, subst₂, ◌∙◌, arith}
-use Rattle.std.proofs.lemmas.List.{length-map}
-use Rattle.ark_math.specs.Univariate.{IsBelow, of_list}
-use Rattle.ark_points.specs.Points.{AreDifferent, HasValues, x_of, y_of}
-use Rattle.ark_points.specs.Tree.{weighed}
-use Rattle.ark_points.proofs.Newton.{only_interpolation}
-use Rattle.ark_points.proofs.PairParts.{x_of_is}
-use Rattle.ark_points.proofs.Weighed.{slopes_differ, weighed-below, weighed_values}
+use Rattle.std.proofs.Common.{length, sym, subst}
+use Rattle.ark_math.specs.Univariate.{of_list}
+use Rattle.ark_points.specs.Points.{HasValues}
+use Rattle.ark_points.specs.Tree.{derived, nodes}
 use Rattle.ark_points.proofs.interpolation.through_tree.Goals as goal
 
 pub returns-then-has_zero-clause-through : goal.returns-then-has_zero-clause-through
@@ -14,31 +10,10 @@ returns-then-has_zero-clause-through g c =
     record { below = plain.below; values = plain.values; only = plain.only; different = plain.different }
 
 pub returns-clause-through : goal.returns-clause-through
-returns-clause-through g c =
+returns-clause-through g c = c.in_ok-summed_up.ensures.through
+
+pub summed_up-requires-clause-slopes : goal.summed_up-requires-clause-slopes
+summed_up-requires-clause-slopes g c =
     let K = g.F.Field.field in
-    let N = g.met.F.Field.field_laws in
-    let points = c.args.points.now in
-    let zs = c.args.xs.now in
-    let count : length zs ≡ length points = ap length c.requires.xs ∙ length-map points (λ p. p.0) in
-    let xs : of_list K zs ≡ x_of K points = ap (of_list K) c.requires.xs ∙ x_of_is K points in
-    let ss = of_list K c.in_ok-slopes.slopes.items in
-    let slopes = c.in_ok-slopes.ensures.slopes in
-    let ws = of_list K c.in_ok-weights.weights.items in
-    let is : of_list K c.in_ok-weighed.field-0 ≡ weighed K zs ws =
-    c.in_ok-weighed.ensures.sum ∙ ap (λ u. weighed K zs (of_list K u)) c.deref-3.ensures.value in
-    let below : IsBelow K (length points) (of_list K c.in_ok-weighed.field-0) = subst₂ (IsBelow K) count (sym is) (weighed-below K N zs ws) in
-    let values : HasValues K (length points) (x_of K points) (y_of K points) (of_list K c.in_ok-weighed.field-0) =
-    subst (HasValues K (length points) (x_of K points) (y_of K points)) (sym is)
-    (subst₂ (λ n x. HasValues K n x (y_of K points) (weighed K zs ws)) count xs
-    (weighed_values K N zs ws ss (y_of K points) slopes (λ i l.
-    ap (λ t. K.times (ws i) (of_list K t i)) (sym c.deref-2.ensures.value) ∙ c.in_ok-weights.ensures.weights i (omega (arith, l, count))))) in
-    let different : AreDifferent (length points) (x_of K points) =
-    subst₂ AreDifferent count xs (slopes_differ K N zs ss slopes (λ i l none.
-    c.has_zero.ensures c.if-has_zero.false i (omega (arith, l, c.in_ok-slopes.ensures.len, ap length c.deref.ensures.value))
-    (ap (λ t. of_list K t i) c.deref.ensures.value ∙ none))) in
-    record {
-      below = below;
-      values = values;
-      only = λ a short given. only_interpolation K N (x_of K points) (y_of K points) (length points) different a _ short below given values;
-      different = different;
-    }
+    let xs = c.args.xs.now in
+    subst (λ v. HasValues K (length xs) (of_list K xs) (of_list K v) (derived K (nodes K xs))) (sym c.deref-2.ensures.value) c.in_ok-slopes.ensures.slopes

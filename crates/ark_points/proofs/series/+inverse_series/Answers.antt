@@ -1,4 +1,5 @@
 use Rattle.std.proofs.Common.{◌≡◌, ◌≤◌, [], ◌∷◌, ap, ◌∙◌, arith}
+use Rattle.std.proofs.lemmas.Result.{IfOk-weaker}
 use Rattle.ark_math.specs.Univariate.{of_list}
 use Rattle.ark_quotients.proofs.PowerSeries.{inverse_constant}
 use Rattle.ark_math.proofs.Polynomials.UnivariateLists.{of_list-past}
@@ -8,18 +9,20 @@ pub returns-then-len-eq1-clause-inverse : goal.returns-then-len-eq1-clause-inver
 returns-then-len-eq1-clause-inverse g t c =
     let K = g.F.Field.field in
     let N = g.met.F.Field.field_laws in
+    let series = of_list K c.args.series.now in
     let one : c.one.result ≡ K.one = c.one.ensures ∙ g.met.F.Field.one_law in
-    inverse_constant K N c.args.len (of_list K c.args.series.now) (of_list K c.from_coefficients_vec.result) c.one.result c.if-len-eq1.true
-    (ap (K.times (of_list K c.args.series.now 0)) one ∙ (N.times_one (of_list K c.args.series.now 0) ∙ c.requires.first))
-    (ap (λ t. t 0) (c.from_coefficients_vec.ensures.coefficients ∙ ap (of_list K) (c.in_ok-vec.ensures.items_if_clones_equal (λ y h. g.met.F.Field.clone_law _ _ h))))
+    IfOk-weaker c.constant.result _ _
+    (λ p h.
+    inverse_constant K N c.args.len series (of_list K p) c.one.result c.if-len-eq1.true
+    (ap (K.times (series 0)) one ∙ (N.times_one (series 0) ∙ c.requires.first))
+    (ap (λ t. t 0) h))
+    c.constant.ensures.constant
 
 pub returns-then-len-eq1-clause-below : goal.returns-then-len-eq1-clause-below
-returns-then-len-eq1-clause-below g t c i l =
+returns-then-len-eq1-clause-below g t c =
     let K = g.F.Field.field in
     let one = c.if-len-eq1.true in
-    let past : 1 ≤ i = omega (arith, l, one) in
-    ap (λ t. t i) (c.from_coefficients_vec.ensures.coefficients ∙ ap (of_list K) (c.in_ok-vec.ensures.items_if_clones_equal (λ y h. g.met.F.Field.clone_law _ _ h)))
-    ∙ of_list-past K (c.one.result ∷ []) i past
+    IfOk-weaker c.constant.result _ _ (λ p h i l. ap (λ t. t i) h ∙ of_list-past K (c.one.result ∷ []) i (omega (arith, l, one))) c.constant.ensures.constant
 
 pub refined_inverse-requires : goal.refined_inverse-requires
 refined_inverse-requires g t c = record {

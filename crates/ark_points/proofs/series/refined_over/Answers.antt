@@ -1,12 +1,10 @@
 use Rattle.std.proofs.Common.{◌≡◌, ◌+◌, ◌-◌, ◌≤◌, refl, sym, ap, subst, ◌∙◌, arith}
 use Rattle.ark_math.specs.Points.{AreValues}
 use Rattle.ark_math.specs.Univariate.{of_list, product}
-use Rattle.ark_math.proofs.Domains.GeneralSizes.{general_sizes}
 use Rattle.ark_math.proofs.Polynomials.UnivariateLists.{of_list-past}
 use Rattle.ark_math.proofs.Polynomials.UnivariateProducts.{product_comm, product-below}
-use Rattle.ark_poly.specs.Domains.{general_domain}
 use Rattle.ark_quotients.proofs.PowerSeries.{agree-product, newton_parts}
-use Rattle.ark_points.proofs.series.refined_inverse.Goals as goal
+use Rattle.ark_points.proofs.series.refined_over.Goals as goal
 
 pub returns-clause-inverse : goal.returns-clause-inverse
 returns-clause-inverse g c =
@@ -20,30 +18,25 @@ returns-clause-inverse g c =
     let excess = of_list K c.in_ok-excess.excess in
     let correction = of_list K c.in_ok-correction.correction in
     let values = c.in_ok-values.values in
-    let inverse_values = c.in_ok-inverse_values.inverse_values in
-    let excess_values = c.in_ok-excess_values.excess_values in
-    let d = general_domain values.domain in
-    let room : len ≤ d.size = subst (λ t. len ≤ (general_domain t).size) (sym c.in_ok-values.ensures.domain) (general_sizes g.F.FftField.adicity len _ _ c.in-Some.ensures.chosen).1 in
-    let A : AreValues K d first values.evals = subst (λ t. AreValues K (general_domain t) first values.evals) (sym c.in_ok-values.ensures.domain) c.in_ok-values.ensures.values in
-    let B : AreValues K d inverse inverse_values.evals = subst (λ t. AreValues K (general_domain t) inverse inverse_values.evals) (sym c.in_ok-values.ensures.domain) c.in_ok-inverse_values.ensures.values in
-    let e = general_domain excess_values.domain in
-    let roomy : len ≤ e.size = subst (λ t. len ≤ (general_domain t).size) (sym c.in_ok-excess_values.ensures.domain) (general_sizes g.F.FftField.adicity len _ _ c.in-Some.ensures.chosen).1 in
-    let C : AreValues K e excess excess_values.evals = subst (λ t. AreValues K (general_domain t) excess excess_values.evals) (sym c.in_ok-excess_values.ensures.domain) c.in_ok-excess_values.ensures.values in
-    let D : AreValues K e inverse inverse_values.evals = subst (λ t. AreValues K (general_domain t) inverse inverse_values.evals) (sym c.in_ok-excess_values.ensures.domain) c.in_ok-inverse_values.ensures.values in
+    let domain = g.D.EvaluationDomain.domain in
+    let d = domain values.domain in
+    let own : domain c.args.domain ≡ d = sym (ap domain c.in_ok-values.ensures.domain) in
+    let room : len ≤ d.size = subst (λ t. len ≤ t.size) own c.requires.room in
+    let V : AreValues K d inverse values.evals = subst (λ t. AreValues K t inverse values.evals) own c.in_ok-values.ensures.values in
     let some = c.requires.positive in
     let more = c.requires.more in
     let is = c.from_coefficients_vec.ensures.coefficients in
     newton_parts K N known len f inverse excess correction (of_list K c.from_coefficients_vec.result)
     some more c.requires.most c.requires.below c.requires.inverse
     (λ i l.
-    c.in_ok-excess.ensures.same first inverse A B
+    c.in_ok-excess.ensures.same inverse V
     (λ j b. product-below K N len known first inverse (λ m q. c.in_ok-first.ensures.below m (omega (arith, q))) c.requires.below j (omega (arith, b, room, some)))
     i (omega (arith, l))
     ∙ agree-product K len first f inverse inverse (λ j b. (let e : 0 + j ≡ j = omega arith in c.in_ok-first.ensures.same j (omega (arith, b)) ∙ ap f e)) (λ j b. refl) (known + i) (omega (arith, l)))
     (λ i l.
     let e : 0 + i ≡ i = omega arith in
-    c.in_ok-correction.ensures.same excess inverse C D
-    (λ j b. product-below K N (len - known) known excess inverse c.in_ok-excess.ensures.below c.requires.below j (omega (arith, b, roomy, some, more)))
+    c.in_ok-correction.ensures.same inverse V
+    (λ j b. product-below K N (len - known) known excess inverse c.in_ok-excess.ensures.below c.requires.below j (omega (arith, b, room, some, more)))
     i (omega (arith, l))
     ∙ ap (product K excess inverse) e
     ∙ ap (λ t. t i) (product_comm K N excess inverse))
