@@ -9,6 +9,7 @@ ghost use Rattle.rs_code.specs.Codeword.{AgreesWith, IsCodeword, erasure_count, 
 use crate::decoder::DomainDecoder;
 use crate::error::RsError;
 use crate::locator::factors;
+use crate::marks::count_marked;
 use crate::part::spaced_part;
 use ark_base::{DomainCoeff, FftField, Work};
 use ark_poly::{EvaluationDomain, GeneralEvaluationDomain};
@@ -116,7 +117,7 @@ impl<F: FftField, D: EvaluationDomain<F>> DomainCode<F, D> {
         if erased.len() != self.domain.size() {
             return Err(RsError::WrongLength);
         }
-        if erased.iter().filter(|place| **place).count() > self.domain.size() - self.k {
+        if count_marked(erased) > self.domain.size() - self.k {
             return Err(RsError::TooManyErased);
         }
         let factors = factors(alloc, self.domain, erased)?;

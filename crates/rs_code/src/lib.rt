@@ -6,6 +6,7 @@ mod code;
 mod decoder;
 mod error;
 mod locator;
+mod marks;
 mod part;
 mod product;
 mod restore;

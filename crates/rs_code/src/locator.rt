@@ -9,6 +9,7 @@ ghost use Rattle.ark_math.specs.Univariate.{of_list, product, IsBelow, IsTrimmed
 ghost use Rattle.rs_code.specs.Codeword.{mark_count};
 ghost use Rattle.rs_code.specs.Locator.{AreFactors, DegreesWithin, HasSizeFor, derived, linear, locator, lost};
 
+use crate::marks::count_marked;
 use crate::turns::factors_by_turns;
 use ark_base::{FftField, Field, PolyError, batch_inversion};
 use ark_blocks::BlockRoots;
@@ -42,10 +43,7 @@ pub fn factors<F: FftField, D: EvaluationDomain<F>>(
     ensures memory { IsOkUnless result PolyError.Memory }
 {
     let n = domain.size();
-    if n >= FEW_PLACES
-        && n.is_power_of_two()
-        && erased.iter().filter(|place| **place).count() > n / 4
-    {
+    if n >= FEW_PLACES && n.is_power_of_two() && count_marked(erased) > n / 4 {
         if let Some(table) = BlockRoots::new(alloc, n)? {
             if table.size() == n {
                 return Ok(factors_by_turns(alloc, domain, &table, erased)?);

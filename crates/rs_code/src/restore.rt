@@ -13,6 +13,7 @@ ghost use Rattle.rs_code.specs.Locator.{by_factors, derived, filled, lost, weigh
 use crate::code::DomainCode;
 use crate::decoder::DomainDecoder;
 use crate::error::RsError;
+use crate::marks::{count_erased, count_marked};
 use ark_base::{DomainCoeff, FftField, Field, PolyError, Work};
 use ark_poly::EvaluationDomain;
 use std::alloc::{AllocError, Global};
@@ -145,15 +146,8 @@ impl<F: FftField, D: EvaluationDomain<F>> DomainDecoder<F, D> {
         ensures len { result ≡ self.now.code.k + mark_count self.now.erased }
         ensures fits { result ≤ self.now.code.domain.size }
     {
-        self.k + self.erased.iter().filter(|place| **place).count()
+        self.k + count_marked(&self.erased)
     }
-}
-
-// How many places are erased.
-fn count_erased<T: Copy>(word: &[Option<T>]) -> usize
-    ensures { result ≡ erasure_count word.now }
-{
-    word.iter().filter(|place| place.is_none()).count()
 }
 
 // Which places are erased.
