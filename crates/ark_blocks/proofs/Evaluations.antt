@@ -7,7 +7,7 @@ use Rattle.ark_math.specs.Field.{FieldOn, IsField, power, minus}
 use Rattle.ark_math.specs.Univariate.{added, difference, scaled, product, IsBelow, value_below, of_list}
 use Rattle.ark_math.proofs.Algebra.Powers.{powers_inverse}
 use Rattle.ark_math.proofs.Algebra.Solve.{◌⊗◌, ◌⊕◌, ◌⊖◌, negative, unit}
-use Rattle.ark_math.proofs.Algebra.Ring.{ring3, ring4}
+use Rattle.ark_math.proofs.Algebra.Ring.{ring3}
 use Rattle.ark_math.proofs.Polynomials.UnivariateLists.{of_list-past}
 use Rattle.ark_math.proofs.Polynomials.UnivariateValues.{value_is, value_below-added, value_below-difference, value_below-scaled}
 use Rattle.ark_math.proofs.Polynomials.UnivariateProducts.{value-product}
@@ -93,14 +93,12 @@ module _ {F : Type 0} (K : FieldOn F) (N : IsField K) where
         ∙ ring3 K N (λ a b c. (a ⊕ (negative unit ⊗ (b ⊕ (negative unit ⊗ c))), (a ⊖ b) ⊕ c)) refl (low z) (middle z) (high z)
         ∙ sym (turned-value z)
 
-    -- where the power is one, half of what is left of the whole without that is the second part
-    pub second_part : (half : F) → K.times two half ≡ K.one → (z : F) → power K z s ≡ K.one → K.times (minus K (value_below K (s + (s + s)) p z) (value_below K s turned z)) half ≡ value_below K s (λ j. p (s + j)) z
+    -- where the power is one, what is left of the whole without that is twice the second part
+    pub second_part : (z : F) → power K z s ≡ K.one → minus K (value_below K (s + (s + s)) p z) (value_below K s turned z) ≡ K.plus (value_below K s (λ j. p (s + j)) z) (value_below K s (λ j. p (s + j)) z)
     unfolding middle
-    second_part half is z e =
-        ap₂ (λ t r. K.times (minus K t r) half) (three_parts z K.one e) (turned-value z)
-        ∙ ring4 K N (λ a b c w. (((a ⊕ (unit ⊗ (b ⊕ (unit ⊗ c)))) ⊖ ((a ⊖ b) ⊕ c)) ⊗ w, b ⊗ ((unit ⊕ unit) ⊗ w))) refl (low z) (middle z) (high z) half
-        ∙ ap (K.times (middle z)) is
-        ∙ N.times_one (middle z)
+    second_part z e =
+        ap₂ (minus K) (three_parts z K.one e) (turned-value z)
+        ∙ ring3 K N (λ a b c. ((a ⊕ (unit ⊗ (b ⊕ (unit ⊗ c)))) ⊖ ((a ⊖ b) ⊕ c), b ⊕ b)) refl (low z) (middle z) (high z)
 
   -- the values of products, place by place
   module _ (size s : ℕ) (x : ℕ → F) (rev : AreReversed K size x) (two_to : IsPowerOfTwo s) (room : s + s ≤ size) (a b : ℕ → F) (u v : List F) (A : AreValuesFrom K x 0 (s + s) a u) (B : AreValuesFrom K x 0 (s + s) b v) (below : IsBelow K (s + (s + s)) (product K a b)) where
@@ -117,12 +115,14 @@ module _ {F : Type 0} (K : FieldOn F) (N : IsField K) where
         product_item (s + i) (omega (arith, l))
         ∙ value_where_turned s (product K a b) (x (s + i)) (power_at_next K N size s x rev two_to room i l)
 
-    -- and at the first's, without the values of that there and halved, those of the second part
-    pub upper_values : (half : F) → K.times two half ≡ K.one → (d : ℕ → F) (w : List F) (y : ℕ → F) → IsBelow K s d → ((i : ℕ) → i < s → d i ≡ product K a b (s + i)) → ((i : ℕ) → i < s → y i ≡ value_below K s (turned s (product K a b)) (x i)) → length w ≡ s → ((i : ℕ) → i < s → of_list K w i ≡ K.times (minus K (K.times (of_list K u i) (of_list K v i)) (y i)) half) → AreValuesFrom K x 0 s d w
-    upper_values half is d w y few upper others len each =
+    -- and at the first's, without the values of that there, those of twice the second part
+    pub upper_values : (d : ℕ → F) (w : List F) (y : ℕ → F) → IsBelow K s d → ((i : ℕ) → i < s → d i ≡ K.plus (product K a b (s + i)) (product K a b (s + i))) → ((i : ℕ) → i < s → y i ≡ value_below K s (turned s (product K a b)) (x i)) → length w ≡ s → ((i : ℕ) → i < s → of_list K w i ≡ minus K (K.times (of_list K u i) (of_list K v i)) (y i)) → AreValuesFrom K x 0 s d w
+    upper_values d w y few upper others len each =
         let p = product K a b in
+        let part : ℕ → F = λ j. p (s + j) in
         first_values K N x s s d w few len (λ i l.
         each i l
-        ∙ ap₂ (λ t r. K.times (minus K t r) half) (product_item i (omega (arith, l))) (others i l)
-        ∙ second_part s p half is (x i) (power_at_first K N size s x rev two_to (omega (arith, room)) i l)
-        ∙ value_of_same K N s (λ j. p (s + j)) d (x i) (λ j b. sym (upper j b)))
+        ∙ ap₂ (minus K) (product_item i (omega (arith, l))) (others i l)
+        ∙ second_part s p (x i) (power_at_first K N size s x rev two_to (omega (arith, room)) i l)
+        ∙ sym (value_below-added K N s part part (x i))
+        ∙ value_of_same K N s (added K part part) d (x i) (λ j b. sym (upper j b)))

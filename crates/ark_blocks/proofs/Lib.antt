@@ -6,6 +6,7 @@ pub mod Evaluations
 pub mod FourItems
 pub mod Joined
 pub mod Levels
+pub mod LinearFactors
 pub mod Padded
 pub mod Runs
 pub mod Splits

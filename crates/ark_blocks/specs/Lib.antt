@@ -1,2 +1,3 @@
 -- A subgroup's elements in bit-reversed order, and the values of polynomials over blocks of them.
 pub mod Blocks
+pub mod Roots

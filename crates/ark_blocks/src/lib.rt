@@ -4,7 +4,10 @@
 
 mod backward;
 mod forward;
+pub mod items;
+mod roots;
 mod table;
 mod values;
 
+pub use roots::product_of_few;
 pub use table::BlockRoots;

@@ -6,6 +6,7 @@ ghost use Rattle.ark_math.specs.Field.{power};
 ghost use Rattle.ark_math.specs.Univariate.{of_list};
 ghost use Rattle.ark_blocks.specs.Blocks.{AreInverseRoots, AreReversed, AreRoots, IsPowerOfTwo, element_of, size_of};
 
+use crate::values::element;
 use ark_traits::{FftField, Field};
 use std::alloc::{AllocError, Global};
 use std::marker::Model;
@@ -74,6 +75,22 @@ impl<F: FftField> BlockRoots<F> {
         ensures elements { AreReversed F.field result (element_of F.field self.now) }
     {
         2 * self.roots.len()
+    }
+
+    /// The element of this index: each second is minus the one before.
+    #[inline(always)]
+    pub fn element(&self, index: usize) -> F
+        requires { index < size_of self.now }
+        ensures { result ≡ element_of F.field self.now index }
+    {
+        element(&self.roots, index)
+    }
+
+    /// The inverse of two.
+    pub fn half(&self) -> F
+        ensures { F.field.times (F.field.plus F.field.one F.field.one) result ≡ F.field.one }
+    {
+        self.half
     }
 }
 

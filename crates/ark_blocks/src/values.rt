@@ -7,6 +7,7 @@ ghost use Rattle.ark_blocks.specs.Blocks.{AreFirstValues, AreReversed, AreRoots,
 
 use crate::backward::backward;
 use crate::forward::forward;
+use crate::items::{multiply_places, scale_each, subtract};
 use crate::table::BlockRoots;
 use ark_traits::{FftField, Field};
 use std::alloc::{AllocError, Global};
@@ -73,9 +74,9 @@ impl<F: FftField> BlockRoots<F> {
         scale_each(values, self.half.pow(levels as u64));
     }
 
-    /// From the values of two polynomials at the first elements, those at the first half of these elements of the
-    /// upper half of their product: of its coefficients from half the number of elements on.
-    pub fn upper_half(
+    /// From the values of two polynomials at the first elements, those at the first half of these elements of twice
+    /// the upper half of their product: of its coefficients from half the number of elements on.
+    pub fn twice_upper_half(
         &self,
         alloc: Global,
         left: &[F],
@@ -91,7 +92,8 @@ impl<F: FftField> BlockRoots<F> {
             → AreFirstValues F.field self.now (half + half) a left.now
             → AreFirstValues F.field self.now (half + half) b right.now
             → IsBelow F.field (half + (half + half)) (product F.field a b) → IsBelow F.field half c
-            → ((i : ℕ) → i < half → c i ≡ product F.field a b (half + i))
+            → ((i : ℕ) → i < half → c i
+            ≡ F.field.plus (product F.field a b (half + i)) (product F.field a b (half + i)))
             → AreFirstValues F.field self.now half c v.items) }
     {
         let levels = half.ilog2();
@@ -101,7 +103,6 @@ impl<F: FftField> BlockRoots<F> {
         scale_each(items, self.half.pow(levels as u64));
         forward(items, &self.roots, 0, levels);
         subtract_from_products(items, &left[..half], &right[..half]);
-        scale_each(items, self.half);
         Ok(turned)
     }
 }
@@ -183,7 +184,8 @@ fn fold_in<F: Field>(low: &mut [F], high: &[F], roots: &[F], block: usize)
 }
 
 // The element of this index: each second is minus the one before.
-fn element<F: Field>(roots: &[F], index: usize) -> F
+#[inline(always)]
+pub(crate) fn element<F: Field>(roots: &[F], index: usize) -> F
     requires { index < length roots.now + length roots.now }
     ensures { (x : ℕ → F) → AreRoots F.field x roots.now → result ≡ x index }
 {
@@ -203,29 +205,6 @@ fn add_multiples<F: Field>(items: &mut [F], others: &[F], factor: F)
     }
 }
 
-// Subtracts from each item the other list's, as far as that goes.
-fn subtract<F: Field>(items: &mut [F], others: &[F])
-    requires { length others.now ≤ length items.old }
-    ensures len { length items.new ≡ length items.old }
-    ensures differences { (i : ℕ) → i < length items.old → of_list F.field items.new i
-        ≡ minus F.field (of_list F.field items.old i) (of_list F.field others.now i) }
-{
-    for i in 0..others.len() {
-        items[i] = items[i] - others[i];
-    }
-}
-
-// Multiplies each item by the factor.
-fn scale_each<F: Field>(items: &mut [F], factor: F)
-    ensures len { length items.new ≡ length items.old }
-    ensures products { (i : ℕ) → i < length items.old → of_list F.field items.new i
-        ≡ F.field.times (of_list F.field items.old i) factor }
-{
-    for i in 0..items.len() {
-        items[i] = items[i] * factor;
-    }
-}
-
 // The products of the items of two lists.
 fn products<F: Field>(alloc: Global, left: &[F], right: &[F]) -> Result<Vec<F>, AllocError>
     requires { length left.now ≡ length right.now }
@@ -236,18 +215,6 @@ fn products<F: Field>(alloc: Global, left: &[F], right: &[F]) -> Result<Vec<F>, 
     let mut products = Vec::from_slice(alloc, left)?;
     multiply_places(products.as_mut_slice(), right);
     Ok(products)
-}
-
-// Multiplies each item by the other list's.
-fn multiply_places<F: Field>(items: &mut [F], others: &[F])
-    requires { length others.now ≡ length items.old }
-    ensures len { length items.new ≡ length items.old }
-    ensures products { (i : ℕ) → i < length items.old → of_list F.field items.new i
-        ≡ F.field.times (of_list F.field items.old i) (of_list F.field others.now i) }
-{
-    for i in 0..others.len() {
-        items[i] = items[i] * others[i];
-    }
 }
 
 // Puts what is left of the products of two lists' items without each item in its place.

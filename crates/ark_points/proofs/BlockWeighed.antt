@@ -4,7 +4,8 @@ use Rattle.std.proofs.lemmas.List.{length-drop, take_all}
 use Rattle.ark_math.specs.Field.{FieldOn, IsField}
 use Rattle.ark_math.specs.Univariate.{IsBelow, added, of_list, product}
 use Rattle.ark_blocks.specs.Blocks.{AreValuesFrom}
-use Rattle.ark_points.specs.Tree.{nodes, weighed}
+use Rattle.ark_blocks.specs.Roots.{nodes}
+use Rattle.ark_points.specs.Tree.{weighed}
 use Rattle.ark_points.proofs.Weighed.{weighed-below, weighed-halves}
 
 module _ {F : Type 0} (K : FieldOn F) (N : IsField K) where

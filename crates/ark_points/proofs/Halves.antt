@@ -3,22 +3,24 @@ use Rattle.std.proofs.Common.{◌≡◌, ℕ, ◌+◌, ◌-◌, ◌/◌, ◌<◌
 use Rattle.std.proofs.lemmas.Bool.{cases_lt}
 use Rattle.std.proofs.lemmas.List.{get_or-append_right, get_or-drop, get_or-take, get_or_append_left, length-drop, length-take-le}
 use Rattle.ark_math.specs.Field.{FieldOn, IsField}
-use Rattle.ark_math.specs.Univariate.{IsBelow, IsValue, of_list, product}
+use Rattle.ark_math.specs.Univariate.{IsBelow, IsValue, of_list, product, scaled}
 use Rattle.ark_math.proofs.Polynomials.UnivariateProducts.{product_comm, product-below}
 use Rattle.ark_points.specs.Points.{HasValues}
-use Rattle.ark_points.specs.Tree.{StandForHalves, StandsFor, nodes}
+use Rattle.ark_blocks.specs.Roots.{nodes}
+use Rattle.ark_points.specs.Tree.{StandForHalves, StandsFor}
+use Rattle.ark_points.proofs.Multiples.{product-scaled}
 use Rattle.ark_points.proofs.Nodes.{nodes-below, nodes-halves}
 use Rattle.ark_points.proofs.StandIns.{stands_for_factor}
 
-module _ {F : Type 0} (K : FieldOn F) (N : IsField K) (points : List F) (half : ℕ) (some : 0 < half) (less : half < length points) where
+module _ {F : Type 0} (K : FieldOn F) (N : IsField K) (points : List F) (half : ℕ) (less : half < length points) where
   front : length (take half points) ≡ half
   front = length-take-le half points (omega arith)
 
   back : length (drop half points) ≡ length points - half
   back = length-drop half points
 
-  pub stands_low : (p s t : ℕ → F) → ((j : ℕ) → j < half → product K (nodes K (drop half points)) s (length points - half + j) ≡ t j) → StandsFor K (length points) (nodes K points) p s → StandsFor K (length (take half points)) (nodes K (take half points)) p t
-  stands_low p s t same stands =
+  pub stands_low : 0 < half → (p s t : ℕ → F) → ((j : ℕ) → j < half → product K (nodes K (drop half points)) s (length points - half + j) ≡ t j) → StandsFor K (length points) (nodes K points) p s → StandsFor K (length (take half points)) (nodes K (take half points)) p t
+  stands_low some p s t same stands =
       subst (λ h. StandsFor K h (nodes K (take half points)) p t) (sym front)
       (stands_for_factor K N (length points) half (nodes K points) (nodes K (take half points)) (nodes K (drop half points)) p s t some (omega arith)
       (λ i l. nodes-below K N (drop half points) i (omega (arith, l, back))) (sym (nodes-halves K N points half)) same stands)
@@ -33,6 +35,15 @@ module _ {F : Type 0} (K : FieldOn F) (N : IsField K) (points : List F) (half : 
       let place : length points - (length points - half) + j ≡ half + j = omega arith in
       ap (product K (nodes K (take half points)) s) place ∙ same j l)
       stands)
+
+  -- multiples of these too
+  pub multiple_stands_low : 0 < half → (f : F) (p s t : ℕ → F) → ((j : ℕ) → j < half → product K (nodes K (drop half points)) s (length points - half + j) ≡ t j) → StandsFor K (length points) (nodes K points) p (scaled K f s) → StandsFor K (length (take half points)) (nodes K (take half points)) p (scaled K f t)
+  multiple_stands_low some f p s t same = stands_low some p (scaled K f s) (scaled K f t)
+      (λ j l. product-scaled K N (nodes K (drop half points)) s f (length points - half + j) ∙ ap (K.times f) (same j l))
+
+  pub multiple_stands_high : (f : F) (p s t : ℕ → F) → ((j : ℕ) → j < length points - half → product K (nodes K (take half points)) s (half + j) ≡ t j) → StandsFor K (length points) (nodes K points) p (scaled K f s) → StandsFor K (length (drop half points)) (nodes K (drop half points)) p (scaled K f t)
+  multiple_stands_high f p s t same = stands_high p (scaled K f s) (scaled K f t)
+      (λ j l. product-scaled K N (nodes K (take half points)) s f (half + j) ∙ ap (K.times f) (same j l))
 
   -- a product with a half is short enough for a domain with room for all points
   pub low_below : (s : ℕ → F) (size : ℕ) → IsBelow K (length points) s → length points ≤ size → IsBelow K (half + size) (product K (nodes K (take half points)) s)
@@ -64,11 +75,11 @@ module _ {F : Type 0} (K : FieldOn F) (N : IsField K) (points : List F) (many : 
       record {
         low = record {
           below = subst (λ m. IsBelow K m low) (sym (length-take-le half points (omega arith))) low_short;
-          stands = λ p stands. stands_low K N points half some less p s low same_low stands;
+          stands = λ p stands. stands_low K N points half less some p s low same_low stands;
         };
         high = record {
           below = subst (λ m. IsBelow K m high) (sym (length-drop half points)) high_short;
-          stands = λ p stands. stands_high K N points half some less p s high same_high stands;
+          stands = λ p stands. stands_high K N points half less p s high same_high stands;
         };
       }
 
@@ -78,5 +89,5 @@ module _ {F : Type 0} (K : FieldOn F) (N : IsField K) (points : List F) (many : 
       → ((p : ℕ → F) → StandsFor K (length xs) (nodes K xs) p high → HasValues K (length xs) (of_list K xs) (of_list K w) p)
       → (p : ℕ → F) → StandsFor K (length points) (nodes K points) p s → HasValues K (length points) (of_list K points) (of_list K (v ++ w)) p
   values_by_halves halves xs v w all len fronts backs p stands =
-      values-halves K N points (length points / 2) (omega arith) (omega arith) v w p len (fronts p (halves.low.stands p stands))
+      values-halves K N points (length points / 2) (omega arith) v w p len (fronts p (halves.low.stands p stands))
       (subst (λ zs. StandsFor K (length zs) (nodes K zs) p high → HasValues K (length zs) (of_list K zs) (of_list K w) p) all (backs p) (halves.high.stands p stands))

@@ -7,6 +7,7 @@ pub mod Digits
 pub mod Halves
 pub mod Lagrange
 pub mod Linear
+pub mod Multiples
 pub mod Newton
 pub mod Nodes
 pub mod PairParts

@@ -1,5 +1,5 @@
 -- The product of x - z over a list: its length, its leading coefficient, its factors and its roots.
-use Rattle.std.proofs.Common.{◌≡◌, ◌≢◌, ℕ, zero, suc, ◌+◌, ◌<◌, List, [], ◌∷◌, ◌++◌, length, get_or, take, drop, Vec, refl, sym, ◌∙◌, ap, ap₂, subst, arith}
+use Rattle.std.proofs.Common.{◌≡◌, ◌≢◌, ℕ, zero, suc, ◌+◌, ◌<◌, List, [], ◌∷◌, length, take, drop, Vec, refl, sym, ◌∙◌, ap, ap₂, subst, arith}
 use Rattle.std.specs.declared.alloc.Global.{Global}
 use Rattle.std.proofs.lemmas.List.{take-append-drop}
 use Rattle.ark_math.specs.Field.{FieldOn, IsField, minus}
@@ -9,11 +9,13 @@ use Rattle.ark_math.proofs.Algebra.Solve.{◌⊗◌, ◌⊖◌, nought, unit}
 use Rattle.ark_math.proofs.Algebra.Ring.{ring1}
 use Rattle.ark_math.proofs.Polynomials.Univariate.{monomial-below}
 use Rattle.ark_math.proofs.Polynomials.UnivariateLists.{of_list-below}
-use Rattle.ark_math.proofs.Polynomials.UnivariateProducts.{product_comm, product_assoc, product-below, one-product, value-product}
+use Rattle.ark_math.proofs.Polynomials.UnivariateProducts.{product_comm, product_assoc, product-below, value-product}
 use Rattle.ark_math.proofs.Polynomials.UnivariateValues.{has_value}
 use Rattle.ark_math.proofs.Callers.Remainders.{linear_root, divided_root}
-use Rattle.ark_points.proofs.Linear.{before, linear-product}
-use Rattle.ark_points.specs.Tree.{IsBlockTreeOver, IsLeafOver, IsMonic, IsTreeOver, nodes, product_of_leaf, whole, whole_of_blocks}
+use Rattle.ark_blocks.proofs.LinearFactors.{before, linear-product, nodes-joined}
+use Rattle.ark_blocks.specs.Roots.{nodes}
+use Rattle.ark_points.specs.Tree.{IsBlockTreeOver, IsLeafOver, IsMonic, IsTreeOver, product_of_leaf, whole, whole_of_blocks}
+use Rattle.ark_points.specs.declared.few.FewProducts.{FewProducts}
 use Rattle.ark_points.specs.declared.leaf.Leaf.{Leaf}
 use Rattle.ark_points.specs.declared.leaf.Leaf.TheVariants.{Plain, Blocks}
 use Rattle.ark_points.specs.declared.tree.Tree.{Tree}
@@ -21,14 +23,6 @@ use Rattle.ark_points.specs.declared.tree.Tree.TheVariants.{Few, Halves'}
 use Rattle.ark_blocks.specs.Blocks.{size_of}
 use Rattle.ark_poly.specs.Values.{Values}
 use Rattle.ark_math.specs.Domain.{Domain}
-
-take_push : {X : Type 0} (xs : List X) (i : ℕ) (x : X) → i < length xs → get_or xs i x ≡ x → take (suc i) xs ≡ take i xs ++ x ∷ []
-take_push [] i x l h = absurd (omega arith)
-take_push (y ∷ xs) zero x l h = ap (λ t. t ∷ []) h
-take_push (y ∷ xs) (suc i) x l h = ap (λ t. y ∷ t) (take_push xs i x (omega arith) h)
-
-pub take-one_more : {X : Type 0} (xs : List X) (i : ℕ) (x : X) → i < length xs → x ≡ get_or xs i x → take (i + 1) xs ≡ take i xs ++ x ∷ []
-take-one_more xs i x l h = let e : i + 1 ≡ suc i = omega arith in ap (λ t. take t xs) e ∙ take_push xs i x l (sym h)
 
 module _ {F : Type 0} (K : FieldOn F) (N : IsField K) where
   pub nodes-below : (zs : List F) → IsBelow K (length zs + 1) (nodes K zs)
@@ -45,11 +39,6 @@ module _ {F : Type 0} (K : FieldOn F) (N : IsField K) where
       nodes_item z (nodes K zs) (suc (length zs))
       ∙ (ap₂ (λ x y. minus K x (K.times z y)) (nodes-leading zs) (nodes-below zs (suc (length zs)) (omega arith))
       ∙ ring1 K N (λ z. (unit ⊖ (z ⊗ nought), unit)) refl z)
-
-  pub nodes-joined : (xs ys : List F) → nodes K (xs ++ ys) ≡ product K (nodes K xs) (nodes K ys)
-  nodes-joined [] ys = sym (one-product K N (nodes K ys))
-  nodes-joined (x ∷ xs) ys =
-      ap (product K (linear_factor K x)) (nodes-joined xs ys) ∙ sym (product_assoc K N (linear_factor K x) (nodes K xs) (nodes K ys))
 
   -- what is left without the point at i
   unfoldable pub cofactor : List F → ℕ → ℕ → F
@@ -72,13 +61,6 @@ module _ {F : Type 0} (K : FieldOn F) (N : IsField K) where
   cofactor-whole (z ∷ zs) (suc i) l =
       ap (product K (linear_factor K z)) (cofactor-whole zs i (omega arith))
       ∙ sym (product_assoc K N (linear_factor K z) (cofactor zs i) (linear_factor K (of_list K zs i)))
-
-  pub nodes-one : (x : F) → nodes K (x ∷ []) ≡ linear_factor K x
-  nodes-one x = product_comm K N (linear_factor K x) (monomial K 0 K.one) ∙ one-product K N (linear_factor K x)
-
-  -- one more at the end
-  pub nodes-push : (xs : List F) (x : F) → nodes K (xs ++ (x ∷ [])) ≡ product K (nodes K xs) (linear_factor K x)
-  nodes-push xs x = nodes-joined xs (x ∷ []) ∙ ap (product K (nodes K xs)) (nodes-one x)
 
   -- each of the list is a root
   pub nodes-zero : (zs : List F) (i : ℕ) → i < length zs → IsValue K (nodes K zs) (of_list K zs i) K.zero
@@ -106,16 +88,16 @@ module _ {F : Type 0} (K : FieldOn F) (N : IsField K) where
   nodes_monic zs = record { leading = nodes-leading zs; below = nodes-below zs }
 
   pub nodes-halves : (zs : List F) (h : ℕ) → product K (nodes K (take h zs)) (nodes K (drop h zs)) ≡ nodes K zs
-  nodes-halves zs h = sym (nodes-joined (take h zs) (drop h zs)) ∙ ap (nodes K) (take-append-drop h zs)
+  nodes-halves zs h = sym (nodes-joined K N (take h zs) (drop h zs)) ∙ ap (nodes K) (take-append-drop h zs)
 
   -- what a tree by a table has for all of its points
-  pub blocks-whole : (roots : List F) (count : ℕ) (points : List F) (t : Tree (List F) (List F) (Vec F Global)) → IsBlockTreeOver K roots count points t → of_list K (whole_of_blocks t) ≡ nodes K points
-  blocks-whole roots count points (Few p) h = h
+  pub blocks-whole : (roots : List F) (count : ℕ) (points : List F) (t : Tree (FewProducts F) (List F) (Vec F Global)) → IsBlockTreeOver K roots count points t → of_list K (whole_of_blocks t) ≡ nodes K points
+  blocks-whole roots count points (Few p) h = h.whole
   blocks-whole roots count points (Halves' p a low v b high w) h = h.0
 
   -- a leaf
   pub leaf-whole : (points : List F) (l : Leaf F) → IsLeafOver K points l → of_list K (product_of_leaf l) ≡ nodes K points
-  leaf-whole points (Plain p) h = h
+  leaf-whole points (Plain p) h = h.whole
   leaf-whole points (Blocks roots tree) h = blocks-whole roots (size_of roots) points tree.value h.1
 
   -- and a tree above leaves

@@ -1,5 +1,5 @@
 -- The sum of weights times products of x - z over the other points, from the product over all points and from power sums.
-use Rattle.std.proofs.Common.{◌≡◌, ℕ, zero, suc, ◌+◌, ◌-◌, ◌<◌, ◌≤◌, List, [], ◌∷◌, length, refl, sym, ◌∙◌, ap, ap₂, subst, arith}
+use Rattle.std.proofs.Common.{◌≡◌, ℕ, suc, ◌+◌, ◌-◌, ◌<◌, List, [], ◌∷◌, length, refl, sym, ◌∙◌, ap, ap₂, subst, arith}
 use mathlib.Core.Path.{fun_ext}
 use Rattle.ark_math.specs.Field.{FieldOn, IsField, power}
 use Rattle.ark_math.specs.Linear.{linear_factor}
@@ -15,18 +15,14 @@ use Rattle.ark_math.proofs.Polynomials.Univariate.{monomial-below}
 use Rattle.ark_math.proofs.Polynomials.UnivariateLists.{of_list-below}
 use Rattle.ark_math.proofs.Polynomials.UnivariateProducts.{one-product, product-added, product-below, product-nothing, product_assoc, product_comm}
 use Rattle.ark_math.proofs.Polynomials.UnivariateValues.{value_is}
+use Rattle.ark_points.proofs.Multiples.{product-scaled}
 use Rattle.ark_points.proofs.Nodes.{nodes-below}
 use Rattle.ark_points.proofs.StandIns.{quotient-item}
 use Rattle.ark_points.specs.Steps.{power_sum}
-use Rattle.ark_points.specs.Tree.{nodes, weighed}
+use Rattle.ark_blocks.specs.Roots.{nodes}
+use Rattle.ark_points.specs.Tree.{weighed}
 
 module _ {F : Type 0} (K : FieldOn F) (N : IsField K) where
-  product-scaled : (c a : ℕ → F) (s : F) (j : ℕ) → product K c (scaled K s a) j ≡ K.times s (product K c a j)
-  product-scaled c a s j =
-      sum_below-same (itself K) (suc j) (λ i. K.times (c i) (K.times s (a (j - i)))) (λ i. K.times s (K.times (c i) (a (j - i))))
-      (λ i l. ring3 K N (λ x s y. (x ⊗ (s ⊗ y), s ⊗ (x ⊗ y))) refl (c i) s (a (j - i)))
-      ∙ sum_below-scale (itself_is_module K N) (suc j) s (λ i. K.times (c i) (a (j - i)))
-
   -- a coefficient is the sum of each weight times the value at its point of what the product has past that coefficient
   by_values : (zs : List F) (w c p : ℕ → F) (m n j : ℕ) → IsBelow K m c → IsBelow K (n + 1) p → p ≡ product K c (nodes K zs)
       → product K c (weighed K zs w) j ≡ sum_below (itself K) (length zs) (λ i. K.times (w i) (value_below K n (λ k. p (suc (k + j))) (of_list K zs i)))
@@ -44,7 +40,7 @@ module _ {F : Type 0} (K : FieldOn F) (N : IsField K) where
       (quotient-item K N rest (m + (length zs + 1) - 1) z j (product-below K N m (length zs + 1) c (nodes K zs) short (nodes-below K N zs)))) in
       ap (λ t. t j) (product-added K N c (scaled K (w 0) (nodes K zs)) (product K line (weighed K zs v)))
       ∙ ap₂ K.plus
-      (product-scaled c (nodes K zs) (w 0) j ∙ ap (K.times (w 0)) own)
+      (product-scaled K N c (nodes K zs) (w 0) j ∙ ap (K.times (w 0)) own)
       (ap (λ t. t j) (sym (product_assoc K N c line (weighed K zs v)))
       ∙ by_values zs v (product K c line) p (m + 2 - 1) n j (product-below K N m 2 c line short (of_list-below K (K.negated z ∷ K.one ∷ []))) below last)
       ∙ sym (sum_below-first (itself_is_module K N) (length zs) (λ i. K.times (w i) (value_below K n (λ k. p (suc (k + j))) (of_list K (z ∷ zs) i))))

@@ -14,7 +14,7 @@ use Rattle.ark_math.proofs.Callers.Remainders.{constant_value, linear_root}
 use Rattle.ark_math.proofs.Polynomials.UnivariateLists.{of_list-past}
 use Rattle.ark_math.proofs.Polynomials.UnivariateProducts.{product_comm, product_assoc, product-below, value-product}
 use Rattle.ark_math.proofs.Polynomials.UnivariateValues.{has_value, one_value, value-added}
-use Rattle.ark_points.proofs.Linear.{linear-product}
+use Rattle.ark_blocks.proofs.LinearFactors.{linear-product}
 use Rattle.ark_points.specs.Tree.{StandsFor}
 
 module _ {F : Type 0} (K : FieldOn F) (N : IsField K) where

@@ -1,5 +1,5 @@
 -- A sum by four sums.
-use Rattle.std.proofs.Common.{◌≡◌, ℕ, suc, ◌+◌, ◌*◌, refl, sym, ◌∙◌, ap, ap₂, arith, add-one}
+use Rattle.std.proofs.Common.{◌≡◌, ℕ, suc, ◌+◌, ◌*◌, refl, sym, ◌∙◌, ap, ap₂, arith}
 use Rattle.ark_math.specs.Field.{FieldOn, IsField}
 use Rattle.ark_math.specs.Module.{itself, sum_below}
 use Rattle.ark_math.proofs.Algebra.Groups.{itself_is_module, plus_swap}

@@ -10,12 +10,13 @@ use Rattle.ark_math.proofs.Algebra.Ring.{ring1, ring2, ring3, ring4}
 use Rattle.ark_math.proofs.Callers.Remainders.{linear_root}
 use Rattle.ark_math.proofs.Polynomials.Univariate.{added-below, scaled-below, nothing-below}
 use Rattle.ark_math.proofs.Polynomials.UnivariateLists.{of_list-below}
-use Rattle.ark_math.proofs.Polynomials.UnivariateProducts.{product_comm, product_assoc, product-added, added-product, product-below, one-product, nothing-product, product-nothing, constant-product, value-product}
+use Rattle.ark_math.proofs.Polynomials.UnivariateProducts.{product_comm, product_assoc, product-added, added-product, product-below, one-product, nothing-product, constant-product, value-product}
 use Rattle.ark_math.proofs.Polynomials.UnivariateValues.{has_value, one_value, value-added, value-scaled}
-use Rattle.ark_points.proofs.Linear.{linear-product}
-use Rattle.ark_points.proofs.Nodes.{cofactor, cofactor-below, cofactor-other, cofactor-whole, nodes-below, nodes-joined, nodes-one, nodes-zero}
+use Rattle.ark_blocks.proofs.LinearFactors.{linear-product, nodes-joined}
+use Rattle.ark_points.proofs.Nodes.{cofactor, cofactor-below, cofactor-other, cofactor-whole, nodes-below, nodes-zero}
 use Rattle.ark_points.specs.Points.{AreDifferent, HasValues}
-use Rattle.ark_points.specs.Tree.{derived, nodes, weighed}
+use Rattle.ark_blocks.specs.Roots.{nodes}
+use Rattle.ark_points.specs.Tree.{derived, weighed}
 
 module _ {F : Type 0} (K : FieldOn F) (N : IsField K) where
   scaled-product : (c : F) (a b : ℕ → F) → scaled K c (product K a b) ≡ product K (scaled K c a) b

@@ -7,16 +7,13 @@ use Rattle.ark_math.specs.Linear.{linear_factor}
 use Rattle.ark_math.specs.Points.{AreValues}
 use Rattle.ark_math.specs.Univariate.{IsBelow, IsValue, added, difference, monomial, nothing, of_list, product, scaled}
 use Rattle.ark_blocks.specs.Blocks.{AreFirstValues, size_of}
+use Rattle.ark_blocks.specs.Roots.{nodes}
 use Rattle.ark_poly.specs.Values.{Values}
+use Rattle.ark_points.specs.declared.few.FewProducts.{FewProducts}
 use Rattle.ark_points.specs.declared.leaf.Leaf.{Leaf}
 use Rattle.ark_points.specs.declared.leaf.Leaf.TheVariants.{Plain, Blocks}
 use Rattle.ark_points.specs.declared.tree.Tree.{Tree}
 use Rattle.ark_points.specs.declared.tree.Tree.TheVariants.{Few, Halves'}
-
--- the product of x - z for each z of a list
-abbrev pub nodes : {F : Type 0} → FieldOn F → List F → ℕ → F
-nodes K [] = monomial K 0 K.one
-nodes K (z ∷ zs) = product K (linear_factor K z) (nodes K zs)
 
 -- what is left of m, which is of degree n, without a root, times s has p's value at that root as its coefficient at n - 1
 abbrev pub StandsFor : {F : Type 0} → FieldOn F → ℕ → (ℕ → F) → (ℕ → F) → (ℕ → F) → Type 0
@@ -54,6 +51,14 @@ pub record IsMonic {F : Type 0} (K : FieldOn F) (n : ℕ) (a : ℕ → F) : Type
   pub leading : a n ≡ K.one
   pub below : IsBelow K (n + 1) a
 
+-- the products over few points and over both halves of them
+pub record AreFewProducts {F : Type 0} (K : FieldOn F) (points : List F) (p : FewProducts F) : Type 0 where
+  pub whole : of_list K p.whole ≡ nodes K points
+  pub low : of_list K p.low.items ≡ nodes K (take (length points / 2) points)
+  pub low_count : length p.low.items ≡ length points / 2 + 1
+  pub high : of_list K p.high.items ≡ nodes K (drop (length points / 2) points)
+  pub high_count : length p.high.items ≡ length points - length points / 2 + 1
+
 -- the values of both halves' products over a domain with room for the points' number
 pub record HaveValues {F : Type 0} (K : FieldOn F) (points : List F) (d e : Domain F) (v w : List F) : Type 0 where
   pub many : 1 < length points
@@ -74,8 +79,8 @@ pub record HaveBlockValues {F : Type 0} (K : FieldOn F) (roots : List F) (count 
 
 -- the products over these points and over the halves of each part, with values over this many elements, and half as many for
 -- each half
-abbrev pub IsBlockTreeOver : {F : Type 0} → FieldOn F → List F → ℕ → List F → Tree (List F) (List F) (Vec F Global) → Type 0
-IsBlockTreeOver K roots count points (Few p) = of_list K p ≡ nodes K points
+abbrev pub IsBlockTreeOver : {F : Type 0} → FieldOn F → List F → ℕ → List F → Tree (FewProducts F) (List F) (Vec F Global) → Type 0
+IsBlockTreeOver K roots count points (Few p) = AreFewProducts K points p
 IsBlockTreeOver K roots count points (Halves' p a low v b high w) =
     (of_list K p ≡ nodes K points)
     × HaveBlockValues K roots count points v.items w.items
@@ -83,28 +88,35 @@ IsBlockTreeOver K roots count points (Halves' p a low v b high w) =
     × IsBlockTreeOver K roots (count / 2) (drop (length points / 2) points) high
 
 -- what such a tree has for all of its points
-abbrev pub whole_of_blocks : {F : Type 0} → Tree (List F) (List F) (Vec F Global) → List F
-whole_of_blocks (Few p) = p
+abbrev pub whole_of_blocks : {F : Type 0} → Tree (FewProducts F) (List F) (Vec F Global) → List F
+whole_of_blocks (Few p) = p.whole
 whole_of_blocks (Halves' p a low v b high w) = p
 
 -- a list gives a to such a tree: its coefficients, or where the tree has halves its values over as many elements as told
-abbrev pub IsGiven : {F : Type 0} → FieldOn F → List F → Tree (List F) (List F) (Vec F Global) → ℕ → (ℕ → F) → List F → Type 0
+abbrev pub IsGiven : {F : Type 0} → FieldOn F → List F → Tree (FewProducts F) (List F) (Vec F Global) → ℕ → (ℕ → F) → List F → Type 0
 IsGiven K roots (Few p) count a c = of_list K c ≡ a
 IsGiven K roots (Halves' p q low v b high w) count a c = AreFirstValues K roots count a c
 
+-- a list gives such a tree a polynomial below n of which this multiple is a
+pub record IsHanded {F : Type 0} (K : FieldOn F) (roots : List F) (tree : Tree (FewProducts F) (List F) (Vec F Global)) (count n : ℕ) (c : List F) (scale : F) (a : ℕ → F) : Type 0 where
+  pub own : ℕ → F
+  pub below : IsBelow K n own
+  pub given : IsGiven K roots tree count own c
+  pub multiple : scaled K scale own ≡ a
+
 -- the lengths of such lists, for a below n
-abbrev pub HasRoom : {F : Type 0} → Tree (List F) (List F) (Vec F Global) → ℕ → ℕ → ℕ → Type 0
+abbrev pub HasRoom : {F : Type 0} → Tree (FewProducts F) (List F) (Vec F Global) → ℕ → ℕ → ℕ → Type 0
 HasRoom (Few p) n count len = len ≤ n
 HasRoom (Halves' p q low v b high w) n count len = len ≡ count
 
 -- the product over these points, or a tree of products by a table of as many roots
 abbrev pub IsLeafOver : {F : Type 0} → FieldOn F → List F → Leaf F → Type 0
-IsLeafOver K points (Plain p) = of_list K p ≡ nodes K points
+IsLeafOver K points (Plain p) = AreFewProducts K points p
 IsLeafOver K points (Blocks roots tree) = (length points ≤ size_of roots) × IsBlockTreeOver K roots (size_of roots) points tree.value
 
 -- what a leaf has for all of its points
 abbrev pub product_of_leaf : {F : Type 0} → Leaf F → List F
-product_of_leaf (Plain p) = p
+product_of_leaf (Plain p) = p.whole
 product_of_leaf (Blocks roots tree) = whole_of_blocks tree.value
 
 -- what a tree has for all of its points

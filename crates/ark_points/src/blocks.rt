@@ -3,23 +3,25 @@
 
 ghost use Rattle.std.specs.Prelude.{◌≡◌, ℕ, ◌+◌, ◌-◌, ◌/◌, ◌<◌, ◌≤◌, drop, length, take, IfOk, IfSome, OnOk};
 ghost use Rattle.ark_blocks.specs.Blocks.{AreFirstValues, IsPowerOfTwo, size_of};
-ghost use Rattle.ark_math.specs.Univariate.{IsBelow, added, of_list, product};
+ghost use Rattle.ark_math.specs.Univariate.{IsBelow, added, of_list, product, scaled};
 ghost use Rattle.ark_points.specs.Points.{HasValues};
-ghost use Rattle.ark_points.specs.Tree.{HasRoom, IsBlockTreeOver, IsGiven, IsMonic, StandsFor, nodes, power_less_one};
+ghost use Rattle.ark_blocks.specs.Roots.{nodes};
+ghost use Rattle.ark_points.specs.Tree.{HasRoom, IsBlockTreeOver, IsGiven, IsHanded, IsMonic, StandsFor, power_less_one};
 ghost use Rattle.ark_points.specs.Tree.{weighed, whole_of_blocks};
 
-use crate::few::{FEW_POINTS, product_of_few, weighed_few, write_few_values};
-use crate::items::{add_products, multiply_places, place_products};
+use crate::few::{FEW_POINTS, FewProducts, weighed_few, write_few_values};
+use crate::items::{add_products, place_products};
 use crate::tree::Tree;
 use ark_base::{FftField, Field};
 use ark_blocks::BlockRoots;
+use ark_blocks::items::multiply_places;
 use ark_poly::DenseUVPolynomial;
 use ark_poly::univariate::DensePolynomial;
 use std::alloc::{AllocError, Global};
 
 /// The product of x - z over points; and of many points the products of both halves, each with its values over the first
 /// elements of a table, of which there is at least one for each point.
-pub type BlockProducts<F> = Tree<DensePolynomial<F>, DensePolynomial<F>, Vec<F>>;
+pub type BlockProducts<F> = Tree<FewProducts<F>, DensePolynomial<F>, Vec<F>>;
 
 impl<F: FftField> BlockProducts<F> {
     /// Over these points, in their order, with values over `count` elements.
@@ -52,8 +54,8 @@ impl<F: FftField> BlockProducts<F> {
             (nodes F.field points.now) v.items)) }
     {
         if points.len() <= FEW_POINTS {
-            let product = product_of_few(alloc, points)?;
-            return Ok((Box::new(alloc, Tree::Few(product))?, None));
+            let products = FewProducts::new(alloc, points)?;
+            return Ok((Box::new(alloc, Tree::Few(products))?, None));
         }
         let half = points.len() / 2;
         let low = BlockProducts::with_values(alloc, blocks, &points[..half], count / 2)?;
@@ -66,7 +68,7 @@ impl<F: FftField> BlockProducts<F> {
         ensures { result.now ≡ whole_of_blocks self.now }
     {
         match self {
-            Tree::Few(product) => product,
+            Tree::Few(products) => &products.whole,
             Tree::Halves(product, _, _, _, _) => product,
         }
     }
@@ -94,16 +96,17 @@ impl<F: FftField> BlockProducts<F> {
             (of_list F.field points.now) (of_list F.field values.new) p) }
     {
         let given = given_to(alloc, blocks, self, coeffs, count)?;
-        self.write_given(alloc, blocks, points, &given, values, count)
+        self.write_given(alloc, blocks, points, &given, F::one(), values, count)
     }
 
-    // The same, where a list gives the polynomial to the tree.
+    // The same, where a list gives the tree a polynomial of which a multiple stands for the other.
     fn write_given(
         &self,
         alloc: Global,
         blocks: &BlockRoots<F>,
         points: &[F],
         given: &[F],
+        scale: F,
         values: &mut [F],
         count: usize,
     ) -> Result<(), AllocError>
@@ -117,20 +120,32 @@ impl<F: FftField> BlockProducts<F> {
         ensures len { length values.new ≡ length values.old }
         ensures values { OnOk result ((p s : ℕ → F) → IsBelow F.field (length points.now) s
             → IsGiven F.field blocks.now self.now count s given.now
-            → StandsFor F.field (length points.now) (nodes F.field points.now) p s
+            → StandsFor F.field (length points.now) (nodes F.field points.now) p (scaled F.field scale s)
             → HasValues F.field (length points.now) (of_list F.field points.now) (of_list F.field values.new) p) }
     {
         match self {
-            Tree::Few(product) => write_few_values(alloc, product, points, given, values),
+            Tree::Few(products) => write_few_values(alloc, products, points, given, scale, values),
             Tree::Halves(_, low, low_values, high, high_values) => {
                 let n = points.len();
                 let half = n / 2;
                 let part = count / 2;
                 let (to_low, to_high) = values.split_at_mut(half);
-                let for_low = handed(alloc, blocks, low, high_values, given, n - half, n, part)?;
-                low.write_given(alloc, blocks, &points[..half], &for_low, to_low, part)?;
-                let for_high = handed(alloc, blocks, high, low_values, given, half, n, part)?;
-                high.write_given(alloc, blocks, &points[half..], &for_high, to_high, part)
+                let (for_low, by) = handed(
+                    alloc,
+                    blocks,
+                    low,
+                    high_values,
+                    given,
+                    scale,
+                    n - half,
+                    n,
+                    part,
+                )?;
+                low.write_given(alloc, blocks, &points[..half], &for_low, by, to_low, part)?;
+                let (for_high, by) = handed(
+                    alloc, blocks, high, low_values, given, scale, half, n, part,
+                )?;
+                high.write_given(alloc, blocks, &points[half..], &for_high, by, to_high, part)
             }
         }
     }
@@ -157,7 +172,10 @@ impl<F: FftField> BlockProducts<F> {
             (of_list F.field p.0.items) v.items)) }
     {
         match self {
-            Tree::Few(product) => Ok((weighed_few(alloc, product, points, weights)?, None)),
+            Tree::Few(products) => Ok((
+                weighed_few(alloc, &products.whole, points, weights)?,
+                None,
+            )),
             Tree::Halves(_, low, low_values, high, high_values) => {
                 let half = points.len() / 2;
                 let part = count / 2;
@@ -276,9 +294,48 @@ fn given_to<F: FftField>(
     }
 }
 
-// The list that gives a tree with values over `count` elements the coefficients from `start` on and below `end` of a product,
-// of which one factor has these values, and the other the given ones, over twice as many.
+// What gives a tree with values over `count` elements the coefficients from `start` on and below `end` of a product, of which one
+// factor has these values, and the other the given ones, over twice as many: a list, and by what it is to be multiplied so that
+// it is the scale's multiple. Where all is handed on by values it is twice these coefficients, which costs least.
 fn handed<F: FftField>(
+    alloc: Global,
+    blocks: &BlockRoots<F>,
+    tree: &BlockProducts<F>,
+    left: &[F],
+    right: &[F],
+    scale: F,
+    start: usize,
+    end: usize,
+    count: usize,
+) -> Result<(Vec<F>, F), AllocError>
+    requires power { IsPowerOfTwo count }
+    requires within { count + count ≤ size_of blocks.now }
+    requires left { length left.now ≡ count + count }
+    requires right { length right.now ≡ count + count }
+    requires order { start ≤ end }
+    requires room { end ≤ count + count }
+    requires few { end - start ≤ count }
+    ensures room { IfOk result (λ h. HasRoom tree.now (end - start) count (length h.0.items)) }
+    ensures given { IfOk result (λ h. (a b c : ℕ → F)
+        → AreFirstValues F.field blocks.now (count + count) a left.now
+        → AreFirstValues F.field blocks.now (count + count) b right.now
+        → IsBelow F.field (start + (count + count)) (product F.field a b)
+        → IsBelow F.field (end - start) c
+        → ((i : ℕ) → start + i < end → c i ≡ product F.field a b (start + i))
+        → IsHanded F.field blocks.now tree.now count (end - start) h.0.items h.1 (scaled F.field scale c)) }
+{
+    if let Tree::Halves(_, _, _, _, _) = tree {
+        if start == count && end - start == count {
+            let doubled = blocks.twice_upper_half(alloc, left, right, count)?;
+            return Ok((doubled, scale * blocks.half()));
+        }
+    }
+    let given = given_part(alloc, blocks, tree, left, right, start, end, count)?;
+    Ok((given, scale))
+}
+
+// The list that gives a tree these coefficients of such a product.
+fn given_part<F: FftField>(
     alloc: Global,
     blocks: &BlockRoots<F>,
     tree: &BlockProducts<F>,
@@ -304,11 +361,6 @@ fn handed<F: FftField>(
         → ((i : ℕ) → start + i < end → c i ≡ product F.field a b (start + i))
         → IsGiven F.field blocks.now tree.now count c v.items) }
 {
-    if let Tree::Halves(_, _, _, _, _) = tree {
-        if start == count && end - start == count {
-            return blocks.upper_half(alloc, left, right, count);
-        }
-    }
     let mut coeffs = place_products(alloc, left, right, left.len())?;
     blocks.interpolate(coeffs.as_mut_slice());
     given_to(alloc, blocks, tree, &coeffs[start..end], count)

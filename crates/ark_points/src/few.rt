@@ -1,16 +1,18 @@
 //! Products of `x - z` over few points, what they weigh, and values at few points, a point or a coefficient at a time.
 
-ghost use Rattle.std.specs.Prelude.{◌≡◌, ℕ, ◌+◌, ◌-◌, ◌<◌, ◌≤◌, length, IfOk, OnOk};
-ghost use Rattle.ark_math.specs.Linear.{linear_factor};
-ghost use Rattle.ark_math.specs.Univariate.{of_list, product};
+ghost use Rattle.std.specs.Prelude.{◌≡◌, ℕ, ◌+◌, ◌-◌, ◌/◌, ◌<◌, ◌≤◌, drop, length, take, IfOk, OnOk};
+ghost use Rattle.ark_math.specs.Univariate.{of_list, product, scaled};
 ghost use Rattle.ark_points.specs.Points.{HasValues};
 ghost use Rattle.ark_points.specs.Steps.{power_sum};
-ghost use Rattle.ark_points.specs.Tree.{StandsFor, nodes, weighed};
+ghost use Rattle.ark_blocks.specs.Roots.{nodes};
+ghost use Rattle.ark_points.specs.Tree.{AreFewProducts, StandsFor, weighed};
 
-use crate::items::{multiply_places, sum_of};
-use crate::parts::add_product_past;
+use crate::items::{clear, sum_of};
+use crate::parts::write_part;
 use ark_base::Field;
-use ark_coeffs::dense::zeros;
+use ark_blocks::items::{multiply_places, scale_each};
+use ark_blocks::product_of_few;
+use ark_coeffs::dense::{naive_product, zeros};
 use ark_poly::DenseUVPolynomial;
 use ark_poly::univariate::DensePolynomial;
 use std::alloc::{AllocError, Global};
@@ -18,55 +20,111 @@ use std::alloc::{AllocError, Global};
 /// Parts of at most so many points are not halved.
 pub const FEW_POINTS: usize = 32;
 
-/// The product of x - z over the points, one by one.
-pub fn product_of_few<F: Field>(
-    alloc: Global,
-    points: &[F],
-) -> Result<DensePolynomial<F>, AllocError>
-    ensures { IfOk result (λ p. of_list F.field p ≡ nodes F.field points.now) }
-{
-    let mut coeffs = Vec::with_capacity(alloc, FEW_POINTS + 1)?;
-    coeffs.push(F::one())?;
-    for point in points {
-        multiply_by_linear(&mut coeffs, *point)?;
+/// The product of x - z over few points, and the coefficients of those over both halves of the points.
+#[derive(Drop)]
+pub struct FewProducts<F: Field> {
+    pub whole: DensePolynomial<F>,
+    pub low: Vec<F>,
+    pub high: Vec<F>,
+}
+
+impl<F: Field> FewProducts<F> {
+    /// Over these points, in their order.
+    pub fn new(alloc: Global, points: &[F]) -> Result<Self, AllocError>
+        ensures { IfOk result (λ p. AreFewProducts F.field points.now p) }
+    {
+        let half = points.len() / 2;
+        let low = product_of_few(alloc, &points[..half])?;
+        let high = product_of_few(alloc, &points[half..])?;
+        let whole = whole_product(alloc, &low, &high)?;
+        Ok(FewProducts { whole, low, high })
     }
+}
+
+// The product of the polynomials with these coefficients.
+fn whole_product<F: Field>(
+    alloc: Global,
+    left: &[F],
+    right: &[F],
+) -> Result<DensePolynomial<F>, AllocError>
+    ensures { IfOk result (λ p. of_list F.field p
+        ≡ product F.field (of_list F.field left.now) (of_list F.field right.now)) }
+{
+    // What overflows is too long for memory.
+    let coeffs = naive_product(alloc, left, right).map_err(|_| AllocError)?;
     Ok(DensePolynomial::from_coefficients_vec(coeffs))
 }
 
-// Multiplies the polynomial with these coefficients by x - z, in place, from the highest one down.
-fn multiply_by_linear<F: Field>(coeffs: &mut Vec<F>, z: F) -> Result<(), AllocError>
-    ensures product { OnOk result (of_list F.field coeffs.new.items
-        ≡ product F.field (of_list F.field coeffs.old.items) (linear_factor F.field z)) }
-    ensures len { OnOk result (length coeffs.new.items ≡ length coeffs.old.items + 1) }
-{
-    coeffs.push(F::zero())?;
-    for i in (1..coeffs.len()).rev() {
-        coeffs[i] = coeffs[i - 1] - z * coeffs[i];
-    }
-    coeffs[0] = -(z * coeffs[0]);
-    Ok(())
-}
-
-/// Writes the values at few points: the product times the given polynomial has them from the points' number on.
+/// Writes the values at few points of what this multiple of the given polynomial stands for, a half of the points at a time.
 pub fn write_few_values<F: Field>(
     alloc: Global,
-    product: &DensePolynomial<F>,
+    products: &FewProducts<F>,
     points: &[F],
     given: &[F],
+    scale: F,
     values: &mut [F],
 ) -> Result<(), AllocError>
-    requires not_empty { 0 < length points.now }
-    requires product { of_list F.field product.now ≡ nodes F.field points.now }
+    requires products { AreFewProducts F.field points.now products.now }
     requires few { length given.now ≤ length points.now }
     requires len { length values.old ≡ length points.now }
     ensures len { length values.new ≡ length values.old }
-    ensures values { OnOk result ((p : ℕ → F) → StandsFor F.field (length points.now)
-        (nodes F.field points.now) p (of_list F.field given.now) → HasValues F.field (length points.now)
+    ensures values { OnOk result ((p : ℕ → F) → StandsFor F.field (length points.now) (nodes F.field points.now) p
+        (scaled F.field scale (of_list F.field given.now)) → HasValues F.field (length points.now)
         (of_list F.field points.now) (of_list F.field values.new) p) }
 {
-    let past = product_past(alloc, product, points, given)?;
-    write_values_of(&past, points, values);
+    let half = points.len() / 2;
+    let mut room = zeros(alloc, points.len())?;
+    let handed = room.as_mut_slice();
+    hand_to_halves(handed, products, points, given, scale);
+    let (for_low, for_high) = handed.split_at_mut(half);
+    let (to_low, to_high) = values.split_at_mut(half);
+    write_stood_for(&products.low, &points[..half], for_low, to_low);
+    write_stood_for(&products.high, &points[half..], for_high, to_high);
     Ok(())
+}
+
+// Puts what stands over the first half of the points, for what the given polynomial's multiple stands for over all, in the
+// items' place, and behind it what does over the others.
+fn hand_to_halves<F: Field>(
+    items: &mut [F],
+    products: &FewProducts<F>,
+    points: &[F],
+    given: &[F],
+    scale: F,
+)
+    requires len { length items.old ≡ length points.now }
+    requires products { AreFewProducts F.field points.now products.now }
+    ensures len { length items.new ≡ length items.old }
+    ensures low { (j : ℕ) → j < length points.now / 2 → of_list F.field items.new j ≡ F.field.times
+        (product F.field (nodes F.field (drop (length points.now / 2) points.now)) (of_list F.field given.now)
+        (length points.now - length points.now / 2 + j)) scale }
+    ensures high { (j : ℕ) → j < length points.now - length points.now / 2
+        → of_list F.field items.new (length points.now / 2 + j) ≡ F.field.times
+        (product F.field (nodes F.field (take (length points.now / 2) points.now)) (of_list F.field given.now)
+        (length points.now / 2 + j)) scale }
+{
+    let half = points.len() / 2;
+    let (for_low, for_high) = items.split_at_mut(half);
+    write_part(for_low, &products.high, given, points.len() - half);
+    write_part(for_high, &products.low, given, half);
+    scale_each(items, scale);
+}
+
+// Writes the values at the points of what the given polynomial stands for: the product times that has them from the points'
+// number on. These coefficients take the given ones' place.
+fn write_stood_for<F: Field>(over_points: &[F], points: &[F], given: &mut [F], values: &mut [F])
+    requires over_points { of_list F.field over_points.now ≡ nodes F.field points.now }
+    requires count { length over_points.now ≡ length points.now + 1 }
+    requires given { length given.old ≡ length points.now }
+    requires len { length values.old ≡ length points.now }
+    ensures len { length values.new ≡ length values.old }
+    ensures values { (p : ℕ → F) → StandsFor F.field (length points.now) (nodes F.field points.now) p
+        (of_list F.field given.old) → HasValues F.field (length points.now) (of_list F.field points.now)
+        (of_list F.field values.new) p }
+{
+    write_part(values, over_points, given, points.len());
+    given.copy_from_slice(values);
+    write_values_of(given, points, values);
 }
 
 // The coefficients from the points' number on of the product over all points times the given polynomial.
@@ -83,7 +141,12 @@ fn product_past<F: Field>(
     ensures len { IfOk result (λ v. length v.items ≡ length points.now) }
 {
     let mut past = zeros(alloc, points.len())?;
-    add_product_past(past.as_mut_slice(), over_points.coeffs(), given);
+    write_part(
+        past.as_mut_slice(),
+        over_points.coeffs(),
+        given,
+        points.len(),
+    );
     Ok(past)
 }
 
@@ -98,16 +161,6 @@ fn write_values_of<F: Field>(coeffs: &[F], points: &[F], values: &mut [F])
     clear(values);
     for i in (0..coeffs.len()).rev() {
         multiply_and_add(values, points, coeffs[i]);
-    }
-}
-
-// Makes each value zero.
-fn clear<F: Field>(values: &mut [F])
-    ensures len { length values.new ≡ length values.old }
-    ensures zero { (i : ℕ) → i < length values.old → of_list F.field values.new i ≡ F.field.zero }
-{
-    for i in 0..values.len() {
-        values[i] = F::zero();
     }
 }
 

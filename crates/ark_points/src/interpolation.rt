@@ -5,7 +5,8 @@ ghost use Rattle.ark_math.specs.Linear.{linear_factor};
 ghost use Rattle.ark_math.specs.Outcome.{IsOkUnlessEither};
 ghost use Rattle.ark_math.specs.Univariate.{IsBelow, of_list};
 ghost use Rattle.ark_points.specs.Points.{AreDifferent, HasRepeated, HasValues, IsThrough, x_of, y_of};
-ghost use Rattle.ark_points.specs.Tree.{IsTreeOver, derived, nodes};
+ghost use Rattle.ark_blocks.specs.Roots.{nodes};
+ghost use Rattle.ark_points.specs.Tree.{IsTreeOver, derived};
 
 use crate::error::PointsError;
 use crate::items::has_zero;

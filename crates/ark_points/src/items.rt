@@ -6,6 +6,7 @@ ghost use Rattle.ark_math.specs.Module.{itself, sum_below};
 ghost use Rattle.ark_math.specs.Univariate.{of_list};
 
 use ark_base::Field;
+use ark_blocks::items::multiply_places;
 use std::alloc::{AllocError, Global};
 
 /// Whether an item is zero.
@@ -92,15 +93,13 @@ pub fn place_products<F: Field>(
     Ok(products)
 }
 
-/// Multiplies each item by the other list's.
-pub fn multiply_places<F: Field>(items: &mut [F], others: &[F])
-    requires { length others.now ≡ length items.old }
+/// Makes each item zero.
+pub fn clear<F: Field>(items: &mut [F])
     ensures len { length items.new ≡ length items.old }
-    ensures products { (i : ℕ) → i < length items.old → of_list F.field items.new i
-        ≡ F.field.times (of_list F.field items.old i) (of_list F.field others.now i) }
+    ensures zero { (i : ℕ) → i < length items.old → of_list F.field items.new i ≡ F.field.zero }
 {
-    for i in 0..others.len() {
-        items[i] = items[i] * others[i];
+    for i in 0..items.len() {
+        items[i] = F::zero();
     }
 }
 

@@ -3,10 +3,11 @@
 ghost use Rattle.std.specs.Prelude.{◌≡◌, ℕ, ◌<◌, ◌≤◌, length, IfOk, OnOk, IsOkUnless};
 ghost use Rattle.ark_math.specs.Univariate.{of_list};
 ghost use Rattle.ark_points.specs.Points.{HasValues};
-ghost use Rattle.ark_points.specs.Tree.{IsLeafOver, StandsFor, nodes, product_of_leaf, weighed};
+ghost use Rattle.ark_blocks.specs.Roots.{nodes};
+ghost use Rattle.ark_points.specs.Tree.{IsLeafOver, StandsFor, product_of_leaf, weighed};
 
 use crate::blocks::BlockProducts;
-use crate::few::{FEW_POINTS, product_of_few, weighed_few, write_few_values};
+use crate::few::{FEW_POINTS, FewProducts, weighed_few, write_few_values};
 use ark_base::{FftField, PolyError};
 use ark_blocks::BlockRoots;
 use ark_poly::DenseUVPolynomial;
@@ -17,7 +18,7 @@ use std::alloc::Global;
 /// or roots, and by them a tree of products.
 #[derive(Drop)]
 pub enum Leaf<F: FftField> {
-    Plain(DensePolynomial<F>),
+    Plain(FewProducts<F>),
     Blocks(BlockRoots<F>, Box<BlockProducts<F>>),
 }
 
@@ -33,7 +34,7 @@ impl<F: FftField> Leaf<F> {
                 return Ok(Leaf::Blocks(blocks, tree));
             }
         }
-        Ok(Leaf::Plain(product_of_few(alloc, points)?))
+        Ok(Leaf::Plain(FewProducts::new(alloc, points)?))
     }
 
     /// The product of x - z over all points.
@@ -41,7 +42,7 @@ impl<F: FftField> Leaf<F> {
         ensures { result.now ≡ product_of_leaf self.now }
     {
         match self {
-            Leaf::Plain(product) => product,
+            Leaf::Plain(products) => &products.whole,
             Leaf::Blocks(_, tree) => tree.product(),
         }
     }
@@ -65,7 +66,14 @@ impl<F: FftField> Leaf<F> {
         ensures memory { IsOkUnless result PolyError.Memory }
     {
         match self {
-            Leaf::Plain(product) => Ok(write_few_values(alloc, product, points, given, values)?),
+            Leaf::Plain(products) => Ok(write_few_values(
+                alloc,
+                products,
+                points,
+                given,
+                F::one(),
+                values,
+            )?),
             Leaf::Blocks(blocks, tree) => {
                 Ok(tree.write_values(alloc, blocks, points, given, values, blocks.size())?)
             }
@@ -86,7 +94,7 @@ impl<F: FftField> Leaf<F> {
         ensures memory { IsOkUnless result PolyError.Memory }
     {
         let coeffs = match self {
-            Leaf::Plain(product) => weighed_few(alloc, product, points, weights)?,
+            Leaf::Plain(products) => weighed_few(alloc, &products.whole, points, weights)?,
             Leaf::Blocks(blocks, tree) => {
                 tree.weighed(alloc, blocks, points, weights, blocks.size())?
                     .0

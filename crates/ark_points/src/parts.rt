@@ -5,6 +5,7 @@ ghost use Rattle.ark_math.specs.Linear.{constant as constant_of};
 ghost use Rattle.ark_math.specs.Points.{AreValues};
 ghost use Rattle.ark_math.specs.Univariate.{IsBelow, of_list, product};
 
+use crate::items::clear;
 use ark_base::{FftField, Field, PolyError};
 use ark_coeffs::dense::add_scaled;
 use ark_poly::univariate::DensePolynomial;
@@ -80,18 +81,25 @@ pub fn product_part<F: FftField, D: EvaluationDomain<F>>(
     upper_part(alloc, &values, right, start, end)
 }
 
-/// Adds to each of n items the coefficient of a product as many places past n, of which one factor has at most n
-/// coefficients, and the other at most one more.
-pub fn add_product_past<F: Field>(items: &mut [F], left: &[F], right: &[F])
-    requires left { length left.now ≤ length items.old + 1 }
-    requires right { length right.now ≤ length items.old }
+/// Puts coefficients of a product in the items' place, from `start` on; the left factor has at most one more than that.
+pub fn write_part<F: Field>(items: &mut [F], left: &[F], right: &[F], start: usize)
+    requires { length left.now ≤ start + 1 }
     ensures len { length items.new ≡ length items.old }
-    ensures sum { (i : ℕ) → of_list F.field items.new i ≡ F.field.plus (of_list F.field items.old i)
-        (product F.field (of_list F.field left.now) (of_list F.field right.now) (i + length items.old)) }
+    ensures part { (j : ℕ) → j < length items.old → of_list F.field items.new j
+        ≡ product F.field (of_list F.field left.now) (of_list F.field right.now) (start + j) }
 {
-    let len = items.len();
+    clear(items);
     for i in 0..left.len() {
-        let start = right.len().min(len - i);
-        add_scaled(items, left[i], &right[start..]);
+        let row = run_of(right, start - i, items.len());
+        add_scaled(items, left[i], row);
     }
+}
+
+// The items from a place on, as many as there are and at most so many.
+fn run_of<F: Field>(items: &[F], start: usize, most: usize) -> &[F]
+    ensures len { length result.now ≤ most }
+    ensures items { (j : ℕ) → j < most → of_list F.field result.now j ≡ of_list F.field items.now (start + j) }
+{
+    let rest = &items[start.min(items.len())..];
+    &rest[..most.min(rest.len())]
 }

@@ -4,7 +4,8 @@ ghost use Rattle.std.specs.Prelude.{◌≡◌, ℕ, ◌+◌, ◌/◌, ◌<◌, �
 ghost use Rattle.ark_math.specs.Points.{AreValues};
 ghost use Rattle.ark_math.specs.Univariate.{IsBelow, added, of_list, product};
 ghost use Rattle.ark_points.specs.Points.{HasValues};
-ghost use Rattle.ark_points.specs.Tree.{HaveValues, IsMonic, IsTreeOver, StandForHalves, StandsFor, nodes, weighed, whole};
+ghost use Rattle.ark_blocks.specs.Roots.{nodes};
+ghost use Rattle.ark_points.specs.Tree.{HaveValues, IsMonic, IsTreeOver, StandForHalves, StandsFor, weighed, whole};
 
 use crate::few::FEW_POINTS;
 use crate::leaf::Leaf;

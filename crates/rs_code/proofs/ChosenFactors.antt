@@ -1,19 +1,39 @@
--- Factors for all places, from the values of the polynomial and the inverses of its derivative's.
-use Rattle.std.proofs.Common.{◌≡◌, ◌≢◌, ℕ, ◌<◌, Bool, true, false, List, length, get_or, if◌then◌else◌, sym, ◌∙◌, ap, ap₂, refl, arith}
-use Rattle.ark_math.specs.Field.{FieldOn, IsField}
+-- Factors for all places, from the values of the polynomial and the inverses of those of x times its derivative.
+use Rattle.std.proofs.Common.{◌≡◌, ◌≢◌, ℕ, ◌<◌, Bool, true, false, List, length, map, get_or, if◌then◌else◌, sym, ◌∙◌, ap, ap₂, refl, arith, inl, inr}
+use mathlib.Core.Path.{fun_ext}
+use Rattle.std.proofs.lemmas.Bool.{cases_lt}
+use Rattle.std.proofs.lemmas.List.{get_or-map, get_or_past}
+use Rattle.ark_math.specs.Field.{FieldOn, IsField, natural}
 use Rattle.ark_math.specs.Root.{HasOrder}
-use Rattle.ark_math.specs.Module.{itself}
+use Rattle.ark_math.specs.Module.{ModuleOn, IsItself, itself, item}
 use Rattle.ark_math.specs.Domain.{Domain, element}
 use Rattle.ark_math.specs.Univariate.{of_list}
 use Rattle.ark_math.specs.Points.{AreValues, IsPlaceQuotient}
+use Rattle.ark_math.proofs.Algebra.Powers.{times_zero}
 use Rattle.ark_math.proofs.OverDomains.PlaceValues.{values-item, values-length}
 use Rattle.ark_math.proofs.Polynomials.UnivariateValues.{one_value}
-use Rattle.rs_code.specs.Locator.{AreFactors, IsFactor, derived, locator, lost, slope}
-use Rattle.rs_code.proofs.Factors.{locator-value, slope-value}
+use Rattle.ark_blocks.specs.Roots.{nodes}
+use Rattle.rs_code.specs.Locator.{AreFactors, IsFactor, euler, lost, slope}
+use Rattle.rs_code.proofs.Factors.{nodes-value, slope-value}
 use Rattle.rs_code.proofs.Lost.{slope-lost}
 
+-- the field's own items times their exponents, by their meanings
+pub own_exponents : {F M : Type 0} {K : FieldOn F} {V : ModuleOn F M} {meaning : F → M} → IsField K → IsItself K V meaning → (old new : List F) → length new ≡ length old →
+    ((i : ℕ) → i < length old → item V (map meaning new) i ≡ euler K V (item V (map meaning old)) i) → of_list K new ≡ euler K (itself K) (of_list K old)
+own_exponents {K = K} {V = V} {meaning = meaning} N I old new len each = fun_ext (λ i. elim (cases_lt i (length old)) [
+  | inl l ↦
+      I.one_to_one _ _
+      (sym (get_or-map meaning new i K.zero V.zero (omega (arith, l, len)))
+      ∙ each i l
+      ∙ ap (V.scale (natural K i)) (get_or-map meaning old i K.zero V.zero l)
+      ∙ sym (I.times_kept (natural K i) (of_list K old i)))
+  | inr past ↦
+      get_or_past new i K.zero (omega (arith, past, len))
+      ∙ sym (ap (K.times (natural K i)) (get_or_past old i K.zero past) ∙ times_zero K N (natural K i))
+])
+
 pub chosen_factors : {F : Type 0} (K : FieldOn F) (N : IsField K) (d : Domain F) → HasOrder K d.root d.size → d.offset ≢ K.zero → (marks : List Bool) → length marks ≡ d.size →
-    (values slopes inverses factors : List F) → AreValues K d (locator K (lost K d marks)) values → AreValues K d (derived K (itself K) (locator K (lost K d marks))) slopes →
+    (values slopes inverses factors : List F) → AreValues K d (nodes K (lost K d marks)) values → AreValues K d (euler K (itself K) (nodes K (lost K d marks))) slopes →
     ((i : ℕ) → i < length slopes → IsPlaceQuotient K K.one (of_list K slopes i) (of_list K inverses i)) →
     length factors ≡ d.size → ((i : ℕ) → i < d.size → of_list K factors i ≡ (if get_or marks i true then of_list K inverses i else of_list K values i)) →
     AreFactors K d marks factors
@@ -24,8 +44,8 @@ chosen_factors K N d o off marks size values slopes inverses factors are_values 
       each = λ i l.
           elim (get_or marks i true) as (λ b. get_or marks i true ≡ b → IsFactor K rs (element K d i) b (of_list K factors i)) [
             | true ↦ λ e.
-                let same : of_list K slopes i ≡ slope K rs (element K d i) =
-                one_value K N (derived K (itself K) (locator K rs)) (element K d i) _ _ (values-item K N d _ slopes are_slopes i l) (slope-value K N rs (element K d i)) in
+                let same : of_list K slopes i ≡ K.times (element K d i) (slope K rs (element K d i)) =
+                one_value K N (euler K (itself K) (nodes K rs)) (element K d i) _ _ (values-item K N d _ slopes are_slopes i l) (slope-value K N rs (element K d i)) in
                 let some : of_list K slopes i ≢ K.zero = λ z. slope-lost K N d o off marks i (omega arith) (omega arith) e (sym same ∙ z) in
                 let in_slopes : i < length slopes = omega (arith, values-length K N d _ slopes are_slopes) in
                 ap₂ K.times (chosen i l ∙ ap (λ b. if b then of_list K inverses i else of_list K values i) e) (sym same)
@@ -33,6 +53,6 @@ chosen_factors K N d o off marks size values slopes inverses factors are_values 
             | false ↦ λ e.
                 chosen i l
                 ∙ ap (λ b. if b then of_list K inverses i else of_list K values i) e
-                ∙ one_value K N (locator K rs) (element K d i) _ _ (values-item K N d _ values are_values i l) (locator-value K N rs (element K d i))
+                ∙ one_value K N (nodes K rs) (element K d i) _ _ (values-item K N d _ values are_values i l) (nodes-value K N rs (element K d i))
           ] refl;
     }

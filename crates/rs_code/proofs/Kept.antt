@@ -1,6 +1,6 @@
 -- The marked places of a subgroup and the kept ones: together they are the roots of x ^ n - 1, so at a marked place the
 -- derivative of the one polynomial comes from the value of the other.
-use Rattle.std.proofs.Common.{◌≡◌, ◌≢◌, ℕ, suc, ◌+◌, ◌-◌, ◌<◌, Bool, true, false, List, [], ◌∷◌, ◌++◌, length, map, get_or, cond, sym, ◌∙◌, ap, ap₂, refl, subst, arith, ⊎_elim}
+use Rattle.std.proofs.Common.{◌≡◌, ◌≢◌, ℕ, zero, suc, ◌+◌, ◌-◌, ◌<◌, Bool, true, false, List, [], ◌∷◌, ◌++◌, length, map, get_or, cond, sym, ◌∙◌, ap, ap₂, refl, subst, arith, ⊎_elim}
 use mathlib.Core.Path.{fun_ext}
 use Rattle.std.specs.Prelude.{not}
 use Rattle.std.proofs.lemmas.Bool.{cases_eq}
@@ -21,11 +21,12 @@ use Rattle.ark_math.proofs.OverDomains.Vanishing.{vanishing-below, vanishing-lea
 use Rattle.ark_math.proofs.Polynomials.Univariate.{IsBelow-less, difference-below, monomial-same, monomial-other}
 use Rattle.ark_math.proofs.Polynomials.UnivariateValues.{one_value, value_is, value-difference, value-monomial}
 use Rattle.ark_math.proofs.Polynomials.Zeros.{zeros_nothing}
+use Rattle.ark_blocks.specs.Roots.{nodes}
 use Rattle.rs_code.specs.Codeword.{mark_count}
-use Rattle.rs_code.specs.Locator.{derived, located, locator, lost, slope}
-use Rattle.rs_code.proofs.Factors.{locator-value, slope-value}
+use Rattle.rs_code.specs.Locator.{euler, located, lost, slope}
+use Rattle.rs_code.proofs.Factors.{nodes-value, slope-value}
 use Rattle.rs_code.proofs.Lost.{located-lost, lost-length}
-use Rattle.rs_code.proofs.Monic.{locator_monic}
+use Rattle.rs_code.proofs.Monic.{nodes_monic}
 
 -- ---- the roots of two lists
 
@@ -45,33 +46,35 @@ module _ {F : Type 0} (K : FieldOn F) (N : IsField K) where
 -- ---- as many roots as a domain has elements, and each element one of them
 
 module _ {F : Type 0} (K : FieldOn F) (N : IsField K) (d : Domain F) where
-  derived-vanishing : 0 < d.size → derived K (itself K) (vanishing K d) ≡ monomial K (d.size - 1) (natural K d.size)
-  derived-vanishing some =
-      let leading = natural K d.size in
-      fun_ext (λ i. ⊎_elim
-      (λ (e : suc i ≡ d.size).
-      let last : d.size - 1 ≡ i = omega arith in
-      ap (λ k. K.times (natural K k) (vanishing K d k)) e ∙ ap (K.times leading) (vanishing-leading K N d some) ∙ N.times_one leading
-      ∙ sym (ap (λ k. monomial K k leading i) last ∙ monomial-same K i leading))
-      (λ (ne : suc i ≢ d.size).
+  euler-others : (i : ℕ) → i ≢ d.size → euler K (itself K) (vanishing K d) i ≡ K.zero
+  euler-others zero ne = zero_scale N (itself_is_module K N) (vanishing K d 0)
+  euler-others (suc i) ne =
       ap (K.times (natural K (suc i)))
       (ap₂ (minus K) (monomial-other K d.size K.one (suc i) (λ e. ne (sym e))) (monomial-other K 0 (power K d.offset d.size) (suc i) (λ e. omega arith))
       ∙ minus_same K N K.zero K.zero refl)
       ∙ times_zero K N (natural K (suc i))
-      ∙ sym (monomial-other K (d.size - 1) leading i (λ e. ne (omega arith))))
-      (cases_eq (suc i) d.size))
+
+  euler-vanishing : 0 < d.size → euler K (itself K) (vanishing K d) ≡ monomial K d.size (natural K d.size)
+  euler-vanishing some =
+      let leading = natural K d.size in
+      fun_ext (λ i. ⊎_elim
+      (λ (e : i ≡ d.size).
+      ap (λ k. K.times (natural K k) (vanishing K d k)) e ∙ ap (K.times leading) (vanishing-leading K N d some) ∙ N.times_one leading
+      ∙ sym (ap (monomial K d.size leading) e ∙ monomial-same K d.size leading))
+      (λ (ne : i ≢ d.size). euler-others i ne ∙ sym (monomial-other K d.size leading i (λ e. ne (sym e))))
+      (cases_eq i d.size))
 
   module _ (o : HasOrder K d.root d.size) (off : d.offset ≢ K.zero) (some : 0 < d.size) (rs : List F) (len : length rs ≡ d.size) (roots : (i : ℕ) → i < d.size → located K rs (element K d i) ≡ K.zero) where
     less : ℕ → F
-    less = difference K (locator K rs) (vanishing K d)
+    less = difference K (nodes K rs) (vanishing K d)
 
     less-below : IsBelow K d.size less
     unfolding less
     less-below =
-        let monic = locator_monic K N rs in
+        let monic = nodes_monic K N rs in
         IsBelow-less K d.size less
-        (minus_same K N _ _ (ap (locator K rs) (sym len) ∙ monic.leading ∙ sym (vanishing-leading K N d some)))
-        (difference-below K N (suc d.size) (locator K rs) (vanishing K d)
+        (minus_same K N _ _ (ap (nodes K rs) (sym len) ∙ monic.leading ∙ sym (vanishing-leading K N d some)))
+        (difference-below K N (suc d.size) (nodes K rs) (vanishing K d)
         (λ i l. monic.rest i (omega arith))
         (λ i l. vanishing-below K N d i (omega arith)))
 
@@ -79,11 +82,11 @@ module _ {F : Type 0} (K : FieldOn F) (N : IsField K) (d : Domain F) where
     unfolding less
     less-value i l =
         subst (IsValue K less (element K d i)) (minus_same K N _ _ (roots i l))
-        (value-difference K N (locator K rs) (vanishing K d) (element K d i) _ _ (locator-value K N rs (element K d i)) (element-vanishes K N d o i))
+        (value-difference K N (nodes K rs) (vanishing K d) (element K d i) _ _ (nodes-value K N rs (element K d i)) (element-vanishes K N d o i))
 
-    locator_is_vanishing : locator K rs ≡ vanishing K d
+    nodes_is_vanishing : nodes K rs ≡ vanishing K d
     unfolding less
-    locator_is_vanishing =
+    nodes_is_vanishing =
         let none : less ≡ nothing K =
         zeros_nothing K N d.size less (element K d) less-below (elements_differ K N d o off)
         (λ i l. sym (value_is K N d.size less (element K d i) K.zero less-below (less-value i l))) in
@@ -91,15 +94,15 @@ module _ {F : Type 0} (K : FieldOn F) (N : IsField K) (d : Domain F) where
 
     located-roots : (x : F) → located K rs x ≡ minus K (power K x d.size) (power K d.offset d.size)
     located-roots x =
-        one_value K N (locator K rs) x _ _ (locator-value K N rs x)
-        (subst (λ a. IsValue K a x (minus K (power K x d.size) (power K d.offset d.size))) (sym locator_is_vanishing) (value-vanishing K N d x))
+        one_value K N (nodes K rs) x _ _ (nodes-value K N rs x)
+        (subst (λ a. IsValue K a x (minus K (power K x d.size) (power K d.offset d.size))) (sym nodes_is_vanishing) (value-vanishing K N d x))
 
-    slope-roots : (x : F) → slope K rs x ≡ K.times (natural K d.size) (power K x (d.size - 1))
+    slope-roots : (x : F) → K.times x (slope K rs x) ≡ K.times (natural K d.size) (power K x d.size)
     slope-roots x =
-        one_value K N (derived K (itself K) (locator K rs)) x _ _ (slope-value K N rs x)
-        (subst (λ a. IsValue K a x (K.times (power K x (d.size - 1)) (natural K d.size)))
-        (sym (ap (derived K (itself K)) locator_is_vanishing ∙ derived-vanishing some))
-        (value-monomial K N (d.size - 1) (natural K d.size) x))
+        one_value K N (euler K (itself K) (nodes K rs)) x _ _ (slope-value K N rs x)
+        (subst (λ a. IsValue K a x (K.times (power K x d.size) (natural K d.size)))
+        (sym (ap (euler K (itself K)) nodes_is_vanishing ∙ euler-vanishing some))
+        (value-monomial K N d.size (natural K d.size) x))
         ∙ N.times_comm _ _
 
 -- ---- the marked places and the others
@@ -155,23 +158,22 @@ module _ {F : Type 0} (K : FieldOn F) (N : IsField K) (d : Domain F) (o : HasOrd
         ∙ located-roots K N d o off some (gone ++ kept) both-length both-roots x
         ∙ ap (minus K (power K x d.size)) offset_power
 
-    pub slope-kept : (i : ℕ) → i < d.size → get_or marks i true ≡ true → K.times (slope K (lost K d marks) (element K d i)) (located K (lost K d (map not marks)) (element K d i)) ≡ K.times (natural K d.size) (power K (element K d i) (d.size - 1))
+    slope-kept : (i : ℕ) → i < d.size → get_or marks i true ≡ true → K.times (element K d i) (K.times (slope K (lost K d marks) (element K d i)) (located K (lost K d (map not marks)) (element K d i))) ≡ natural K d.size
     slope-kept i l e =
         let x = element K d i in
         let s = K.times (slope K gone x) (located K kept x) in
-        sym (slope-append K N gone kept x
+        ap (K.times x)
+        (sym (slope-append K N gone kept x
         ∙ ap (λ t. K.plus s (K.times t (slope K kept x))) (located-lost K N d o off marks i (omega arith) e)
-        ∙ ring2 K N (λ s t. (s ⊕ nought ⊗ t, s)) refl s (slope K kept x))
+        ∙ ring2 K N (λ s t. (s ⊕ nought ⊗ t, s)) refl s (slope K kept x)))
         ∙ slope-roots K N d o off (omega arith) (gone ++ kept) both-length both-roots x
+        ∙ ap (K.times (natural K d.size)) (element-power K N d o i ∙ offset_power)
+        ∙ N.times_one (natural K d.size)
 
     -- where h is 1 / n, this is the inverse of the derivative's value
     pub inverse-slope : (i : ℕ) → i < d.size → get_or marks i true ≡ true → (h : F) → K.times h (natural K d.size) ≡ K.one → K.times (K.times h (K.times (element K d i) (located K (lost K d (map not marks)) (element K d i)))) (slope K (lost K d marks) (element K d i)) ≡ K.one
     inverse-slope i l e h inverse =
         let x = element K d i in
-        let p = power K x (d.size - 1) in
-        let whole : suc (d.size - 1) ≡ d.size = omega arith in
         ring4 K N (λ h x k s. ((h ⊗ (x ⊗ k)) ⊗ s, h ⊗ (x ⊗ (s ⊗ k)))) refl h x (located K kept x) (slope K gone x)
-        ∙ ap (λ t. K.times h (K.times x t)) (slope-kept i l e)
-        ∙ ring4 K N (λ h x n p. (h ⊗ (x ⊗ (n ⊗ p)), (h ⊗ n) ⊗ (x ⊗ p))) refl h x (natural K d.size) p
-        ∙ ap₂ K.times inverse (ap (power K x) whole ∙ element-power K N d o i ∙ offset_power)
-        ∙ N.times_one K.one
+        ∙ ap (K.times h) (slope-kept i l e)
+        ∙ inverse

@@ -14,6 +14,7 @@ pub mod Places
 pub mod QuarterTurns
 pub mod Restored
 pub mod Sizes
+pub mod SortedRoots
 pub mod Spent
 pub mod TableOrder
 pub mod TurnFactors

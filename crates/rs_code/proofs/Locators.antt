@@ -1,8 +1,8 @@
--- Polynomials over a module by their coefficients, times a product of factors x - r, and their derivatives.
+-- Polynomials over a module by their coefficients, times a product of factors x - r, and x times their derivatives.
 use Rattle.std.proofs.Common.{◌≡◌, ℕ, zero, suc, ◌+◌, ◌<◌, ◌≤◌, List, [], ◌∷◌, length, sym, ◌∙◌, ap, ap₂, refl, arith}
 use Rattle.ark_math.specs.Field.{FieldOn, IsField, power, natural, minus}
 use Rattle.ark_math.specs.Module.{ModuleOn, IsModule, sum_below}
-use Rattle.rs_code.specs.Locator.{located, slope, derived, by_factor, by_factors}
+use Rattle.rs_code.specs.Locator.{located, slope, euler, by_factor, by_factors}
 use Rattle.ark_math.proofs.Algebra.Groups.{scale_zero}
 use Rattle.ark_math.proofs.Algebra.Sums.{sum_below-same, sum_below-plus}
 use Rattle.ark_math.proofs.Algebra.Solve.{Scalar, Vector, scalar_at, vector_at, vector, solve_vector, ◌⊕◌, ◌⊖◌, ◌⊗◌, ◌⊞◌, ◌•◌, negative, unit, nought, origin}
@@ -17,11 +17,11 @@ abbrev pub IsShort : {F M : Type 0} → ModuleOn F M → ℕ → (ℕ → M) →
 IsShort V n a = (i : ℕ) → n ≤ i → a i ≡ V.zero
 
 module _ {F M : Type 0} {K : FieldOn F} {V : ModuleOn F M} (N : IsField K) (L : IsModule K V) where
-  module3_2 : (same : Scalar → Scalar → Scalar → Vector → Vector → VectorSides) → IsVectorSolved (same (scalar_at 0) (scalar_at 1) (scalar_at 2) (vector_at 0) (vector_at 1)) → (a b c : F) (x y : M) → vector K V (a ∷ b ∷ c ∷ []) (x ∷ y ∷ []) (same (scalar_at 0) (scalar_at 1) (scalar_at 2) (vector_at 0) (vector_at 1)).0 ≡ vector K V (a ∷ b ∷ c ∷ []) (x ∷ y ∷ []) (same (scalar_at 0) (scalar_at 1) (scalar_at 2) (vector_at 0) (vector_at 1)).1
-  module3_2 same holds a b c x y = solve_vector N L (a ∷ b ∷ c ∷ []) (x ∷ y ∷ []) (same (scalar_at 0) (scalar_at 1) (scalar_at 2) (vector_at 0) (vector_at 1)).0 (same (scalar_at 0) (scalar_at 1) (scalar_at 2) (vector_at 0) (vector_at 1)).1 holds
-
   module3_3 : (same : Scalar → Scalar → Scalar → Vector → Vector → Vector → VectorSides) → IsVectorSolved (same (scalar_at 0) (scalar_at 1) (scalar_at 2) (vector_at 0) (vector_at 1) (vector_at 2)) → (a b c : F) (x y z : M) → vector K V (a ∷ b ∷ c ∷ []) (x ∷ y ∷ z ∷ []) (same (scalar_at 0) (scalar_at 1) (scalar_at 2) (vector_at 0) (vector_at 1) (vector_at 2)).0 ≡ vector K V (a ∷ b ∷ c ∷ []) (x ∷ y ∷ z ∷ []) (same (scalar_at 0) (scalar_at 1) (scalar_at 2) (vector_at 0) (vector_at 1) (vector_at 2)).1
   module3_3 same holds a b c x y z = solve_vector N L (a ∷ b ∷ c ∷ []) (x ∷ y ∷ z ∷ []) (same (scalar_at 0) (scalar_at 1) (scalar_at 2) (vector_at 0) (vector_at 1) (vector_at 2)).0 (same (scalar_at 0) (scalar_at 1) (scalar_at 2) (vector_at 0) (vector_at 1) (vector_at 2)).1 holds
+
+  module4_2 : (same : Scalar → Scalar → Scalar → Scalar → Vector → Vector → VectorSides) → IsVectorSolved (same (scalar_at 0) (scalar_at 1) (scalar_at 2) (scalar_at 3) (vector_at 0) (vector_at 1)) → (a b c d : F) (x y : M) → vector K V (a ∷ b ∷ c ∷ d ∷ []) (x ∷ y ∷ []) (same (scalar_at 0) (scalar_at 1) (scalar_at 2) (scalar_at 3) (vector_at 0) (vector_at 1)).0 ≡ vector K V (a ∷ b ∷ c ∷ d ∷ []) (x ∷ y ∷ []) (same (scalar_at 0) (scalar_at 1) (scalar_at 2) (scalar_at 3) (vector_at 0) (vector_at 1)).1
+  module4_2 same holds a b c d x y = solve_vector N L (a ∷ b ∷ c ∷ d ∷ []) (x ∷ y ∷ []) (same (scalar_at 0) (scalar_at 1) (scalar_at 2) (scalar_at 3) (vector_at 0) (vector_at 1)).0 (same (scalar_at 0) (scalar_at 1) (scalar_at 2) (scalar_at 3) (vector_at 0) (vector_at 1)).1 holds
 
   -- ---- values
 
@@ -64,10 +64,10 @@ module _ {F M : Type 0} {K : FieldOn F} {V : ModuleOn F M} (N : IsField K) (L : 
   by_factors-short m (suc n) (r ∷ rs) a short l i b =
       by_factor-short n r (by_factors K V rs a) (by_factors-short m n rs a short (omega arith)) i b
 
-  pub derived-short : (n : ℕ) (a : ℕ → M) → IsShort V (suc n) a → IsShort V n (derived K V a)
-  derived-short n a short i l = ap (V.scale (natural K (suc i))) (short (suc i) (omega arith)) ∙ scale_zero L (natural K (suc i))
+  pub euler-short : (n : ℕ) (a : ℕ → M) → IsShort V n a → IsShort V n (euler K V a)
+  euler-short n a short i l = ap (V.scale (natural K i)) (short i l) ∙ scale_zero L (natural K i)
 
-  -- ---- the values of products and of their derivatives
+  -- ---- the values of products and of x times their derivatives
 
   pub by_factors-value : (m n : ℕ) (rs : List F) (x : F) (a : ℕ → M) → IsShort V m a → m + length rs ≤ n → value K V n (by_factors K V rs a) x ≡ V.scale (located K rs x) (value K V n a x)
   by_factors-value m n [] x a short l = sym (L.one_scale (value K V n a x))
@@ -77,24 +77,24 @@ module _ {F M : Type 0} {K : FieldOn F} {V : ModuleOn F M} (N : IsField K) (L : 
       ∙ sym (L.times_scale (minus K x r) (located K rs x) (value K V n a x))
 
   -- the product rule for one factor
-  derived-by_factor : (r : F) (a : ℕ → M) (i : ℕ) → derived K V (by_factor K V r a) i ≡ V.plus (a i) (by_factor K V r (derived K V a) i)
-  derived-by_factor r a zero =
-      module2_2 N L (λ r o a b. ((nought ⊕ unit) • (a ⊞ negative r • b), a ⊞ negative r • ((nought ⊕ unit) • b))) refl r K.one (a 0) (a 1)
-  derived-by_factor r a (suc i) =
-      module2_2 N L (λ r q a b. ((q ⊕ unit ⊕ unit) • (a ⊞ negative r • b), a ⊞ ((q ⊕ unit) • a ⊞ negative r • ((q ⊕ unit ⊕ unit) • b)))) refl r (natural K i) (a (suc i)) (a (suc (suc i)))
+  euler-by_factor : (r : F) (a : ℕ → M) (i : ℕ) → euler K V (by_factor K V r a) i ≡ V.plus (by_factor K V K.zero a i) (by_factor K V r (euler K V a) i)
+  euler-by_factor r a zero =
+      module2_1 N L (λ r o a. (nought • (negative r • a), negative nought • a ⊞ negative r • (nought • a))) refl r K.one (a 0)
+  euler-by_factor r a (suc i) =
+      module2_2 N L (λ r q a b. ((q ⊕ unit) • (a ⊞ negative r • b), (a ⊞ negative nought • b) ⊞ (q • a ⊞ negative r • ((q ⊕ unit) • b)))) refl r (natural K i) (a i) (a (suc i))
 
   -- the product rule for all of them
-  pub derived-value : (m n : ℕ) (rs : List F) (x : F) (a : ℕ → M) → IsShort V m a → m + length rs ≤ n → value K V n (derived K V (by_factors K V rs a)) x ≡ V.plus (V.scale (slope K rs x) (value K V n a x)) (V.scale (located K rs x) (value K V n (derived K V a) x))
-  derived-value m n [] x a short l =
-      module2_2 N L (λ r q a b. (b, nought • a ⊞ unit • b)) refl K.one K.one (value K V n a x) (value K V n (derived K V a) x)
-  derived-value m n (r ∷ rs) x a short l =
+  pub euler-value : (m n : ℕ) (rs : List F) (x : F) (a : ℕ → M) → IsShort V m a → m + length rs ≤ n → value K V n (euler K V (by_factors K V rs a)) x ≡ V.plus (V.scale (K.times x (slope K rs x)) (value K V n a x)) (V.scale (located K rs x) (value K V n (euler K V a) x))
+  euler-value m n [] x a short l =
+      module2_2 N L (λ x q a b. (b, (x ⊗ nought) • a ⊞ unit • b)) refl x K.one (value K V n a x) (value K V n (euler K V a) x)
+  euler-value m n (r ∷ rs) x a short l =
       let b = by_factors K V rs a in
-      let before : IsShort V (m + length rs) (derived K V b) =
-      derived-short (m + length rs) b (by_factors-short m (suc (m + length rs)) rs a short (omega arith)) in
-      value-same n (derived K V (by_factor K V r b)) (λ i. V.plus (b i) (by_factor K V r (derived K V b) i)) x (λ i _. derived-by_factor r b i)
-      ∙ value-plus n b (by_factor K V r (derived K V b)) x
+      let before : IsShort V (m + length rs) b = by_factors-short m (m + length rs) rs a short (omega arith) in
+      value-same n (euler K V (by_factor K V r b)) (λ i. V.plus (by_factor K V K.zero b i) (by_factor K V r (euler K V b) i)) x (λ i _. euler-by_factor r b i)
+      ∙ value-plus n (by_factor K V K.zero b) (by_factor K V r (euler K V b)) x
       ∙ ap₂ V.plus
-      (by_factors-value m n rs x a short (omega arith))
-      (by_factor-value (m + length rs) n r x (derived K V b) before (omega arith)
-      ∙ ap (V.scale (minus K x r)) (derived-value m n rs x a short (omega arith)))
-      ∙ module3_2 (λ e f c u v. (e • u ⊞ c • (f • u ⊞ e • v), (e ⊕ c ⊗ f) • u ⊞ (c ⊗ e) • v)) refl (located K rs x) (slope K rs x) (minus K x r) (value K V n a x) (value K V n (derived K V a) x)
+      (by_factor-value (m + length rs) n K.zero x b before (omega arith)
+      ∙ ap (V.scale (minus K x K.zero)) (by_factors-value m n rs x a short (omega arith)))
+      (by_factor-value (m + length rs) n r x (euler K V b) (euler-short (m + length rs) b before) (omega arith)
+      ∙ ap (V.scale (minus K x r)) (euler-value m n rs x a short (omega arith)))
+      ∙ module4_2 (λ x e f c u v. ((x ⊖ nought) • (e • u) ⊞ c • ((x ⊗ f) • u ⊞ e • v), (x ⊗ (e ⊕ c ⊗ f)) • u ⊞ (c ⊗ e) • v)) refl x (located K rs x) (slope K rs x) (minus K x r) (value K V n a x) (value K V n (euler K V a) x)

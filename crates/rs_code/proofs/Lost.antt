@@ -1,12 +1,13 @@
 -- The polynomial of the marked places: zero exactly there, where its derivative isn't.
 use Rattle.std.proofs.Common.{◌≡◌, ◌≢◌, ℕ, zero, suc, ◌+◌, ◌<◌, ◌≤◌, Bool, true, false, List, [], ◌∷◌, ◌++◌, length, get_or, take, cond, sym, ◌∙◌, ap, refl, arith, true≢false}
 use Rattle.std.proofs.lemmas.List.Sums.{sum_by-cons}
-use Rattle.ark_math.specs.Field.{FieldOn, IsField, minus}
+use Rattle.ark_math.specs.Field.{FieldOn, IsField, minus, power}
 use Rattle.ark_math.specs.Root.{HasOrder}
 use Rattle.ark_math.specs.Domain.{Domain, element}
 use Rattle.ark_math.proofs.Algebra.Groups.{itself_is_module, zero_plus, zero_scale}
 use Rattle.ark_math.proofs.Algebra.Powers.{times_zero}
-use Rattle.ark_math.proofs.Domains.Elements.{elements_differ, times_not_zero, minus_not_zero, minus_same}
+use Rattle.ark_math.proofs.Domains.Elements.{elements_differ, power_not_zero, times_not_zero, minus_not_zero, minus_same}
+use Rattle.ark_math.proofs.Roots.Order.{root_not_zero}
 use Rattle.rs_code.specs.Codeword.{mark_count}
 use Rattle.rs_code.specs.Locator.{lost_from, lost, located, slope}
 
@@ -65,8 +66,13 @@ module _ {F : Type 0} (K : FieldOn F) (N : IsField K) (d : Domain F) (o : HasOrd
   pub located-kept : (marks : List Bool) (j : ℕ) → length marks ≤ d.size → j < length marks → get_or marks j true ≡ false → located K (lost K d marks) (element K d j) ≢ K.zero
   located-kept marks j b l e = located_kept 0 j j marks l (omega arith) e (omega arith)
 
-  pub slope-lost : (marks : List Bool) (j : ℕ) → length marks ≤ d.size → j < length marks → get_or marks j true ≡ true → slope K (lost K d marks) (element K d j) ≢ K.zero
-  slope-lost marks j b l e = slope_lost 0 j j marks l (omega arith) e (omega arith)
+  element-not_zero : (i : ℕ) → 0 < d.size → element K d i ≢ K.zero
+  element-not_zero i some = times_not_zero K N d.offset (power K d.root i) off (power_not_zero K N d.root i (root_not_zero K N d.root d.size o some))
+
+  -- x times the derivative isn't zero there either
+  pub slope-lost : (marks : List Bool) (j : ℕ) → length marks ≤ d.size → j < length marks → get_or marks j true ≡ true → K.times (element K d j) (slope K (lost K d marks) (element K d j)) ≢ K.zero
+  slope-lost marks j b l e =
+      times_not_zero K N (element K d j) (slope K (lost K d marks) (element K d j)) (element-not_zero j (omega arith)) (slope_lost 0 j j marks l (omega arith) e (omega arith))
 
 -- ---- the list as it grows
 

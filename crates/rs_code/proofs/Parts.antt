@@ -15,7 +15,7 @@ use Rattle.ark_math.proofs.Domains.Domains.{size_supported}
 use Rattle.ark_math.proofs.Domains.Elements.{element-power}
 use Rattle.rs_code.specs.Code.{IsSpaced}
 use Rattle.rs_code.specs.Codeword.{AgreesElsewhere, mark_count}
-use Rattle.rs_code.specs.Locator.{lost, derived, by_factors, AreFactors, filled}
+use Rattle.rs_code.specs.Locator.{lost, euler, by_factors, AreFactors, filled}
 use Rattle.rs_code.proofs.Locators.{value, IsShort}
 use Rattle.rs_code.proofs.Restored.{list-short, transform-item, transform-from, lost-value, filled-place}
 
@@ -106,7 +106,7 @@ module _ {F M : Type 0} {K : FieldOn F} {V : ModuleOn F M} (N : IsField K) (L : 
   -- agrees with
   pub restored_part : (d : Domain F) (o : HasOrder K d.root d.size) (off : d.offset ≢ K.zero) (marks : List Bool) (k : ℕ) (size : length marks ≡ d.size) (few : k + mark_count marks ≤ d.size)
       (e : Domain F) (t : ℕ) → 0 < t → IsSpaced K d e t → k ≤ e.size → (w : List F) (y u s c m : List M) (z : ℕ → M) → AreFactors K d marks w → length m ≤ k → AgreesElsewhere V marks y (transform K V d m)
-      → ((i : ℕ) → item V u i ≡ by_factors K V (lost K d marks) (item V m) i) → ((i : ℕ) → i < d.size → item V s i ≡ derived K V (item V u) i)
+      → ((i : ℕ) → item V u i ≡ by_factors K V (lost K d marks) (item V m) i) → ((i : ℕ) → i < d.size → item V s i ≡ euler K V (item V u) i)
       → ((j : ℕ) → j < e.size → z j ≡ value K V d.size (item V s) (element K e j))
       → length c ≡ e.size → ((j : ℕ) → j < e.size → item V c j ≡ filled V (get_or marks (j * t) true) (of_list K w (j * t)) (item V y (j * t)) (z j))
       → transform K V e m ≡ c

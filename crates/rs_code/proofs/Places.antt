@@ -35,14 +35,6 @@ module _ {F M : Type 0} {K : FieldOn F} {V : ModuleOn F M} (N : IsField K) (L : 
 
 -- ---- beginnings
 
-take_push : {X : Type 0} (xs : List X) (i : ℕ) (x : X) → i < length xs → get_or xs i x ≡ x → take (suc i) xs ≡ take i xs ++ x ∷ []
-take_push [] i x l h = absurd (omega arith)
-take_push (y ∷ xs) zero x l h = ap (λ t. t ∷ []) h
-take_push (y ∷ xs) (suc i) x l h = ap (λ t. y ∷ t) (take_push xs i x (omega arith) h)
-
-pub take-one_more : {X : Type 0} (xs : List X) (i : ℕ) (x : X) → i < length xs → x ≡ get_or xs i x → take (i + 1) xs ≡ take i xs ++ x ∷ []
-take-one_more xs i x l h = let e : i + 1 ≡ suc i = omega arith in ap (λ t. take t xs) e ∙ take_push xs i x l (sym h)
-
 pub tail : {X : Type 0} (xs : List X) (i : ℕ) → take (length xs - i) (drop i xs) ≡ drop i xs
 tail xs i = ap (λ n. take n (drop i xs)) (sym (length-drop i xs)) ∙ take-length (drop i xs)
 

@@ -1,5 +1,5 @@
 -- What the steps of a restoration give.
-use Rattle.std.proofs.Common.{◌≡◌, ◌≢◌, ℕ, suc, ◌+◌, ◌<◌, ◌≤◌, Bool, true, false, List, length, get_or, sym, ◌∙◌, ap, ap₂, refl, arith, ⊎_elim, subst}
+use Rattle.std.proofs.Common.{◌≡◌, ◌≢◌, ℕ, ◌+◌, ◌<◌, ◌≤◌, Bool, true, false, List, length, get_or, sym, ◌∙◌, ap, ap₂, refl, arith, ⊎_elim, subst}
 use Rattle.std.proofs.lemmas.Bool.{cases_lt}
 use Rattle.std.proofs.lemmas.List.{ext_get_or, get_or_past}
 use Rattle.ark_math.specs.Field.{FieldOn, IsField, power, natural}
@@ -13,8 +13,8 @@ use Rattle.ark_math.proofs.Algebra.Sums.{sum_below-same}
 use Rattle.ark_math.proofs.Lists.Tabulated.{length-tabulate, item-tabulate, is_tabulated}
 use Rattle.ark_math.proofs.Callers.Transforms.{fit-same, transform-length}
 use Rattle.rs_code.specs.Codeword.{IsCodeword, AgreesElsewhere, mark_count}
-use Rattle.rs_code.specs.Locator.{lost, located, slope, derived, by_factors, IsFactor, AreFactors, weighed, filled}
-use Rattle.rs_code.proofs.Locators.{value, value-same, IsShort, by_factors-short, by_factors-value, derived-value}
+use Rattle.rs_code.specs.Locator.{lost, located, slope, euler, by_factors, IsFactor, AreFactors, weighed, filled}
+use Rattle.rs_code.proofs.Locators.{value, value-same, IsShort, by_factors-short, by_factors-value, euler-value}
 use Rattle.rs_code.proofs.Lost.{located-lost, located-kept, lost-length}
 use Rattle.rs_code.proofs.Divided.{divided, scale_cancel}
 use Rattle.rs_code.proofs.Places.{unmarked_within}
@@ -145,24 +145,25 @@ module _ {F M : Type 0} {K : FieldOn F} {V : ModuleOn F M} (N : IsField K) (L : 
               ∙ ap (λ f. V.scale f (item V y i)) (subst (λ p. IsFactor K rs x p (of_list K w i)) e (factors.each i l))),
         )
 
-    -- the derivative's value at a marked place
-    pub lost-value : (u s m : List M) → length m ≤ k → ((i : ℕ) → item V u i ≡ by_factors K V (lost K d marks) (item V m) i) → ((i : ℕ) → i < d.size → item V s i ≡ derived K V (item V u) i)
-        → (i : ℕ) → i < d.size → get_or marks i true ≡ true → value K V d.size (item V s) (element K d i) ≡ V.scale (slope K (lost K d marks) (element K d i)) (item V (transform K V d m) i)
+    -- the value of x times the derivative at a marked place
+    pub lost-value : (u s m : List M) → length m ≤ k → ((i : ℕ) → item V u i ≡ by_factors K V (lost K d marks) (item V m) i) → ((i : ℕ) → i < d.size → item V s i ≡ euler K V (item V u) i)
+        → (i : ℕ) → i < d.size → get_or marks i true ≡ true → value K V d.size (item V s) (element K d i) ≡ V.scale (K.times (element K d i) (slope K (lost K d marks) (element K d i))) (item V (transform K V d m) i)
     lost-value u s m short u_is s_is i l e =
         let n = d.size in
         let rs = lost K d marks in
         let a = item V m in
         let x = element K d i in
+        let f = K.times x (slope K rs x) in
         let room : k + length rs ≤ n = omega (arith, lost-length K d marks) in
-        value-same N L n (item V s) (derived K V (by_factors K V rs a)) x (λ j h. s_is j h ∙ ap (V.scale (natural K (suc j))) (u_is (suc j)))
-        ∙ derived-value N L k n rs x a (list-short m k short) room
-        ∙ ap₂ (λ y z. V.plus (V.scale (slope K rs x) y) (V.scale z (value K V n (derived K V a) x))) (sym (transform-item m i l)) (located-lost K N d o off marks i (omega arith) e)
-        ∙ ap (V.plus (V.scale (slope K rs x) (item V (transform K V d m) i))) (zero_scale N L (value K V n (derived K V a) x))
-        ∙ L.plus_zero (V.scale (slope K rs x) (item V (transform K V d m) i))
+        value-same N L n (item V s) (euler K V (by_factors K V rs a)) x (λ j h. s_is j h ∙ ap (V.scale (natural K j)) (u_is j))
+        ∙ euler-value N L k n rs x a (list-short m k short) room
+        ∙ ap₂ (λ y z. V.plus (V.scale f y) (V.scale z (value K V n (euler K V a) x))) (sym (transform-item m i l)) (located-lost K N d o off marks i (omega arith) e)
+        ∙ ap (V.plus (V.scale f (item V (transform K V d m) i))) (zero_scale N L (value K V n (euler K V a) x))
+        ∙ L.plus_zero (V.scale f (item V (transform K V d m) i))
 
     -- what is filled in from it is the codeword's value
     pub filled-place : (w : List F) (y m : List M) → AreFactors K d marks w → AgreesElsewhere V marks y (transform K V d m) → (i : ℕ) (z : M) → i < d.size
-        → (get_or marks i true ≡ true → z ≡ V.scale (slope K (lost K d marks) (element K d i)) (item V (transform K V d m) i))
+        → (get_or marks i true ≡ true → z ≡ V.scale (K.times (element K d i) (slope K (lost K d marks) (element K d i))) (item V (transform K V d m) i))
         → filled V (get_or marks i true) (of_list K w i) (item V y i) z ≡ item V (transform K V d m) i
     filled-place w y m factors agrees i z l is =
         let rs = lost K d marks in
@@ -171,10 +172,10 @@ module _ {F M : Type 0} {K : FieldOn F} {V : ModuleOn F M} (N : IsField K) (L : 
         let other = item V (transform K V d m) i in
         elim (get_or marks i true) as (λ p. get_or marks i true ≡ p → filled V (get_or marks i true) f (item V y i) z ≡ other) [
           | true ↦ λ e.
-              let one : K.times f (slope K rs x) ≡ K.one = subst (λ p. IsFactor K rs x p f) e (factors.each i l) in
+              let one : K.times f (K.times x (slope K rs x)) ≡ K.one = subst (λ p. IsFactor K rs x p f) e (factors.each i l) in
               ap (λ p. filled V p f (item V y i) z) e
               ∙ ap (V.scale f) (is e)
-              ∙ sym (L.times_scale f (slope K rs x) other)
+              ∙ sym (L.times_scale f (K.times x (slope K rs x)) other)
               ∙ ap (λ t. V.scale t other) one
               ∙ L.one_scale other
           | false ↦ λ e.
@@ -183,7 +184,7 @@ module _ {F M : Type 0} {K : FieldOn F} {V : ModuleOn F M} (N : IsField K) (L : 
 
     -- so the steps make of a word the codeword of each message whose codeword it agrees with
     pub restored : (w : List F) (y u s c m : List M) → AreFactors K d marks w → length m ≤ k → AgreesElsewhere V marks y (transform K V d m) →
-        ((i : ℕ) → item V u i ≡ by_factors K V (lost K d marks) (item V m) i) → ((i : ℕ) → i < d.size → item V s i ≡ derived K V (item V u) i) →
+        ((i : ℕ) → item V u i ≡ by_factors K V (lost K d marks) (item V m) i) → ((i : ℕ) → i < d.size → item V s i ≡ euler K V (item V u) i) →
         length c ≡ d.size → ((i : ℕ) → i < d.size → item V c i ≡ filled V (get_or marks i true) (of_list K w i) (item V y i) (item V (transform K V d s) i)) →
         transform K V d m ≡ c
     restored w y u s c m factors short agrees u_is s_is c_size c_is =

@@ -6,8 +6,9 @@ use Rattle.ark_math.specs.Root.{Adicity}
 use Rattle.ark_math.specs.Domain.{radix2, mixed_radix, IsSize, HasNoSize, IsGeneral}
 use Rattle.ark_math.specs.Univariate.{of_list, IsDegree, IsTrimmed}
 use Rattle.ark_math.proofs.Domains.GeneralSizes.{none_from_no_least}
-use Rattle.rs_code.specs.Locator.{HasSizeFor, locator}
-use Rattle.rs_code.proofs.Factors.{locator-short}
+use Rattle.ark_blocks.specs.Roots.{nodes}
+use Rattle.rs_code.specs.Locator.{HasSizeFor}
+use Rattle.rs_code.proofs.Factors.{nodes-short}
 
 -- where there is a size at or above k, the general type takes one
 pub general_size_for : (s : Adicity) (k : ℕ) → HasSizeFor s k → HasNoSize (IsGeneral s) k → ⊥
@@ -22,19 +23,19 @@ pub size_for_less : (s : Adicity) (k m : ℕ) → k ≤ m → HasSizeFor s m →
 size_for_less s k m l (kind, n, size, above) = (kind, n, size, omega arith)
 
 -- a trimmed list of the product of x - r for m of them has at most m + 1 items
-pub locator_length : {F : Type 0} (K : FieldOn F) → IsField K → (rs p : List F) → IsTrimmed K p → of_list K p ≡ locator K rs → length p ≤ length rs + 1
-locator_length K N rs p trimmed is =
+pub nodes_length : {F : Type 0} (K : FieldOn F) → IsField K → (rs p : List F) → IsTrimmed K p → of_list K p ≡ nodes K rs → length p ≤ length rs + 1
+nodes_length K N rs p trimmed is =
     ⊎_elim
     (λ (l : length rs + 1 < length p).
-    absurd (trimmed (omega arith) (ap (λ a. a (length p - 1)) is ∙ locator-short K N rs (length p - 1) (omega arith))))
+    absurd (trimmed (omega arith) (ap (λ a. a (length p - 1)) is ∙ nodes-short K N rs (length p - 1) (omega arith))))
     (λ (m : length p ≤ length rs + 1). m)
     (cases_lt (length rs + 1) (length p))
 
 -- its degree is no more than their number
-pub locator_degree : {F : Type 0} (K : FieldOn F) → IsField K → (rs : List F) (n : ℕ) → IsDegree K (locator K rs) n → n ≤ length rs
-locator_degree K N rs n degree =
+pub nodes_degree : {F : Type 0} (K : FieldOn F) → IsField K → (rs : List F) (n : ℕ) → IsDegree K (nodes K rs) n → n ≤ length rs
+nodes_degree K N rs n degree =
     ⊎_elim
-    (λ (l : length rs < n). absurd (degree.leading (omega arith) (locator-short K N rs n (omega arith))))
+    (λ (l : length rs < n). absurd (degree.leading (omega arith) (nodes-short K N rs n (omega arith))))
     (λ (m : n ≤ length rs). m)
     (cases_lt (length rs) n)
 

@@ -1,5 +1,6 @@
 -- Which element of a subgroup a table in bit-reversed order has at a place.
-use Rattle.std.proofs.Common.{◌≡◌, ℕ, zero, suc, ◌+◌, ◌*◌, ◌/◌, ◌%◌, ◌^◌, ◌<◌, ◌≤◌, List, length, sym, ◌∙◌, ap, ap₂, refl, subst, ⊎_elim, arith}
+use Rattle.std.proofs.Common.{◌≡◌, ℕ, zero, suc, ◌+◌, ◌*◌, ◌/◌, ◌%◌, ◌^◌, ◌<◌, ◌≤◌, List, length, get_or, sym, ◌∙◌, ap, ap₂, refl, subst, ⊎_elim, arith}
+use Rattle.std.proofs.Math.Nat.{mul-le-mul_right}
 use Rattle.std.proofs.lemmas.Bool.{cases_lt}
 use Rattle.ark_math.specs.Field.{FieldOn, IsField, power}
 use Rattle.ark_math.specs.Domain.{Domain, element}
@@ -41,11 +42,24 @@ turn_place_less (suc zero) = omega arith
 turn_place_less (suc (suc zero)) = omega arith
 turn_place_less (suc (suc (suc t))) = omega arith
 
--- a power of two that has quarters
-pub quarters_of : (n : ℕ) → IsPowerOfTwo n → 4 ≤ n → (l : ℕ) × (n ≡ 2 ^ suc (suc l)) × (n / 4 ≡ 2 ^ l) × (n / 2 ≡ 2 ^ suc l) × (n % 4 ≡ 0)
-quarters_of n (zero, e) h = absurd (omega (arith, e, h))
-quarters_of n (suc zero, e) h = absurd (omega (arith, e, h, pow_suc 0))
-quarters_of n (suc (suc l), e) h = (l, e, omega (arith, e, pow_suc l, pow_suc (suc l)), omega (arith, e, pow_suc (suc l)), omega (arith, e, pow_suc l, pow_suc (suc l)))
+-- after as many turns as the place of a turn is that turn's
+turn_place-twice : (t : ℕ) → t < 4 → turn_place (turn_place t) ≡ t
+turn_place-twice zero l = refl
+turn_place-twice (suc zero) l = refl
+turn_place-twice (suc (suc zero)) l = refl
+turn_place-twice (suc (suc (suc zero))) l = refl
+turn_place-twice (suc (suc (suc (suc t)))) l = absurd (omega (arith, l))
+
+-- bits backwards are of the same length
+pub four_below : (fours : List ℕ) → IsPowerOfTwo (length fours) → ((levels j : ℕ) → length fours ≡ 2 ^ levels → j < length fours → get_or fours j 0 ≡ reversed levels j) →
+    (j : ℕ) → j < length fours → get_or fours j 0 < length fours
+four_below fours (l, e) places j b = omega (arith, places l j e b, reversed_below l j (omega (arith, b, e)), e)
+
+-- a power of two has quarters
+pub quarter_of : (n m : ℕ) → n ≡ m → IsPowerOfTwo m → 256 ≤ m → (l : ℕ) × (n / 4 ≡ 2 ^ l) × (4 * (n / 4) ≡ n)
+quarter_of n m same (zero, e) many = absurd (omega (arith, e, many))
+quarter_of n m same (suc zero, e) many = absurd (omega (arith, e, many, pow_suc 0))
+quarter_of n m same (suc (suc l), e) many = (l, omega (arith, same, e, pow_suc l, pow_suc (suc l)), omega (arith, same, e, pow_suc l, pow_suc (suc l)))
 
 -- ---- elements
 
@@ -101,6 +115,16 @@ module _ {F : Type 0} (K : FieldOn F) (N : IsField K) (d : Domain F) (one : d.of
     -- the four of an index are quarter turns of one another
     pub turn_element : (t : ℕ) → t < 4 → (i : ℕ) → i ≡ t * 2 ^ l + j → i < d.size → element_of K table (4 * reversed l j + turn_place t) ≡ element K d i
     turn_element t b i e h = ap (element_of K table) (sym (reversed_turn l t j i b inside e)) ∙ element_at (suc l) i size h
+
+    -- the one at a place of theirs
+    pub row_element : (q place : ℕ) → q ≡ 2 ^ l → place < 4 → element_of K table (4 * reversed l j + place) ≡ element K d (j + turn_place place * q)
+    row_element q place e b =
+        let t = turn_place place in
+        let h : t < 4 = turn_place_less place in
+        let m : t * q ≤ 3 * q = mul-le-mul_right q (omega (arith, h)) in
+        let i_is : j + t * q ≡ t * 2 ^ l + j = ap (λ n. j + t * n) e ∙ omega arith in
+        ap (λ p. element_of K table (4 * reversed l j + p)) (sym (turn_place-twice place b))
+        ∙ turn_element t h (j + t * q) i_is (omega (arith, m, inside, e, size, pow_suc l, pow_suc (suc l)))
 
     fits_turn : (t : ℕ) → 4 * reversed l j + turn_place t < d.size
     fits_turn t = omega (arith, turn_place_less t, reversed_below l j inside, size, pow_suc l, pow_suc (suc l))

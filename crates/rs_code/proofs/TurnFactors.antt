@@ -1,5 +1,5 @@
 -- Factors of four places that are quarter turns of one another, from values that are neighbours.
-use Rattle.std.proofs.Common.{◌≡◌, ◌≢◌, ℕ, zero, suc, ◌+◌, ◌-◌, ◌*◌, ◌%◌, ◌^◌, ◌<◌, ◌≤◌, ◌++◌, Bool, true, false, List, length, get_or, set, length-set, get_or-set_same, get_or-set_other, sym, ◌∙◌, ap, refl, subst, arith, mod-lt, ⊎_elim}
+use Rattle.std.proofs.Common.{◌≡◌, ◌≢◌, ℕ, zero, suc, ◌+◌, ◌-◌, ◌*◌, ◌%◌, ◌^◌, ◌<◌, ◌≤◌, ◌++◌, Bool, true, false, List, length, get_or, set, get_or-set_same, get_or-set_other, sym, ◌∙◌, ap, refl, subst, arith, mod-lt, ⊎_elim}
 use Rattle.std.proofs.Math.Nat.{mul-le-mul_right}
 use Rattle.std.proofs.lemmas.Bool.{cases_eq, cases_lt}
 use Rattle.std.proofs.lemmas.List.{get_or_append_left, get_or-append-add}
@@ -11,10 +11,9 @@ use Rattle.ark_blocks.specs.Blocks.{element_of}
 use Rattle.ark_fft.specs.Halves.{reversed}
 use Rattle.ark_fft.proofs.Reversal.{pow_suc, reversed_below}
 use Rattle.rs_code.specs.Locator.{lost, located, slope, IsFactor}
-use Rattle.rs_code.specs.Turns.{AreMadeBelow, AreSorted, HoldValues, IsMadeOf, IsTableOf, Sorted, at_turn, erased_factor, erased_from, kept_factor, kept_from, turn_place}
-use Rattle.rs_code.proofs.Places.{is_read}
+use Rattle.rs_code.specs.Turns.{AreMadeBelow, AreSorted, HoldValues, IsMadeOf, IsTableOf, Sorted, Values, at_turn, erased_from, kept_from, product_of_eight, turn_place}
 use Rattle.rs_code.proofs.TableOrder.{turn_element, turn_fourth, turn_place_less, turn_square}
-use Rattle.rs_code.proofs.TurnedPlaces.{element-square, element-fourth, erased-place, erased_same, kept-place, kept_same}
+use Rattle.rs_code.proofs.TurnedPlaces.{eight_same, element-square, element-fourth, erased-place, kept-place}
 
 -- four values a quarter turn on
 pub next_turn : {X : Type 0} {f g : X × X × X × X} {s t u v : X} → g ≡ (f.1, f.2, f.3, f.0) → f ≡ (s, t, u, v) → g ≡ (t, u, v, s)
@@ -23,84 +22,74 @@ next_turn e h = e ∙ ap (λ f. (f.1, f.2, f.3, f.0)) h
 after_list : {X : Type 0} (xs ys : List X) (i j : ℕ) (z : X) → i ≡ length xs + j → get_or (xs ++ ys) i z ≡ get_or ys j z
 after_list xs ys i j z e = ap (λ t. get_or (xs ++ ys) t z) e ∙ get_or-append-add xs ys j z
 
-module _ {F : Type 0} (K : FieldOn F) (all none opposite one two three : List F) where
-  -- the values of an index's four, from a turn on
-  abbrev values_from : List F → ℕ → ℕ → F × F × F × F
-  values_from v k t = (at_turn K v k t, at_turn K v k (t + 1), at_turn K v k (t + 2), at_turn K v k (t + 3))
+-- the values of an index's four, from a turn on
+abbrev pub values_from : {F : Type 0} → FieldOn F → ℕ → ℕ → List F → F × F × F × F
+values_from K k t xs = (at_turn K xs k t, at_turn K xs k (t + 1), at_turn K xs k (t + 2), at_turn K xs k (t + 3))
 
-  pub made_of : (k t : ℕ) (mark : Bool) (x y a n here other : F) (f g h : F × F × F × F) →
-      a ≡ of_list K all k → n ≡ of_list K none k → here ≡ of_list K opposite (2 * k + t % 2) → other ≡ of_list K opposite (2 * k + (t + 1) % 2) →
-      f ≡ values_from one k t → g ≡ values_from two k t → h ≡ values_from three k t →
-      (mark ≡ true → y ≡ erased_factor K x n other f.3 f.2 f.1 g.2 g.1 h.1) → (mark ≡ false → y ≡ kept_factor K a here f.0 g.0 g.3 h.0 h.3 h.2) →
-      IsMadeOf K all none opposite one two three k t mark x y
-  made_of k t mark x y a n here other f g h a_is n_is here_is other_is f_is g_is h_is erased kept = record {
-    kept = λ e. kept e ∙ kept_same K a_is here_is (ap (λ v. v.0) f_is) (ap (λ v. v.0) g_is) (ap (λ v. v.3) g_is) (ap (λ v. v.0) h_is) (ap (λ v. v.3) h_is) (ap (λ v. v.2) h_is);
-    erased = λ e. erased e ∙ erased_same K refl n_is other_is (ap (λ v. v.3) f_is) (ap (λ v. v.2) f_is) (ap (λ v. v.1) f_is) (ap (λ v. v.2) g_is) (ap (λ v. v.1) g_is) (ap (λ v. v.1) h_is);
+module _ {F : Type 0} (K : FieldOn F) (v : Values F) where
+  pub made_of : (k t : ℕ) (mark : Bool) (y a n here other : F) (f g h : F × F × F × F) →
+      a ≡ of_list K v.all k → n ≡ of_list K v.none k → here ≡ of_list K v.opposite (2 * k + t % 2) → other ≡ of_list K v.opposite (2 * k + (t + 1) % 2) →
+      f ≡ values_from K k t v.one → g ≡ values_from K k t v.two → h ≡ values_from K k t v.three →
+      (mark ≡ true → y ≡ product_of_eight K n other f.3 f.2 f.1 g.2 g.1 h.1) → (mark ≡ false → y ≡ product_of_eight K a here f.0 g.0 g.3 h.0 h.3 h.2) →
+      IsMadeOf K v k t mark y
+  made_of k t mark y a n here other f g h a_is n_is here_is other_is f_is g_is h_is erased kept = record {
+    kept = λ e. kept e ∙ eight_same K a_is here_is (ap (λ v. v.0) f_is) (ap (λ v. v.0) g_is) (ap (λ v. v.3) g_is) (ap (λ v. v.0) h_is) (ap (λ v. v.3) h_is) (ap (λ v. v.2) h_is);
+    erased = λ e. erased e ∙ eight_same K n_is other_is (ap (λ v. v.3) f_is) (ap (λ v. v.2) f_is) (ap (λ v. v.1) f_is) (ap (λ v. v.2) g_is) (ap (λ v. v.1) g_is) (ap (λ v. v.1) h_is);
   }
 
   module _ (fours : List ℕ) (marks : List Bool) where
-    abbrev made_at : ℕ → ℕ → F → F → Type 0
-    made_at t j x y = IsMadeOf K all none opposite one two three (get_or fours j 0) t (get_or marks (t * length fours + j) true) x y
+    abbrev made_at : ℕ → ℕ → F → Type 0
+    made_at t j y = IsMadeOf K v (get_or fours j 0) t (get_or marks (t * length fours + j) true) y
 
     -- one more is written
-    pub made_more : (t n : ℕ) (old new : List F) (x y : F) (i : ℕ) (mark : Bool) → n < length old → AreMadeBelow K all none opposite one two three fours marks t n old new →
-        x ≡ get_or new n x → i ≡ t * length fours + n → mark ≡ get_or marks i true →
-        IsMadeOf K all none opposite one two three (get_or fours n 0) t mark x y → AreMadeBelow K all none opposite one two three fours marks t (n + 1) old (set new n y)
-    made_more t n old new x y i mark inside v x_is i_is mark_is made =
-        let within : n < length new = omega (arith, inside, v.len) in
-        let place : x ≡ of_list K old n = sym (is_read new n x K.zero within x_is) ∙ v.rest n (omega arith) in
+    pub made_more : (t n : ℕ) (xs : List F) (y : F) (i : ℕ) (mark : Bool) → n < length xs → AreMadeBelow K v fours marks t n xs →
+        i ≡ t * length fours + n → mark ≡ get_or marks i true →
+        IsMadeOf K v (get_or fours n 0) t mark y → AreMadeBelow K v fours marks t (n + 1) (set xs n y)
+    made_more t n xs y i mark within before i_is mark_is made =
         let marked : mark ≡ get_or marks (t * length fours + n) true = mark_is ∙ ap (λ m. get_or marks m true) i_is in
-        let here : made_at t n (of_list K old n) y = subst (λ z. made_at t n z y) place (subst (λ b. IsMadeOf K all none opposite one two three (get_or fours n 0) t b x y) marked made) in
+        let here : made_at t n y = subst (λ b. IsMadeOf K v (get_or fours n 0) t b y) marked made in
         record {
-          len = length-set new n y ∙ v.len;
           made = λ j l. ⊎_elim
-              (λ (same : j ≡ n). subst (λ m. made_at t m (of_list K old m) (of_list K (set new n y) m)) (sym same)
-              (subst (made_at t n (of_list K old n)) (sym (get_or-set_same new n y K.zero within)) here))
-              (λ (ne : j ≢ n). subst (made_at t j (of_list K old j)) (sym (get_or-set_other new n j y K.zero ne)) (v.made j (omega (arith, l, ne))))
+              (λ (same : j ≡ n). subst (λ m. made_at t m (of_list K (set xs n y) m)) (sym same)
+              (subst (made_at t n) (sym (get_or-set_same xs n y K.zero within)) here))
+              (λ (ne : j ≢ n). subst (made_at t j) (sym (get_or-set_other xs n j y K.zero ne)) (before.made j (omega (arith, l, ne))))
               (cases_eq j n);
-          rest = λ j l. get_or-set_other new n j y K.zero (λ e. absurd (omega (arith, l, e))) ∙ v.rest j (omega (arith, l));
         }
 
     -- four lists of them
-    pub made_parts : (q n : ℕ) → q ≡ length fours → n ≡ q → (old a b c d e f g h : List F) → length e ≡ q → length f ≡ q → length g ≡ q →
-        ((j : ℕ) → j < q → of_list K a j ≡ of_list K old j) → ((j : ℕ) → j < q → of_list K b j ≡ of_list K old (q + j)) →
-        ((j : ℕ) → j < q → of_list K c j ≡ of_list K old (q + (q + j))) → ((j : ℕ) → j < q → of_list K d j ≡ of_list K old (q + (q + (q + j)))) →
-        AreMadeBelow K all none opposite one two three fours marks 0 n a e → AreMadeBelow K all none opposite one two three fours marks 1 n b f →
-        AreMadeBelow K all none opposite one two three fours marks 2 n c g → AreMadeBelow K all none opposite one two three fours marks 3 n d h →
-        (t j : ℕ) → t < 4 → j < length fours → made_at t j (of_list K old (t * length fours + j)) (of_list K (e ++ (f ++ (g ++ h))) (t * length fours + j))
-    made_parts q n is end old a b c d e f g h le lf lg first second third fourth made_a made_b made_c made_d = parts
+    pub made_parts : (q n : ℕ) → q ≡ length fours → n ≡ q → (e f g h : List F) → length e ≡ q → length f ≡ q → length g ≡ q →
+        AreMadeBelow K v fours marks 0 n e → AreMadeBelow K v fours marks 1 n f → AreMadeBelow K v fours marks 2 n g → AreMadeBelow K v fours marks 3 n h →
+        (t j : ℕ) → t < 4 → j < length fours → made_at t j (of_list K (e ++ (f ++ (g ++ h))) (t * length fours + j))
+    made_parts q n is end e f g h le lf lg made_e made_f made_g made_h = parts
       where
         new : List F
         new = e ++ (f ++ (g ++ h))
 
-        moved : (t j i : ℕ) (xs ys : List F) → i ≡ t * length fours + j → of_list K xs j ≡ of_list K old i → of_list K new i ≡ of_list K ys j → made_at t j (of_list K xs j) (of_list K ys j) →
-            made_at t j (of_list K old (t * length fours + j)) (of_list K new (t * length fours + j))
-        moved t j i xs ys i_is before later made =
-            subst (λ m. made_at t j (of_list K old m) (of_list K new m)) i_is
-            (subst (λ z. made_at t j z (of_list K new i)) before (subst (made_at t j (of_list K xs j)) (sym later) made))
+        moved : (t j i : ℕ) (xs : List F) → i ≡ t * length fours + j → of_list K new i ≡ of_list K xs j → made_at t j (of_list K xs j) → made_at t j (of_list K new (t * length fours + j))
+        moved t j i xs i_is later made = subst (λ m. made_at t j (of_list K new m)) i_is (subst (made_at t j) (sym later) made)
 
-        parts : (t j : ℕ) → t < 4 → j < length fours → made_at t j (of_list K old (t * length fours + j)) (of_list K new (t * length fours + j))
+        parts : (t j : ℕ) → t < 4 → j < length fours → made_at t j (of_list K new (t * length fours + j))
         parts zero j l m =
             let w : j < q = omega (arith, m, is) in
             let u : j < n = omega (arith, w, end) in
-            moved 0 j j a e (omega arith) (first j w) (get_or_append_left e (f ++ (g ++ h)) K.zero j (omega (arith, w, le))) (made_a.made j u)
+            moved 0 j j e (omega arith) (get_or_append_left e (f ++ (g ++ h)) K.zero j (omega (arith, w, le))) (made_e.made j u)
         parts (suc zero) j l m =
             let w : j < q = omega (arith, m, is) in
             let u : j < n = omega (arith, w, end) in
-            moved 1 j (q + j) b f (omega (arith, is)) (second j w)
-            (after_list e (f ++ (g ++ h)) (q + j) j K.zero (omega (arith, le)) ∙ get_or_append_left f (g ++ h) K.zero j (omega (arith, w, lf))) (made_b.made j u)
+            moved 1 j (q + j) f (omega (arith, is))
+            (after_list e (f ++ (g ++ h)) (q + j) j K.zero (omega (arith, le)) ∙ get_or_append_left f (g ++ h) K.zero j (omega (arith, w, lf))) (made_f.made j u)
         parts (suc (suc zero)) j l m =
             let w : j < q = omega (arith, m, is) in
             let u : j < n = omega (arith, w, end) in
-            moved 2 j (q + (q + j)) c g (omega (arith, is)) (third j w)
+            moved 2 j (q + (q + j)) g (omega (arith, is))
             (after_list e (f ++ (g ++ h)) (q + (q + j)) (q + j) K.zero (omega (arith, le)) ∙ after_list f (g ++ h) (q + j) j K.zero (omega (arith, lf))
-            ∙ get_or_append_left g h K.zero j (omega (arith, w, lg))) (made_c.made j u)
+            ∙ get_or_append_left g h K.zero j (omega (arith, w, lg))) (made_g.made j u)
         parts (suc (suc (suc zero))) j l m =
             let w : j < q = omega (arith, m, is) in
             let u : j < n = omega (arith, w, end) in
-            moved 3 j (q + (q + (q + j))) d h (omega (arith, is)) (fourth j w)
+            moved 3 j (q + (q + (q + j))) h (omega (arith, is))
             (after_list e (f ++ (g ++ h)) (q + (q + (q + j))) (q + (q + j)) K.zero (omega (arith, le)) ∙ after_list f (g ++ h) (q + (q + j)) (q + j) K.zero (omega (arith, lf))
-            ∙ after_list g h (q + j) j K.zero (omega (arith, lg))) (made_d.made j u)
+            ∙ after_list g h (q + j) j K.zero (omega (arith, lg))) (made_h.made j u)
         parts (suc (suc (suc (suc t)))) j l m = absurd (omega (arith, l))
 
 -- ---- factors
@@ -132,16 +121,16 @@ module _ {F : Type 0} (K : FieldOn F) (N : IsField K) (d : Domain F) (q l : ℕ)
 
   -- what is made of values at the table's elements is a factor
   pub turn-factor : (marks : List Bool) → length marks ≡ d.size → (s : Sorted F) → AreSorted K d q marks s → (inverse : F) → K.times inverse (natural K d.size) ≡ K.one →
-      (ones twos threes opposites alls nones : List F) → HoldValues K table q s inverse ones twos threes opposites alls nones →
-      (t : ℕ) → t < 4 → (y : F) → IsMadeOf K alls nones opposites ones twos threes (reversed l j) t (get_or marks (t * q + j) true) (element K d (t * q + j)) y →
+      (v : Values F) → HoldValues K table q s inverse v →
+      (t : ℕ) → t < 4 → (y : F) → IsMadeOf K v (reversed l j) t (get_or marks (t * q + j) true) y →
       IsFactor K (lost K d marks) (element K d (t * q + j)) (get_or marks (t * q + j) true) y
-  turn-factor marks len s sorted inverse inverse_is ones twos threes opposites alls nones hold t h y made =
+  turn-factor marks len s sorted inverse inverse_is v hold t h y made =
       let r = reversed l j in
       let within : r < q = omega (arith, reversed_below l j below, q_is) in
       let place : (u : ℕ) → 4 * r + turn_place (u % 4) < 4 * q = λ u. omega (arith, within, turn_place_less (u % 4)) in
       let element_is : (u : ℕ) → element_of K table (4 * r + turn_place (u % 4)) ≡ element K d (u % 4 * q + j) = λ u. turn_at (u % 4) (mod-lt u (omega arith)) in
       let own : element_of K table (4 * r + turn_place (t % 4)) ≡ element K d (t * q + j) = (let e : t % 4 ≡ t = omega (arith, h) in element_is t ∙ ap (λ u. element K d (u * q + j)) e) in
-      let square : (u : ℕ) → of_list K opposites (2 * r + u % 2) ≡ located K s.opposite (element K d ((u % 2 * q + j) * 2)) = λ u.
+      let square : (u : ℕ) → of_list K v.opposite (2 * r + u % 2) ≡ located K s.opposite (element K d ((u % 2 * q + j) * 2)) = λ u.
       let b : u % 2 < 2 = mod-lt u (omega arith) in
       hold.opposite_is (2 * r + u % 2) (omega (arith, within, b)) ∙ ap (located K s.opposite) (square_at (u % 2) b) in
       let x = element K d (t * q + j) in
@@ -149,10 +138,10 @@ module _ {F : Type 0} (K : FieldOn F) (N : IsField K) (d : Domain F) (q l : ℕ)
       let here = fits t (t * q + j) h refl in
       elim mark as (λ b. mark ≡ b → IsFactor K (lost K d marks) x b y) [
         | true ↦ λ e.
-            subst (λ z. K.times z (slope K (lost K d marks) x) ≡ K.one) (sym (made.erased e))
-            (subst (λ b. IsFactor K (lost K d marks) x b (erased_from K x nones opposites ones twos threes r t)) e
+            subst (λ z. K.times z (K.times x (slope K (lost K d marks) x)) ≡ K.one) (sym (made.erased e))
+            (subst (λ b. IsFactor K (lost K d marks) x b (erased_from K v r t)) e
             (erased-place K N d q o one size some marks len s sorted t j here inverse _ _ _ _ _ _ _ _ e inverse_is
-            (hold.none_is r within ∙ ap (λ z. K.times (K.times s.kept_scale inverse) (located K s.none z)) fourth_at)
+            (hold.none_is r within ∙ ap (λ z. K.times (located K s.none z) (K.times s.kept_scale inverse)) fourth_at)
             (square (t + 1))
             (hold.one_is _ (place (t + 3)) ∙ ap (located K s.one) (element_is (t + 3)))
             (hold.one_is _ (place (t + 2)) ∙ ap (located K s.one) (element_is (t + 2)))
@@ -162,9 +151,9 @@ module _ {F : Type 0} (K : FieldOn F) (N : IsField K) (d : Domain F) (q l : ℕ)
             (hold.three_is _ (place (t + 1)) ∙ ap (located K s.three) (element_is (t + 1)))))
         | false ↦ λ e.
             made.kept e
-            ∙ subst (λ b. IsFactor K (lost K d marks) x b (kept_from K alls opposites ones twos threes r t)) e
+            ∙ subst (λ b. IsFactor K (lost K d marks) x b (kept_from K v r t)) e
             (kept-place K N d q o one size some marks len s sorted t j here _ _ _ _ _ _ _ _ e
-            (hold.all_is r within ∙ ap (λ z. K.times s.erased_scale (located K s.all z)) fourth_at)
+            (hold.all_is r within ∙ ap (λ z. K.times (located K s.all z) s.erased_scale) fourth_at)
             (square t)
             (hold.one_is _ (place t) ∙ ap (located K s.one) own)
             (hold.two_is _ (place t) ∙ ap (located K s.two) own)
@@ -188,19 +177,16 @@ turn_of q n i e h =
 -- so are those of all places
 pub all-factors : {F : Type 0} (K : FieldOn F) (N : IsField K) (d : Domain F) (q l : ℕ) → q ≡ 2 ^ l → HasOrder K d.root d.size → d.offset ≡ K.one → d.size ≡ q + (q + (q + q)) → 0 < q →
     (table : List F) → IsTableOf K d table → (marks : List Bool) → length marks ≡ d.size → (s : Sorted F) → AreSorted K d q marks s → (inverse : F) → K.times inverse (natural K d.size) ≡ K.one →
-    (ones twos threes opposites alls nones : List F) → HoldValues K table q s inverse ones twos threes opposites alls nones →
-    (fours : List ℕ) (old new : List F) → length fours ≡ q → ((j : ℕ) → j < q → get_or fours j 0 ≡ reversed l j) → ((i : ℕ) → i < d.size → of_list K old i ≡ element K d i) →
-    ((t j : ℕ) → t < 4 → j < length fours → IsMadeOf K alls nones opposites ones twos threes (get_or fours j 0) t (get_or marks (t * length fours + j) true) (of_list K old (t * length fours + j)) (of_list K new (t * length fours + j))) →
-    (i : ℕ) → i < d.size → IsFactor K (lost K d marks) (element K d i) (get_or marks i true) (of_list K new i)
-all-factors K N d q l q_is o one size some table T marks len s sorted inverse inverse_is ones twos threes opposites alls nones hold fours old new wide places elements made i h =
+    (v : Values F) → HoldValues K table q s inverse v →
+    (fours : List ℕ) (factors : List F) → length fours ≡ q → ((j : ℕ) → j < q → get_or fours j 0 ≡ reversed l j) →
+    ((t j : ℕ) → t < 4 → j < length fours → IsMadeOf K v (get_or fours j 0) t (get_or marks (t * length fours + j) true) (of_list K factors (t * length fours + j))) →
+    (i : ℕ) → i < d.size → IsFactor K (lost K d marks) (element K d i) (get_or marks i true) (of_list K factors i)
+all-factors K N d q l q_is o one size some table T marks len s sorted inverse inverse_is v hold fours factors wide places made i h =
     let turn = turn_of q d.size i size h in
     let t = turn.0 in
     let j = turn.1 in
-    let i_is : i ≡ t * q + j = turn.4 in
-    let here : t * q + j < d.size = subst (λ m. m < d.size) i_is h in
     let made_here = made t j turn.2 (omega (arith, turn.3, wide)) in
-    subst (λ m. IsFactor K (lost K d marks) (element K d m) (get_or marks m true) (of_list K new m)) (sym i_is)
-    (turn-factor K N d q l q_is o one size some table T j turn.3 marks len s sorted inverse inverse_is ones twos threes opposites alls nones hold t turn.2 (of_list K new (t * q + j))
-    (subst (λ k. IsMadeOf K alls nones opposites ones twos threes k t (get_or marks (t * q + j) true) (element K d (t * q + j)) (of_list K new (t * q + j))) (places j turn.3)
-    (subst (λ x. IsMadeOf K alls nones opposites ones twos threes (get_or fours j 0) t (get_or marks (t * q + j) true) x (of_list K new (t * q + j))) (elements (t * q + j) here)
-    (subst (λ m. IsMadeOf K alls nones opposites ones twos threes (get_or fours j 0) t (get_or marks (t * m + j) true) (of_list K old (t * m + j)) (of_list K new (t * m + j))) wide made_here))))
+    subst (λ m. IsFactor K (lost K d marks) (element K d m) (get_or marks m true) (of_list K factors m)) (sym turn.4)
+    (turn-factor K N d q l q_is o one size some table T j turn.3 marks len s sorted inverse inverse_is v hold t turn.2 (of_list K factors (t * q + j))
+    (subst (λ k. IsMadeOf K v k t (get_or marks (t * q + j) true) (of_list K factors (t * q + j))) (places j turn.3)
+    (subst (λ m. IsMadeOf K v (get_or fours j 0) t (get_or marks (t * m + j) true) (of_list K factors (t * m + j))) wide made_here)))

@@ -1,7 +1,7 @@
 -- Factors of places from the values at their turns.
-use Rattle.std.proofs.Common.{◌≡◌, ℕ, ◌+◌, ◌*◌, ◌/◌, ◌%◌, ◌<◌, ◌≤◌, Bool, true, false, List, length, map, get_or, sym, ◌∙◌, ap, ap₂, refl, subst, arith}
+use Rattle.std.proofs.Common.{◌≡◌, ℕ, ◌+◌, ◌*◌, ◌/◌, ◌%◌, ◌<◌, Bool, true, false, List, length, map, get_or, sym, ◌∙◌, ap, ap₂, refl, subst, arith}
 use Rattle.std.specs.Prelude.{not}
-use Rattle.std.proofs.Math.Nat.{mod-add-div, mul-le-mul_right}
+use Rattle.std.proofs.Math.Nat.{mod-add-div}
 use Rattle.ark_math.specs.Field.{FieldOn, IsField, natural, power}
 use Rattle.ark_math.specs.Root.{HasOrder}
 use Rattle.ark_math.specs.Domain.{Domain, element}
@@ -10,14 +10,10 @@ use Rattle.ark_math.proofs.Algebra.Solve.{◌⊗◌, negative, unit}
 use Rattle.ark_math.proofs.Algebra.Ring.{ring3, ring4, ring6, ring7, ring2_by}
 use Rattle.ark_math.specs.Univariate.{of_list}
 use Rattle.rs_code.specs.Locator.{lost, located, slope, IsFactor}
-use Rattle.rs_code.specs.Turns.{four, Sorted, over_kept, AreSorted, kept_factor, erased_factor}
+use Rattle.rs_code.specs.Turns.{four, Sorted, AreSorted, product_of_eight}
 use Rattle.rs_code.proofs.QuarterTurns.{turn-square, element-turned, element-opposite, element-back}
 use Rattle.rs_code.proofs.Places.{at_default, is_read}
 use Rattle.rs_code.proofs.Kept.{inverse-slope}
-
--- a later place of four is within
-pub first_fits : (q j f n : ℕ) → {m : ℕ} → m ≡ q + (q + (q + q)) → n ≡ m → j < q → f < 4 → j + f * q < n
-first_fits q j f n whole len l b = let e : f * q ≤ 3 * q = mul-le-mul_right q (omega (arith, b)) in omega (arith, whole, len, l, e)
 
 -- the marks of four places as they are read
 pub four_read : (marks : List Bool) (q j : ℕ) → j + q + q + q < length marks →
@@ -32,19 +28,23 @@ module _ {F : Type 0} (K : FieldOn F) where
   pub read : (xs : List F) (i : ℕ) (x : F) → i < length xs → x ≡ get_or xs i x → x ≡ of_list K xs i
   read xs i x l e = sym (is_read xs i x K.zero l e)
 
-  -- factors from the same values
-  pub kept_same : {a b c e f g h i a2 b2 c2 e2 f2 g2 h2 i2 : F} → a ≡ a2 → b ≡ b2 → c ≡ c2 → e ≡ e2 → f ≡ f2 → g ≡ g2 → h ≡ h2 → i ≡ i2 →
-      kept_factor K a b c e f g h i ≡ kept_factor K a2 b2 c2 e2 f2 g2 h2 i2
-  kept_same a b c e f g h i = ap₂ K.times (ap₂ K.times (ap₂ K.times a b) c) (ap₂ K.times (ap₂ K.times e f) (ap₂ K.times g (ap₂ K.times h i)))
+  -- the same values are multiplied
+  pub eight_same : {a b c e f g h i a2 b2 c2 e2 f2 g2 h2 i2 : F} → a ≡ a2 → b ≡ b2 → c ≡ c2 → e ≡ e2 → f ≡ f2 → g ≡ g2 → h ≡ h2 → i ≡ i2 →
+      product_of_eight K a b c e f g h i ≡ product_of_eight K a2 b2 c2 e2 f2 g2 h2 i2
+  eight_same a b c e f g h i = ap₂ K.times (ap₂ K.times (ap₂ K.times a b) (ap₂ K.times c e)) (ap₂ K.times (ap₂ K.times f g) (ap₂ K.times h i))
 
-  pub erased_same : {x a b c e f g h i x2 a2 b2 c2 e2 f2 g2 h2 i2 : F} → x ≡ x2 → a ≡ a2 → b ≡ b2 → c ≡ c2 → e ≡ e2 → f ≡ f2 → g ≡ g2 → h ≡ h2 → i ≡ i2 →
-      erased_factor K x a b c e f g h i ≡ erased_factor K x2 a2 b2 c2 e2 f2 g2 h2 i2
-  erased_same x a b c e f g h i = ap₂ K.times (ap₂ K.times (ap₂ K.times x a) (ap₂ K.times b i)) (ap₂ K.times (ap₂ K.times c (ap₂ K.times e f)) (ap₂ K.times g h))
+module _ {F : Type 0} (K : FieldOn F) (N : IsField K) where
+  -- those for a kept place, where k is a scale
+  eight_kept : (k a p f g u h v w : F) → product_of_eight K (K.times a k) p f g u h v w ≡ K.times k (K.times f (K.times (K.times g u) (K.times (K.times h (K.times v w)) (K.times p a))))
+  eight_kept k a p f g u h v w =
+      ring7 K N (λ x f g u h v w. ((x ⊗ (f ⊗ g)) ⊗ ((u ⊗ h) ⊗ (v ⊗ w)), x ⊗ (f ⊗ ((g ⊗ u) ⊗ (h ⊗ (v ⊗ w)))))) refl (K.times (K.times a k) p) f g u h v w
+      ∙ ring6 K N (λ k a p f g h. (((a ⊗ k) ⊗ p) ⊗ (f ⊗ (g ⊗ h)), k ⊗ (f ⊗ (g ⊗ (h ⊗ (p ⊗ a)))))) refl k a p f (K.times g u) (K.times h (K.times v w))
 
-  -- a kept place's values are multiplied as those of an erased one, times one
-  pub kept_as_erased : IsField K → (a b c e f g h i : F) → erased_factor K K.one a b c e f g h i ≡ kept_factor K a b c e f g h i
-  kept_as_erased N a b c e f g h i =
-      ring7 K N (λ a b c p g h i. (((unit ⊗ a) ⊗ (b ⊗ i)) ⊗ ((c ⊗ p) ⊗ (g ⊗ h)), ((a ⊗ b) ⊗ c) ⊗ (p ⊗ (g ⊗ (h ⊗ i))))) refl a b c (K.times e f) g h i
+  -- and for an erased one, with an inverse
+  eight_erased : (i k z p a b c u v h : F) → product_of_eight K (K.times z (K.times k i)) p a b c u v h ≡ K.times i (K.times k (K.times (K.times a (K.times b c)) (K.times (K.times u v) (K.times h (K.times p z)))))
+  eight_erased i k z p a b c u v h =
+      ring7 K N (λ x a b c u v h. ((x ⊗ (a ⊗ b)) ⊗ ((c ⊗ u) ⊗ (v ⊗ h)), x ⊗ ((a ⊗ (b ⊗ c)) ⊗ ((u ⊗ v) ⊗ h)))) refl (K.times (K.times z (K.times k i)) p) a b c u v h
+      ∙ ring7 K N (λ i k z p f g h. (((z ⊗ (k ⊗ i)) ⊗ p) ⊗ (f ⊗ (g ⊗ h)), i ⊗ (k ⊗ (f ⊗ (g ⊗ (h ⊗ (p ⊗ z))))))) refl i k z p (K.times a (K.times b c)) (K.times u v) h
 
 module _ {F : Type 0} (K : FieldOn F) (N : IsField K) (d : Domain F) (q : ℕ) (o : HasOrder K d.root d.size) (one : d.offset ≡ K.one) (size : d.size ≡ q + (q + (q + q))) (some : 0 < q) where
   -- places that differ by rounds
@@ -128,59 +128,44 @@ module _ {F : Type 0} (K : FieldOn F) (N : IsField K) (d : Domain F) (q : ℕ) (
 
   module _ (marks : List Bool) (len : length marks ≡ d.size) (s : Sorted F) (sorted : AreSorted K d q marks s) (t j : ℕ) (inside : t * q + j < d.size) where
     pub kept-place : (all opposite first two two_back three three_back three_over : F) → get_or marks (t * q + j) true ≡ false →
-        all ≡ K.times s.erased_scale (located K s.all (element K d (j * 4))) →
+        all ≡ K.times (located K s.all (element K d (j * 4))) s.erased_scale →
         opposite ≡ located K s.opposite (element K d (((t % 2) * q + j) * 2)) →
         first ≡ located K s.one (element K d (t * q + j)) →
         two ≡ located K s.two (element K d (t * q + j)) → two_back ≡ located K s.two (element K d (((t + 3) % 4) * q + j)) →
         three ≡ located K s.three (element K d (t * q + j)) → three_back ≡ located K s.three (element K d (((t + 3) % 4) * q + j)) → three_over ≡ located K s.three (element K d (((t + 2) % 4) * q + j)) →
-        IsFactor K (lost K d marks) (element K d (t * q + j)) (get_or marks (t * q + j) true) (kept_factor K all opposite first two two_back three three_back three_over)
+        IsFactor K (lost K d marks) (element K d (t * q + j)) (get_or marks (t * q + j) true) (product_of_eight K all opposite first two two_back three three_back three_over)
     kept-place all opposite first two two_back three three_back three_over e all_is opposite_is one_is two_is two_back_is three_is three_back_is three_over_is =
-        let x = element K d (t * q + j) in
-        let w = element K d q in
-        let a = located K s.all (K.times (K.times x x) (K.times x x)) in
-        let p = located K s.opposite (K.times x x) in
-        let f = located K s.one x in
-        let g = located K s.two x in
-        let g_back = located K s.two (K.negated (K.times w x)) in
-        let h = located K s.three x in
-        let h_back = located K s.three (K.negated (K.times w x)) in
-        let h_over = located K s.three (K.negated x) in
-        subst (λ b. IsFactor K (lost K d marks) x b (kept_factor K all opposite first two two_back three three_back three_over)) (sym e)
-        (ap₂ (λ u v. K.times (K.times u first) v)
-        (ap₂ K.times (all_is ∙ ap (λ y. K.times s.erased_scale (located K s.all y)) (fourth-turned t j)) (opposite_is ∙ ap (located K s.opposite) (square-turned t j)))
-        (ap₂ K.times (ap₂ K.times two_is (two_back_is ∙ ap (located K s.two) (turn-back t j))) (ap₂ K.times three_is (ap₂ K.times (three_back_is ∙ ap (located K s.three) (turn-back t j)) (three_over_is ∙ ap (located K s.three) (turn-over t j)))))
-        ∙ ap (λ y. K.times (K.times (K.times (K.times s.erased_scale a) p) y) (K.times (K.times g g_back) (K.times h (K.times h_back h_over)))) one_is
-        ∙ ring6 K N (λ k a p f g h. ((((k ⊗ a) ⊗ p) ⊗ f) ⊗ (g ⊗ h), k ⊗ (f ⊗ (g ⊗ (h ⊗ (p ⊗ a)))))) refl s.erased_scale a p f (K.times g g_back) (K.times h (K.times h_back h_over))
-        ∙ sorted.erased x)
+        subst (λ b. IsFactor K (lost K d marks) (element K d (t * q + j)) b (product_of_eight K all opposite first two two_back three three_back three_over)) (sym e)
+        (eight_same K
+        (all_is ∙ ap (λ y. K.times (located K s.all y) s.erased_scale) (fourth-turned t j))
+        (opposite_is ∙ ap (located K s.opposite) (square-turned t j))
+        one_is
+        two_is (two_back_is ∙ ap (located K s.two) (turn-back t j))
+        three_is (three_back_is ∙ ap (located K s.three) (turn-back t j)) (three_over_is ∙ ap (located K s.three) (turn-over t j))
+        ∙ eight_kept K N s.erased_scale _ _ _ _ _ _ _ _
+        ∙ sorted.erased (element K d (t * q + j)))
 
     pub erased-place : (inverse none opposite first_back first_over first_ahead two_over two_ahead three_ahead : F) → get_or marks (t * q + j) true ≡ true →
         K.times inverse (natural K d.size) ≡ K.one →
-        none ≡ K.times (K.times s.kept_scale inverse) (located K s.none (element K d (j * 4))) →
+        none ≡ K.times (located K s.none (element K d (j * 4))) (K.times s.kept_scale inverse) →
         opposite ≡ located K s.opposite (element K d ((((t + 1) % 2) * q + j) * 2)) →
         first_back ≡ located K s.one (element K d (((t + 3) % 4) * q + j)) → first_over ≡ located K s.one (element K d (((t + 2) % 4) * q + j)) → first_ahead ≡ located K s.one (element K d (((t + 1) % 4) * q + j)) →
         two_over ≡ located K s.two (element K d (((t + 2) % 4) * q + j)) → two_ahead ≡ located K s.two (element K d (((t + 1) % 4) * q + j)) →
         three_ahead ≡ located K s.three (element K d (((t + 1) % 4) * q + j)) →
-        IsFactor K (lost K d marks) (element K d (t * q + j)) (get_or marks (t * q + j) true) (erased_factor K (element K d (t * q + j)) none opposite first_back first_over first_ahead two_over two_ahead three_ahead)
+        IsFactor K (lost K d marks) (element K d (t * q + j)) (get_or marks (t * q + j) true) (product_of_eight K none opposite first_back first_over first_ahead two_over two_ahead three_ahead)
     erased-place inverse none opposite first_back first_over first_ahead two_over two_ahead three_ahead e inverse_is none_is opposite_is back_is over_is ahead_is two_over_is two_ahead_is three_ahead_is =
         let x = element K d (t * q + j) in
-        let w = element K d q in
-        let z = located K s.none (K.times (K.times x x) (K.times x x)) in
-        let p = located K s.opposite (K.negated (K.times x x)) in
-        let f = K.times (located K s.one (K.negated (K.times w x))) (K.times (located K s.one (K.negated x)) (located K s.one (K.times w x))) in
-        let g = K.times (located K s.two (K.negated x)) (located K s.two (K.times w x)) in
-        let h = located K s.three (K.times w x) in
-        let formula = erased_factor K x none opposite first_back first_over first_ahead two_over two_ahead three_ahead in
-        let same : formula ≡ K.times inverse (K.times x (located K (lost K d (map not marks)) x)) =
-        ap₂ (λ u v. K.times (K.times (K.times x u) v) (K.times (K.times first_back (K.times first_over first_ahead)) (K.times two_over two_ahead)))
-        (none_is ∙ ap (λ y. K.times (K.times s.kept_scale inverse) (located K s.none y)) (fourth-turned t j))
-        (ap₂ K.times (opposite_is ∙ ap (located K s.opposite) (square-other t j)) (three_ahead_is ∙ ap (located K s.three) (turn-ahead t j)))
-        ∙ ap₂ (λ u v. K.times (K.times (K.times x (K.times (K.times s.kept_scale inverse) z)) (K.times p h)) (K.times u v))
-        (ap₂ K.times (back_is ∙ ap (located K s.one) (turn-back t j)) (ap₂ K.times (over_is ∙ ap (located K s.one) (turn-over t j)) (ahead_is ∙ ap (located K s.one) (turn-ahead t j))))
-        (ap₂ K.times (two_over_is ∙ ap (located K s.two) (turn-over t j)) (two_ahead_is ∙ ap (located K s.two) (turn-ahead t j)))
-        ∙ ap (λ y. K.times (K.times y (K.times p h)) (K.times f g)) (ring4 K N (λ x k i z. (x ⊗ ((k ⊗ i) ⊗ z), (i ⊗ x) ⊗ (k ⊗ z))) refl x s.kept_scale inverse z)
-        ∙ ring7 K N (λ i k z p h f g. (((i ⊗ (k ⊗ z)) ⊗ (p ⊗ h)) ⊗ (f ⊗ g), i ⊗ (k ⊗ (f ⊗ (g ⊗ (h ⊗ (p ⊗ z))))))) refl (K.times inverse x) s.kept_scale z p h f g
-        ∙ N.times_assoc inverse x (over_kept K w s x)
-        ∙ ap (λ y. K.times inverse (K.times x y)) (sorted.kept x) in
+        let formula = product_of_eight K none opposite first_back first_over first_ahead two_over two_ahead three_ahead in
+        let same : formula ≡ K.times inverse (located K (lost K d (map not marks)) x) =
+        eight_same K
+        (none_is ∙ ap (λ y. K.times (located K s.none y) (K.times s.kept_scale inverse)) (fourth-turned t j))
+        (opposite_is ∙ ap (located K s.opposite) (square-other t j))
+        (back_is ∙ ap (located K s.one) (turn-back t j)) (over_is ∙ ap (located K s.one) (turn-over t j)) (ahead_is ∙ ap (located K s.one) (turn-ahead t j))
+        (two_over_is ∙ ap (located K s.two) (turn-over t j)) (two_ahead_is ∙ ap (located K s.two) (turn-ahead t j))
+        (three_ahead_is ∙ ap (located K s.three) (turn-ahead t j))
+        ∙ eight_erased K N inverse s.kept_scale _ _ _ _ _ _ _ _
+        ∙ ap (K.times inverse) (sorted.kept x) in
         subst (λ b. IsFactor K (lost K d marks) x b formula) (sym e)
-        (ap (λ y. K.times y (slope K (lost K d marks) x)) same
+        (ap (λ y. K.times y (K.times x (slope K (lost K d marks) x))) same
+        ∙ ring4 K N (λ i k x s. ((i ⊗ k) ⊗ (x ⊗ s), (i ⊗ (x ⊗ k)) ⊗ s)) refl inverse (located K (lost K d (map not marks)) x) x (slope K (lost K d marks) x)
         ∙ inverse-slope K N d o one marks len (t * q + j) inside e inverse inverse_is)

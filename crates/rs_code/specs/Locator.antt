@@ -1,4 +1,4 @@
--- Words of the private steps: the polynomial that is zero at the erased places, and its derivative.
+-- Words of the private steps: the polynomial that is zero at the erased places, and x times its derivative.
 use Rattle.std.specs.Prelude.{◌≡◌, ℕ, zero, suc, ◌+◌, ◌≤◌, ◌<◌, Bool, true, false, List, [], ◌∷◌, length, get_or, Option, Some, None, Vec}
 use Rattle.std.specs.declared.alloc.Global.{Global}
 use Rattle.ark_blocks.specs.Blocks.{AreFirstValues, IsPowerOfTwo}
@@ -6,7 +6,7 @@ use Rattle.ark_math.specs.Field.{FieldOn, natural, minus}
 use Rattle.ark_math.specs.Module.{ModuleOn}
 use Rattle.ark_math.specs.Root.{Adicity}
 use Rattle.ark_math.specs.Domain.{Kind, Domain, IsSize, element}
-use Rattle.ark_math.specs.Univariate.{IsDegree, difference, monomial, product, of_list}
+use Rattle.ark_math.specs.Univariate.{IsDegree, of_list}
 
 -- the elements at the marked places, of which the first one is place i
 abbrev pub lost_from : {F : Type 0} → FieldOn F → Domain F → ℕ → List Bool → List F
@@ -37,13 +37,13 @@ abbrev pub by_factors : {F M : Type 0} → FieldOn F → ModuleOn F M → List F
 by_factors K V [] a = a
 by_factors K V (r ∷ rs) a = by_factor K V r (by_factors K V rs a)
 
--- the formal derivative of a polynomial by its coefficients
-abbrev pub derived : {F M : Type 0} → FieldOn F → ModuleOn F M → (ℕ → M) → ℕ → M
-derived K V a i = V.scale (natural K (suc i)) (a (suc i))
+-- x times the formal derivative of a polynomial by its coefficients (Euler's operator)
+abbrev pub euler : {F M : Type 0} → FieldOn F → ModuleOn F M → (ℕ → M) → ℕ → M
+euler K V a i = V.scale (natural K i) (a i)
 
--- a factor for a place: the polynomial's value, or at a marked one the inverse of its derivative's
+-- a factor for a place: the polynomial's value, or at a marked one the inverse of x times its derivative's
 abbrev pub IsFactor : {F : Type 0} → FieldOn F → List F → F → Bool → F → Type 0
-IsFactor K rs x true f = K.times f (slope K rs x) ≡ K.one
+IsFactor K rs x true f = K.times f (K.times x (slope K rs x)) ≡ K.one
 IsFactor K rs x false f = f ≡ located K rs x
 
 -- one for each place
@@ -60,15 +60,6 @@ weighed V false f y = V.scale f y
 abbrev pub filled : {F M : Type 0} → ModuleOn F M → Bool → F → M → M → M
 filled V true f y z = V.scale f z
 filled V false f y z = y
-
--- x - r
-abbrev pub linear : {F : Type 0} → FieldOn F → F → ℕ → F
-linear K r = difference K (monomial K 1 K.one) (monomial K 0 r)
-
--- the product of x - r for each r of a list, as a polynomial
-abbrev pub locator : {F : Type 0} → FieldOn F → List F → ℕ → F
-locator K [] = monomial K 0 K.one
-locator K (r ∷ rs) = product K (linear K r) (locator K rs)
 
 -- the degrees of three polynomials are n at most together
 abbrev pub DegreesWithin : {F : Type 0} → FieldOn F → (ℕ → F) → (ℕ → F) → (ℕ → F) → ℕ → Type 0

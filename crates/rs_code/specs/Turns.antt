@@ -1,7 +1,7 @@
 -- Words of the private steps that look at four places together of which each is a quarter turn of the last.
-use Rattle.std.specs.Prelude.{◌≡◌, ℕ, zero, suc, ◌+◌, ◌*◌, ◌%◌, ◌≤◌, ◌<◌, Bool, true, false, List, length, get_or, map, not, ◌++◌, [], ◌∷◌, if◌then◌else◌}
-use Rattle.ark_math.specs.Field.{FieldOn, minus}
-use Rattle.ark_math.specs.Root.{HasOrder}
+use Rattle.std.specs.Prelude.{◌≡◌, ℕ, zero, suc, ◌+◌, ◌*◌, ◌%◌, ◌≤◌, ◌<◌, Bool, true, false, List, length, get_or, map, not, ◌++◌, [], ◌∷◌, if◌then◌else◌, Vec}
+use Rattle.std.specs.declared.alloc.Global.{Global}
+use Rattle.ark_math.specs.Field.{FieldOn, minus, power}
 use Rattle.ark_math.specs.Domain.{Domain, element}
 use Rattle.ark_math.specs.Multilinear.{product_below}
 use Rattle.ark_math.specs.Univariate.{of_list}
@@ -32,13 +32,6 @@ in_row (suc (suc zero)) = record { first = true; second = true; third = false; f
 in_row (suc (suc (suc zero))) = record { first = true; second = true; third = true; fourth = false }
 in_row (suc (suc (suc (suc zero)))) = record { first = true; second = true; third = true; fourth = true }
 in_row (suc (suc (suc (suc (suc n))))) = record { first = true; second = false; third = true; fourth = false }
-
--- the elements of a subgroup, in order
-pub record AreElements {F : Type 0} (K : FieldOn F) (d : Domain F) (xs : List F) : Type 0 where
-  pub subgroup : d.offset ≡ K.one
-  pub order : HasOrder K d.root d.size
-  pub len : length xs ≡ d.size
-  pub each : (i : ℕ) → i < d.size → of_list K xs i ≡ element K d i
 
 -- a factor where there is a mark, else one
 abbrev pub factor : {F : Type 0} → FieldOn F → Bool → F → F
@@ -110,6 +103,32 @@ pushed K w (suc (suc (suc (suc (suc n))))) r s = record s { opposite = s.opposit
 abbrev pub nothing_sorted : {F : Type 0} → FieldOn F → Sorted F
 nothing_sorted K = record { one = []; two = []; three = []; opposite = []; all = []; none = []; erased_scale = K.one; kept_scale = K.one }
 
+-- a value with so many signs
+abbrev pub alternating : {F : Type 0} → FieldOn F → ℕ → F → F
+alternating K zero x = x
+alternating K (suc n) x = K.negated (alternating K n x)
+
+-- the lists of roots by the numbers of their patterns: so many erased ones in a row, and two that are opposite
+abbrev pub roots_of : {F : Type 0} → List (Vec F Global) → ℕ → List F
+roots_of lists p = get_or (map (λ v. v.items) lists) p []
+
+-- from the roots of each pattern; w is a quarter turn
+abbrev pub finished : {F : Type 0} → FieldOn F → F → List F → List F → List F → List F → List F → List F → Sorted F
+finished K w none one two three all opposite = record {
+  one = one;
+  two = two;
+  three = three;
+  opposite = map (λ r. K.times r r) opposite;
+  all = map (λ r. K.times r r) (map (λ r. K.times r r) all);
+  none = map (λ r. K.times r r) (map (λ r. K.times r r) none);
+  erased_scale = alternating K (length three) (power K w (length two + length three));
+  kept_scale = alternating K (length one + length three + length opposite) (power K w (length two + length three));
+}
+
+-- from the lists of the patterns
+abbrev pub finished_from : {F : Type 0} → FieldOn F → F → List (Vec F Global) → Sorted F
+finished_from K w lists = finished K w (roots_of lists 0) (roots_of lists 1) (roots_of lists 2) (roots_of lists 3) (roots_of lists 4) (roots_of lists 5)
+
 -- lists of at most n roots
 pub record AreWithin {F : Type 0} (n : ℕ) (s : Sorted F) : Type 0 where
   pub one : length s.one ≤ n
@@ -131,15 +150,8 @@ pub record AreSorted {F : Type 0} (K : FieldOn F) (d : Domain F) (q : ℕ) (mark
   pub erased : (x : F) → over_erased K (element K d q) s x ≡ located K (lost K d marks) x
   pub kept : (x : F) → over_kept K (element K d q) s x ≡ located K (lost K d (map not marks)) x
 
--- the factor of a kept place, from values at it and at its turns
-abbrev pub kept_factor : {F : Type 0} → FieldOn F → F → F → F → F → F → F → F → F → F
-kept_factor K all opposite one two two_back three three_back three_over =
-    K.times (K.times (K.times all opposite) one) (K.times (K.times two two_back) (K.times three (K.times three_back three_over)))
-
--- and of an erased place x
-abbrev pub erased_factor : {F : Type 0} → FieldOn F → F → F → F → F → F → F → F → F → F → F
-erased_factor K x none opposite one_back one_over one_ahead two_over two_ahead three_ahead =
-    K.times (K.times (K.times x none) (K.times opposite three_ahead)) (K.times (K.times one_back (K.times one_over one_ahead)) (K.times two_over two_ahead))
+abbrev pub product_of_eight : {F : Type 0} → FieldOn F → F → F → F → F → F → F → F → F → F
+product_of_eight K a b c d e f g h = K.times (K.times (K.times a b) (K.times c d)) (K.times (K.times e f) (K.times g h))
 
 -- which of four neighbours in a table is the first one after t quarter turns: they are x, -x, w * x and -w * x
 abbrev pub turn_place : ℕ → ℕ
@@ -152,24 +164,44 @@ turn_place (suc (suc (suc t))) = 3
 abbrev pub at_turn : {F : Type 0} → FieldOn F → List F → ℕ → ℕ → F
 at_turn K v k t = of_list K v (4 * k + turn_place (t % 4))
 
--- the factor of a place that is t quarter turns after the first of four, from the values of the four, whose index is k
-abbrev pub kept_from : {F : Type 0} → FieldOn F → List F → List F → List F → List F → List F → ℕ → ℕ → F
-kept_from K all opposite one two three k t =
-    kept_factor K (of_list K all k) (of_list K opposite (2 * k + t % 2))
-    (at_turn K one k t)
-    (at_turn K two k t) (at_turn K two k (t + 3))
-    (at_turn K three k t) (at_turn K three k (t + 3)) (at_turn K three k (t + 2))
+-- the values of the products over sorted lists at elements of a table
+pub record Values (F : Type 0) : Type 0 where
+  pub one : List F
+  pub two : List F
+  pub three : List F
+  pub opposite : List F
+  pub all : List F
+  pub none : List F
 
-abbrev pub erased_from : {F : Type 0} → FieldOn F → F → List F → List F → List F → List F → List F → ℕ → ℕ → F
-erased_from K x none opposite one two three k t =
-    erased_factor K x (of_list K none k) (of_list K opposite (2 * k + (t + 1) % 2))
-    (at_turn K one k (t + 3)) (at_turn K one k (t + 2)) (at_turn K one k (t + 1))
-    (at_turn K two k (t + 2)) (at_turn K two k (t + 1)) (at_turn K three k (t + 1))
+-- of which each four places have four, two of squares and one of fourth powers
+pub record AreForFours {F : Type 0} (q : ℕ) (v : Values F) : Type 0 where
+  pub one : length v.one ≡ 4 * q
+  pub two : length v.two ≡ 4 * q
+  pub three : length v.three ≡ 4 * q
+  pub opposite : length v.opposite ≡ 2 * q
+  pub all : length v.all ≡ q
+  pub none : length v.none ≡ q
 
--- y is that factor of the place x, which may be marked
-pub record IsMadeOf {F : Type 0} (K : FieldOn F) (all none opposite one two three : List F) (k t : ℕ) (mark : Bool) (x y : F) : Type 0 where
-  pub kept : mark ≡ false → y ≡ kept_from K all opposite one two three k t
-  pub erased : mark ≡ true → y ≡ erased_from K x none opposite one two three k t
+-- the factor of a kept place that is t quarter turns after the first of four, from the values of the four, whose index is k
+abbrev pub kept_from : {F : Type 0} → FieldOn F → Values F → ℕ → ℕ → F
+kept_from K v k t =
+    product_of_eight K (of_list K v.all k) (of_list K v.opposite (2 * k + t % 2))
+    (at_turn K v.one k t)
+    (at_turn K v.two k t) (at_turn K v.two k (t + 3))
+    (at_turn K v.three k t) (at_turn K v.three k (t + 3)) (at_turn K v.three k (t + 2))
+
+-- and of an erased one
+abbrev pub erased_from : {F : Type 0} → FieldOn F → Values F → ℕ → ℕ → F
+erased_from K v k t =
+    product_of_eight K (of_list K v.none k) (of_list K v.opposite (2 * k + (t + 1) % 2))
+    (at_turn K v.one k (t + 3)) (at_turn K v.one k (t + 2)) (at_turn K v.one k (t + 1))
+    (at_turn K v.two k (t + 2)) (at_turn K v.two k (t + 1))
+    (at_turn K v.three k (t + 1))
+
+-- y is the factor of the place, which may be marked
+pub record IsMadeOf {F : Type 0} (K : FieldOn F) (v : Values F) (k t : ℕ) (mark : Bool) (y : F) : Type 0 where
+  pub kept : mark ≡ false → y ≡ kept_from K v k t
+  pub erased : mark ≡ true → y ≡ erased_from K v k t
 
 -- a table of a subgroup's elements in bit-reversed order
 pub record IsTableOf {F : Type 0} (K : FieldOn F) (d : Domain F) (table : List F) : Type 0 where
@@ -178,18 +210,16 @@ pub record IsTableOf {F : Type 0} (K : FieldOn F) (d : Domain F) (table : List F
   pub reversed : AreReversed K d.size (element_of K table)
   pub next : (i : ℕ) → i < length table → element_of K table (length table + i) ≡ K.times (element_of K table i) d.root
 
--- what the lists of values hold: the products over the sorted lists at a table's elements, those of squares and of fourth
--- powers at as many as there are of these; inverse is that of the domain's size
-pub record HoldValues {F : Type 0} (K : FieldOn F) (table : List F) (q : ℕ) (s : Sorted F) (inverse : F) (one two three opposite all none : List F) : Type 0 where
-  pub one_is : (i : ℕ) → i < 4 * q → of_list K one i ≡ located K s.one (element_of K table i)
-  pub two_is : (i : ℕ) → i < 4 * q → of_list K two i ≡ located K s.two (element_of K table i)
-  pub three_is : (i : ℕ) → i < 4 * q → of_list K three i ≡ located K s.three (element_of K table i)
-  pub opposite_is : (i : ℕ) → i < 2 * q → of_list K opposite i ≡ located K s.opposite (element_of K table i)
-  pub all_is : (i : ℕ) → i < q → of_list K all i ≡ K.times s.erased_scale (located K s.all (element_of K table i))
-  pub none_is : (i : ℕ) → i < q → of_list K none i ≡ K.times (K.times s.kept_scale inverse) (located K s.none (element_of K table i))
+-- what the values are: those over squares at as many elements as there are of these, and so over fourth powers; inverse is
+-- that of the domain's size
+pub record HoldValues {F : Type 0} (K : FieldOn F) (table : List F) (q : ℕ) (s : Sorted F) (inverse : F) (v : Values F) : Type 0 where
+  pub one_is : (i : ℕ) → i < 4 * q → of_list K v.one i ≡ located K s.one (element_of K table i)
+  pub two_is : (i : ℕ) → i < 4 * q → of_list K v.two i ≡ located K s.two (element_of K table i)
+  pub three_is : (i : ℕ) → i < 4 * q → of_list K v.three i ≡ located K s.three (element_of K table i)
+  pub opposite_is : (i : ℕ) → i < 2 * q → of_list K v.opposite i ≡ located K s.opposite (element_of K table i)
+  pub all_is : (i : ℕ) → i < q → of_list K v.all i ≡ K.times (located K s.all (element_of K table i)) s.erased_scale
+  pub none_is : (i : ℕ) → i < q → of_list K v.none i ≡ K.times (located K s.none (element_of K table i)) (K.times s.kept_scale inverse)
 
--- the factors of the first n places of a quarter, t turns after the first one, are put in a list; the others are as they were
-pub record AreMadeBelow {F : Type 0} (K : FieldOn F) (all none opposite one two three : List F) (fours : List ℕ) (marks : List Bool) (t n : ℕ) (old new : List F) : Type 0 where
-  pub len : length new ≡ length old
-  pub made : (j : ℕ) → j < n → IsMadeOf K all none opposite one two three (get_or fours j 0) t (get_or marks (t * length fours + j) true) (of_list K old j) (of_list K new j)
-  pub rest : (j : ℕ) → n ≤ j → of_list K new j ≡ of_list K old j
+-- the factors of the first n places of a quarter, t turns after the first one, are put in a list
+pub record AreMadeBelow {F : Type 0} (K : FieldOn F) (v : Values F) (fours : List ℕ) (marks : List Bool) (t n : ℕ) (factors : List F) : Type 0 where
+  pub made : (j : ℕ) → j < n → IsMadeOf K v (get_or fours j 0) t (get_or marks (t * length fours + j) true) (of_list K factors j)

@@ -6,7 +6,7 @@ ghost use Rattle.rs_code.specs.Codeword.{AgreesElsewhere, IsCodeword, mark_count
 
 use crate::error::RsError;
 use crate::part::{fill_spaced, fold};
-use crate::restore::derive;
+use crate::restore::scale_by_exponents;
 use ark_base::{DomainCoeff, FftField, Work};
 use ark_poly::{EvaluationDomain, GeneralEvaluationDomain};
 use std::alloc::Global;
@@ -98,7 +98,7 @@ impl<F: FftField, D: EvaluationDomain<F>> DomainDecoder<F, D> {
             → result ≢ Err RsError.NoCodeword }
     {
         let mut items = self.interpolated(alloc, word, &mut Work::new())?;
-        derive(items.as_mut_slice(), &mut Work::new());
+        scale_by_exponents(items.as_mut_slice(), &mut Work::new());
         fold(items.as_mut_slice(), self.part.size());
         items.truncate(self.part.size());
         self.part.fft_in_place(alloc, &mut items)?;

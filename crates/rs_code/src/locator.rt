@@ -1,18 +1,19 @@
 //! The polynomial that is zero exactly at the erased places, and the factors that it gives to the places. All of it is
 //! arithmetic of the field's own elements.
 
-ghost use Rattle.std.specs.Prelude.{◌≡◌, ℕ, ◌+◌, ◌-◌, ◌*◌, ◌<◌, ◌≤◌, true, List, get_or, length, IfOk, OnOk};
+ghost use Rattle.std.specs.Prelude.{◌≡◌, ℕ, ◌+◌, ◌-◌, ◌*◌, ◌<◌, ◌≤◌, true, List, get_or, length, IfOk};
 ghost use Rattle.std.specs.Prelude.{IsOkUnless, if◌then◌else◌};
-ghost use Rattle.ark_math.specs.Module.{itself};
+ghost use Rattle.ark_blocks.specs.Roots.{nodes};
 ghost use Rattle.ark_math.specs.Points.{AreValues};
 ghost use Rattle.ark_math.specs.Univariate.{of_list, product, IsBelow, IsTrimmed};
 ghost use Rattle.rs_code.specs.Codeword.{mark_count};
-ghost use Rattle.rs_code.specs.Locator.{AreFactors, DegreesWithin, HasSizeFor, derived, linear, locator, lost};
+ghost use Rattle.rs_code.specs.Locator.{AreFactors, DegreesWithin, HasSizeFor, lost};
 
 use crate::marks::count_marked;
+use crate::restore::scale_by_exponents;
 use crate::turns::factors_by_turns;
-use ark_base::{FftField, Field, PolyError, batch_inversion};
-use ark_blocks::BlockRoots;
+use ark_base::{FftField, Field, PolyError, Work, batch_inversion};
+use ark_blocks::{BlockRoots, product_of_few};
 use ark_poly::univariate::DensePolynomial;
 use ark_poly::{
     DenseUVPolynomial, EvaluationDomain, Evaluations, GeneralEvaluationDomain, Polynomial,
@@ -22,15 +23,15 @@ use std::alloc::{AllocError, Global};
 // Of fewer places all go by slopes.
 const FEW_PLACES: usize = 256;
 
-// Up to so many roots are multiplied in one by one.
+// Up to so many roots are multiplied in without transforms.
 const FEW_ROOTS: usize = 68;
 
 // Up to so many coefficients of a product, and the leading one, are past its domain's size.
 const MOST_PAST: usize = 1024;
 
 /// The factors: at a kept place the value of the polynomial that is zero at the erased ones, and at an erased one the
-/// inverse of its derivative's. Where more than a quarter of the places is erased they come from values at quarter turns, if
-/// the domain has these.
+/// inverse of that of x times its derivative. Where more than a quarter of at least 256 places is erased, a power of two of
+/// them, and the field has a table of roots for as many, they come from values at quarter turns.
 pub fn factors<F: FftField, D: EvaluationDomain<F>>(
     alloc: Global,
     domain: D,
@@ -53,7 +54,7 @@ pub fn factors<F: FftField, D: EvaluationDomain<F>>(
     factors_by_slopes(alloc, domain, erased)
 }
 
-// The same, by the values of the polynomial and of its derivative, and the inverses of these.
+// The same, by the values of the polynomial and of x times its derivative, and the inverses of these.
 fn factors_by_slopes<F: FftField, D: EvaluationDomain<F>>(
     alloc: Global,
     domain: D,
@@ -67,7 +68,8 @@ fn factors_by_slopes<F: FftField, D: EvaluationDomain<F>>(
     let roots = lost_elements(alloc, &domain, erased)?;
     let polynomial = with_roots(alloc, &roots)?;
     let mut factors = domain.fft(alloc, polynomial.coeffs())?;
-    let slopes = derivative(alloc, polynomial.coeffs())?;
+    let mut slopes = Vec::from_slice(alloc, polynomial.coeffs())?;
+    scale_by_exponents(slopes.as_mut_slice(), &mut Work::new());
     let mut inverses = domain.fft(alloc, &slopes)?;
     batch_inversion(alloc, inverses.as_mut_slice())?;
     choose(factors.as_mut_slice(), &inverses, erased);
@@ -97,11 +99,11 @@ fn lost_elements<F: FftField, D: EvaluationDomain<F>>(
 // The product of x - r for each r of the list.
 fn with_roots<F: FftField>(alloc: Global, roots: &[F]) -> Result<DensePolynomial<F>, PolyError>
     requires room { HasSizeFor F.adicity (length roots.now + 1) }
-    ensures product { IfOk result (λ p. of_list F.field p ≡ locator F.field roots.now) }
+    ensures product { IfOk result (λ p. of_list F.field p ≡ nodes F.field roots.now) }
     ensures memory { IsOkUnless result PolyError.Memory }
 {
     if roots.len() <= FEW_ROOTS {
-        return Ok(DensePolynomial::from_coefficients_vec(with_few_roots(alloc, roots)?));
+        return Ok(DensePolynomial::from_coefficients_vec(product_of_few(alloc, roots)?));
     }
     let past = MOST_PAST.min(roots.len() / 16);
     let Some(domain) = GeneralEvaluationDomain::<F>::new(roots.len() - past) else {
@@ -217,48 +219,6 @@ fn coefficient_at_degree<F: Field>(coeffs: &[F], factor: &[F]) -> F
         sum += coeffs[i] * factor[factor.len() - 1 - i];
     }
     sum
-}
-
-/// The coefficients of the product of x - r over few roots, one by one.
-pub(crate) fn with_few_roots<F: Field>(alloc: Global, roots: &[F]) -> Result<Vec<F>, AllocError>
-    ensures product { IfOk result (λ v. of_list F.field v.items ≡ locator F.field roots.now) }
-    ensures len { IfOk result (λ v. length v.items ≡ length roots.now + 1) }
-{
-    let mut coeffs = Vec::with_capacity(alloc, roots.len().saturating_add(1))?;
-    coeffs.push(F::one())?;
-    for root in roots {
-        multiply_by_linear(&mut coeffs, *root)?;
-    }
-    Ok(coeffs)
-}
-
-// Multiplies the polynomial with these coefficients by x - root, in place, from the highest one down.
-fn multiply_by_linear<F: Field>(coeffs: &mut Vec<F>, root: F) -> Result<(), AllocError>
-    ensures product { OnOk result (of_list F.field coeffs.new.items
-        ≡ product F.field (linear F.field root) (of_list F.field coeffs.old.items)) }
-    ensures len { OnOk result (length coeffs.new.items ≡ length coeffs.old.items + 1) }
-{
-    coeffs.push(F::zero())?;
-    for i in (1..coeffs.len()).rev() {
-        coeffs[i] = coeffs[i - 1] - root * coeffs[i];
-    }
-    coeffs[0] = -(root * coeffs[0]);
-    Ok(())
-}
-
-// The coefficients of the formal derivative.
-fn derivative<F: Field>(alloc: Global, coeffs: &[F]) -> Result<Vec<F>, AllocError>
-    ensures derivative { IfOk result (λ v. of_list F.field v.items
-        ≡ derived F.field (itself F.field) (of_list F.field coeffs.now)) }
-    ensures len { IfOk result (λ v. length v.items ≤ length coeffs.now) }
-{
-    let mut lowered = Vec::with_capacity(alloc, coeffs.len())?;
-    let mut exponent = F::zero();
-    for i in 1..coeffs.len() {
-        exponent = exponent + F::one();
-        lowered.push(exponent * coeffs[i])?;
-    }
-    Ok(lowered)
 }
 
 // Takes the other list's items at the marked places.

@@ -2,16 +2,17 @@
 
 ghost use Rattle.std.specs.Prelude.{◌≡◌, ℕ, ◌+◌, ◌-◌, ◌*◌, ◌^◌, ◌<◌, ◌≤◌, length, IfOk};
 ghost use Rattle.ark_blocks.specs.Blocks.{AreFirstValues, IsPowerOfTwo, element_of, size_of};
-ghost use Rattle.ark_math.specs.Field.{minus};
+ghost use Rattle.ark_blocks.specs.Roots.{nodes};
 ghost use Rattle.ark_math.specs.Univariate.{of_list, product};
-ghost use Rattle.rs_code.specs.Locator.{IsBegun, located, locator};
+ghost use Rattle.rs_code.specs.Locator.{IsBegun, located};
 
-use crate::locator::{multiply_upper, with_few_roots};
+use crate::locator::multiply_upper;
 use ark_base::{FftField, Field};
-use ark_blocks::BlockRoots;
+use ark_blocks::items::{multiply_places, subtract};
+use ark_blocks::{BlockRoots, product_of_few};
 use std::alloc::{AllocError, Global};
 
-// Up to so many roots are multiplied in one by one.
+// Up to so many roots are multiplied in without transforms.
 const FEW_ROOTS: usize = 40;
 
 // At most so many coefficients of a product come back below the others, as far as it has more than values.
@@ -57,13 +58,13 @@ fn product<F: FftField>(
     requires power { IsPowerOfTwo count }
     requires within { count ≤ size_of table.now }
     requires enough { 16 * length roots.now ≤ 17 * count }
-    ensures product { IfOk result (λ p. of_list F.field p.0.items ≡ locator F.field roots.now) }
+    ensures product { IfOk result (λ p. of_list F.field p.0.items ≡ nodes F.field roots.now) }
     ensures len { IfOk result (λ p. length p.0.items ≡ length roots.now + 1) }
     ensures begun { IfOk result (λ p. (n : ℕ) → 64 ≤ n → count ≤ n
         → IsBegun F.field table.now n p.0.items p.1) }
 {
     if roots.len() <= FEW_ROOTS {
-        return Ok((with_few_roots(alloc, roots)?, None));
+        return Ok((product_of_few(alloc, roots)?, None));
     }
     let half = roots.len() / 2;
     let low = product(alloc, table, &roots[..half], count / 2)?;
@@ -173,28 +174,4 @@ fn coefficients_past<F: Field>(
     let mut upper = Vec::from_slice(alloc, &left[below.min(left.len())..])?;
     multiply_upper(upper.as_mut_slice(), right);
     Ok(upper)
-}
-
-// Multiplies each item by the other list's.
-fn multiply_places<F: Field>(items: &mut [F], others: &[F])
-    requires { length others.now ≡ length items.old }
-    ensures len { length items.new ≡ length items.old }
-    ensures products { (i : ℕ) → i < length items.old → of_list F.field items.new i
-        ≡ F.field.times (of_list F.field items.old i) (of_list F.field others.now i) }
-{
-    for i in 0..others.len() {
-        items[i] = items[i] * others[i];
-    }
-}
-
-// Subtracts from each item the other list's, as far as that goes.
-fn subtract<F: Field>(items: &mut [F], others: &[F])
-    requires { length others.now ≤ length items.old }
-    ensures len { length items.new ≡ length items.old }
-    ensures differences { (i : ℕ) → i < length items.old → of_list F.field items.new i
-        ≡ minus F.field (of_list F.field items.old i) (of_list F.field others.now i) }
-{
-    for i in 0..others.len() {
-        items[i] = items[i] - others[i];
-    }
 }

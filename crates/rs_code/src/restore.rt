@@ -8,7 +8,7 @@ ghost use Rattle.ark_math.specs.Transform.{transform};
 ghost use Rattle.ark_math.specs.Univariate.{of_list};
 ghost use Rattle.rs_code.specs.Codeword.{AgreesElsewhere, AgreesWith, IsCodeword, erasure_count, mark_count};
 ghost use Rattle.rs_code.specs.Cost.{GrowsWithin};
-ghost use Rattle.rs_code.specs.Locator.{by_factors, derived, filled, lost, weighed};
+ghost use Rattle.rs_code.specs.Locator.{by_factors, euler, filled, lost, weighed};
 
 use crate::code::DomainCode;
 use crate::decoder::DomainDecoder;
@@ -88,7 +88,7 @@ impl<F: FftField, D: EvaluationDomain<F>> DomainDecoder<F, D> {
             work.old work.new }
     {
         let mut values = self.interpolated(alloc, word, work)?;
-        derive(values.as_mut_slice(), work);
+        scale_by_exponents(values.as_mut_slice(), work);
         self.domain.fft_counted(alloc, &mut values, work)?;
         fill(
             values.as_mut_slice(),
@@ -162,8 +162,19 @@ fn kept_values<T: Copy>(alloc: Global, word: &[Option<T>], other: T) -> Result<V
     ensures { IfOk result (λ v. v.items ≡ map (λ place. unwrap_or place other) word.now) }
 {
     word.iter()
-        .map(|place| place.unwrap_or(other))
+        .map(|place| *value_at(place, &other))
         .collect(alloc)
+}
+
+// The place's value, or else the other one. What is chosen is where to read, so that no branch waits for a mark.
+#[inline(always)]
+fn value_at<'a, T>(place: &'a Option<T>, other: &'a T) -> &'a T
+    ensures { result.now ≡ unwrap_or place.now other.now }
+{
+    match place {
+        Some(value) => value,
+        None => other,
+    }
 }
 
 // Whether an item has more than two words: then a product by it takes longer than a branch that waits for a mark.
@@ -218,23 +229,18 @@ fn weigh<F: Field, T: DomainCoeff<F>>(
     }
 }
 
-// The coefficients of the formal derivative. At most a product for each.
-pub(crate) fn derive<F: Field, T: DomainCoeff<F>>(coeffs: &mut [T], work: &mut Work)
-    ensures derivative { (i : ℕ) → i < length coeffs.old → item T.group (map T.meaning coeffs.new) i
-        ≡ derived F.field T.group (item T.group (map T.meaning coeffs.old)) i }
+// The coefficients of x times the formal derivative: each is scaled by its exponent, and none is moved.
+pub(crate) fn scale_by_exponents<F: Field, T: DomainCoeff<F>>(coeffs: &mut [T], work: &mut Work)
+    ensures coefficients { (i : ℕ) → i < length coeffs.old → item T.group (map T.meaning coeffs.new) i
+        ≡ euler F.field T.group (item T.group (map T.meaning coeffs.old)) i }
     ensures products { work.new.products ≤ work.old.products + length coeffs.old }
     ensures butterflies { work.new.butterflies ≡ work.old.butterflies }
     ensures steps { work.new.steps ≡ work.old.steps }
 {
     let mut exponent = F::zero();
     for i in 0..coeffs.len() {
+        work.scale(&mut coeffs[i], exponent);
         exponent = exponent + F::one();
-        let mut above = T::zero();
-        if i + 1 < coeffs.len() {
-            above = coeffs[i + 1];
-            work.scale(&mut above, exponent);
-        }
-        coeffs[i] = above;
     }
 }
 

@@ -1,12 +1,37 @@
 //! Places by fours of which each is a quarter turn of the last, sorted by how they are erased.
 
-ghost use Rattle.std.specs.Prelude.{◌≡◌, ◌/◌, ◌%◌, ◌<◌, length, IfOk, OnOk};
+ghost use Rattle.std.specs.Prelude.{◌≡◌, ℕ, ◌+◌, ◌*◌, ◌^◌, ◌<◌, [], length, get_or, map, IfOk, if◌then◌else◌};
+ghost use Rattle.ark_blocks.specs.Blocks.{IsPowerOfTwo, size_of};
+ghost use Rattle.ark_fft.specs.Halves.{reversed};
 ghost use Rattle.ark_math.specs.Domain.{Domain};
-ghost use Rattle.rs_code.specs.Turns.{AreElements, AreSorted, in_row, nothing_sorted, pushed, turned};
+ghost use Rattle.ark_math.specs.Root.{HasOrder};
+ghost use Rattle.rs_code.specs.Turns.{AreSorted, IsTableOf, alternating, finished, in_row, roots_of, turn_place, turned};
 
-use ark_base::Field;
+use ark_base::{FftField, Field};
+use ark_blocks::BlockRoots;
 use std::alloc::{AllocError, Global};
 use std::marker::Model;
+
+// By the marks of four places, of which the first is the lowest bit: the number of their pattern, and which of their
+// neighbours in a table it begins with. The patterns are how many are erased in a row, and 5 is two that are opposite.
+static ROWS: [(usize, usize); 16] = [
+    (0, 0),
+    (1, 0),
+    (1, 2),
+    (2, 0),
+    (1, 1),
+    (5, 0),
+    (2, 2),
+    (3, 0),
+    (1, 3),
+    (2, 3),
+    (5, 2),
+    (3, 3),
+    (2, 1),
+    (3, 1),
+    (3, 2),
+    (4, 0),
+];
 
 /// Places sorted by how they and their turns are erased: for each four one root, in the list of its pattern, and what the
 /// products of values are to be multiplied by.
@@ -41,109 +66,135 @@ impl<F: Field> Model for Sorted<F> {
     } };
 }
 
-/// The places of a subgroup with these elements sorted, by the marks of the erased ones.
-pub fn sorted_by_turns<F: Field>(
+/// The places of a subgroup sorted by the marks of the erased ones, from a table of its elements; `fours` has the numbers
+/// below a quarter of its size with their bits backwards. No branch waits for a mark.
+pub fn sorted_by_turns<F: FftField>(
     alloc: Global,
-    elements: &[F],
+    table: &BlockRoots<F>,
+    fours: &[usize],
     erased: &[bool],
 ) -> Result<Sorted<F>, AllocError>
-    requires some { 0 < length elements.now }
-    requires fours { length elements.now % 4 ≡ 0 }
-    requires len { length erased.now ≡ length elements.now }
-    ensures { IfOk result (λ s. (d : Domain F) → AreElements F.field d elements.now
-        → AreSorted F.field d (length elements.now / 4) erased.now s) }
+    requires power { IsPowerOfTwo (length fours.now) }
+    requires places { (levels j : ℕ) → length fours.now ≡ 2 ^ levels → j < length fours.now
+        → get_or fours.now j 0 ≡ reversed levels j }
+    requires size { 4 * length fours.now ≡ size_of table.now }
+    requires len { length erased.now ≡ size_of table.now }
+    ensures { IfOk result (λ s. (d : Domain F) → d.offset ≡ F.field.one → HasOrder F.field d.root d.size
+        → IsTableOf F.field d table.now → AreSorted F.field d (length fours.now) erased.now s) }
 {
-    let quarter = elements.len() / 4;
-    let turn = elements[quarter];
-    let mut sorted = Sorted::new(alloc);
+    let quarter = fours.len();
+    let mut lists = empty_lists(alloc, quarter)?;
     for j in 0..quarter {
-        let (count, first) = row(
+        let (pattern, place) = row(
             erased[j],
             erased[j + quarter],
             erased[j + quarter + quarter],
             erased[j + quarter + quarter + quarter],
         );
-        sorted.push(count, elements[j + first * quarter], turn)?;
+        lists[pattern].push(table.element(4 * fours[j] + place))?;
     }
-    Ok(sorted)
+    let (none, one, two, three, all, opposite) = apart(lists);
+    Ok(finish(table.element(2), none, one, two, three, all, opposite))
 }
 
-impl<F: Field> Sorted<F> {
-    // None yet.
-    fn new(alloc: Global) -> Self
-        ensures { result ≡ nothing_sorted F.field }
-    {
-        Sorted {
-            one: Vec::new(alloc),
-            two: Vec::new(alloc),
-            three: Vec::new(alloc),
-            opposite: Vec::new(alloc),
-            all: Vec::new(alloc),
-            none: Vec::new(alloc),
-            erased_scale: F::one(),
-            kept_scale: F::one(),
-        }
-    }
-
-    // Takes in four places of which so many in a row are erased from this one on, or else this one and its opposite; a
-    // quarter turn is told.
-    fn push(&mut self, count: usize, root: F, turn: F) -> Result<(), AllocError>
-        ensures { OnOk result (self.new ≡ pushed F.field turn count root self.old) }
-    {
-        match count {
-            0 => {
-                let square = root * root;
-                self.none.push(square * square)?;
-            }
-            1 => {
-                self.one.push(root)?;
-                self.kept_scale = -self.kept_scale;
-            }
-            2 => {
-                self.two.push(root)?;
-                self.erased_scale = self.erased_scale * turn;
-                self.kept_scale = self.kept_scale * turn;
-            }
-            3 => {
-                self.three.push(root)?;
-                self.erased_scale = -(self.erased_scale * turn);
-                self.kept_scale = -(self.kept_scale * turn);
-            }
-            4 => {
-                let square = root * root;
-                self.all.push(square * square)?;
-            }
-            _ => {
-                self.opposite.push(root * root)?;
-                self.kept_scale = -self.kept_scale;
-            }
-        }
-        Ok(())
-    }
-}
-
-// How many of four places are erased in a row, and which of them is the first one: 5 for two that are opposite.
-fn row(first: bool, second: bool, third: bool, fourth: bool) -> (usize, usize)
-    ensures row { turned result.1 (record { first = first; second = second; third = third; fourth = fourth })
-        ≡ in_row result.0 }
-    ensures within { result.1 < 4 }
+// A list for each pattern, with room for so many roots.
+fn empty_lists<F: Field>(alloc: Global, room: usize) -> Result<[Vec<F>; 6], AllocError>
+    ensures len { IfOk result (λ lists. length lists ≡ 6) }
+    ensures empty { IfOk result (λ lists. (p : ℕ) → roots_of lists p ≡ []) }
 {
-    match (first, second, third, fourth) {
-        (false, false, false, false) => (0, 0),
-        (true, false, false, false) => (1, 0),
-        (false, true, false, false) => (1, 1),
-        (false, false, true, false) => (1, 2),
-        (false, false, false, true) => (1, 3),
-        (true, true, false, false) => (2, 0),
-        (false, true, true, false) => (2, 1),
-        (false, false, true, true) => (2, 2),
-        (true, false, false, true) => (2, 3),
-        (true, true, true, false) => (3, 0),
-        (false, true, true, true) => (3, 1),
-        (true, false, true, true) => (3, 2),
-        (true, true, false, true) => (3, 3),
-        (true, false, true, false) => (5, 0),
-        (false, true, false, true) => (5, 1),
-        (true, true, true, true) => (4, 0),
+    Ok([
+        Vec::with_capacity(alloc, room)?,
+        Vec::with_capacity(alloc, room)?,
+        Vec::with_capacity(alloc, room)?,
+        Vec::with_capacity(alloc, room)?,
+        Vec::with_capacity(alloc, room)?,
+        Vec::with_capacity(alloc, room)?,
+    ])
+}
+
+// The pattern of four places with these marks, and which of their neighbours in a table it begins with.
+#[inline(always)]
+fn row(first: bool, second: bool, third: bool, fourth: bool) -> (usize, usize)
+    ensures row { turned (turn_place result.1) (record { first = first; second = second; third = third; fourth = fourth })
+        ≡ in_row result.0 }
+    ensures pattern { result.0 < 6 }
+    ensures place { result.1 < 4 }
+{
+    ROWS[bit(first) + 2 * bit(second) + 4 * bit(third) + 8 * bit(fourth)]
+}
+
+// One where there is a mark, else zero.
+#[inline(always)]
+fn bit(mark: bool) -> usize
+    ensures { result ≡ if mark then 1 else 0 }
+{
+    if mark { 1 } else { 0 }
+}
+
+// The lists by themselves.
+fn apart<F: Field>(lists: [Vec<F>; 6]) -> (Vec<F>, Vec<F>, Vec<F>, Vec<F>, Vec<F>, Vec<F>)
+    ensures none { result.0.items ≡ roots_of lists 0 }
+    ensures one { result.1.items ≡ roots_of lists 1 }
+    ensures two { result.2.items ≡ roots_of lists 2 }
+    ensures three { result.3.items ≡ roots_of lists 3 }
+    ensures all { result.4.items ≡ roots_of lists 4 }
+    ensures opposite { result.5.items ≡ roots_of lists 5 }
+{
+    let [none, one, two, three, all, opposite] = lists;
+    (none, one, two, three, all, opposite)
+}
+
+// What the roots of each pattern give; a quarter turn is told.
+fn finish<F: Field>(
+    turn: F,
+    none: Vec<F>,
+    one: Vec<F>,
+    two: Vec<F>,
+    three: Vec<F>,
+    all: Vec<F>,
+    opposite: Vec<F>,
+) -> Sorted<F>
+    requires turns { length two.items + length three.items < 2 ^ 64 }
+    requires signs { length one.items + length three.items + length opposite.items < 2 ^ 64 }
+    ensures { result ≡ finished F.field turn none.items one.items two.items three.items all.items opposite.items }
+{
+    let power = turn.pow((two.len() + three.len()) as u64);
+    let erased_scale = signed(three.len(), power);
+    let kept_scale = signed(one.len() + three.len() + opposite.len(), power);
+    Sorted {
+        one,
+        two,
+        three,
+        opposite: squares(opposite),
+        all: squares(squares(all)),
+        none: squares(squares(none)),
+        erased_scale,
+        kept_scale,
     }
+}
+
+// The squares of the items, in their place.
+fn squares<F: Field>(items: Vec<F>) -> Vec<F>
+    ensures { result.items ≡ map (λ r. F.field.times r r) items.items }
+{
+    let mut items = items;
+    square_each(items.as_mut_slice());
+    items
+}
+
+// Puts the square of each item in its place.
+fn square_each<F: Field>(items: &mut [F])
+    ensures { items.new ≡ map (λ r. F.field.times r r) items.old }
+{
+    for i in 0..items.len() {
+        let item = items[i];
+        items[i] = item * item;
+    }
+}
+
+// The value with so many signs.
+fn signed<F: Field>(signs: usize, value: F) -> F
+    ensures { result ≡ alternating F.field signs value }
+{
+    if signs % 2 == 0 { value } else { -value }
 }

@@ -2,27 +2,55 @@
 //! `-x` and `-w * x`, where `w` is an element whose square is -1.
 //!
 //! With `E` the product of `x - r` over the erased places and `K` that over the kept ones, `E * K` is `x^n - 1`; so at an
-//! erased place the inverse of the derivative of `E` is `x * K(x) / n`, and no derivative is needed. Both products have a
-//! part for each pattern of erased places among four, which one polynomial gives by its values at turns of `x`: so no more
-//! than `n / 4` roots are multiplied, however the places are erased.
+//! erased place the inverse of `x * E'(x)` is `K(x) / n`, and no derivative is needed. Both products have a part for each
+//! pattern of erased places among four, which one polynomial gives by its values at turns of `x`: so no more than `n / 4`
+//! roots are multiplied, however the places are erased.
 
-ghost use Rattle.std.specs.Prelude.{◌≡◌, ℕ, ◌+◌, ◌*◌, ◌^◌, ◌<◌, ◌≤◌, true, false, length, get_or, replicate, IfOk};
+ghost use Rattle.std.specs.Prelude.{◌≡◌, ℕ, ◌+◌, ◌*◌, ◌^◌, ◌<◌, ◌≤◌, true, false, length, get_or, IfOk};
 ghost use Rattle.ark_blocks.specs.Blocks.{IsPowerOfTwo, element_of, size_of};
 ghost use Rattle.ark_fft.specs.Halves.{reversed};
-ghost use Rattle.ark_math.specs.Domain.{element};
 ghost use Rattle.ark_math.specs.Univariate.{of_list};
 ghost use Rattle.rs_code.specs.Locator.{AreFactors, located};
-ghost use Rattle.rs_code.specs.Turns.{AreElements, IsMadeOf, IsTableOf, at_turn, erased_factor, kept_factor};
+ghost use Rattle.rs_code.specs.Turns.{AreForFours, AreWithin, HoldValues, IsMadeOf, IsTableOf, at_turn, product_of_eight};
 
 use crate::product::values_over;
-use crate::sorted::sorted_by_turns;
+use crate::sorted::{Sorted, sorted_by_turns};
 use ark_base::{FftField, Field};
 use ark_blocks::BlockRoots;
+use ark_blocks::items::scale_each;
 use ark_poly::EvaluationDomain;
 use std::alloc::{AllocError, Global};
+use std::marker::Model;
+
+// Values of the products over sorted lists at elements of a table.
+#[derive(Drop)]
+struct Values<F: Field> {
+    one: Vec<F>,
+    two: Vec<F>,
+    three: Vec<F>,
+    // Those over squares, and over fourth powers.
+    opposite: Vec<F>,
+    all: Vec<F>,
+    none: Vec<F>,
+}
+
+impl<F: Field> Model for Values<F> {
+    ghost use Rattle.rs_code.specs.Turns.{Values};
+
+    ghost Value = { Values F };
+
+    ghost view = { λ v. record {
+      one = v.one.items;
+      two = v.two.items;
+      three = v.three.items;
+      opposite = v.opposite.items;
+      all = v.all.items;
+      none = v.none.items;
+    } };
+}
 
 /// The factors of the places of a subgroup of a power of two elements, by a table of these: at a kept one the value of the
-/// polynomial that is zero at the erased ones, and at an erased one the inverse of its derivative's.
+/// polynomial that is zero at the erased ones, and at an erased one `x` the inverse of `x` times its derivative's.
 pub fn factors_by_turns<F: FftField, D: EvaluationDomain<F>>(
     alloc: Global,
     domain: D,
@@ -35,52 +63,49 @@ pub fn factors_by_turns<F: FftField, D: EvaluationDomain<F>>(
     requires table { IsTableOf F.field (D.domain domain) table.now }
     ensures factors { IfOk result (λ f. AreFactors F.field (D.domain domain) erased.now f.items) }
 {
-    let mut factors = elements(alloc, &domain)?;
-    let sorted = sorted_by_turns(alloc, &factors, erased)?;
     let n = erased.len();
-    let quarter = n / 4;
-    let one = values_over(alloc, table, &sorted.one, n)?;
-    let two = values_over(alloc, table, &sorted.two, n)?;
-    let three = values_over(alloc, table, &sorted.three, n)?;
-    let opposite = values_over(alloc, table, &sorted.opposite, n / 2)?;
-    let all = scaled_values(alloc, table, &sorted.all, sorted.erased_scale, quarter)?;
-    let none_scale = sorted.kept_scale * domain.size_inv();
-    let none = scaled_values(alloc, table, &sorted.none, none_scale, quarter)?;
-    let fours = reversed_places(alloc, quarter)?;
-    fill(
-        factors.as_mut_slice(),
-        erased,
-        &fours,
-        &one,
-        &two,
-        &three,
-        &opposite,
-        &all,
-        &none,
-    );
+    let fours = reversed_places(alloc, n / 4)?;
+    let sorted = sorted_by_turns(alloc, table, &fours, erased)?;
+    let values = values_of(alloc, table, &sorted, n / 4, domain.size_inv())?;
+    let mut factors = zeros(alloc, n)?;
+    fill(factors.as_mut_slice(), erased, &fours, &values);
     Ok(factors)
 }
 
-// All elements, in order.
-fn elements<F: FftField, D: EvaluationDomain<F>>(
-    alloc: Global,
-    domain: &D,
-) -> Result<Vec<F>, AllocError>
-    requires subgroup { (D.domain domain.now).offset ≡ F.field.one }
-    ensures { IfOk result (λ v. AreElements F.field (D.domain domain.now) v.items) }
+// This many zeros.
+fn zeros<F: Field>(alloc: Global, len: usize) -> Result<Vec<F>, AllocError>
+    ensures { IfOk result (λ v. length v.items ≡ len) }
 {
-    let mut elements = ones(alloc, domain.size())?;
-    D::distribute_powers(elements.as_mut_slice(), domain.group_gen());
-    Ok(elements)
+    let mut items = Vec::new(alloc);
+    items.resize(len, F::zero())?;
+    Ok(items)
 }
 
-// This many ones.
-fn ones<F: Field>(alloc: Global, len: usize) -> Result<Vec<F>, AllocError>
-    ensures { IfOk result (λ v. v.items ≡ replicate len F.field.one) }
+// The values for so many fours of places; the inverse of the number of places is told.
+fn values_of<F: FftField>(
+    alloc: Global,
+    table: &BlockRoots<F>,
+    sorted: &Sorted<F>,
+    quarter: usize,
+    inverse: F,
+) -> Result<Values<F>, AllocError>
+    requires power { IsPowerOfTwo quarter }
+    requires many { 64 ≤ quarter }
+    requires size { 4 * quarter ≡ size_of table.now }
+    requires few { AreWithin quarter sorted.now }
+    ensures len { IfOk result (λ v. AreForFours quarter v) }
+    ensures values { IfOk result (λ v. HoldValues F.field table.now quarter sorted.now inverse v) }
 {
-    let mut items = Vec::with_capacity(alloc, len)?;
-    items.resize(len, F::one())?;
-    Ok(items)
+    let n = table.size();
+    let none_scale = sorted.kept_scale * inverse;
+    Ok(Values {
+        one: values_over(alloc, table, &sorted.one, n)?,
+        two: values_over(alloc, table, &sorted.two, n)?,
+        three: values_over(alloc, table, &sorted.three, n)?,
+        opposite: values_over(alloc, table, &sorted.opposite, n / 2)?,
+        all: scaled_values(alloc, table, &sorted.all, sorted.erased_scale, quarter)?,
+        none: scaled_values(alloc, table, &sorted.none, none_scale, quarter)?,
+    })
 }
 
 // The values of the product over the roots, each times a factor.
@@ -96,23 +121,12 @@ fn scaled_values<F: FftField>(
     requires few { length roots.now ≤ count }
     requires many { 64 ≤ count }
     ensures len { IfOk result (λ v. length v.items ≡ count) }
-    ensures values { IfOk result (λ v. (i : ℕ) → i < count → of_list F.field v.items i ≡ F.field.times scale
-        (located F.field roots.now (element_of F.field table.now i))) }
+    ensures values { IfOk result (λ v. (i : ℕ) → i < count → of_list F.field v.items i ≡ F.field.times
+        (located F.field roots.now (element_of F.field table.now i)) scale) }
 {
     let mut values = values_over(alloc, table, roots, count)?;
     scale_each(values.as_mut_slice(), scale);
     Ok(values)
-}
-
-// Multiplies each item by the factor.
-fn scale_each<F: Field>(items: &mut [F], factor: F)
-    ensures len { length items.new ≡ length items.old }
-    ensures products { (i : ℕ) → i < length items.old → of_list F.field items.new i
-        ≡ F.field.times factor (of_list F.field items.old i) }
-{
-    for i in 0..items.len() {
-        items[i] = factor * items[i];
-    }
 }
 
 // The numbers below a power of two with their bits backwards.
@@ -131,54 +145,41 @@ fn reversed_places(alloc: Global, count: usize) -> Result<Vec<usize>, AllocError
     Ok(places)
 }
 
-// Writes the factors of all places in the place of their elements. Of each four places that are turns of one another the
-// values are neighbours in the lists, at an index that has the bits of the first place's backwards.
-fn fill<F: Field>(
-    factors: &mut [F],
-    erased: &[bool],
-    fours: &[usize],
-    one: &[F],
-    two: &[F],
-    three: &[F],
-    opposite: &[F],
-    all: &[F],
-    none: &[F],
-)
+// Writes the factors of all places. Of each four places that are turns of one another the values are neighbours in the
+// lists, at an index that has the bits of the first place's backwards.
+fn fill<F: Field>(factors: &mut [F], erased: &[bool], fours: &[usize], values: &Values<F>)
     requires factors { length factors.old ≡ 4 * length fours.now }
     requires erased { length erased.now ≡ 4 * length fours.now }
     requires fours { (j : ℕ) → j < length fours.now → get_or fours.now j 0 < length fours.now }
-    requires one { length one.now ≡ 4 * length fours.now }
-    requires two { length two.now ≡ 4 * length fours.now }
-    requires three { length three.now ≡ 4 * length fours.now }
-    requires opposite { length opposite.now ≡ 2 * length fours.now }
-    requires all { length all.now ≡ length fours.now }
-    requires none { length none.now ≡ length fours.now }
+    requires values { AreForFours (length fours.now) values.now }
     ensures len { length factors.new ≡ length factors.old }
-    ensures made { (t j : ℕ) → t < 4 → j < length fours.now → IsMadeOf F.field all.now none.now opposite.now
-        one.now two.now three.now (get_or fours.now j 0) t (get_or erased.now (t * length fours.now + j) true)
-        (of_list F.field factors.old (t * length fours.now + j))
+    ensures made { (t j : ℕ) → t < 4 → j < length fours.now → IsMadeOf F.field values.now (get_or fours.now j 0) t
+        (get_or erased.now (t * length fours.now + j) true)
         (of_list F.field factors.new (t * length fours.now + j)) }
 {
+    let one = values.one.as_slice();
+    let two = values.two.as_slice();
+    let three = values.three.as_slice();
+    let opposite = values.opposite.as_slice();
+    let all = values.all.as_slice();
+    let none = values.none.as_slice();
     let quarter = fours.len();
     let (first, rest) = factors.split_at_mut(quarter);
     let (second, rest) = rest.split_at_mut(quarter);
     let (third, fourth) = rest.split_at_mut(quarter);
     for j in 0..quarter {
         let k = fours[j];
-        let (own, none) = (all[k], none[k]);
+        let (own, other_own) = (all[k], none[k]);
         let (here, other) = (opposite[2 * k], opposite[2 * k + 1]);
         let ones = four_at(one, k);
         let twos = four_at(two, k);
         let threes = four_at(three, k);
-        first[j] = turn_factor(
-            erased[j], first[j], own, none, here, other, ones, twos, threes,
-        );
+        first[j] = turn_factor(erased[j], own, other_own, here, other, ones, twos, threes);
         let (ones, twos, threes) = (turned(ones), turned(twos), turned(threes));
         second[j] = turn_factor(
             erased[j + quarter],
-            second[j],
             own,
-            none,
+            other_own,
             other,
             here,
             ones,
@@ -188,9 +189,8 @@ fn fill<F: Field>(
         let (ones, twos, threes) = (turned(ones), turned(twos), turned(threes));
         third[j] = turn_factor(
             erased[j + quarter + quarter],
-            third[j],
             own,
-            none,
+            other_own,
             here,
             other,
             ones,
@@ -200,9 +200,8 @@ fn fill<F: Field>(
         let (ones, twos, threes) = (turned(ones), turned(twos), turned(threes));
         fourth[j] = turn_factor(
             erased[j + quarter + quarter + quarter],
-            fourth[j],
             own,
-            none,
+            other_own,
             other,
             here,
             ones,
@@ -243,7 +242,6 @@ fn turned<F: Field>(four: (F, F, F, F)) -> (F, F, F, F)
 #[inline(always)]
 fn turn_factor<F: Field>(
     mark: bool,
-    place: F,
     all: F,
     none: F,
     opposite: F,
@@ -252,14 +250,13 @@ fn turn_factor<F: Field>(
     two: (F, F, F, F),
     three: (F, F, F, F),
 ) -> F
-    ensures erased { mark ≡ true → result ≡ erased_factor F.field place none other one.3 one.2 one.1 two.2 two.1
+    ensures erased { mark ≡ true → result ≡ product_of_eight F.field none other one.3 one.2 one.1 two.2 two.1
         three.1 }
-    ensures kept { mark ≡ false → result ≡ kept_factor F.field all opposite one.0 two.0 two.3 three.0 three.3
+    ensures kept { mark ≡ false → result ≡ product_of_eight F.field all opposite one.0 two.0 two.3 three.0 three.3
         three.2 }
 {
     factor_of(
         mark,
-        place,
         (none, other, one.3, one.2, one.1, two.2, two.1, three.1),
         (
             all, opposite, one.0, two.0, two.3, three.0, three.3, three.2,
@@ -272,28 +269,24 @@ fn turn_factor<F: Field>(
 #[inline(always)]
 fn factor_of<F: Field>(
     mark: bool,
-    place: F,
     erased: (F, F, F, F, F, F, F, F),
     kept: (F, F, F, F, F, F, F, F),
 ) -> F
-    ensures erased { mark ≡ true → result ≡ erased_factor F.field place erased.0 erased.1 erased.2 erased.3 erased.4
+    ensures erased { mark ≡ true → result ≡ product_of_eight F.field erased.0 erased.1 erased.2 erased.3 erased.4
         erased.5 erased.6 erased.7 }
-    ensures kept { mark ≡ false → result ≡ kept_factor F.field kept.0 kept.1 kept.2 kept.3 kept.4 kept.5 kept.6
-        kept.7 }
+    ensures kept { mark ≡ false → result ≡ product_of_eight F.field kept.0 kept.1 kept.2 kept.3 kept.4 kept.5
+        kept.6 kept.7 }
 {
-    product(
-        chosen(mark, place, F::one()),
-        (
-            chosen(mark, erased.0, kept.0),
-            chosen(mark, erased.1, kept.1),
-            chosen(mark, erased.2, kept.2),
-            chosen(mark, erased.3, kept.3),
-            chosen(mark, erased.4, kept.4),
-            chosen(mark, erased.5, kept.5),
-            chosen(mark, erased.6, kept.6),
-            chosen(mark, erased.7, kept.7),
-        ),
-    )
+    product((
+        chosen(mark, erased.0, kept.0),
+        chosen(mark, erased.1, kept.1),
+        chosen(mark, erased.2, kept.2),
+        chosen(mark, erased.3, kept.3),
+        chosen(mark, erased.4, kept.4),
+        chosen(mark, erased.5, kept.5),
+        chosen(mark, erased.6, kept.6),
+        chosen(mark, erased.7, kept.7),
+    ))
 }
 
 // The first where there is a mark, else the second: a select, as both are there.
@@ -305,12 +298,12 @@ fn chosen<F: Field>(mark: bool, first: F, second: F) -> F
     if mark { first } else { second }
 }
 
-// A place times eight values.
+// The product of eight values.
 #[inline(always)]
-fn product<F: Field>(place: F, values: (F, F, F, F, F, F, F, F)) -> F
-    ensures { result ≡ erased_factor F.field place values.0 values.1 values.2 values.3 values.4 values.5 values.6
+fn product<F: Field>(values: (F, F, F, F, F, F, F, F)) -> F
+    ensures { result ≡ product_of_eight F.field values.0 values.1 values.2 values.3 values.4 values.5 values.6
         values.7 }
 {
-    ((place * values.0) * (values.1 * values.7))
-        * ((values.2 * (values.3 * values.4)) * (values.5 * values.6))
+    ((values.0 * values.1) * (values.2 * values.3))
+        * ((values.4 * values.5) * (values.6 * values.7))
 }

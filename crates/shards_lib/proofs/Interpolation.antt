@@ -10,8 +10,9 @@ use Rattle.ark_math.proofs.Algebra.Ring.{ring2, ring3}
 use Rattle.ark_math.proofs.Domains.Elements.{times_not_zero, minus_not_zero, minus_same}
 use Rattle.ark_math.proofs.Polynomials.Univariate.{added-below, scaled-below, IsBelow-more}
 use Rattle.ark_math.proofs.Polynomials.UnivariateValues.{value-added, value-scaled}
-use Rattle.rs_code.specs.Locator.{located, locator}
-use Rattle.rs_code.proofs.Factors.{locator-short, locator-value}
+use Rattle.ark_blocks.specs.Roots.{nodes}
+use Rattle.rs_code.specs.Locator.{located}
+use Rattle.rs_code.proofs.Factors.{nodes-short, nodes-value}
 
 module _ {F : Type 0} (K : FieldOn F) (N : IsField K) (point : ℕ → F) where
   abbrev pub spot : List ℕ → ℕ → F
@@ -40,8 +41,8 @@ module _ {F : Type 0} (K : FieldOn F) (N : IsField K) (point : ℕ → F) where
   -- a multiple of what is zero at the others makes one value more
   with_point : (y : ℕ → F) (p : ℕ) (places : List ℕ) (c : F) (a : ℕ → F)
       → ((i : ℕ) → i < length places → IsValue K a (spot places i) (y (get_or places i 0)))
-      → IsValue K (added K a (scaled K c (locator K (map point places)))) (point p) (y p)
-      → (i : ℕ) → i < length (p ∷ places) → IsValue K (added K a (scaled K c (locator K (map point places)))) (spot (p ∷ places) i) (y (get_or (p ∷ places) i 0))
+      → IsValue K (added K a (scaled K c (nodes K (map point places)))) (point p) (y p)
+      → (i : ℕ) → i < length (p ∷ places) → IsValue K (added K a (scaled K c (nodes K (map point places)))) (spot (p ∷ places) i) (y (get_or (p ∷ places) i 0))
   with_point y p places c a earlier this zero l = this
   with_point y p places c a earlier this (suc i) l =
       let q = spot places i in
@@ -49,9 +50,9 @@ module _ {F : Type 0} (K : FieldOn F) (N : IsField K) (point : ℕ → F) where
       let inside : i < length places = omega (arith, l) in
       let nothing : K.plus v (K.times c (located K (map point places) q)) ≡ v =
       ap (λ x. K.plus v (K.times c x)) (located_here places i inside) ∙ ap (K.plus v) (times_zero K N c) ∙ N.plus_zero v in
-      subst (IsValue K (added K a (scaled K c (locator K (map point places)))) q) nothing
-      (value-added K N a (scaled K c (locator K (map point places))) q v (K.times c (located K (map point places) q)) (earlier i inside)
-      (value-scaled K N c (locator K (map point places)) q (located K (map point places) q) (locator-value K N (map point places) q)))
+      subst (IsValue K (added K a (scaled K c (nodes K (map point places)))) q) nothing
+      (value-added K N a (scaled K c (nodes K (map point places))) q v (K.times c (located K (map point places) q)) (earlier i inside)
+      (value-scaled K N c (nodes K (map point places)) q (located K (map point places) q) (nodes-value K N (map point places) q)))
 
   -- as many coefficients as points give each list of values
   pub has_polynomial : (y : ℕ → F) (places : List ℕ) → Differ places
@@ -69,13 +70,13 @@ module _ {F : Type 0} (K : FieldOn F) (N : IsField K) (point : ℕ → F) where
       let d = minus K (y p) v in
       let c = K.times z d in
       let size = length-map places point in
-      let short : IsBelow K (suc n) (locator K roots) = IsBelow-more K (1 + length roots) (suc n) (locator K roots) (omega (arith, size)) (locator-short K N roots) in
+      let short : IsBelow K (suc n) (nodes K roots) = IsBelow-more K (1 + length roots) (suc n) (nodes K roots) (omega (arith, size)) (nodes-short K N roots) in
       let reached : K.plus v (K.times c f) ≡ y p =
       ap (K.plus v) (ring3 K N (λ z d f. ((z ⊗ d) ⊗ f, d ⊗ (f ⊗ z))) refl z d f ∙ ap (K.times d) inverse.1 ∙ N.times_one d)
       ∙ ring2 K N (λ v y. (v ⊕ (y ⊖ v), y)) refl v (y p) in (
-        added K a (scaled K c (locator K roots)),
-        added-below K N (suc n) a (scaled K c (locator K roots)) (IsBelow-more K n (suc n) a (omega arith) before.1) (scaled-below K N (suc n) (locator K roots) c short),
-        with_point y p places c a before.2 (subst (IsValue K (added K a (scaled K c (locator K roots))) (point p)) reached
-            (value-added K N a (scaled K c (locator K roots)) (point p) v (K.times c f) (n, before.1, refl)
-            (value-scaled K N c (locator K roots) (point p) f (locator-value K N roots (point p))))),
+        added K a (scaled K c (nodes K roots)),
+        added-below K N (suc n) a (scaled K c (nodes K roots)) (IsBelow-more K n (suc n) a (omega arith) before.1) (scaled-below K N (suc n) (nodes K roots) c short),
+        with_point y p places c a before.2 (subst (IsValue K (added K a (scaled K c (nodes K roots))) (point p)) reached
+            (value-added K N a (scaled K c (nodes K roots)) (point p) v (K.times c f) (n, before.1, refl)
+            (value-scaled K N c (nodes K roots) (point p) f (nodes-value K N roots (point p))))),
       )

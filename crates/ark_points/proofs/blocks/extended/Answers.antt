@@ -1,4 +1,4 @@
-use Rattle.std.proofs.Common.{◌≡◌, ◌+◌, ◌/◌, length, sym, ap, subst, ◌∙◌, arith}
+use Rattle.std.proofs.Common.{◌≡◌, ◌+◌, length, sym, ap, subst, ◌∙◌, arith}
 use Rattle.ark_blocks.specs.Blocks.{AreValuesFrom, IsPowerOfTwo, element_of}
 use Rattle.ark_math.specs.Univariate.{of_list}
 use Rattle.ark_points.proofs.PowersOfTwo.{half_is_power, two_halves}

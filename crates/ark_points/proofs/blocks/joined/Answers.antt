@@ -1,10 +1,11 @@
-use Rattle.std.proofs.Common.{◌≡◌, ◌+◌, ◌-◌, ◌/◌, ◌<◌, ◌≤◌, length, take, drop, sym, ap, ap₂, subst, subst₂, ◌∙◌, arith}
+use Rattle.std.proofs.Common.{◌≡◌, ◌+◌, ◌-◌, ◌/◌, length, take, drop, sym, ap, ap₂, subst, subst₂, ◌∙◌, arith}
 use Rattle.std.proofs.lemmas.List.{length-drop, length-take-le}
 use Rattle.ark_blocks.specs.Blocks.{AreValuesFrom, element_of}
 use Rattle.ark_blocks.proofs.Runs.{values-product}
-use Rattle.ark_math.specs.Univariate.{IsBelow, of_list, product}
+use Rattle.ark_math.specs.Univariate.{IsBelow, of_list}
 use Rattle.ark_math.proofs.Polynomials.UnivariateLists.{trimmed_length}
-use Rattle.ark_points.specs.Tree.{IsBlockTreeOver, nodes}
+use Rattle.ark_blocks.specs.Roots.{nodes}
+use Rattle.ark_points.specs.Tree.{IsBlockTreeOver}
 use Rattle.ark_points.proofs.Nodes.{blocks-whole, nodes-below, nodes-halves, nodes_monic}
 use Rattle.ark_points.proofs.blocks.joined.Goals as goal
 

@@ -1,4 +1,4 @@
-use Rattle.std.proofs.Common.{◌≡◌, ℕ, ◌<◌, ◌++◌, length, sym, ap, subst, subst₂, ◌∙◌, arith}
+use Rattle.std.proofs.Common.{◌≡◌, ℕ, ◌<◌, ◌++◌, length, sym, ap, subst, ◌∙◌, arith}
 use Rattle.ark_blocks.specs.Blocks.{AreValuesFrom, element_of}
 use Rattle.ark_math.specs.Univariate.{IsBelow, added, of_list}
 use Rattle.ark_math.proofs.Lists.Lists.{written_back}

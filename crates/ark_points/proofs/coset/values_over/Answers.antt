@@ -2,7 +2,8 @@ use Rattle.std.proofs.Common.{◌≡◌, length, sym, ap, ap₂, subst, ◌∙�
 use Rattle.ark_math.specs.Field.{minus}
 use Rattle.ark_math.specs.Univariate.{IsValue, of_list}
 use Rattle.ark_math.proofs.Lists.Lists.{written_back}
-use Rattle.ark_points.specs.Tree.{IsMonic, StandsFor, nodes}
+use Rattle.ark_blocks.specs.Roots.{nodes}
+use Rattle.ark_points.specs.Tree.{IsMonic, StandsFor}
 use Rattle.ark_points.proofs.Nodes.{nodes-zero, nodes_monic, tree-whole}
 use Rattle.ark_points.proofs.coset.values_over.Goals as goal
 

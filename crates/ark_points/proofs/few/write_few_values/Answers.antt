@@ -1,9 +1,12 @@
-use Rattle.std.proofs.Common.{◌≡◌, ◌+◌, length, sym, ap, subst, ◌∙◌}
-use Rattle.ark_math.specs.Univariate.{IsValue, of_list, product}
-use Rattle.ark_math.proofs.Polynomials.UnivariateLists.{of_list-below}
-use Rattle.ark_points.specs.Tree.{nodes}
-use Rattle.ark_points.proofs.Nodes.{cofactor, cofactor-below, cofactor-whole}
-use Rattle.ark_points.proofs.StandIns.{stands_at_leaf}
+use Rattle.std.proofs.Common.{◌≡◌, ◌+◌, ◌-◌, ◌/◌, ◌<◌, ℕ, length, take, drop, sym, ap, subst, ◌∙◌, arith}
+use Rattle.std.proofs.lemmas.List.{get_or-drop, get_or-take, length-drop, length-replicate, length-take-le, take_all}
+use Rattle.ark_math.specs.Univariate.{of_list, product, scaled}
+use Rattle.ark_math.proofs.Polynomials.UnivariateLoops.{cut, cut-inside}
+use Rattle.ark_blocks.specs.Roots.{nodes}
+use Rattle.ark_points.specs.Points.{HasValues}
+use Rattle.ark_points.specs.Tree.{StandsFor}
+use Rattle.ark_points.proofs.Halves.{multiple_stands_high, multiple_stands_low, values-halves}
+use Rattle.ark_points.proofs.Multiples.{of_list-multiples}
 use Rattle.ark_points.proofs.few.write_few_values.Goals as goal
 
 pub returns-clause-values : goal.returns-clause-values
@@ -12,10 +15,34 @@ returns-clause-values g c p stands k l =
     let N = g.met.F.Field.field_laws in
     let points = c.args.points.now in
     let n = length points in
-    let given = c.args.given.now in
-    let m = nodes K points in
-    let s = of_list K given in
-    let past : of_list K c.deref.result.now ≡ (λ j. product K m s (j + n)) = ap (of_list K) c.deref.ensures.value ∙ c.in_ok-past.ensures.past in
-    stands_at_leaf K N n (length given) m p s (cofactor K N points k) (of_list K points k) (of_list K c.write_values_of.new.values k) c.requires.not_empty (of_list-below K given)
-    (cofactor-below K N points k l) (cofactor-whole K N points k l) stands
-    (subst (λ a. IsValue K a (of_list K points k) (of_list K c.write_values_of.new.values k)) past (c.write_values_of.ensures.values k l))
+    let half = n / 2 in
+    let less : half < n = omega (arith, l) in
+    let scale = c.args.scale in
+    let s = of_list K c.args.given.now in
+    let handed = c.hand_to_halves.new.items in
+    let parts = c.split_at_mut-for_low in
+    let fronts = nodes K (take half points) in
+    let backs = nodes K (drop half points) in
+    let for_low : ℕ → g.row.F.Denot = λ j. product K backs s (n - half + j) in
+    let for_high : ℕ → g.row.F.Denot = λ j. product K fronts s (half + j) in
+    let front : length (take half points) ≡ half = length-take-le half points (omega arith) in
+    let upper : take (n - half) (drop half points) ≡ drop half points = take_all (n - half) (drop half points) (omega (arith, length-drop half points)) in
+    let count : length handed ≡ n = c.hand_to_halves.ensures.len ∙ ap length (c.as_mut_slice-handed.ensures.value ∙ c.in_ok-room.ensures) ∙ length-replicate n K.zero in
+    let low_is : of_list K parts.result.0.now ≡ scaled K scale (cut K half for_low) =
+    of_list-multiples K N parts.result.0.now half scale for_low parts.ensures.front_len
+    (λ j b. ap (λ t. of_list K t j) parts.ensures.front ∙ get_or-take half handed j K.zero b ∙ c.hand_to_halves.ensures.low j b) in
+    let high_is : of_list K parts.result.1.now ≡ scaled K scale (cut K (n - half) for_high) =
+    of_list-multiples K N parts.result.1.now (n - half) scale for_high (omega (arith, parts.ensures.back_len, count))
+    (λ j b. ap (λ t. of_list K t j) parts.ensures.back ∙ get_or-drop half handed j K.zero ∙ c.hand_to_halves.ensures.high j b) in
+    values-halves K N points half less c.write_stood_for.new.values c.write_stood_for-2.new.values p
+    (omega (arith, c.write_stood_for.ensures.len, c.split_at_mut-to_low.ensures.front_len))
+    (λ i b.
+    c.write_stood_for.ensures.values p
+    (subst (StandsFor K (length (take half points)) fronts p) (sym low_is)
+    (multiple_stands_low K N points half less (omega (arith, b, front)) scale p s (cut K half for_low) (λ j q. sym (cut-inside K half for_low j q)) stands))
+    i b)
+    (subst (λ xs. StandsFor K (length xs) (nodes K xs) p (of_list K parts.result.1.now) → HasValues K (length xs) (of_list K xs) (of_list K c.write_stood_for-2.new.values) p) upper
+    (c.write_stood_for-2.ensures.values p)
+    (subst (StandsFor K (length (drop half points)) backs p) (sym high_is)
+    (multiple_stands_high K N points half less scale p s (cut K (n - half) for_high) (λ j q. sym (cut-inside K (n - half) for_high j q)) stands)))
+    k l

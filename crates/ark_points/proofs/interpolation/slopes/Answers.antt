@@ -2,7 +2,8 @@ use Rattle.std.proofs.Common.{◌≡◌, length, ap, subst, ◌∙◌}
 use Rattle.std.proofs.lemmas.Result.{IfOk-weaker}
 use Rattle.ark_math.specs.Univariate.{of_list}
 use Rattle.ark_points.specs.Points.{HasValues}
-use Rattle.ark_points.specs.Tree.{derived, nodes}
+use Rattle.ark_blocks.specs.Roots.{nodes}
+use Rattle.ark_points.specs.Tree.{derived}
 use Rattle.ark_points.proofs.Nodes.{tree-whole}
 use Rattle.ark_points.proofs.interpolation.slopes.Goals as goal
 

@@ -1,7 +1,8 @@
 use Rattle.std.proofs.Common.{◌≡◌, ◌/◌, ◌≤◌, length, take, drop, sym, ap, subst, ◌∙◌}
 use Rattle.ark_math.specs.Points.{AreValues}
 use Rattle.ark_math.specs.Univariate.{of_list, product}
-use Rattle.ark_points.specs.Tree.{IsMonic, IsTreeOver, nodes, whole}
+use Rattle.ark_blocks.specs.Roots.{nodes}
+use Rattle.ark_points.specs.Tree.{IsMonic, IsTreeOver, whole}
 use Rattle.ark_points.proofs.Nodes.{nodes-halves, nodes_monic, tree-whole}
 use Rattle.ark_points.proofs.tree.joined.Goals as goal
 

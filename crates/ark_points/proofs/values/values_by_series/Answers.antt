@@ -1,6 +1,7 @@
 use Rattle.std.proofs.Common.{◌≡◌, length, sym, ap, subst, ◌∙◌}
 use Rattle.ark_math.specs.Univariate.{of_list}
-use Rattle.ark_points.specs.Tree.{IsMonic, StandsFor, nodes}
+use Rattle.ark_blocks.specs.Roots.{nodes}
+use Rattle.ark_points.specs.Tree.{IsMonic, StandsFor}
 use Rattle.ark_points.proofs.Nodes.{nodes_monic, tree-whole}
 use Rattle.ark_points.proofs.values.values_by_series.Goals as goal
 

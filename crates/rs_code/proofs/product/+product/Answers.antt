@@ -3,7 +3,7 @@ use Rattle.std.proofs.lemmas.List.{length-drop, length-take-le}
 use Rattle.ark_math.specs.Univariate.{product}
 use Rattle.ark_math.proofs.Outcomes.Results.{IfOk_more}
 use Rattle.rs_code.proofs.BlockProducts.{enough_for_halves, half_is_power, sixty_four}
-use Rattle.rs_code.proofs.Factors.{locator_halves}
+use Rattle.rs_code.proofs.Factors.{nodes_halves}
 use Rattle.rs_code.proofs.product.+product.Goals as goal
 
 pub product-requires : goal.product-requires
@@ -51,7 +51,7 @@ joined-requires-clause-high g t c =
 pub returns-clause-product : goal.returns-clause-product
 returns-clause-product g t c =
     let K = g.F.Field.field in
-    let whole = ap₂ (product K) c.in_ok-low.ensures.product c.in_ok-high.ensures.product ∙ locator_halves K g.met.F.Field.field_laws c.args.roots.now in
+    let whole = ap₂ (product K) c.in_ok-low.ensures.product c.in_ok-high.ensures.product ∙ nodes_halves K g.met.F.Field.field_laws c.args.roots.now in
     IfOk_more c.joined.result (λ p h. h ∙ whole) c.joined.ensures.product
 
 pub returns-clause-begun : goal.returns-clause-begun

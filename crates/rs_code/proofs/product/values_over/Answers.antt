@@ -3,9 +3,10 @@ use Rattle.ark_blocks.specs.Blocks.{element_of}
 use Rattle.ark_math.specs.Univariate.{IsValue, of_list}
 use Rattle.ark_math.proofs.Outcomes.Results.{IfOk_more}
 use Rattle.ark_math.proofs.Polynomials.UnivariateValues.{one_value}
-use Rattle.rs_code.specs.Locator.{IsBegun, located, locator}
+use Rattle.ark_blocks.specs.Roots.{nodes}
+use Rattle.rs_code.specs.Locator.{IsBegun, located}
 use Rattle.rs_code.proofs.BlockProducts.{twice_within}
-use Rattle.rs_code.proofs.Factors.{locator-value}
+use Rattle.rs_code.proofs.Factors.{nodes-value}
 use Rattle.rs_code.proofs.product.values_over.Goals as goal
 
 pub count_for-requires : goal.count_for-requires
@@ -26,11 +27,11 @@ returns-clause-values g c =
     let N = g.met.F.Field.field_laws in
     let rs = c.args.roots.now in
     let x = element_of K c.args.table.now in
-    let is : of_list K c.deref.result.now ≡ locator K rs = ap (of_list K) c.deref.ensures.value ∙ c.in_ok-coeffs.ensures.product in
+    let is : of_list K c.deref.result.now ≡ nodes K rs = ap (of_list K) c.deref.ensures.value ∙ c.in_ok-coeffs.ensures.product in
     IfOk_more c.extended.result
     (λ v V i l.
     let place : 0 + i ≡ i = omega arith in
-    one_value K N (locator K rs) (x i) (of_list K v.items i) (located K rs (x i))
+    one_value K N (nodes K rs) (x i) (of_list K v.items i) (located K rs (x i))
     (subst₂ (λ a j. IsValue K a (x j) (of_list K v.items i)) is place (V.values i l))
-    (locator-value K N rs (x i)))
+    (nodes-value K N rs (x i)))
     c.extended.ensures.values

@@ -1,11 +1,11 @@
 use Rattle.std.proofs.Common.{◌∙◌}
-use Rattle.rs_code.proofs.TurnedPlaces.{erased_same, kept_as_erased}
+use Rattle.rs_code.proofs.TurnedPlaces.{eight_same}
 use Rattle.rs_code.proofs.turns.factor_of.Goals as goal
 
 pub returns-clause-erased : goal.returns-clause-erased
 returns-clause-erased g c = λ e.
     c.product.ensures
-    ∙ erased_same g.F.Field.field
+    ∙ eight_same g.F.Field.field
     (c.chosen.ensures.marked e)
     (c.chosen-2.ensures.marked e)
     (c.chosen-3.ensures.marked e)
@@ -14,13 +14,12 @@ returns-clause-erased g c = λ e.
     (c.chosen-6.ensures.marked e)
     (c.chosen-7.ensures.marked e)
     (c.chosen-8.ensures.marked e)
-    (c.chosen-9.ensures.marked e)
 
 pub returns-clause-kept : goal.returns-clause-kept
 returns-clause-kept g c = λ e.
     c.product.ensures
-    ∙ erased_same g.F.Field.field
-    (c.chosen.ensures.unmarked e ∙ c.one.ensures ∙ g.met.F.Field.one_law)
+    ∙ eight_same g.F.Field.field
+    (c.chosen.ensures.unmarked e)
     (c.chosen-2.ensures.unmarked e)
     (c.chosen-3.ensures.unmarked e)
     (c.chosen-4.ensures.unmarked e)
@@ -28,5 +27,3 @@ returns-clause-kept g c = λ e.
     (c.chosen-6.ensures.unmarked e)
     (c.chosen-7.ensures.unmarked e)
     (c.chosen-8.ensures.unmarked e)
-    (c.chosen-9.ensures.unmarked e)
-    ∙ kept_as_erased g.F.Field.field g.met.F.Field.field_laws _ _ _ _ _ _ _ _

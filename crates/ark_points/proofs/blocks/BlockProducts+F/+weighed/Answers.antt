@@ -3,7 +3,8 @@ use Rattle.std.proofs.lemmas.List.{length-drop, length-take-le, take_all}
 use Rattle.std.proofs.lemmas.Result.{IfOk-weaker}
 use Rattle.ark_blocks.specs.Blocks.{AreValuesFrom, element_of}
 use Rattle.ark_math.specs.Univariate.{of_list}
-use Rattle.ark_points.specs.Tree.{IsBlockTreeOver, nodes}
+use Rattle.ark_blocks.specs.Roots.{nodes}
+use Rattle.ark_points.specs.Tree.{IsBlockTreeOver}
 use Rattle.ark_points.proofs.BlockWeighed.{weighed_by_halves}
 use Rattle.ark_points.proofs.PowersOfTwo.{half_is_power, two_halves}
 use Rattle.ark_points.proofs.blocks.BlockProducts+F.+weighed.Goals as goal

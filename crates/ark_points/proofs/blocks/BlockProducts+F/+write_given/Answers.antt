@@ -2,11 +2,12 @@ use Rattle.std.proofs.Common.{rules, ◌≡◌, ℕ, ◌+◌, ◌-◌, ◌/◌, 
 use Rattle.std.proofs.lemmas.List.{length-drop, length-take-le, take_all}
 use Rattle.std.proofs.lemmas.Result.{on_ok_weaker}
 use Rattle.ark_blocks.specs.Blocks.{AreValuesFrom, element_of}
-use Rattle.ark_math.specs.Univariate.{IsBelow, of_list, product}
+use Rattle.ark_math.specs.Univariate.{IsBelow, of_list, product, scaled}
 use Rattle.ark_math.proofs.Polynomials.UnivariateLoops.{cut, cut-inside, cut-outside}
 use Rattle.ark_points.specs.Points.{HasValues}
-use Rattle.ark_points.specs.Tree.{HasRoom, IsBlockTreeOver, IsGiven, StandsFor, nodes}
-use Rattle.ark_points.proofs.Halves.{high_below, low_below, stands_high, stands_low, values-halves}
+use Rattle.ark_blocks.specs.Roots.{nodes}
+use Rattle.ark_points.specs.Tree.{HasRoom, IsBlockTreeOver, IsGiven, StandsFor}
+use Rattle.ark_points.proofs.Halves.{high_below, low_below, multiple_stands_high, multiple_stands_low, values-halves}
 use Rattle.ark_points.proofs.PowersOfTwo.{half_is_power, two_halves}
 use Rattle.ark_points.proofs.blocks.BlockProducts+F.+write_given.Goals as goal
 
@@ -146,7 +147,7 @@ returns-in-Few-clause-values g t c =
     let given = c.args.given.now in
     on_ok_weaker c.write_few_values.result
     (λ h p s below has stands.
-    h p (subst (λ x. StandsFor K (length points) (nodes K points) p x) (sym (subst (λ x. IsGiven K roots x c.args.count s given) c.in-Few.is has)) stands))
+    h p (subst (λ x. StandsFor K (length points) (nodes K points) p (scaled K c.args.scale x)) (sym (subst (λ x. IsGiven K roots x c.args.count s given) c.in-Few.is has)) stands))
     c.write_few_values.ensures.values
 
 pub returns-in_ok-for_high-in-Halves-clause-values : goal.returns-in_ok-for_high-in-Halves-clause-values
@@ -163,6 +164,8 @@ returns-in_ok-for_high-in-Halves-clause-values g t c =
     let tree = rw c.in-Halves.is at c.requires.tree in
     let values = tree.1 in
     let given = c.args.given.now in
+    let scale = c.args.scale in
+    let few : n - (n - half) ≡ half = omega arith in
     let fronts = nodes K (take half points) in
     let backs = nodes K (drop half points) in
     let some : 0 < half = omega (arith, values.many) in
@@ -178,26 +181,28 @@ returns-in_ok-for_high-in-Halves-clause-values g t c =
     let S : AreValuesFrom K x 0 (part + part) s given = subst (λ m. AreValuesFrom K x 0 m s given) whole (subst (λ x. IsGiven K roots x count s given) c.in-Halves.is has) in
     let to_low : ℕ → g.row.F.Denot = cut K half (λ j. product K backs s (n - half + j)) in
     let to_high : ℕ → g.row.F.Denot = cut K (n - half) (λ j. product K fronts s (half + j)) in
-    let given_low = c.in_ok-for_low-in-Halves.ensures.given backs s to_low
+    let for_low = c.in_ok-for_low-in-Halves.ensures.given backs s to_low
     (subst₂ (λ m v. AreValuesFrom K x 0 m backs v) whole (sym c.deref-in-Halves.ensures.value) values.high)
     S
-    (high_below K N points half some less s _ below room)
+    (high_below K N points half less s _ below room)
     (λ i l. cut-outside K half (λ j. product K backs s (n - half + j)) i (omega (arith, l)))
     (λ i l. cut-inside K half (λ j. product K backs s (n - half + j)) i (omega (arith, l))) in
-    let given_high = c.in_ok-for_high-in-Halves.ensures.given fronts s to_high
+    let for_high = c.in_ok-for_high-in-Halves.ensures.given fronts s to_high
     (subst₂ (λ m v. AreValuesFrom K x 0 m fronts v) whole (sym c.deref-in-Halves-5.ensures.value) values.low)
     S
-    (low_below K N points half some less s _ below room)
+    (low_below K N points half less s _ below room)
     (λ i l. cut-outside K (n - half) (λ j. product K fronts s (half + j)) i l)
     (λ i l. cut-inside K (n - half) (λ j. product K fronts s (half + j)) i (omega (arith, l))) in
-    values-halves K N points half some less c.write_given.new.values new p
+    values-halves K N points half less c.write_given.new.values new p
     (omega (arith, c.in_ok-write_given-in-Halves.ensures.len, c.split_at_mut-to_low.ensures.front_len))
-    (c.in_ok-write_given-in-Halves.ensures.values p to_low
-    (λ i l. cut-outside K half (λ j. product K backs s (n - half + j)) i (omega (arith, l, front)))
-    (subst₂ (λ x v. IsGiven K roots x part to_low v) (c.deref.ensures ∙ sym c.deref-in-Halves-2.ensures) (sym c.deref-in-Halves-3.ensures.value) given_low)
-    (stands_low K N points half some less p s to_low (λ j l. sym (cut-inside K half (λ j. product K backs s (n - half + j)) j l)) stands))
-    (subst (λ xs. IsBelow K (length xs) to_high → StandsFor K (length xs) (nodes K xs) p to_high → HasValues K (length xs) (of_list K xs) (of_list K new) p) upper
-    (λ short stands. h p to_high short (subst₂ (λ x v. IsGiven K roots x part to_high v) (c.deref-in-Halves-4.ensures ∙ sym c.deref-in-Halves-6.ensures) (sym c.deref-in-Halves-7.ensures.value) given_high) stands)
-    (λ i l. cut-outside K (n - half) (λ j. product K fronts s (half + j)) i (omega (arith, l, back)))
-    (stands_high K N points half some less p s to_high (λ j l. sym (cut-inside K (n - half) (λ j. product K fronts s (half + j)) j l)) stands)))
+    (c.in_ok-write_given-in-Halves.ensures.values p for_low.own
+    (subst (λ m. IsBelow K m for_low.own) (few ∙ sym front) for_low.below)
+    (subst₂ (λ x v. IsGiven K roots x part for_low.own v) (c.deref.ensures ∙ sym c.deref-in-Halves-2.ensures) (sym c.deref-in-Halves-3.ensures.value) for_low.given)
+    (subst (StandsFor K (length (take half points)) (nodes K (take half points)) p) (sym for_low.multiple)
+    (multiple_stands_low K N points half less some scale p s to_low (λ j l. sym (cut-inside K half (λ j. product K backs s (n - half + j)) j l)) stands)))
+    (subst (λ xs. IsBelow K (length xs) for_high.own → StandsFor K (length xs) (nodes K xs) p (scaled K c.in_ok-for_high-in-Halves.by for_high.own) → HasValues K (length xs) (of_list K xs) (of_list K new) p) upper
+    (λ short stands. h p for_high.own short (subst₂ (λ x v. IsGiven K roots x part for_high.own v) (c.deref-in-Halves-4.ensures ∙ sym c.deref-in-Halves-6.ensures) (sym c.deref-in-Halves-7.ensures.value) for_high.given) stands)
+    (subst (λ m. IsBelow K m for_high.own) (sym back) for_high.below)
+    (subst (StandsFor K (length (drop half points)) (nodes K (drop half points)) p) (sym for_high.multiple)
+    (multiple_stands_high K N points half less scale p s to_high (λ j l. sym (cut-inside K (n - half) (λ j. product K fronts s (half + j)) j l)) stands))))
     c.write_given-in-Halves.ensures.values

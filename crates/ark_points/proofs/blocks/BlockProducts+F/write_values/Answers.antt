@@ -1,8 +1,10 @@
-use Rattle.std.proofs.Common.{sym, subst, arith}
+use Rattle.std.proofs.Common.{length, sym, subst, ◌∙◌, arith}
 use Rattle.std.proofs.lemmas.Result.{on_ok_weaker}
 use Rattle.ark_math.specs.Univariate.{of_list}
 use Rattle.ark_math.proofs.Polynomials.UnivariateLists.{of_list-past}
+use Rattle.ark_blocks.specs.Roots.{nodes}
 use Rattle.ark_points.specs.Tree.{IsGiven}
+use Rattle.ark_points.proofs.Multiples.{stands_by_one}
 use Rattle.ark_points.proofs.blocks.BlockProducts+F.write_values.Goals as goal
 
 pub returns-clause-values : goal.returns-clause-values
@@ -14,5 +16,5 @@ returns-clause-values g c =
     h p (of_list K coeffs)
     (λ i l. of_list-past K coeffs i (omega (arith, l, c.requires.few)))
     (subst (IsGiven K c.args.blocks.now c.args.self.now c.args.count (of_list K coeffs)) (sym c.deref.ensures.value) c.in_ok-given.ensures.given)
-    stands)
+    (stands_by_one K g.met.F.Field.field_laws (length c.args.points.now) (nodes K c.args.points.now) p (of_list K coeffs) c.one.result (c.one.ensures ∙ g.met.F.Field.one_law) stands))
     c.write_given.ensures.values

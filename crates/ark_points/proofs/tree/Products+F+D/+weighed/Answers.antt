@@ -3,7 +3,8 @@ use Rattle.std.proofs.lemmas.List.{length-drop, take_all}
 use Rattle.std.proofs.lemmas.Result.{IfOk-weaker}
 use Rattle.ark_math.specs.Points.{AreValues}
 use Rattle.ark_math.specs.Univariate.{added, of_list, product}
-use Rattle.ark_points.specs.Tree.{nodes, weighed}
+use Rattle.ark_blocks.specs.Roots.{nodes}
+use Rattle.ark_points.specs.Tree.{weighed}
 use Rattle.ark_points.proofs.Weighed.{weighed-below, weighed-halves}
 use Rattle.ark_points.proofs.tree.Products+F+D.+weighed.Goals as goal
 

@@ -2,7 +2,8 @@ use Rattle.std.proofs.Common.{◌≡◌, ◌-◌, ◌/◌, length, take, drop, s
 use Rattle.std.proofs.lemmas.List.{length-drop, take_all}
 use Rattle.std.proofs.lemmas.Result.{on_ok_weaker}
 use Rattle.ark_math.specs.Univariate.{of_list}
-use Rattle.ark_points.specs.Tree.{StandsFor, nodes}
+use Rattle.ark_blocks.specs.Roots.{nodes}
+use Rattle.ark_points.specs.Tree.{StandsFor}
 use Rattle.ark_points.proofs.Halves.{values_by_halves}
 use Rattle.ark_points.proofs.tree.Products+F+D.+write_values.Goals as goal
 

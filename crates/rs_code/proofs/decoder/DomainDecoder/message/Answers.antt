@@ -9,7 +9,7 @@ use Rattle.ark_math.proofs.Lists.Lists.{written_back}
 use Rattle.ark_math.proofs.Callers.Transforms.{transform-length}
 use Rattle.ark_math.proofs.Domains.LawfulDomains.{lawful_domain, order, some_size}
 use Rattle.rs_code.specs.Codeword.{AgreesElsewhere}
-use Rattle.rs_code.specs.Locator.{by_factors, derived, filled, lost}
+use Rattle.rs_code.specs.Locator.{by_factors, euler, filled, lost}
 use Rattle.rs_code.proofs.Locators.{value, value-same}
 use Rattle.rs_code.proofs.Messages.{message-is_first, transform-fitted}
 use Rattle.rs_code.proofs.Parts.{element_root, part_fits, some_stride, restored_part}
@@ -46,18 +46,18 @@ returns-clause-agrees g c =
     let apart : 0 < t = some_stride d.size e.size t spaced.size some in
     let less : e.size ≤ d.size = part_fits d.size e.size t spaced.size some in
     let u = map m c.in_ok-items.items.items in
-    let s = map m c.derive.new.coeffs in
+    let s = map m c.scale_by_exponents.new.coeffs in
     let cut = map m c.truncate.new.self.items in
     let z = map m c.as_mut_slice-3.result.now in
     let last = map m c.fill_spaced.new.values in
     let back = map m c.ifft_in_place.new.evals.items in
     let size : length c.in_ok-items.items.items ≡ d.size = c.in_ok-items.ensures.len ∙ sym (ap (λ r. r.code.domain.size) c.self.view_is) in
     let first : length c.as_mut_slice.result.now ≡ d.size = ap length c.as_mut_slice.ensures.value ∙ size in
-    let lowered_back = written_back c.derive.new.coeffs _ _ (omega (arith, c.derive.auto.coeffs, c.as_mut_slice.ensures.len)) in
-    let lowering : (i : ℕ) → i < d.size → item V s i ≡ derived K V (item V u) i = λ i l.
-    c.derive.ensures.derivative i (omega (arith, l, first)) ∙ ap (λ x. derived K V (item V (map m x)) i) c.as_mut_slice.ensures.value in
-    let read : c.as_mut_slice-2.result.now ≡ c.derive.new.coeffs = c.as_mut_slice-2.ensures.value ∙ lowered_back in
-    let long : length c.as_mut_slice-2.result.now ≡ d.size = ap length read ∙ (let kept : length c.derive.new.coeffs ≡ d.size = omega (arith, c.derive.auto.coeffs, first) in kept) in
+    let lowered_back = written_back c.scale_by_exponents.new.coeffs _ _ (omega (arith, c.scale_by_exponents.auto.coeffs, c.as_mut_slice.ensures.len)) in
+    let lowering : (i : ℕ) → i < d.size → item V s i ≡ euler K V (item V u) i = λ i l.
+    c.scale_by_exponents.ensures.coefficients i (omega (arith, l, first)) ∙ ap (λ x. euler K V (item V (map m x)) i) c.as_mut_slice.ensures.value in
+    let read : c.as_mut_slice-2.result.now ≡ c.scale_by_exponents.new.coeffs = c.as_mut_slice-2.ensures.value ∙ lowered_back in
+    let long : length c.as_mut_slice-2.result.now ≡ d.size = ap length read ∙ (let kept : length c.scale_by_exponents.new.coeffs ≡ d.size = omega (arith, c.scale_by_exponents.auto.coeffs, first) in kept) in
     let folded_back = written_back c.fold.new.coeffs _ _ (omega (arith, c.fold.auto.coeffs, c.as_mut_slice-2.ensures.len)) in
     let cut_is : cut ≡ take e.size (map m c.fold.new.coeffs) =
     ap (map m) (c.truncate.ensures.items ∙ ap (take c.size-2.result) folded_back ∙ ap (λ n. take n c.fold.new.coeffs) c.size-2.ensures) ∙ sym (take-map m e.size c.fold.new.coeffs) in
@@ -118,18 +118,18 @@ returns-clause-only g c = λ other short agrees.
     let apart : 0 < t = some_stride d.size e.size t spaced.size some in
     let less : e.size ≤ d.size = part_fits d.size e.size t spaced.size some in
     let u = map m c.in_ok-items.items.items in
-    let s = map m c.derive.new.coeffs in
+    let s = map m c.scale_by_exponents.new.coeffs in
     let cut = map m c.truncate.new.self.items in
     let z = map m c.as_mut_slice-3.result.now in
     let last = map m c.fill_spaced.new.values in
     let back = map m c.ifft_in_place.new.evals.items in
     let size : length c.in_ok-items.items.items ≡ d.size = c.in_ok-items.ensures.len ∙ sym (ap (λ r. r.code.domain.size) c.self.view_is) in
     let first : length c.as_mut_slice.result.now ≡ d.size = ap length c.as_mut_slice.ensures.value ∙ size in
-    let lowered_back = written_back c.derive.new.coeffs _ _ (omega (arith, c.derive.auto.coeffs, c.as_mut_slice.ensures.len)) in
-    let lowering : (i : ℕ) → i < d.size → item V s i ≡ derived K V (item V u) i = λ i l.
-    c.derive.ensures.derivative i (omega (arith, l, first)) ∙ ap (λ x. derived K V (item V (map m x)) i) c.as_mut_slice.ensures.value in
-    let read : c.as_mut_slice-2.result.now ≡ c.derive.new.coeffs = c.as_mut_slice-2.ensures.value ∙ lowered_back in
-    let long : length c.as_mut_slice-2.result.now ≡ d.size = ap length read ∙ (let kept : length c.derive.new.coeffs ≡ d.size = omega (arith, c.derive.auto.coeffs, first) in kept) in
+    let lowered_back = written_back c.scale_by_exponents.new.coeffs _ _ (omega (arith, c.scale_by_exponents.auto.coeffs, c.as_mut_slice.ensures.len)) in
+    let lowering : (i : ℕ) → i < d.size → item V s i ≡ euler K V (item V u) i = λ i l.
+    c.scale_by_exponents.ensures.coefficients i (omega (arith, l, first)) ∙ ap (λ x. euler K V (item V (map m x)) i) c.as_mut_slice.ensures.value in
+    let read : c.as_mut_slice-2.result.now ≡ c.scale_by_exponents.new.coeffs = c.as_mut_slice-2.ensures.value ∙ lowered_back in
+    let long : length c.as_mut_slice-2.result.now ≡ d.size = ap length read ∙ (let kept : length c.scale_by_exponents.new.coeffs ≡ d.size = omega (arith, c.scale_by_exponents.auto.coeffs, first) in kept) in
     let folded_back = written_back c.fold.new.coeffs _ _ (omega (arith, c.fold.auto.coeffs, c.as_mut_slice-2.ensures.len)) in
     let cut_is : cut ≡ take e.size (map m c.fold.new.coeffs) =
     ap (map m) (c.truncate.ensures.items ∙ ap (take c.size-2.result) folded_back ∙ ap (λ n. take n c.fold.new.coeffs) c.size-2.ensures) ∙ sym (take-map m e.size c.fold.new.coeffs) in

@@ -8,7 +8,7 @@ use Rattle.ark_math.proofs.Callers.Transforms.{transform-length}
 use Rattle.ark_math.proofs.Domains.LawfulDomains.{lawful_domain, order}
 use Rattle.rs_code.specs.Codeword.{AgreesElsewhere, IsCodeword}
 use Rattle.rs_code.specs.Cost.{GrowsWithin}
-use Rattle.rs_code.specs.Locator.{by_factors, derived, filled, lost}
+use Rattle.rs_code.specs.Locator.{by_factors, euler, filled, lost}
 use Rattle.rs_code.proofs.Places.{unmarked_within}
 use Rattle.rs_code.proofs.Restored.{restored}
 use Rattle.rs_code.proofs.Spent.{forward_within, scalings_within, within_more}
@@ -27,10 +27,10 @@ returns-in_err-fft_counted-clause-cost g c =
     let m = g.T.DomainCoeff.meaning in
     let d = c.args.self.now.code.domain in
     let w = c.args.work.now in
-    let h = c.derive.ensures in
+    let h = c.scale_by_exponents.ensures in
     let second : length c.in_ok-values.values.items ≡ d.size = c.in_ok-values.ensures.len in
-    let lowered : length c.derive.new.coeffs ≡ d.size = omega (arith, c.derive.auto.coeffs, ap length c.as_mut_slice.ensures.value, second) in
-    let lowering = scalings_within s base d 1 _ d.size w c.interpolated.new.work c.derive.new.work c.interpolated.ensures.cost h.butterflies h.steps (omega (arith, h.products, ap length c.as_mut_slice.ensures.value, second)) in
+    let lowered : length c.scale_by_exponents.new.coeffs ≡ d.size = omega (arith, c.scale_by_exponents.auto.coeffs, ap length c.as_mut_slice.ensures.value, second) in
+    let lowering = scalings_within s base d 1 _ d.size w c.interpolated.new.work c.scale_by_exponents.new.work c.interpolated.ensures.cost h.butterflies h.steps (omega (arith, h.products, ap length c.as_mut_slice.ensures.value, second)) in
     subst (λ v. GrowsWithin s d 3 (5 * d.size) w v) (sym c.in_err-fft_counted.ensures.uncounted)
     (within_more s base d 1 3 _ (5 * d.size) w _ lowering (omega arith) (omega arith))
 
@@ -57,13 +57,13 @@ returns-clause-codeword g c =
     let code = c.self.invariant.code in
     let y = map m c.args.word.now in
     let u = map m c.in_ok-values.values.items in
-    let t = map m c.derive.new.coeffs in
+    let t = map m c.scale_by_exponents.new.coeffs in
     let last = map m c.fill.new.values in
     let second : length c.in_ok-values.values.items ≡ d.size = c.in_ok-values.ensures.len ∙ sym (ap (λ r. r.code.domain.size) c.self.view_is) in
-    let lowered_back = written_back c.derive.new.coeffs _ _ (omega (arith, c.derive.auto.coeffs, c.as_mut_slice.ensures.len)) in
-    let lowering : (i : ℕ) → i < d.size → item V t i ≡ derived K V (item V u) i = λ i l.
-    c.derive.ensures.derivative i (omega (arith, l, ap length c.as_mut_slice.ensures.value, second))
-    ∙ ap (λ x. derived K V (item V (map m x)) i) c.as_mut_slice.ensures.value in
+    let lowered_back = written_back c.scale_by_exponents.new.coeffs _ _ (omega (arith, c.scale_by_exponents.auto.coeffs, c.as_mut_slice.ensures.len)) in
+    let lowering : (i : ℕ) → i < d.size → item V t i ≡ euler K V (item V u) i = λ i l.
+    c.scale_by_exponents.ensures.coefficients i (omega (arith, l, ap length c.as_mut_slice.ensures.value, second))
+    ∙ ap (λ x. euler K V (item V (map m x)) i) c.as_mut_slice.ensures.value in
     let transformed : map m c.as_mut_slice-2.result.now ≡ transform K V d t =
     ap (map m) c.as_mut_slice-2.ensures.value ∙ c.in_ok-fft_counted.ensures.transform ∙ ap (λ x. transform K V d (map m x)) lowered_back in
     let whole : length last ≡ d.size =
@@ -112,13 +112,13 @@ returns-clause-only g c = λ other is agrees.
     let code = c.self.invariant.code in
     let y = map m c.args.word.now in
     let u = map m c.in_ok-values.values.items in
-    let t = map m c.derive.new.coeffs in
+    let t = map m c.scale_by_exponents.new.coeffs in
     let last = map m c.fill.new.values in
     let second : length c.in_ok-values.values.items ≡ d.size = c.in_ok-values.ensures.len ∙ sym (ap (λ r. r.code.domain.size) c.self.view_is) in
-    let lowered_back = written_back c.derive.new.coeffs _ _ (omega (arith, c.derive.auto.coeffs, c.as_mut_slice.ensures.len)) in
-    let lowering : (i : ℕ) → i < d.size → item V t i ≡ derived K V (item V u) i = λ i l.
-    c.derive.ensures.derivative i (omega (arith, l, ap length c.as_mut_slice.ensures.value, second))
-    ∙ ap (λ x. derived K V (item V (map m x)) i) c.as_mut_slice.ensures.value in
+    let lowered_back = written_back c.scale_by_exponents.new.coeffs _ _ (omega (arith, c.scale_by_exponents.auto.coeffs, c.as_mut_slice.ensures.len)) in
+    let lowering : (i : ℕ) → i < d.size → item V t i ≡ euler K V (item V u) i = λ i l.
+    c.scale_by_exponents.ensures.coefficients i (omega (arith, l, ap length c.as_mut_slice.ensures.value, second))
+    ∙ ap (λ x. euler K V (item V (map m x)) i) c.as_mut_slice.ensures.value in
     let transformed : map m c.as_mut_slice-2.result.now ≡ transform K V d t =
     ap (map m) c.as_mut_slice-2.ensures.value ∙ c.in_ok-fft_counted.ensures.transform ∙ ap (λ x. transform K V d (map m x)) lowered_back in
     let whole : length last ≡ d.size =
@@ -148,14 +148,14 @@ returns-clause-cost g c =
     let base = g.met.F.FftField.roots_law.base in
     let d = g.D.EvaluationDomain.domain c.self.inside.domain in
     let w = c.args.work.now in
-    let h = c.derive.ensures in
+    let h = c.scale_by_exponents.ensures in
     let interpolating : GrowsWithin s d 1 (2 * d.size) w c.interpolated.new.work =
     subst (λ r. GrowsWithin s r.code.domain 1 (2 * r.code.domain.size) w c.interpolated.new.work) (sym c.self.view_is) c.interpolated.ensures.cost in
     let second : length c.in_ok-values.values.items ≡ d.size = c.in_ok-values.ensures.len ∙ sym (ap (λ r. r.code.domain.size) c.self.view_is) in
-    let lowered : length c.derive.new.coeffs ≡ d.size = omega (arith, c.derive.auto.coeffs, ap length c.as_mut_slice.ensures.value, second) in
-    let lowering = scalings_within s base d 1 _ d.size w c.interpolated.new.work c.derive.new.work interpolating h.butterflies h.steps (omega (arith, h.products, ap length c.as_mut_slice.ensures.value, second)) in
-    let lowered_back = written_back c.derive.new.coeffs _ _ (omega (arith, c.derive.auto.coeffs, c.as_mut_slice.ensures.len)) in
-    let transforming = forward_within s base d 1 _ _ w c.derive.new.work c.fft_counted.new.work lowering (ap length lowered_back ∙ lowered) c.in_ok-fft_counted.ensures.cost in
+    let lowered : length c.scale_by_exponents.new.coeffs ≡ d.size = omega (arith, c.scale_by_exponents.auto.coeffs, ap length c.as_mut_slice.ensures.value, second) in
+    let lowering = scalings_within s base d 1 _ d.size w c.interpolated.new.work c.scale_by_exponents.new.work interpolating h.butterflies h.steps (omega (arith, h.products, ap length c.as_mut_slice.ensures.value, second)) in
+    let lowered_back = written_back c.scale_by_exponents.new.coeffs _ _ (omega (arith, c.scale_by_exponents.auto.coeffs, c.as_mut_slice.ensures.len)) in
+    let transforming = forward_within s base d 1 _ _ w c.scale_by_exponents.new.work c.fft_counted.new.work lowering (ap length lowered_back ∙ lowered) c.in_ok-fft_counted.ensures.cost in
     let f = c.fill.ensures in
     let filling = scalings_within s base d 2 _ d.size w c.fft_counted.new.work c.fill.new.work transforming f.butterflies f.steps (omega (arith, f.products, ap length c.deref.ensures.value, c.self.invariant.len)) in
     subst (λ r. GrowsWithin s r.code.domain 3 (5 * r.code.domain.size) w c.fill.new.work) c.self.view_is
