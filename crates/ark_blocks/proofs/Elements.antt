@@ -1,8 +1,11 @@
--- The powers of a block's elements.
-use Rattle.std.proofs.Common.{◌≡◌, ℕ, zero, suc, ◌+◌, ◌*◌, ◌-◌, ◌/◌, ◌^◌, ◌<◌, ap, ◌∙◌, arith, subst}
+-- The powers of a block's elements, and that no two elements are one.
+use Rattle.std.proofs.Common.{◌≡◌, ◌≢◌, ℕ, zero, suc, ◌+◌, ◌*◌, ◌-◌, ◌/◌, ◌^◌, ◌<◌, ◌≤◌, refl, sym, ap, ◌∙◌, arith, subst, ⊎_elim}
+use Rattle.std.proofs.lemmas.Bool.{cases_eq, cases_lt}
 use Rattle.std.proofs.lemmas.Nat.{pow-add, pow_pos}
 use Rattle.ark_math.specs.Field.{FieldOn, IsField, power}
-use Rattle.ark_math.proofs.Algebra.Powers.{power-mul}
+use Rattle.ark_math.proofs.Algebra.Powers.{power-mul, times_zero, zero_factor}
+use Rattle.ark_math.proofs.Algebra.Ring.{ring1}
+use Rattle.ark_math.proofs.Algebra.Solve.{◌⊗◌, ◌⊕◌, unit}
 use Rattle.ark_blocks.specs.Blocks.{AreReversed}
 
 -- a power of two is twice the one before
@@ -60,3 +63,36 @@ module _ {F : Type 0} (K : FieldOn F) (N : IsField K) (n : ℕ) (x : ℕ → F) 
       let e : 4 * b + 3 ≡ suc ((2 * b + 1) + (2 * b + 1)) = omega arith in
       let f : (2 * b + 1) + (2 * b + 1) ≡ 4 * b + 2 = omega arith in
       ap x e ∙ R.opposites (2 * b + 1) (omega (arith, l)) ∙ ap (λ t. K.negated (x t)) f
+
+  element_some : (k i : ℕ) → i ≤ k → i < n → x i ≢ K.zero
+  element_some zero i l inside e = (let first : 0 ≡ i = omega (arith, l) in N.one_not_zero (sym R.first ∙ ap x first ∙ e))
+  element_some (suc k) i l inside e = ⊎_elim
+      (λ (none : i ≡ 0). N.one_not_zero (sym R.first ∙ ap x (sym none) ∙ e))
+      (λ (some : i ≢ 0). element_some k (i / 2) (omega (arith, l, some)) (omega (arith, inside)) (sym (R.squares i inside) ∙ ap (K.times (x i)) e ∙ times_zero K N (x i)))
+      (cases_eq i 0)
+
+  -- where two has an inverse only zero is its own opposite
+  module _ (half : F) (one : K.times (K.plus K.one K.one) half ≡ K.one) where
+    own_opposite : (y : F) → y ≡ K.negated y → y ≡ K.zero
+    own_opposite y is =
+        zero_factor K N (K.plus K.one K.one) y
+        (λ e. N.one_not_zero (sym one ∙ ap (λ t. K.times t half) e ∙ N.times_comm K.zero half ∙ times_zero K N half))
+        (ring1 K N (λ y. ((unit ⊕ unit) ⊗ y, y ⊕ y)) refl y ∙ ap (K.plus y) is ∙ N.plus_negated y)
+
+    elements_apart : (k i j : ℕ) → j ≤ k → i < j → j < n → x i ≢ x j
+    elements_apart zero i j l less inside e = absurd (omega (arith, l, less))
+    elements_apart (suc k) i j l less inside e = ⊎_elim
+        (λ (apart : i / 2 < j / 2).
+        elements_apart k (i / 2) (j / 2) (omega (arith, l, less)) apart (omega (arith, inside))
+        (sym (R.squares i (omega (arith, less, inside))) ∙ ap (λ t. K.times t t) e ∙ R.squares j inside))
+        (λ (one_square : j / 2 ≤ i / 2).
+        let b = i / 2 in
+        let even : b + b ≡ i = omega (arith, one_square, less) in
+        let odd : j ≡ suc (b + b) = omega (arith, one_square, less) in
+        element_some i i (omega arith) (omega (arith, less, inside))
+        (own_opposite (x i) (e ∙ ap x odd ∙ R.opposites b (omega (arith, odd, inside)) ∙ ap (λ t. K.negated (x t)) even)))
+        (cases_lt (i / 2) (j / 2))
+
+    -- so no two elements are one
+    pub elements_different : (i j : ℕ) → i < j → j < n → x i ≢ x j
+    elements_different i j less inside = elements_apart j i j (omega arith) less inside

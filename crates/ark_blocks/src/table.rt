@@ -1,6 +1,6 @@
 //! Tables of roots of unity.
 
-ghost use Rattle.std.specs.Prelude.{◌≡◌, ◌↔◌, ℕ, ◌+◌, ◌<◌, ◌≤◌, max, length, IfOk, IfSome, IsNone};
+ghost use Rattle.std.specs.Prelude.{◌≡◌, ◌≢◌, ◌↔◌, ℕ, ◌+◌, ◌<◌, ◌≤◌, max, length, IfOk, IfSome, IsNone};
 ghost use Rattle.ark_math.specs.Domain.{radix2, HasNone, IsLeast, IsSize};
 ghost use Rattle.ark_math.specs.Field.{power};
 ghost use Rattle.ark_math.specs.Univariate.{of_list};
@@ -68,11 +68,13 @@ impl<F: FftField> BlockRoots<F> {
         }))
     }
 
-    /// How many elements there are: a power of two.
+    /// How many elements there are: a power of two. No two of them are one.
     pub fn size(&self) -> usize
         ensures size { result ≡ size_of self.now }
         ensures power { IsPowerOfTwo result }
         ensures elements { AreReversed F.field result (element_of F.field self.now) }
+        ensures different { (i j : ℕ) → i < j → j < result
+            → element_of F.field self.now i ≢ element_of F.field self.now j }
     {
         2 * self.roots.len()
     }

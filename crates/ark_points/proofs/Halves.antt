@@ -7,7 +7,7 @@ use Rattle.ark_math.specs.Univariate.{IsBelow, IsValue, of_list, product, scaled
 use Rattle.ark_math.proofs.Polynomials.UnivariateProducts.{product_comm, product-below}
 use Rattle.ark_points.specs.Points.{HasValues}
 use Rattle.ark_blocks.specs.Roots.{nodes}
-use Rattle.ark_points.specs.Tree.{StandForHalves, StandsFor}
+use Rattle.ark_points.specs.Tree.{StandForHalves, StandsBefore, StandsFor}
 use Rattle.ark_points.proofs.Multiples.{product-scaled}
 use Rattle.ark_points.proofs.Nodes.{nodes-below, nodes-halves}
 use Rattle.ark_points.proofs.StandIns.{stands_for_factor}
@@ -19,38 +19,35 @@ module _ {F : Type 0} (K : FieldOn F) (N : IsField K) (points : List F) (half : 
   back : length (drop half points) ≡ length points - half
   back = length-drop half points
 
-  pub stands_low : 0 < half → (p s t : ℕ → F) → ((j : ℕ) → j < half → product K (nodes K (drop half points)) s (length points - half + j) ≡ t j) → StandsFor K (length points) (nodes K points) p s → StandsFor K (length (take half points)) (nodes K (take half points)) p t
-  stands_low some p s t same stands =
+  pub stands_low : 0 < half → (end : ℕ) → half ≤ end → (p s t : ℕ → F) → ((j : ℕ) → j < half → product K (nodes K (drop half points)) s (end - half + j) ≡ t j) → StandsBefore K end (length points) (nodes K points) p s → StandsFor K (length (take half points)) (nodes K (take half points)) p t
+  stands_low some end inside p s t same stands =
       subst (λ h. StandsFor K h (nodes K (take half points)) p t) (sym front)
-      (stands_for_factor K N (length points) half (nodes K points) (nodes K (take half points)) (nodes K (drop half points)) p s t some (omega arith)
+      (stands_for_factor K N end (length points) half (nodes K points) (nodes K (take half points)) (nodes K (drop half points)) p s t some inside (omega arith)
       (λ i l. nodes-below K N (drop half points) i (omega (arith, l, back))) (sym (nodes-halves K N points half)) same stands)
 
-  pub stands_high : (p s t : ℕ → F) → ((j : ℕ) → j < length points - half → product K (nodes K (take half points)) s (half + j) ≡ t j) → StandsFor K (length points) (nodes K points) p s → StandsFor K (length (drop half points)) (nodes K (drop half points)) p t
-  stands_high p s t same stands =
+  pub stands_high : (end : ℕ) → length points - half ≤ end → (p s t : ℕ → F) → ((j : ℕ) → j < length points - half → product K (nodes K (take half points)) s (end - (length points - half) + j) ≡ t j) → StandsBefore K end (length points) (nodes K points) p s → StandsFor K (length (drop half points)) (nodes K (drop half points)) p t
+  stands_high end inside p s t same stands =
       subst (λ h. StandsFor K h (nodes K (drop half points)) p t) (sym back)
-      (stands_for_factor K N (length points) (length points - half) (nodes K points) (nodes K (drop half points)) (nodes K (take half points)) p s t (omega arith) (omega arith)
+      (stands_for_factor K N end (length points) (length points - half) (nodes K points) (nodes K (drop half points)) (nodes K (take half points)) p s t (omega arith) inside (omega arith)
       (λ i l. nodes-below K N (take half points) i (omega (arith, l, front)))
       (sym (nodes-halves K N points half) ∙ product_comm K N (nodes K (take half points)) (nodes K (drop half points)))
-      (λ j l.
-      let place : length points - (length points - half) + j ≡ half + j = omega arith in
-      ap (product K (nodes K (take half points)) s) place ∙ same j l)
-      stands)
+      same stands)
 
   -- multiples of these too
-  pub multiple_stands_low : 0 < half → (f : F) (p s t : ℕ → F) → ((j : ℕ) → j < half → product K (nodes K (drop half points)) s (length points - half + j) ≡ t j) → StandsFor K (length points) (nodes K points) p (scaled K f s) → StandsFor K (length (take half points)) (nodes K (take half points)) p (scaled K f t)
-  multiple_stands_low some f p s t same = stands_low some p (scaled K f s) (scaled K f t)
-      (λ j l. product-scaled K N (nodes K (drop half points)) s f (length points - half + j) ∙ ap (K.times f) (same j l))
+  pub multiple_stands_low : 0 < half → (end : ℕ) → half ≤ end → (f : F) (p s t : ℕ → F) → ((j : ℕ) → j < half → product K (nodes K (drop half points)) s (end - half + j) ≡ t j) → StandsBefore K end (length points) (nodes K points) p (scaled K f s) → StandsFor K (length (take half points)) (nodes K (take half points)) p (scaled K f t)
+  multiple_stands_low some end inside f p s t same = stands_low some end inside p (scaled K f s) (scaled K f t)
+      (λ j l. product-scaled K N (nodes K (drop half points)) s f (end - half + j) ∙ ap (K.times f) (same j l))
 
-  pub multiple_stands_high : (f : F) (p s t : ℕ → F) → ((j : ℕ) → j < length points - half → product K (nodes K (take half points)) s (half + j) ≡ t j) → StandsFor K (length points) (nodes K points) p (scaled K f s) → StandsFor K (length (drop half points)) (nodes K (drop half points)) p (scaled K f t)
-  multiple_stands_high f p s t same = stands_high p (scaled K f s) (scaled K f t)
-      (λ j l. product-scaled K N (nodes K (take half points)) s f (half + j) ∙ ap (K.times f) (same j l))
+  pub multiple_stands_high : (end : ℕ) → length points - half ≤ end → (f : F) (p s t : ℕ → F) → ((j : ℕ) → j < length points - half → product K (nodes K (take half points)) s (end - (length points - half) + j) ≡ t j) → StandsBefore K end (length points) (nodes K points) p (scaled K f s) → StandsFor K (length (drop half points)) (nodes K (drop half points)) p (scaled K f t)
+  multiple_stands_high end inside f p s t same = stands_high end inside p (scaled K f s) (scaled K f t)
+      (λ j l. product-scaled K N (nodes K (take half points)) s f (end - (length points - half) + j) ∙ ap (K.times f) (same j l))
 
   -- a product with a half is short enough for a domain with room for all points
-  pub low_below : (s : ℕ → F) (size : ℕ) → IsBelow K (length points) s → length points ≤ size → IsBelow K (half + size) (product K (nodes K (take half points)) s)
-  low_below s size below room i l = product-below K N (length (take half points) + 1) (length points) (nodes K (take half points)) s (nodes-below K N (take half points)) below i (omega (arith, l, front, room))
+  pub low_below : (end : ℕ) (s : ℕ → F) (size : ℕ) → length points - half ≤ end → IsBelow K end s → length points ≤ size → IsBelow K (end - (length points - half) + size) (product K (nodes K (take half points)) s)
+  low_below end s size inside below room i l = product-below K N (length (take half points) + 1) end (nodes K (take half points)) s (nodes-below K N (take half points)) below i (omega (arith, l, front, room, inside))
 
-  pub high_below : (s : ℕ → F) (size : ℕ) → IsBelow K (length points) s → length points ≤ size → IsBelow K (length points - half + size) (product K (nodes K (drop half points)) s)
-  high_below s size below room i l = product-below K N (length (drop half points) + 1) (length points) (nodes K (drop half points)) s (nodes-below K N (drop half points)) below i (omega (arith, l, back, room))
+  pub high_below : (end : ℕ) (s : ℕ → F) (size : ℕ) → half ≤ end → IsBelow K end s → length points ≤ size → IsBelow K (end - half + size) (product K (nodes K (drop half points)) s)
+  high_below end s size inside below room i l = product-below K N (length (drop half points) + 1) end (nodes K (drop half points)) s (nodes-below K N (drop half points)) below i (omega (arith, l, back, room, inside))
 
   pub values-halves : (v w : List F) (p : ℕ → F) → length v ≡ half → HasValues K (length (take half points)) (of_list K (take half points)) (of_list K v) p → HasValues K (length (drop half points)) (of_list K (drop half points)) (of_list K w) p → HasValues K (length points) (of_list K points) (of_list K (v ++ w)) p
   values-halves v w p len low high k l =
@@ -75,11 +72,15 @@ module _ {F : Type 0} (K : FieldOn F) (N : IsField K) (points : List F) (many : 
       record {
         low = record {
           below = subst (λ m. IsBelow K m low) (sym (length-take-le half points (omega arith))) low_short;
-          stands = λ p stands. stands_low K N points half less some p s low same_low stands;
+          stands = λ p stands. stands_low K N points half less some (length points) (omega arith) p s low same_low stands;
         };
         high = record {
           below = subst (λ m. IsBelow K m high) (sym (length-drop half points)) high_short;
-          stands = λ p stands. stands_high K N points half less p s high same_high stands;
+          stands = λ p stands. stands_high K N points half less (length points) (omega arith) p s high
+              (λ j l.
+              let place : length points - (length points - half) + j ≡ half + j = omega arith in
+              ap (product K (nodes K (take half points)) s) place ∙ same_high j l)
+              stands;
         };
       }
 

@@ -1,5 +1,6 @@
 -- The weights of points, by the polynomials that are zero at all points but one.
-use Rattle.std.proofs.Common.{◌≡◌, ◌≢◌, ℕ, zero, suc, ◌<◌, ◌≤◌, List, length, refl, sym, ◌∙◌, ap, arith}
+use Rattle.std.proofs.Common.{◌≡◌, ◌≢◌, ℕ, zero, suc, ◌<◌, ◌≤◌, ◌⊎◌, List, inl, inr, length, refl, sym, ◌∙◌, ap, subst, arith}
+use Rattle.std.proofs.lemmas.Bool.{cases_lt}
 use Rattle.ark_math.specs.Field.{FieldOn, IsField}
 use Rattle.ark_math.specs.Module.{itself, sum_below}
 use Rattle.ark_math.specs.Univariate.{IsBelow, IsValue, added, scaled, nothing, of_list, value_below}
@@ -34,6 +35,35 @@ module _ {F : Type 0} (K : FieldOn F) (N : IsField K) (x : ℕ → F) where
   combined-value c n (suc m) t =
       value-added K N (combined K x c n m) (scaled K (c m) (basis K x m n)) t (sum_below (itself K) m (λ i. K.times (c i) (differences K x i n t))) (K.times (c m) (differences K x m n t))
       (combined-value c n m t) (value-scaled K N (c m) (basis K x m n) t (differences K x m n t) (basis-value K N x m n t))
+
+  -- a factor for each point, such that the sum has the values y
+  module _ (n : ℕ) (y : ℕ → F) (different : AreDifferent n x) where
+    pick : (i : ℕ) → (i < n) ⊎ (n ≤ i) → F
+    pick i (inl l) = K.times (y i) (N.inverts (differences K x i n (x i)) (differences-some K N x i n different l)).0
+    pick i (inr m) = K.zero
+
+    pick-is : (i : ℕ) (h : (i < n) ⊎ (n ≤ i)) → i < n → K.times (pick i h) (differences K x i n (x i)) ≡ y i
+    unfolding pick
+    pick-is i (inl l) inside =
+        let v = N.inverts (differences K x i n (x i)) (differences-some K N x i n different l) in
+        ring3 K N (λ y v d. ((y ⊗ v) ⊗ d, y ⊗ (d ⊗ v))) refl (y i) v.0 (differences K x i n (x i))
+        ∙ ap (K.times (y i)) v.1
+        ∙ N.times_one (y i)
+    pick-is i (inr m) inside = absurd (omega (arith, m, inside))
+
+    -- so there is a polynomial below n with any values at n different points
+    pub through_values : (b : ℕ → F) × IsBelow K n b × HasValues K n x y b
+    through_values =
+        let c = λ (i : ℕ). pick i (cases_lt i n) in (
+          combined K x c n n,
+          combined-below c n n (omega arith),
+          λ j l.
+              subst (IsValue K (combined K x c n n) (x j))
+              (sum_below-single (itself_is_module K N) n j (λ i. K.times (c i) (differences K x i n (x j))) l
+              (λ i k ne. ap (K.times (c i)) (differences-zero K N x i n j l (λ e. ne (sym e))) ∙ times_zero K N (c i))
+              ∙ pick-is j (cases_lt j n) l)
+              (combined-value c n n (x j)),
+        )
 
   pub weights_are : (n : ℕ) (tau : F) (weights : List F) (inverse : ℕ → F) → AreDifferent n x → length weights ≡ n → ((i : ℕ) → i < n → K.times (inverse i) (differences K x i n (x i)) ≡ K.one) → ((i : ℕ) → i < n → of_list K weights i ≡ K.times (inverse i) (differences K x i n tau)) → AreWeightsAt K n x tau weights
   weights_are n tau weights inverse different count one is = record {

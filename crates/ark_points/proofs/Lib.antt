@@ -1,10 +1,12 @@
--- Lemmas of this crate: what divides by x - z, the polynomial through given points, the weights of points, and products of
--- x - z over halves of points, with what stands for a polynomial over each.
+-- Lemmas of this crate: what divides by x - z, the polynomial through given points, the weights of points, products of
+-- x - z over halves of points, with what stands for a polynomial over each, and all of these moved by a factor.
+pub mod AtMultiples
 pub mod Basis
 pub mod BlockWeighed
 pub mod BlockWraps
 pub mod Digits
 pub mod Halves
+pub mod HandedDown
 pub mod Lagrange
 pub mod Linear
 pub mod Multiples
@@ -18,5 +20,6 @@ pub mod Root
 pub mod Shares
 pub mod StandIns
 pub mod Sums
+pub mod TableQuotients
 pub mod Weighed
 pub mod Wrapped

@@ -1,5 +1,5 @@
 -- The product of x - z over a list: its length, its leading coefficient, its factors and its roots.
-use Rattle.std.proofs.Common.{◌≡◌, ◌≢◌, ℕ, zero, suc, ◌+◌, ◌<◌, List, [], ◌∷◌, length, take, drop, Vec, refl, sym, ◌∙◌, ap, ap₂, subst, arith}
+use Rattle.std.proofs.Common.{◌≡◌, ◌≢◌, ℕ, zero, suc, ◌+◌, ◌<◌, ◌≤◌, List, [], ◌∷◌, length, take, drop, Vec, refl, sym, ◌∙◌, ap, ap₂, subst, arith}
 use Rattle.std.specs.declared.alloc.Global.{Global}
 use Rattle.std.proofs.lemmas.List.{take-append-drop}
 use Rattle.ark_math.specs.Field.{FieldOn, IsField, minus}
@@ -14,7 +14,7 @@ use Rattle.ark_math.proofs.Polynomials.UnivariateValues.{has_value}
 use Rattle.ark_math.proofs.Callers.Remainders.{linear_root, divided_root}
 use Rattle.ark_blocks.proofs.LinearFactors.{before, linear-product, nodes-joined}
 use Rattle.ark_blocks.specs.Roots.{nodes}
-use Rattle.ark_points.specs.Tree.{IsBlockTreeOver, IsLeafOver, IsMonic, IsTreeOver, product_of_leaf, whole, whole_of_blocks}
+use Rattle.ark_points.specs.Tree.{IsBlockTreeOver, IsEnd, IsLeafOver, IsMonic, IsTreeOver, product_of_leaf, whole, whole_of_blocks}
 use Rattle.ark_points.specs.declared.few.FewProducts.{FewProducts}
 use Rattle.ark_points.specs.declared.leaf.Leaf.{Leaf}
 use Rattle.ark_points.specs.declared.leaf.Leaf.TheVariants.{Plain, Blocks}
@@ -104,3 +104,8 @@ module _ {F : Type 0} (K : FieldOn F) (N : IsField K) where
   pub tree-whole : {D : Type 0} (domain : D → Domain F) (points : List F) (t : Tree (Leaf F) (List F) (Values F D)) → IsTreeOver K domain points t → of_list K (whole t) ≡ nodes K points
   tree-whole domain points (Few p) h = leaf-whole points p h
   tree-whole domain points (Halves' p a low v b high w) h = h.0
+
+-- what is below the points' number may end there
+pub own_end : {F : Type 0} (t : Tree (FewProducts F) (List F) (Vec F Global)) (n count end : ℕ) → end ≡ n → n ≤ count → IsEnd t n count end
+own_end (Few p) n count end is room = is
+own_end (Halves' p a low v b high w) n count end is room = (omega (arith, is), omega (arith, is, room))

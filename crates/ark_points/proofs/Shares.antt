@@ -6,16 +6,15 @@ use Rattle.ark_math.specs.Domain.{Domain}
 use Rattle.ark_math.specs.Field.{FieldOn, IsField, minus, power}
 use Rattle.ark_math.specs.Points.{AreValues, vanishing}
 use Rattle.ark_math.specs.Root.{Adicity}
-use Rattle.ark_math.specs.Univariate.{IsBelow, IsValue, nothing, of_list, product, value_below}
+use Rattle.ark_math.specs.Univariate.{IsBelow, IsValue, of_list, product, value_below}
 use Rattle.ark_math.proofs.Algebra.Solve.{◌⊗◌, ◌⊕◌, ◌⊖◌, negative, nought}
 use Rattle.ark_math.proofs.Algebra.Ring.{ring3, ring3_by}
 use Rattle.ark_math.proofs.Domains.Elements.{value-vanishing}
 use Rattle.ark_math.proofs.Domains.LawfulDomains.{IsLawful, places_quotient, some_size}
-use Rattle.ark_math.proofs.Polynomials.Univariate.{nothing-below}
-use Rattle.ark_math.proofs.Polynomials.UnivariateProducts.{product_comm, product-below, value-product}
+use Rattle.ark_math.proofs.Polynomials.UnivariateProducts.{product-below, value-product}
 use Rattle.ark_math.proofs.Polynomials.UnivariateValues.{has_value, one_value, value-added}
 use Rattle.ark_points.specs.Tree.{IsMonic, IsShare, StandsFor, StandsForShares}
-use Rattle.ark_points.proofs.StandIns.{item_by_few, stands_at_root}
+use Rattle.ark_points.proofs.StandIns.{item_by_few, past_end}
 use Rattle.ark_points.proofs.Wrapped.{quotient_past}
 
 module _ {F : Type 0} {K : FieldOn F} {s : Adicity} {root : ℕ → F} {d : Domain F} (lawful : IsLawful K s root d) where
@@ -29,10 +28,7 @@ module _ {F : Type 0} {K : FieldOn F} {s : Adicity} {root : ℕ → F} {d : Doma
 
     past_stands : StandsFor K n m past t
     unfolding past
-    past_stands =
-        stands_at_root K laws n n m past t (nothing K) t some few (nothing-below K n)
-        (λ j. laws.plus_zero (product K t m (j + n)) ∙ ap (λ a. a (j + n)) (product_comm K laws t m))
-        (λ j l. refl)
+    past_stands = past_end K laws n n n m t some few
 
     whole_below : IsBelow K (n + d.size) (product K m g)
     whole_below i l = product-below K laws (n + 1) d.size m g monic.below below i (omega arith)

@@ -15,7 +15,7 @@ use Rattle.ark_math.proofs.Polynomials.UnivariateLists.{of_list-past}
 use Rattle.ark_math.proofs.Polynomials.UnivariateProducts.{product_comm, product_assoc, product-below, value-product}
 use Rattle.ark_math.proofs.Polynomials.UnivariateValues.{has_value, one_value, value-added}
 use Rattle.ark_blocks.proofs.LinearFactors.{linear-product}
-use Rattle.ark_points.specs.Tree.{StandsFor}
+use Rattle.ark_points.specs.Tree.{StandsBefore, StandsFor}
 
 module _ {F : Type 0} (K : FieldOn F) (N : IsField K) where
   past_item : (q : ℕ → F) (z : F) (i k : ℕ) → product K q (linear_factor K z) (suc (k + i)) ≡ added K (product K (λ j. q (suc (j + i))) (linear_factor K z)) (constant K (q i)) k
@@ -81,8 +81,8 @@ module _ {F : Type 0} (K : FieldOn F) (N : IsField K) where
       (quotient-item d (n + k - 1) z i (product-below K N n k c q below finite)))
 
   -- down to a factor a of m
-  pub stands_for_factor : (n h : ℕ) (m a b p s t : ℕ → F) → 0 < h → h ≤ n → IsBelow K (n - h + 1) b → m ≡ product K a b → ((j : ℕ) → j < h → product K b s (n - h + j) ≡ t j) → StandsFor K n m p s → StandsFor K h a p t
-  stands_for_factor n h m a b p s t some l finite whole same stands c z below is =
+  pub stands_for_factor : (end n h : ℕ) (m a b p s t : ℕ → F) → 0 < h → h ≤ end → h ≤ n → IsBelow K (n - h + 1) b → m ≡ product K a b → ((j : ℕ) → j < h → product K b s (end - h + j) ≡ t j) → StandsBefore K end n m p s → StandsFor K h a p t
+  stands_for_factor end n h m a b p s t some inside l finite whole same stands c z below is =
       let left : ℕ → F = product K c b in
       let whole_left : m ≡ product K left (linear_factor K z) =
       whole
@@ -91,22 +91,26 @@ module _ {F : Type 0} (K : FieldOn F) (N : IsField K) where
       ∙ (ap (product K c) (product_comm K N (linear_factor K z) b)
       ∙ sym (product_assoc K N c b (linear_factor K z))))) in
       subst (IsValue K p z)
-      (ap (λ t. t (n - 1)) (product_assoc K N c b s) ∙ item_by_few h n c (product K b s) t l some below same)
+      (ap (λ t. t (end - 1)) (product_assoc K N c b s) ∙ item_by_few h end c (product K b s) t inside some below same)
       (stands left z (λ i g. product-below K N h (n - h + 1) c b below finite i (omega arith)) whole_left)
 
-  -- at a leaf: what is past n of m times s has p's values at the roots
-  pub stands_at_leaf : (n k : ℕ) (m p s c : ℕ → F) (z y : F) → 0 < n → IsBelow K k s → IsBelow K n c → m ≡ product K c (linear_factor K z) → StandsFor K n m p s → IsValue K (λ j. product K m s (j + n)) z y → IsValue K p z y
-  stands_at_leaf n k m p s c z y some finite below is stands given =
+  -- for what is past `end` of m times s, s itself stands
+  pub past_end : (end n k : ℕ) (m s : ℕ → F) → 0 < end → IsBelow K k s → StandsBefore K end n m (λ j. product K m s (j + end)) s
+  past_end end n k m s some finite c z below is =
       let d : ℕ → F = product K c s in
-      let i : ℕ = n - 1 in
+      let i : ℕ = end - 1 in
       let e : product K m s ≡ product K d (linear_factor K z) =
       ap (λ t. product K t s) is
       ∙ (product_assoc K N c (linear_factor K z) s
       ∙ (ap (product K c) (product_comm K N (linear_factor K z) s)
       ∙ sym (product_assoc K N c s (linear_factor K z)))) in
-      let at : (j : ℕ) → product K d (linear_factor K z) (suc (j + i)) ≡ product K m s (j + n) = λ j.
-      (let place : suc (j + i) ≡ j + n = omega arith in ap (λ t. t (suc (j + i))) (sym e) ∙ ap (product K m s) place) in
-      let same : d i ≡ y =
-      one_value K N (λ j. product K m s (j + n)) z (d i) y
-      (subst (λ t. IsValue K t z (d i)) (fun_ext at) (quotient-item d (n + k - 1) z i (product-below K N n k c s below finite))) given in
-      subst (IsValue K p z) same (stands c z below is)
+      let at : (j : ℕ) → product K d (linear_factor K z) (suc (j + i)) ≡ product K m s (j + end) = λ j.
+      (let place : suc (j + i) ≡ j + end = omega (arith, some) in ap (λ t. t (suc (j + i))) (sym e) ∙ ap (product K m s) place) in
+      subst (λ t. IsValue K t z (d i)) (fun_ext at) (quotient-item d (n + k - 1) z i (product-below K N n k c s below finite))
+
+  -- at a leaf: what is past n of m times s has p's values at the roots
+  pub stands_at_leaf : (n k : ℕ) (m p s c : ℕ → F) (z y : F) → 0 < n → IsBelow K k s → IsBelow K n c → m ≡ product K c (linear_factor K z) → StandsFor K n m p s → IsValue K (λ j. product K m s (j + n)) z y → IsValue K p z y
+  stands_at_leaf n k m p s c z y some finite below is stands given =
+      subst (IsValue K p z)
+      (one_value K N (λ j. product K m s (j + n)) z (product K c s (n - 1)) y (past_end n n k m s some finite c z below is) given)
+      (stands c z below is)

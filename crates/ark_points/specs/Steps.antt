@@ -1,9 +1,10 @@
 -- Words of the private steps.
-use Rattle.std.specs.Prelude.{ℕ, List, length, if◌then◌else◌, ◌==◌}
+use Rattle.std.specs.Prelude.{◌≡◌, ℕ, ◌<◌, List, length, if◌then◌else◌, ◌==◌}
 use Rattle.ark_math.specs.Field.{FieldOn, minus, power}
 use Rattle.ark_math.specs.Module.{itself, sum_below}
 use Rattle.ark_math.specs.Multilinear.{product_below}
 use Rattle.ark_math.specs.Univariate.{of_list}
+use Rattle.ark_points.specs.Points.{x_of, y_of}
 
 -- the product of t - x j for each j below n other than i
 abbrev pub differences : {F : Type 0} → FieldOn F → (ℕ → F) → ℕ → ℕ → F → F
@@ -12,3 +13,18 @@ differences K x i n t = product_below K n (λ j. if j == i then K.one else minus
 -- the sum of w 0, w 1, .., each times the power t of its point of a list
 abbrev pub power_sum : {F : Type 0} → FieldOn F → List F → (ℕ → F) → ℕ → F
 power_sum K zs w t = sum_below (itself K) (length zs) (λ i. K.times (w i) (power K (of_list K zs i) t))
+
+-- a at c * x, as a polynomial in x
+abbrev pub at_multiple : {F : Type 0} → FieldOn F → F → (ℕ → F) → ℕ → F
+at_multiple K c a i = K.times (power K c i) (a i)
+
+-- each point times c
+pub record ArePointsMoved {F : Type 0} (K : FieldOn F) (c : F) (points moved : List F) : Type 0 where
+  pub len : length moved ≡ length points
+  pub each : (i : ℕ) → i < length points → of_list K moved i ≡ K.times (of_list K points i) c
+
+-- the x of each pair times c, and its y
+pub record ArePairsMoved {F : Type 0} (K : FieldOn F) (c : F) (pairs moved : List (F × F)) : Type 0 where
+  pub len : length moved ≡ length pairs
+  pub x : (i : ℕ) → i < length pairs → x_of K moved i ≡ K.times (x_of K pairs i) c
+  pub y : (i : ℕ) → i < length pairs → y_of K moved i ≡ y_of K pairs i

@@ -15,9 +15,13 @@ use Rattle.ark_points.specs.declared.leaf.Leaf.TheVariants.{Plain, Blocks}
 use Rattle.ark_points.specs.declared.tree.Tree.{Tree}
 use Rattle.ark_points.specs.declared.tree.Tree.TheVariants.{Few, Halves'}
 
--- what is left of m, which is of degree n, without a root, times s has p's value at that root as its coefficient at n - 1
+-- what is left of m, which is of degree n, without a root, times s has p's value at that root as its coefficient before end
+abbrev pub StandsBefore : {F : Type 0} → FieldOn F → ℕ → ℕ → (ℕ → F) → (ℕ → F) → (ℕ → F) → Type 0
+StandsBefore {F} K end n m p s = (c : ℕ → F) (z : F) → IsBelow K n c → m ≡ product K c (linear_factor K z) → IsValue K p z (product K c s (end - 1))
+
+-- and that is the one before n, where s is below n too
 abbrev pub StandsFor : {F : Type 0} → FieldOn F → ℕ → (ℕ → F) → (ℕ → F) → (ℕ → F) → Type 0
-StandsFor {F} K n m p s = (c : ℕ → F) (z : F) → IsBelow K n c → m ≡ product K c (linear_factor K z) → IsValue K p z (product K c s (n - 1))
+StandsFor K n m p s = StandsBefore K n n m p s
 
 -- t stands over some of the points for what s stands for over all of them
 pub record StandsForPart {F : Type 0} (K : FieldOn F) (points part : List F) (s t : ℕ → F) : Type 0 where
@@ -108,6 +112,11 @@ pub record IsHanded {F : Type 0} (K : FieldOn F) (roots : List F) (tree : Tree (
 abbrev pub HasRoom : {F : Type 0} → Tree (FewProducts F) (List F) (Vec F Global) → ℕ → ℕ → ℕ → Type 0
 HasRoom (Few p) n count len = len ≤ n
 HasRoom (Halves' p q low v b high w) n count len = len ≡ count
+
+-- where the last coefficients of what such a list gives may end: at n, and where the tree has halves also after it
+abbrev pub IsEnd : {F : Type 0} → Tree (FewProducts F) (List F) (Vec F Global) → ℕ → ℕ → ℕ → Type 0
+IsEnd (Few p) n count end = end ≡ n
+IsEnd (Halves' p q low v b high w) n count end = (n ≤ end) × (end ≤ count)
 
 -- the product over these points, or a tree of products by a table of as many roots
 abbrev pub IsLeafOver : {F : Type 0} → FieldOn F → List F → Leaf F → Type 0

@@ -6,8 +6,8 @@ ghost use Rattle.ark_blocks.specs.Blocks.{AreFirstValues, IsPowerOfTwo, size_of}
 ghost use Rattle.ark_math.specs.Univariate.{IsBelow, added, of_list, product, scaled};
 ghost use Rattle.ark_points.specs.Points.{HasValues};
 ghost use Rattle.ark_blocks.specs.Roots.{nodes};
-ghost use Rattle.ark_points.specs.Tree.{HasRoom, IsBlockTreeOver, IsGiven, IsHanded, IsMonic, StandsFor, power_less_one};
-ghost use Rattle.ark_points.specs.Tree.{weighed, whole_of_blocks};
+ghost use Rattle.ark_points.specs.Tree.{HasRoom, IsBlockTreeOver, IsEnd, IsGiven, IsHanded, IsMonic, StandsBefore};
+ghost use Rattle.ark_points.specs.Tree.{StandsFor, power_less_one, weighed, whole_of_blocks};
 
 use crate::few::{FEW_POINTS, FewProducts, weighed_few, write_few_values};
 use crate::items::{add_products, place_products};
@@ -96,11 +96,21 @@ impl<F: FftField> BlockProducts<F> {
             (of_list F.field points.now) (of_list F.field values.new) p) }
     {
         let given = given_to(alloc, blocks, self, coeffs, count)?;
-        self.write_given(alloc, blocks, points, &given, F::one(), values, count)
+        self.write_given(
+            alloc,
+            blocks,
+            points,
+            &given,
+            F::one(),
+            values,
+            count,
+            points.len(),
+        )
     }
 
-    // The same, where a list gives the tree a polynomial of which a multiple stands for the other.
-    fn write_given(
+    /// The same, where a list gives the tree a polynomial below `end` of which a multiple stands for the other: by
+    /// its last coefficients, as many as there are points.
+    pub fn write_given(
         &self,
         alloc: Global,
         blocks: &BlockRoots<F>,
@@ -109,6 +119,7 @@ impl<F: FftField> BlockProducts<F> {
         scale: F,
         values: &mut [F],
         count: usize,
+        end: usize,
     ) -> Result<(), AllocError>
         requires power { IsPowerOfTwo count }
         requires within { count ≤ size_of blocks.now }
@@ -116,18 +127,20 @@ impl<F: FftField> BlockProducts<F> {
         requires not_empty { 0 < length points.now }
         requires tree { IsBlockTreeOver F.field blocks.now count points.now self.now }
         requires given { HasRoom self.now (length points.now) count (length given.now) }
+        requires end { IsEnd self.now (length points.now) count end }
         requires len { length values.old ≡ length points.now }
         ensures len { length values.new ≡ length values.old }
-        ensures values { OnOk result ((p s : ℕ → F) → IsBelow F.field (length points.now) s
+        ensures values { OnOk result ((p s : ℕ → F) → IsBelow F.field end s
             → IsGiven F.field blocks.now self.now count s given.now
-            → StandsFor F.field (length points.now) (nodes F.field points.now) p (scaled F.field scale s)
+            → StandsBefore F.field end (length points.now) (nodes F.field points.now) p (scaled F.field scale s)
             → HasValues F.field (length points.now) (of_list F.field points.now) (of_list F.field values.new) p) }
     {
         match self {
             Tree::Few(products) => write_few_values(alloc, products, points, given, scale, values),
             Tree::Halves(_, low, low_values, high, high_values) => {
-                let n = points.len();
-                let half = n / 2;
+                let half = points.len() / 2;
+                let low_points = &points[..half];
+                let high_points = &points[half..];
                 let part = count / 2;
                 let (to_low, to_high) = values.split_at_mut(half);
                 let (for_low, by) = handed(
@@ -137,15 +150,41 @@ impl<F: FftField> BlockProducts<F> {
                     high_values,
                     given,
                     scale,
-                    n - half,
-                    n,
+                    end - low_points.len(),
+                    end,
                     part,
                 )?;
-                low.write_given(alloc, blocks, &points[..half], &for_low, by, to_low, part)?;
-                let (for_high, by) = handed(
-                    alloc, blocks, high, low_values, given, scale, half, n, part,
+                low.write_given(
+                    alloc,
+                    blocks,
+                    low_points,
+                    &for_low,
+                    by,
+                    to_low,
+                    part,
+                    low_points.len(),
                 )?;
-                high.write_given(alloc, blocks, &points[half..], &for_high, by, to_high, part)
+                let (for_high, by) = handed(
+                    alloc,
+                    blocks,
+                    high,
+                    low_values,
+                    given,
+                    scale,
+                    end - high_points.len(),
+                    end,
+                    part,
+                )?;
+                high.write_given(
+                    alloc,
+                    blocks,
+                    high_points,
+                    &for_high,
+                    by,
+                    to_high,
+                    part,
+                    high_points.len(),
+                )
             }
         }
     }

@@ -11,6 +11,8 @@ ghost use Rattle.ark_points.specs.Tree.{IsTreeOver, derived};
 use crate::error::PointsError;
 use crate::items::has_zero;
 use crate::levels::Levels;
+use crate::lookup::domain_of_samples;
+use crate::moved::{moved_pairs, with_powers};
 use crate::pairs::first_parts;
 use crate::parts::constant;
 use crate::repeated::has_repeated;
@@ -51,8 +53,57 @@ pub fn from_points<F: FftField>(
     through_many::<F, GeneralEvaluationDomain<F>>(alloc, points)
 }
 
-// The polynomial through some pairs, by a tree over their x.
+// The polynomial through some pairs, by a tree over their x: moved off the roots of unity, but where values at x are
+// looked up among those over a domain.
 fn through_many<F: FftField, D: EvaluationDomain<F>>(
+    alloc: Global,
+    points: &[(F, F)],
+) -> Result<DensePolynomial<F>, PointsError>
+    requires not_empty { 0 < length points.now }
+    ensures through { IfOk result (λ p. IsThrough F.field points.now (of_list F.field p)) }
+    ensures repeated { (result ≡ Err PointsError.RepeatedPoint)
+        → HasRepeated (length points.now) (x_of F.field points.now) }
+    ensures errors { IsOkUnlessEither result PointsError.Memory PointsError.RepeatedPoint }
+{
+    if is_looked_up::<F, D>(points) {
+        through_pairs::<F, D>(alloc, points)
+    } else {
+        through_moved::<F, D>(alloc, points)
+    }
+}
+
+// Whether values at the x of some pairs may be looked up.
+fn is_looked_up<F: FftField, D: EvaluationDomain<F>>(points: &[(F, F)]) -> bool
+    requires { 0 < length points.now }
+{
+    let last = points.len() - 1;
+    domain_of_samples::<F, D>(
+        points.len(),
+        points[0].0,
+        points[last / 2].0,
+        points[last].0,
+    )
+    .is_some()
+}
+
+// The polynomial through some pairs, by the one through those with x moved by a generator.
+fn through_moved<F: FftField, D: EvaluationDomain<F>>(
+    alloc: Global,
+    points: &[(F, F)],
+) -> Result<DensePolynomial<F>, PointsError>
+    requires not_empty { 0 < length points.now }
+    ensures through { IfOk result (λ p. IsThrough F.field points.now (of_list F.field p)) }
+    ensures repeated { (result ≡ Err PointsError.RepeatedPoint)
+        → HasRepeated (length points.now) (x_of F.field points.now) }
+    ensures errors { IsOkUnlessEither result PointsError.Memory PointsError.RepeatedPoint }
+{
+    let moved = moved_pairs(alloc, points, F::GENERATOR)?;
+    let through = through_pairs::<F, D>(alloc, &moved)?;
+    Ok(with_powers(alloc, &through, F::GENERATOR)?)
+}
+
+// The polynomial through some pairs, by a tree over their x as they are.
+fn through_pairs<F: FftField, D: EvaluationDomain<F>>(
     alloc: Global,
     points: &[(F, F)],
 ) -> Result<DensePolynomial<F>, PointsError>

@@ -132,6 +132,19 @@ pub fn powers<F: Field>(alloc: Global, element: F, count: usize) -> Result<Vec<F
     Ok(powers)
 }
 
+/// Multiplies each item by the factor's power at its place.
+pub fn scale_by_powers<F: Field>(items: &mut [F], factor: F)
+    ensures len { length items.new ≡ length items.old }
+    ensures products { (i : ℕ) → i < length items.old → of_list F.field items.new i
+        ≡ F.field.times (power F.field factor i) (of_list F.field items.old i) }
+{
+    let mut next = F::one();
+    for i in 0..items.len() {
+        items[i] = next * items[i];
+        next *= factor;
+    }
+}
+
 /// The sum of all items: of those in whole fours, and then of the rest.
 pub fn sum_of<F: Field>(items: &[F]) -> F
     ensures { result ≡ sum_below (itself F.field) (length items.now) (of_list F.field items.now) }

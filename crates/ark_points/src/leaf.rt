@@ -1,8 +1,8 @@
 //! Parts of points that no domain is needed for.
 
-ghost use Rattle.std.specs.Prelude.{◌≡◌, ℕ, ◌<◌, ◌≤◌, length, IfOk, OnOk, IsOkUnless};
+ghost use Rattle.std.specs.Prelude.{◌≡◌, ℕ, ◌<◌, ◌≤◌, length, IfOk, IfSome, OnOk, IsOkUnless};
 ghost use Rattle.ark_math.specs.Univariate.{of_list};
-ghost use Rattle.ark_points.specs.Points.{HasValues};
+ghost use Rattle.ark_points.specs.Points.{AreValuesAt, HasValues};
 ghost use Rattle.ark_blocks.specs.Roots.{nodes};
 ghost use Rattle.ark_points.specs.Tree.{IsLeafOver, StandsFor, product_of_leaf, weighed};
 
@@ -12,7 +12,7 @@ use ark_base::{FftField, PolyError};
 use ark_blocks::BlockRoots;
 use ark_poly::DenseUVPolynomial;
 use ark_poly::univariate::DensePolynomial;
-use std::alloc::Global;
+use std::alloc::{AllocError, Global};
 
 /// The product of x - z over points that are taken one by one, since they are few or the field has no roots of unity for them;
 /// or roots, and by them a tree of products.
@@ -44,6 +44,30 @@ impl<F: FftField> Leaf<F> {
         match self {
             Leaf::Plain(products) => &products.whole,
             Leaf::Blocks(_, tree) => tree.product(),
+        }
+    }
+
+    /// The values at the points, in their order, of the polynomial with these coefficients. `None` where the
+    /// points have no table of as many roots of unity, or one of them is such a root.
+    pub fn values(
+        &self,
+        alloc: Global,
+        points: &[F],
+        coeffs: &[F],
+    ) -> Result<Option<Vec<F>>, AllocError>
+        requires not_empty { 0 < length points.now }
+        requires leaf { IsLeafOver F.field points.now self.now }
+        ensures values { IfOk result (λ found. IfSome found (λ v. AreValuesAt F.field points.now v.items
+            (of_list F.field coeffs.now))) }
+    {
+        match self {
+            Leaf::Plain(_) => Ok(None),
+            Leaf::Blocks(blocks, tree) => {
+                if coeffs.len() > blocks.size() {
+                    return Ok(None);
+                }
+                tree.values(alloc, blocks, points, coeffs)
+            }
         }
     }
 

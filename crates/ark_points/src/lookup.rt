@@ -29,17 +29,33 @@ pub fn values_by_lookup<F: FftField, D: EvaluationDomain<F>>(
     ensures memory { IsOkUnless result PolyError.Memory }
 {
     let count = points.len().max(polynomial.coeffs().len());
-    let Some(domain) = widest_domain::<F, D>(count, DOUBLINGS) else {
+    let last = points.len() - 1;
+    let Some(domain) = domain_of_samples::<F, D>(count, points[0], points[last / 2], points[last])
+    else {
         return Ok(None);
     };
-    let last = points.len() - 1;
-    if is_outside(domain, points[0])
-        || is_outside(domain, points[last / 2])
-        || is_outside(domain, points[last])
-    {
-        return Ok(None);
-    }
     values_in(alloc, polynomial, points, domain)
+}
+
+/// The subgroup that values may be looked up in, for so many points or coefficients. `None` where the field has none,
+/// or one of three samples of the points is neither zero nor one of its elements.
+pub fn domain_of_samples<F: FftField, D: EvaluationDomain<F>>(
+    count: usize,
+    first: F,
+    middle: F,
+    last: F,
+) -> Option<D>
+    requires { 0 < count }
+    ensures subgroup { IfSome result (λ d. (D.domain d).offset ≡ F.field.one) }
+    ensures some { IfSome result (λ d. 0 < (D.domain d).size) }
+{
+    let Some(domain) = widest_domain::<F, D>(count, DOUBLINGS) else {
+        return None;
+    };
+    if is_outside(domain, first) || is_outside(domain, middle) || is_outside(domain, last) {
+        return None;
+    }
+    Some(domain)
 }
 
 // The greatest of the subgroups that there are for so many elements, for twice as many, and so on.

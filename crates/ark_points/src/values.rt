@@ -1,6 +1,6 @@
 //! Values at many points.
 
-ghost use Rattle.std.specs.Prelude.{◌≡◌, ◌<◌, length, IfOk, IsOkUnless};
+ghost use Rattle.std.specs.Prelude.{◌≡◌, ◌<◌, length, IfOk, IfSome, IsOkUnless};
 ghost use Rattle.ark_math.specs.Univariate.{of_list};
 ghost use Rattle.ark_points.specs.Points.{AreValuesAt, HasValues};
 ghost use Rattle.ark_points.specs.Tree.{IsTreeOver};
@@ -8,12 +8,13 @@ ghost use Rattle.ark_points.specs.Tree.{IsTreeOver};
 use crate::coset::values_by_coset;
 use crate::levels::Levels;
 use crate::lookup::values_by_lookup;
+use crate::moved::{moved_points, with_powers};
 use crate::scaled::scaled_by;
-use crate::tree::Products;
+use crate::tree::{Products, Tree};
 use ark_base::{FftField, Field, PolyError, Polynomial};
 use ark_poly::univariate::DensePolynomial;
 use ark_poly::{DenseUVPolynomial, EvaluationDomain, GeneralEvaluationDomain};
-use std::alloc::Global;
+use std::alloc::{AllocError, Global};
 
 // Up to so many points or coefficients each value is found for itself.
 const FEW: usize = 256;
@@ -59,7 +60,8 @@ fn values_at_many<F: FftField, D: EvaluationDomain<F>>(
     }
 }
 
-// The values at some points, by a tree over them.
+// The values at some points, by a tree over them, moved off the roots of unity: there what `values_by_tree` divides by
+// is seldom zero.
 fn values_by_own_tree<F: FftField, D: EvaluationDomain<F>>(
     alloc: Global,
     polynomial: &DensePolynomial<F>,
@@ -69,9 +71,12 @@ fn values_by_own_tree<F: FftField, D: EvaluationDomain<F>>(
     ensures values { IfOk result (λ v. AreValuesAt F.field points.now v.items (of_list F.field polynomial.now)) }
     ensures memory { IsOkUnless result PolyError.Memory }
 {
-    let levels = Levels::<F, D>::new(alloc, points.len())?;
-    let tree = Products::new(alloc, &levels, points)?;
-    values_by_tree(alloc, &tree, polynomial, points)
+    let inverse = F::GENERATOR.inverse().unwrap();
+    let moved = moved_points(alloc, points, F::GENERATOR)?;
+    let back = with_powers(alloc, polynomial, inverse)?;
+    let levels = Levels::<F, D>::new(alloc, moved.len())?;
+    let tree = Products::new(alloc, &levels, &moved)?;
+    values_by_tree(alloc, &tree, &back, &moved)
 }
 
 /// The values at the points of a tree, of which there are some: looked up, or down the tree.
@@ -104,9 +109,30 @@ fn values_by_tree<F: FftField, D: EvaluationDomain<F>>(
     ensures values { IfOk result (λ v. AreValuesAt F.field points.now v.items (of_list F.field polynomial.now)) }
     ensures memory { IsOkUnless result PolyError.Memory }
 {
+    if let Some(values) = values_by_leaf(alloc, tree, polynomial, points)? {
+        return Ok(values);
+    }
     match values_by_coset(alloc, tree, polynomial, points)? {
         Some(values) => Ok(values),
         None => values_by_series(alloc, tree, polynomial, points),
+    }
+}
+
+// The same where the whole tree goes by a table of roots of unity, and none of the points is one of these.
+fn values_by_leaf<F: FftField, D: EvaluationDomain<F>>(
+    alloc: Global,
+    tree: &Products<F, D>,
+    polynomial: &DensePolynomial<F>,
+    points: &[F],
+) -> Result<Option<Vec<F>>, AllocError>
+    requires not_empty { 0 < length points.now }
+    requires tree { IsTreeOver F.field D.domain points.now tree.now }
+    ensures values { IfOk result (λ found. IfSome found (λ v. AreValuesAt F.field points.now v.items
+        (of_list F.field polynomial.now))) }
+{
+    match tree {
+        Tree::Few(leaf) => leaf.values(alloc, points, polynomial.coeffs()),
+        Tree::Halves(_, _, _, _, _) => Ok(None),
     }
 }
 

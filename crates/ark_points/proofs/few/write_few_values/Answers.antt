@@ -39,10 +39,14 @@ returns-clause-values g c p stands k l =
     (λ i b.
     c.write_stood_for.ensures.values p
     (subst (StandsFor K (length (take half points)) fronts p) (sym low_is)
-    (multiple_stands_low K N points half less (omega (arith, b, front)) scale p s (cut K half for_low) (λ j q. sym (cut-inside K half for_low j q)) stands))
+    (multiple_stands_low K N points half less (omega (arith, b, front)) n (omega arith) scale p s (cut K half for_low) (λ j q. sym (cut-inside K half for_low j q)) stands))
     i b)
     (subst (λ xs. StandsFor K (length xs) (nodes K xs) p (of_list K parts.result.1.now) → HasValues K (length xs) (of_list K xs) (of_list K c.write_stood_for-2.new.values) p) upper
     (c.write_stood_for-2.ensures.values p)
     (subst (StandsFor K (length (drop half points)) backs p) (sym high_is)
-    (multiple_stands_high K N points half less scale p s (cut K (n - half) for_high) (λ j q. sym (cut-inside K (n - half) for_high j q)) stands)))
+    (multiple_stands_high K N points half less n (omega arith) scale p s (cut K (n - half) for_high)
+    (λ j q.
+    let place : n - (n - half) + j ≡ half + j = omega arith in
+    ap (product K fronts s) place ∙ sym (cut-inside K (n - half) for_high j q))
+    stands)))
     k l

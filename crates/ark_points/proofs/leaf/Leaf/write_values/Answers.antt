@@ -9,4 +9,4 @@ returns-in_ok-write_few_values-in-Plain-clause-values g c p stands =
     let K = g.F.Field.field in
     let points = c.args.points.now in
     c.in_ok-write_few_values-in-Plain.ensures.values p
-    (stands_by_one K g.met.F.Field.field_laws (length points) (nodes K points) p (of_list K c.args.given.now) c.one.result (c.one.ensures ∙ g.met.F.Field.one_law) stands)
+    (stands_by_one K g.met.F.Field.field_laws (length points) (length points) (nodes K points) p (of_list K c.args.given.now) c.one.result (c.one.ensures ∙ g.met.F.Field.one_law) stands)
