@@ -1,14 +1,12 @@
--- Polynomials at points moved by a factor: their values, what moves them back, and the polynomial through moved pairs.
+-- Polynomials at points moved by a factor: their values, and the polynomial through moved pairs.
 use Rattle.std.proofs.Common.{◌≡◌, ◌≢◌, ℕ, ◌<◌, List, length, sym, ◌∙◌, ap, subst, subst₂, arith}
-use mathlib.Core.Path.{fun_ext}
 use Rattle.ark_math.specs.Field.{FieldOn, IsField, power}
 use Rattle.ark_math.specs.Module.{itself}
-use Rattle.ark_math.specs.Univariate.{IsBelow, IsValue, of_list, value_below}
-use Rattle.ark_math.proofs.Algebra.Groups.{one_times}
-use Rattle.ark_math.proofs.Algebra.Powers.{power-times, powers_inverse, times_zero}
+use Rattle.ark_math.specs.Univariate.{IsBelow, IsValue, value_below}
+use Rattle.ark_math.proofs.Algebra.Powers.{power-times, times_zero}
 use Rattle.ark_math.proofs.Algebra.Sums.{sum_below-same}
-use Rattle.ark_points.specs.Points.{AreDifferent, AreValuesAt, HasRepeated, HasValues, IsThrough, x_of, y_of}
-use Rattle.ark_points.specs.Steps.{ArePairsMoved, ArePointsMoved, at_multiple}
+use Rattle.ark_points.specs.Points.{AreDifferent, HasRepeated, HasValues, IsThrough, x_of, y_of}
+use Rattle.ark_points.specs.Steps.{ArePairsMoved, at_multiple}
 use Rattle.ark_points.proofs.Newton.{only_interpolation}
 
 module _ {F : Type 0} (K : FieldOn F) (N : IsField K) where
@@ -23,22 +21,6 @@ module _ {F : Type 0} (K : FieldOn F) (N : IsField K) where
   -- the value at x times c of what is moved by c is that at x
   pub value-at_multiple : (c : F) (a : ℕ → F) (x y : F) → IsValue K a (K.times x c) y → IsValue K (at_multiple K c a) x y
   value-at_multiple c a x y h = (h.0, at_multiple-below c h.0 a h.1, h.2 ∙ value_below-at_multiple c h.0 a x)
-
-  -- there and back
-  pub at_multiple-back : (c d : F) (a : ℕ → F) → K.times c d ≡ K.one → at_multiple K c (at_multiple K d a) ≡ a
-  at_multiple-back c d a one = fun_ext (λ i.
-      sym (N.times_assoc (power K c i) (power K d i) (a i))
-      ∙ ap (λ t. K.times t (a i)) (powers_inverse K N c d i one)
-      ∙ one_times K N (a i))
-
-  -- values at moved points of what is moved back are those of the polynomial
-  pub values_moved_back : (c d : F) (points moved ys : List F) (a : ℕ → F) → K.times c d ≡ K.one → ArePointsMoved K c points moved → AreValuesAt K moved ys (at_multiple K d a) → AreValuesAt K points ys a
-  values_moved_back c d points moved ys a one m h = record {
-    len = h.len ∙ m.len;
-    values = λ i l. subst (λ p. IsValue K p (of_list K points i) (of_list K ys i)) (at_multiple-back c d a one)
-        (value-at_multiple c (at_multiple K d a) (of_list K points i) (of_list K ys i)
-        (subst (λ x. IsValue K (at_multiple K d a) x (of_list K ys i)) (m.each i l) (h.values i (omega (arith, l, m.len)))));
-  }
 
   -- the polynomial through moved pairs, moved back, is the one through the pairs
   pub through_moved : (c : F) (pairs moved : List (F × F)) (a : ℕ → F) → ArePairsMoved K c pairs moved → IsThrough K moved a → IsThrough K pairs (at_multiple K c a)

@@ -1,5 +1,5 @@
 -- From what stands for a polynomial over points to what does over their halves, and from the halves' values to all.
-use Rattle.std.proofs.Common.{◌≡◌, ℕ, ◌+◌, ◌-◌, ◌/◌, ◌<◌, ◌≤◌, List, ◌++◌, length, take, drop, sym, ◌∙◌, ap, subst, subst₂, arith, ⊎_elim}
+use Rattle.std.proofs.Common.{◌≡◌, ℕ, ◌+◌, ◌-◌, ◌<◌, ◌≤◌, List, ◌++◌, length, take, drop, sym, ◌∙◌, ap, subst, subst₂, arith, ⊎_elim}
 use Rattle.std.proofs.lemmas.Bool.{cases_lt}
 use Rattle.std.proofs.lemmas.List.{get_or-append_right, get_or-drop, get_or-take, get_or_append_left, length-drop, length-take-le}
 use Rattle.ark_math.specs.Field.{FieldOn, IsField}
@@ -7,7 +7,7 @@ use Rattle.ark_math.specs.Univariate.{IsBelow, IsValue, of_list, product, scaled
 use Rattle.ark_math.proofs.Polynomials.UnivariateProducts.{product_comm, product-below}
 use Rattle.ark_points.specs.Points.{HasValues}
 use Rattle.ark_blocks.specs.Roots.{nodes}
-use Rattle.ark_points.specs.Tree.{StandForHalves, StandsBefore, StandsFor}
+use Rattle.ark_points.specs.Tree.{StandsBefore, StandsFor}
 use Rattle.ark_points.proofs.Multiples.{product-scaled}
 use Rattle.ark_points.proofs.Nodes.{nodes-below, nodes-halves}
 use Rattle.ark_points.proofs.StandIns.{stands_for_factor}
@@ -58,37 +58,3 @@ module _ {F : Type 0} (K : FieldOn F) (N : IsField K) (points : List F) (half : 
       let place : half + (k - half) ≡ k = omega arith in
       subst₂ (IsValue K p) (get_or-drop half points (k - half) K.zero ∙ ap (of_list K points) place) (sym (get_or-append_right v w half k K.zero len b)) (high (k - half) (omega (arith, l, back))))
       (cases_lt k half)
-
-module _ {F : Type 0} (K : FieldOn F) (N : IsField K) (points : List F) (many : 1 < length points) (s low high : ℕ → F) where
-  -- the last coefficients of the products with the other half's
-  pub stand_for_halves : IsBelow K (length points / 2) low → IsBelow K (length points - length points / 2) high
-      → ((j : ℕ) → j < length points / 2 → product K (nodes K (drop (length points / 2) points)) s (length points - length points / 2 + j) ≡ low j)
-      → ((j : ℕ) → j < length points - length points / 2 → product K (nodes K (take (length points / 2) points)) s (length points / 2 + j) ≡ high j)
-      → StandForHalves K points s low high
-  stand_for_halves low_short high_short same_low same_high =
-      let half = length points / 2 in
-      let some : 0 < half = omega arith in
-      let less : half < length points = omega arith in
-      record {
-        low = record {
-          below = subst (λ m. IsBelow K m low) (sym (length-take-le half points (omega arith))) low_short;
-          stands = λ p stands. stands_low K N points half less some (length points) (omega arith) p s low same_low stands;
-        };
-        high = record {
-          below = subst (λ m. IsBelow K m high) (sym (length-drop half points)) high_short;
-          stands = λ p stands. stands_high K N points half less (length points) (omega arith) p s high
-              (λ j l.
-              let place : length points - (length points - half) + j ≡ half + j = omega arith in
-              ap (product K (nodes K (take half points)) s) place ∙ same_high j l)
-              stands;
-        };
-      }
-
-  -- values at the points of both halves, of what these stand for
-  pub values_by_halves : StandForHalves K points s low high → (xs v w : List F) → xs ≡ drop (length points / 2) points → length v ≡ length points / 2
-      → ((p : ℕ → F) → StandsFor K (length (take (length points / 2) points)) (nodes K (take (length points / 2) points)) p low → HasValues K (length (take (length points / 2) points)) (of_list K (take (length points / 2) points)) (of_list K v) p)
-      → ((p : ℕ → F) → StandsFor K (length xs) (nodes K xs) p high → HasValues K (length xs) (of_list K xs) (of_list K w) p)
-      → (p : ℕ → F) → StandsFor K (length points) (nodes K points) p s → HasValues K (length points) (of_list K points) (of_list K (v ++ w)) p
-  values_by_halves halves xs v w all len fronts backs p stands =
-      values-halves K N points (length points / 2) (omega arith) v w p len (fronts p (halves.low.stands p stands))
-      (subst (λ zs. StandsFor K (length zs) (nodes K zs) p high → HasValues K (length zs) (of_list K zs) (of_list K w) p) all (backs p) (halves.high.stands p stands))

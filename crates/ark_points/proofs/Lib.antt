@@ -1,5 +1,6 @@
 -- Lemmas of this crate: what divides by x - z, the polynomial through given points, the weights of points, products of
--- x - z over halves of points, with what stands for a polynomial over each, and all of these moved by a factor.
+-- x - z over halves of points, with what stands for a polynomial over each, values at roots of unity, and pairs moved by a
+-- factor.
 pub mod AtMultiples
 pub mod Basis
 pub mod BlockWeighed
@@ -16,10 +17,9 @@ pub mod PairParts
 pub mod PastProducts
 pub mod PowerSums
 pub mod PowersOfTwo
-pub mod Root
-pub mod Shares
+pub mod RootPlaces
+pub mod Remainders
 pub mod StandIns
 pub mod Sums
 pub mod TableQuotients
 pub mod Weighed
-pub mod Wrapped

@@ -14,15 +14,13 @@ use Rattle.ark_math.proofs.Polynomials.UnivariateValues.{has_value}
 use Rattle.ark_math.proofs.Callers.Remainders.{linear_root, divided_root}
 use Rattle.ark_blocks.proofs.LinearFactors.{before, linear-product, nodes-joined}
 use Rattle.ark_blocks.specs.Roots.{nodes}
-use Rattle.ark_points.specs.Tree.{IsBlockTreeOver, IsEnd, IsLeafOver, IsMonic, IsTreeOver, product_of_leaf, whole, whole_of_blocks}
+use Rattle.ark_points.specs.Tree.{HasRoom, IsBlockTreeOver, IsEnd, IsGiven, IsHalved, IsMonic, IsTreeOver, whole, whole_of_blocks}
 use Rattle.ark_points.specs.declared.few.FewProducts.{FewProducts}
-use Rattle.ark_points.specs.declared.leaf.Leaf.{Leaf}
-use Rattle.ark_points.specs.declared.leaf.Leaf.TheVariants.{Plain, Blocks}
+use Rattle.ark_points.specs.declared.tree.Leaf.{Leaf}
+use Rattle.ark_points.specs.declared.tree.Leaf.TheVariants.{Plain, Blocks}
 use Rattle.ark_points.specs.declared.tree.Tree.{Tree}
 use Rattle.ark_points.specs.declared.tree.Tree.TheVariants.{Few, Halves'}
-use Rattle.ark_blocks.specs.Blocks.{size_of}
-use Rattle.ark_poly.specs.Values.{Values}
-use Rattle.ark_math.specs.Domain.{Domain}
+use Rattle.ark_blocks.specs.Blocks.{AreFirstValues, size_of}
 
 module _ {F : Type 0} (K : FieldOn F) (N : IsField K) where
   pub nodes-below : (zs : List F) → IsBelow K (length zs + 1) (nodes K zs)
@@ -95,17 +93,26 @@ module _ {F : Type 0} (K : FieldOn F) (N : IsField K) where
   blocks-whole roots count points (Few p) h = h.whole
   blocks-whole roots count points (Halves' p a low v b high w) h = h.0
 
-  -- a leaf
-  pub leaf-whole : (points : List F) (l : Leaf F) → IsLeafOver K points l → of_list K (product_of_leaf l) ≡ nodes K points
-  leaf-whole points (Plain p) h = h.whole
-  leaf-whole points (Blocks roots tree) h = blocks-whole roots (size_of roots) points tree.value h.1
-
-  -- and a tree above leaves
-  pub tree-whole : {D : Type 0} (domain : D → Domain F) (points : List F) (t : Tree (Leaf F) (List F) (Values F D)) → IsTreeOver K domain points t → of_list K (whole t) ≡ nodes K points
-  tree-whole domain points (Few p) h = leaf-whole points p h
-  tree-whole domain points (Halves' p a low v b high w) h = h.0
+  -- and products for any number of points
+  pub tree-whole : (points : List F) (t : Tree (Leaf F) (List F) Unit) → IsTreeOver K points t → of_list K (whole t) ≡ nodes K points
+  tree-whole points (Few (Plain p)) h = h
+  tree-whole points (Few (Blocks roots tree)) h = blocks-whole roots (size_of roots) points tree.value h.1
+  tree-whole points (Halves' p a low v b high w) h = h.1
 
 -- what is below the points' number may end there
 pub own_end : {F : Type 0} (t : Tree (FewProducts F) (List F) (Vec F Global)) (n count end : ℕ) → end ≡ n → n ≤ count → IsEnd t n count end
 own_end (Few p) n count end is room = is
 own_end (Halves' p a low v b high w) n count end is room = (omega (arith, is), omega (arith, is, room))
+
+-- with halves it is given a polynomial by values, which may end later
+pub halved_given : {F : Type 0} (K : FieldOn F) (roots : List F) (t : Tree (FewProducts F) (List F) (Vec F Global)) (count : ℕ) (a : ℕ → F) (c : List F) → IsHalved t → AreFirstValues K roots count a c → IsGiven K roots t count a c
+halved_given K roots (Few p) count a c none h = absurd none
+halved_given K roots (Halves' p a low v b high w) count own c some h = h
+
+pub halved_room : {F : Type 0} (t : Tree (FewProducts F) (List F) (Vec F Global)) (n count len : ℕ) → IsHalved t → len ≡ count → HasRoom t n count len
+halved_room (Few p) n count len none is = absurd none
+halved_room (Halves' p a low v b high w) n count len some is = is
+
+pub halved_end : {F : Type 0} (t : Tree (FewProducts F) (List F) (Vec F Global)) (n count : ℕ) → IsHalved t → n ≤ count → IsEnd t n count count
+halved_end (Few p) n count none room = absurd none
+halved_end (Halves' p a low v b high w) n count some room = (room, omega arith)

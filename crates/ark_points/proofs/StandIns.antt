@@ -1,4 +1,4 @@
--- What stands for a polynomial over a part of the points: at the root, down to a factor, and at a leaf.
+-- What stands for a polynomial over a part of the points: down to a factor, by its last coefficients, and at a leaf.
 use Rattle.std.proofs.Common.{◌≡◌, ℕ, zero, suc, ◌+◌, ◌-◌, ◌<◌, ◌≤◌, [], ◌∷◌, refl, sym, ◌∙◌, ap, ap₂, subst, arith}
 use mathlib.Core.Path.{fun_ext}
 use Rattle.ark_math.specs.Field.{FieldOn, IsField, minus}
@@ -56,30 +56,6 @@ module _ {F : Type 0} (K : FieldOn F) (N : IsField K) where
       ap (K.times (c i)) (ap s place ∙ same (h - 1 - i) (omega arith)))
       ∙ ap (λ m. sum_below (itself K) m (λ i. K.times (c i) (t (h - 1 - i)))) (sym g)))
 
-  -- at the root: the first n coefficients of the quotient of p, moved up by n places, by m
-  pub stands_at_root : (n k : ℕ) (m p q r s : ℕ → F) → 0 < n → IsBelow K k q → IsBelow K n r → ((j : ℕ) → added K (product K q m) r (j + n) ≡ p j) → ((j : ℕ) → j < n → q j ≡ s j) → StandsFor K n m p s
-  stands_at_root n k m p q r s some finite short whole same c z below is =
-      let d : ℕ → F = product K c q in
-      let i : ℕ = n - 1 in
-      let e : product K q m ≡ product K d (linear_factor K z) =
-      ap (product K q) (is ∙ product_comm K N c (linear_factor K z))
-      ∙ (sym (product_assoc K N q (linear_factor K z) c)
-      ∙ (ap (λ t. product K t c) (product_comm K N q (linear_factor K z))
-      ∙ (product_assoc K N (linear_factor K z) q c
-      ∙ (product_comm K N (linear_factor K z) (product K q c)
-      ∙ ap (λ t. product K t (linear_factor K z)) (product_comm K N q c))))) in
-      let at : (j : ℕ) → product K d (linear_factor K z) (suc (j + i)) ≡ p j = λ j.
-      (let place : suc (j + i) ≡ j + n = omega arith in
-      ap (λ t. t (suc (j + i))) (sym e)
-      ∙ (ap (product K q m) place
-      ∙ (sym (N.plus_zero (product K q m (j + n)))
-      ∙ (ap (K.plus (product K q m (j + n))) (sym (short (j + n) (omega arith)))
-      ∙ whole j)))) in
-      let last : d (n - 1) ≡ product K c s (n - 1) = item_by_few n n c q s (omega arith) some below (λ j l. (let place : n - n + j ≡ j = omega arith in ap q place ∙ same j l)) in
-      subst (IsValue K p z) last
-      (subst (λ t. IsValue K t z (d i)) (fun_ext at)
-      (quotient-item d (n + k - 1) z i (product-below K N n k c q below finite)))
-
   -- down to a factor a of m
   pub stands_for_factor : (end n h : ℕ) (m a b p s t : ℕ → F) → 0 < h → h ≤ end → h ≤ n → IsBelow K (n - h + 1) b → m ≡ product K a b → ((j : ℕ) → j < h → product K b s (end - h + j) ≡ t j) → StandsBefore K end n m p s → StandsFor K h a p t
   stands_for_factor end n h m a b p s t some inside l finite whole same stands c z below is =
@@ -107,6 +83,10 @@ module _ {F : Type 0} (K : FieldOn F) (N : IsField K) where
       let at : (j : ℕ) → product K d (linear_factor K z) (suc (j + i)) ≡ product K m s (j + end) = λ j.
       (let place : suc (j + i) ≡ j + end = omega (arith, some) in ap (λ t. t (suc (j + i))) (sym e) ∙ ap (product K m s) place) in
       subst (λ t. IsValue K t z (d i)) (fun_ext at) (quotient-item d (n + k - 1) z i (product-below K N n k c s below finite))
+
+  -- the last n coefficients do so as they are
+  pub last_stand : (end n : ℕ) (m p s t : ℕ → F) → 0 < n → n ≤ end → ((j : ℕ) → j < n → s (end - n + j) ≡ t j) → StandsBefore K end n m p s → StandsFor K n m p t
+  last_stand end n m p s t some room same stands c z below is = subst (IsValue K p z) (item_by_few n end c s t room some below same) (stands c z below is)
 
   -- at a leaf: what is past n of m times s has p's values at the roots
   pub stands_at_leaf : (n k : ℕ) (m p s c : ℕ → F) (z y : F) → 0 < n → IsBelow K k s → IsBelow K n c → m ≡ product K c (linear_factor K z) → StandsFor K n m p s → IsValue K (λ j. product K m s (j + n)) z y → IsValue K p z y

@@ -1,5 +1,5 @@
 -- Words of the private steps.
-use Rattle.std.specs.Prelude.{◌≡◌, ℕ, ◌<◌, List, length, if◌then◌else◌, ◌==◌}
+use Rattle.std.specs.Prelude.{◌≡◌, ℕ, ◌<◌, ◌⊎◌, List, length, if◌then◌else◌, ◌==◌}
 use Rattle.ark_math.specs.Field.{FieldOn, minus, power}
 use Rattle.ark_math.specs.Module.{itself, sum_below}
 use Rattle.ark_math.specs.Multilinear.{product_below}
@@ -18,10 +18,19 @@ power_sum K zs w t = sum_below (itself K) (length zs) (λ i. K.times (w i) (powe
 abbrev pub at_multiple : {F : Type 0} → FieldOn F → F → (ℕ → F) → ℕ → F
 at_multiple K c a i = K.times (power K c i) (a i)
 
--- each point times c
-pub record ArePointsMoved {F : Type 0} (K : FieldOn F) (c : F) (points moved : List F) : Type 0 where
-  pub len : length moved ≡ length points
-  pub each : (i : ℕ) → i < length points → of_list K moved i ≡ K.times (of_list K points i) c
+-- the power n of each point
+pub record ArePowers {F : Type 0} (K : FieldOn F) (n : ℕ) (points powers : List F) : Type 0 where
+  pub len : length powers ≡ length points
+  pub each : (i : ℕ) → i < length points → of_list K powers i ≡ power K (of_list K points i) n
+
+-- y is x, with the power q that is p; or where p is one both are zero
+abbrev pub IsOffRoot : {F : Type 0} → FieldOn F → F → F → F → F → Type 0
+IsOffRoot K x p y q = ((y ≡ x) × (q ≡ p)) ⊎ ((p ≡ K.one) × (y ≡ K.zero) × (q ≡ K.zero))
+
+-- each of the others is the point at its place, but where the power n of that one is one
+pub record AreOffRoots {F : Type 0} (K : FieldOn F) (n : ℕ) (points others : List F) : Type 0 where
+  pub len : length others ≡ length points
+  pub each : (i : ℕ) → i < length points → (of_list K others i ≡ of_list K points i) ⊎ (power K (of_list K points i) n ≡ K.one)
 
 -- the x of each pair times c, and its y
 pub record ArePairsMoved {F : Type 0} (K : FieldOn F) (c : F) (pairs moved : List (F × F)) : Type 0 where

@@ -1,17 +1,14 @@
 -- The product of x - z over points and over halves of them, and what stands for a polynomial over each part.
 use Rattle.std.specs.Prelude.{◌≡◌, ℕ, suc, ◌+◌, ◌-◌, ◌/◌, ◌<◌, ◌≤◌, List, [], ◌∷◌, length, take, drop, Vec}
 use Rattle.std.specs.declared.alloc.Global.{Global}
-use Rattle.ark_math.specs.Domain.{Domain}
-use Rattle.ark_math.specs.Field.{FieldOn, minus, natural, power}
+use Rattle.ark_math.specs.Field.{FieldOn, natural}
 use Rattle.ark_math.specs.Linear.{linear_factor}
-use Rattle.ark_math.specs.Points.{AreValues}
 use Rattle.ark_math.specs.Univariate.{IsBelow, IsValue, added, difference, monomial, nothing, of_list, product, scaled}
 use Rattle.ark_blocks.specs.Blocks.{AreFirstValues, size_of}
 use Rattle.ark_blocks.specs.Roots.{nodes}
-use Rattle.ark_poly.specs.Values.{Values}
 use Rattle.ark_points.specs.declared.few.FewProducts.{FewProducts}
-use Rattle.ark_points.specs.declared.leaf.Leaf.{Leaf}
-use Rattle.ark_points.specs.declared.leaf.Leaf.TheVariants.{Plain, Blocks}
+use Rattle.ark_points.specs.declared.tree.Leaf.{Leaf}
+use Rattle.ark_points.specs.declared.tree.Leaf.TheVariants.{Plain, Blocks}
 use Rattle.ark_points.specs.declared.tree.Tree.{Tree}
 use Rattle.ark_points.specs.declared.tree.Tree.TheVariants.{Few, Halves'}
 
@@ -22,24 +19,6 @@ StandsBefore {F} K end n m p s = (c : ℕ → F) (z : F) → IsBelow K n c → m
 -- and that is the one before n, where s is below n too
 abbrev pub StandsFor : {F : Type 0} → FieldOn F → ℕ → (ℕ → F) → (ℕ → F) → (ℕ → F) → Type 0
 StandsFor K n m p s = StandsBefore K n n m p s
-
--- t stands over some of the points for what s stands for over all of them
-pub record StandsForPart {F : Type 0} (K : FieldOn F) (points part : List F) (s t : ℕ → F) : Type 0 where
-  pub below : IsBelow K (length part) t
-  pub stands : (p : ℕ → F) → StandsFor K (length points) (nodes K points) p s → StandsFor K (length part) (nodes K part) p t
-
--- t does so over the first half of the points, and u over the others
-pub record StandForHalves {F : Type 0} (K : FieldOn F) (points : List F) (s t u : ℕ → F) : Type 0 where
-  pub low : StandsForPart K points (take (length points / 2) points) s t
-  pub high : StandsForPart K points (drop (length points / 2) points) s u
-
--- where m is zero, p's value is u's times what is left of h without z ^ n, for h the power n of a domain's n elements
-abbrev pub IsShare : {F : Type 0} → FieldOn F → Domain F → (ℕ → F) → (ℕ → F) → (ℕ → F) → Type 0
-IsShare {F} K d m p u = (z y : F) → IsValue K m z K.zero → IsValue K u z y → IsValue K p z (K.times y (minus K (power K d.offset d.size) (power K z d.size)))
-
--- t stands at the roots of m, which is of degree n, for a polynomial with such shares of p
-abbrev pub StandsForShares : {F : Type 0} → FieldOn F → Domain F → ℕ → (ℕ → F) → (ℕ → F) → (ℕ → F) → Type 0
-StandsForShares {F} K d n m p t = (u : ℕ → F) × StandsFor K n m u t × IsShare K d m p u
 
 -- the sum of w 0, w 1, .., each times the product of x - z for the others of a list
 abbrev pub weighed : {F : Type 0} → FieldOn F → List F → (ℕ → F) → ℕ → F
@@ -62,14 +41,6 @@ pub record AreFewProducts {F : Type 0} (K : FieldOn F) (points : List F) (p : Fe
   pub low_count : length p.low.items ≡ length points / 2 + 1
   pub high : of_list K p.high.items ≡ nodes K (drop (length points / 2) points)
   pub high_count : length p.high.items ≡ length points - length points / 2 + 1
-
--- the values of both halves' products over a domain with room for the points' number
-pub record HaveValues {F : Type 0} (K : FieldOn F) (points : List F) (d e : Domain F) (v w : List F) : Type 0 where
-  pub many : 1 < length points
-  pub one_domain : d ≡ e
-  pub room : length points ≤ d.size
-  pub low : AreValues K d (nodes K (take (length points / 2) points)) v
-  pub high : AreValues K d (nodes K (drop (length points / 2) points)) w
 
 -- x ^ n - 1
 abbrev pub power_less_one : {F : Type 0} → FieldOn F → ℕ → ℕ → F
@@ -113,31 +84,28 @@ abbrev pub HasRoom : {F : Type 0} → Tree (FewProducts F) (List F) (Vec F Globa
 HasRoom (Few p) n count len = len ≤ n
 HasRoom (Halves' p q low v b high w) n count len = len ≡ count
 
+-- such a tree has halves
+abbrev pub IsHalved : {F : Type 0} → Tree (FewProducts F) (List F) (Vec F Global) → Type 0
+IsHalved (Few p) = ⊥
+IsHalved (Halves' p q low v b high w) = Unit
+
 -- where the last coefficients of what such a list gives may end: at n, and where the tree has halves also after it
 abbrev pub IsEnd : {F : Type 0} → Tree (FewProducts F) (List F) (Vec F Global) → ℕ → ℕ → ℕ → Type 0
 IsEnd (Few p) n count end = end ≡ n
 IsEnd (Halves' p q low v b high w) n count end = (n ≤ end) × (end ≤ count)
 
--- the product over these points, or a tree of products by a table of as many roots
-abbrev pub IsLeafOver : {F : Type 0} → FieldOn F → List F → Leaf F → Type 0
-IsLeafOver K points (Plain p) = AreFewProducts K points p
-IsLeafOver K points (Blocks roots tree) = (length points ≤ size_of roots) × IsBlockTreeOver K roots (size_of roots) points tree.value
-
--- what a leaf has for all of its points
-abbrev pub product_of_leaf : {F : Type 0} → Leaf F → List F
-product_of_leaf (Plain p) = p.whole
-product_of_leaf (Blocks roots tree) = whole_of_blocks tree.value
-
--- what a tree has for all of its points
-abbrev pub whole : {F D : Type 0} → Tree (Leaf F) (List F) (Values F D) → List F
-whole (Few p) = product_of_leaf p
+-- what the products have for all of their points
+abbrev pub whole : {F : Type 0} → Tree (Leaf F) (List F) Unit → List F
+whole (Few (Plain p)) = p
+whole (Few (Blocks roots tree)) = whole_of_blocks tree.value
 whole (Halves' p a low v b high w) = p
 
--- the products over these points and over the halves of each part
-abbrev pub IsTreeOver : {F D : Type 0} → FieldOn F → (D → Domain F) → List F → Tree (Leaf F) (List F) (Values F D) → Type 0
-IsTreeOver K domain points (Few p) = IsLeafOver K points p
-IsTreeOver K domain points (Halves' p a low v b high w) =
-    (of_list K p ≡ nodes K points)
-    × HaveValues K points (domain v.domain) (domain w.domain) v.evals w.evals
-    × IsTreeOver K domain (take (length points / 2) points) low
-    × IsTreeOver K domain (drop (length points / 2) points) high
+-- the product over these points, with a tree of products by a table of as many roots, or with the products over both halves
+abbrev pub IsTreeOver : {F : Type 0} → FieldOn F → List F → Tree (Leaf F) (List F) Unit → Type 0
+IsTreeOver K points (Few (Plain p)) = of_list K p ≡ nodes K points
+IsTreeOver K points (Few (Blocks roots tree)) = (length points ≤ size_of roots) × IsBlockTreeOver K roots (size_of roots) points tree.value
+IsTreeOver K points (Halves' p a low v b high w) =
+    (1 < length points)
+    × (of_list K p ≡ nodes K points)
+    × IsTreeOver K (take (length points / 2) points) low
+    × IsTreeOver K (drop (length points / 2) points) high

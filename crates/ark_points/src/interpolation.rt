@@ -10,7 +10,6 @@ ghost use Rattle.ark_points.specs.Tree.{IsTreeOver, derived};
 
 use crate::error::PointsError;
 use crate::items::has_zero;
-use crate::levels::Levels;
 use crate::lookup::domain_of_samples;
 use crate::moved::{moved_pairs, with_powers};
 use crate::pairs::first_parts;
@@ -30,7 +29,8 @@ const FEW: usize = 64;
 /// no other one has. `RepeatedPoint` where two pairs have one x.
 ///
 /// For many pairs it takes O(n log^2 n) operations, through products over domains of the field: Lagrange's form, summed up
-/// a tree of products of x - z; and memory for the tree. Few pairs, and all where the field has no domain for them, go as
+/// a tree of products of x - z; and memory for the tree. Where the field has no roots of unity for a power of two of the
+/// pairs, it goes as `evaluate_at` does then. Few pairs, and all where the field has no domain for them, go as
 /// `naive_from_points` does.
 pub fn from_points<F: FftField>(
     alloc: Global,
@@ -53,8 +53,8 @@ pub fn from_points<F: FftField>(
     through_many::<F, GeneralEvaluationDomain<F>>(alloc, points)
 }
 
-// The polynomial through some pairs, by a tree over their x: moved off the roots of unity, but where values at x are
-// looked up among those over a domain.
+// The polynomial through some pairs, by the one through those with x moved off the roots of unity: by a generator, but not
+// where values at x are looked up among those over a domain.
 fn through_many<F: FftField, D: EvaluationDomain<F>>(
     alloc: Global,
     points: &[(F, F)],
@@ -65,41 +65,23 @@ fn through_many<F: FftField, D: EvaluationDomain<F>>(
         → HasRepeated (length points.now) (x_of F.field points.now) }
     ensures errors { IsOkUnlessEither result PointsError.Memory PointsError.RepeatedPoint }
 {
-    if is_looked_up::<F, D>(points) {
-        through_pairs::<F, D>(alloc, points)
-    } else {
-        through_moved::<F, D>(alloc, points)
-    }
+    let factor = factor_for::<F, D>(points);
+    let moved = moved_pairs(alloc, points, factor)?;
+    let through = through_pairs::<F, D>(alloc, &moved)?;
+    Ok(with_powers(alloc, &through, factor)?)
 }
 
-// Whether values at the x of some pairs may be looked up.
-fn is_looked_up<F: FftField, D: EvaluationDomain<F>>(points: &[(F, F)]) -> bool
+// By what the x of some pairs are moved.
+fn factor_for<F: FftField, D: EvaluationDomain<F>>(points: &[(F, F)]) -> F
     requires { 0 < length points.now }
+    ensures { result ≢ F.field.zero }
 {
     let last = points.len() - 1;
-    domain_of_samples::<F, D>(
-        points.len(),
-        points[0].0,
-        points[last / 2].0,
-        points[last].0,
-    )
-    .is_some()
-}
-
-// The polynomial through some pairs, by the one through those with x moved by a generator.
-fn through_moved<F: FftField, D: EvaluationDomain<F>>(
-    alloc: Global,
-    points: &[(F, F)],
-) -> Result<DensePolynomial<F>, PointsError>
-    requires not_empty { 0 < length points.now }
-    ensures through { IfOk result (λ p. IsThrough F.field points.now (of_list F.field p)) }
-    ensures repeated { (result ≡ Err PointsError.RepeatedPoint)
-        → HasRepeated (length points.now) (x_of F.field points.now) }
-    ensures errors { IsOkUnlessEither result PointsError.Memory PointsError.RepeatedPoint }
-{
-    let moved = moved_pairs(alloc, points, F::GENERATOR)?;
-    let through = through_pairs::<F, D>(alloc, &moved)?;
-    Ok(with_powers(alloc, &through, F::GENERATOR)?)
+    let (first, middle, end) = (points[0].0, points[last / 2].0, points[last].0);
+    match domain_of_samples::<F, D>(points.len(), first, middle, end) {
+        Some(_) => F::one(),
+        None => F::GENERATOR,
+    }
 }
 
 // The polynomial through some pairs, by a tree over their x as they are.
@@ -114,27 +96,26 @@ fn through_pairs<F: FftField, D: EvaluationDomain<F>>(
     ensures errors { IsOkUnlessEither result PointsError.Memory PointsError.RepeatedPoint }
 {
     let xs = first_parts(alloc, points)?;
-    let levels = Levels::<F, D>::new(alloc, points.len())?;
-    let tree = Products::new(alloc, &levels, &xs)?;
-    through_tree(alloc, &tree, &xs, points)
+    let tree = Products::new(alloc, &xs)?;
+    through_tree::<F, D>(alloc, &tree, &xs, points)
 }
 
 // The polynomial through pairs that have these x.
 fn through_tree<F: FftField, D: EvaluationDomain<F>>(
     alloc: Global,
-    tree: &Products<F, D>,
+    tree: &Products<F>,
     xs: &[F],
     points: &[(F, F)],
 ) -> Result<DensePolynomial<F>, PointsError>
     requires not_empty { 0 < length points.now }
     requires xs { xs.now ≡ map (λ p. p.0) points.now }
-    requires tree { IsTreeOver F.field D.domain xs.now tree.now }
+    requires tree { IsTreeOver F.field xs.now tree.now }
     ensures through { IfOk result (λ p. IsThrough F.field points.now (of_list F.field p)) }
     ensures repeated { (result ≡ Err PointsError.RepeatedPoint)
         → HasRepeated (length points.now) (x_of F.field points.now) }
     ensures errors { IsOkUnlessEither result PointsError.Memory PointsError.RepeatedPoint }
 {
-    let slopes = slopes(alloc, tree, xs)?;
+    let slopes = slopes::<F, D>(alloc, tree, xs)?;
     if has_zero(&slopes) {
         // Two points are one, as the plain way tells.
         let polynomial = naive_from_points(alloc, points)?;
@@ -144,15 +125,15 @@ fn through_tree<F: FftField, D: EvaluationDomain<F>>(
 }
 
 // Lagrange's sum for pairs that have these x, with these slopes of the product of x - z at them.
-fn summed_up<F: FftField, D: EvaluationDomain<F>>(
+fn summed_up<F: FftField>(
     alloc: Global,
-    tree: &Products<F, D>,
+    tree: &Products<F>,
     xs: &[F],
     slopes: &[F],
     points: &[(F, F)],
 ) -> Result<DensePolynomial<F>, PolyError>
     requires xs { xs.now ≡ map (λ p. p.0) points.now }
-    requires tree { IsTreeOver F.field D.domain xs.now tree.now }
+    requires tree { IsTreeOver F.field xs.now tree.now }
     requires len { length slopes.now ≡ length xs.now }
     requires slopes { HasValues F.field (length xs.now) (of_list F.field xs.now) (of_list F.field slopes.now)
         (derived F.field (nodes F.field xs.now)) }
@@ -168,11 +149,11 @@ fn summed_up<F: FftField, D: EvaluationDomain<F>>(
 // The slope at each point of the product of x - z over all of them.
 fn slopes<F: FftField, D: EvaluationDomain<F>>(
     alloc: Global,
-    tree: &Products<F, D>,
+    tree: &Products<F>,
     points: &[F],
 ) -> Result<Vec<F>, PolyError>
     requires not_empty { 0 < length points.now }
-    requires tree { IsTreeOver F.field D.domain points.now tree.now }
+    requires tree { IsTreeOver F.field points.now tree.now }
     ensures len { IfOk result (λ v. length v.items ≡ length points.now) }
     ensures slopes { IfOk result (λ v. HasValues F.field (length points.now) (of_list F.field points.now)
         (of_list F.field v.items) (derived F.field (nodes F.field points.now))) }
@@ -180,7 +161,7 @@ fn slopes<F: FftField, D: EvaluationDomain<F>>(
 {
     let coeffs = derivative(alloc, tree.product().coeffs())?;
     let derivative = DensePolynomial::from_coefficients_vec(coeffs);
-    values_with_tree(alloc, tree, &derivative, points)
+    values_with_tree::<F, D>(alloc, tree, &derivative, points)
 }
 
 // The coefficients of the formal derivative.

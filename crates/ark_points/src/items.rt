@@ -1,6 +1,6 @@
 //! Loops over lists of field elements.
 
-ghost use Rattle.std.specs.Prelude.{◌≡◌, ◌≢◌, ℕ, ◌+◌, ◌*◌, ◌/◌, ◌<◌, ◌≤◌, false, length, IfOk};
+ghost use Rattle.std.specs.Prelude.{◌≡◌, ◌≢◌, ℕ, ◌+◌, ◌*◌, ◌/◌, ◌<◌, false, length, IfOk};
 ghost use Rattle.ark_math.specs.Field.{minus, power};
 ghost use Rattle.ark_math.specs.Module.{itself, sum_below};
 ghost use Rattle.ark_math.specs.Univariate.{of_list};

@@ -3,23 +3,20 @@
 #![tactic(auto)]
 
 mod blocks;
-mod coset;
 mod division;
 mod error;
 mod few;
 mod interpolation;
 mod items;
 mod laws;
-mod leaf;
-mod levels;
 mod lookup;
 mod moved;
 mod pairs;
 mod parts;
 mod places;
+mod quotients;
 mod repeated;
-mod scaled;
-mod series;
+mod roots;
 mod table;
 mod tree;
 mod values;

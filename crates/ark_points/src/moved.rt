@@ -6,23 +6,13 @@
 
 ghost use Rattle.std.specs.Prelude.{◌≡◌, IfOk};
 ghost use Rattle.ark_math.specs.Univariate.{of_list};
-ghost use Rattle.ark_points.specs.Steps.{ArePairsMoved, ArePointsMoved, at_multiple};
+ghost use Rattle.ark_points.specs.Steps.{ArePairsMoved, at_multiple};
 
 use crate::items::scale_by_powers;
 use ark_base::Field;
-use ark_blocks::items::scale_each;
 use ark_poly::DenseUVPolynomial;
 use ark_poly::univariate::DensePolynomial;
 use std::alloc::{AllocError, Global};
-
-/// Each point times the factor.
-pub fn moved_points<F: Field>(alloc: Global, points: &[F], factor: F) -> Result<Vec<F>, AllocError>
-    ensures { IfOk result (λ v. ArePointsMoved F.field factor points.now v.items) }
-{
-    let mut moved = Vec::from_slice(alloc, points)?;
-    scale_each(moved.as_mut_slice(), factor);
-    Ok(moved)
-}
 
 /// The x of each pair times the factor, with its y.
 pub fn moved_pairs<F: Field>(

@@ -1,20 +1,19 @@
 //! Values at many points.
 
-ghost use Rattle.std.specs.Prelude.{◌≡◌, ◌<◌, length, IfOk, IfSome, IsOkUnless};
+ghost use Rattle.std.specs.Prelude.{◌≡◌, ◌<◌, length, IfOk, IsOkUnless};
 ghost use Rattle.ark_math.specs.Univariate.{of_list};
 ghost use Rattle.ark_points.specs.Points.{AreValuesAt, HasValues};
 ghost use Rattle.ark_points.specs.Tree.{IsTreeOver};
 
-use crate::coset::values_by_coset;
-use crate::levels::Levels;
 use crate::lookup::values_by_lookup;
-use crate::moved::{moved_points, with_powers};
-use crate::scaled::scaled_by;
-use crate::tree::{Products, Tree};
+use crate::quotients::remainder;
+use crate::roots::values_by_table;
+use crate::tree::Products;
 use ark_base::{FftField, Field, PolyError, Polynomial};
+use ark_blocks::BlockRoots;
 use ark_poly::univariate::DensePolynomial;
 use ark_poly::{DenseUVPolynomial, EvaluationDomain, GeneralEvaluationDomain};
-use std::alloc::{AllocError, Global};
+use std::alloc::Global;
 
 // Up to so many points or coefficients each value is found for itself.
 const FEW: usize = 256;
@@ -23,10 +22,12 @@ const FEW: usize = 256;
 ///
 /// For long lists it takes O(n log^2 n) operations, through products over domains of the field: down a tree
 /// of products of x - z, where each part of the points is handed what has the polynomial's values there; and
-/// memory for the tree. Where all points are zero or elements of a domain of a few times as many, up to 32,
-/// as there are points or coefficients, their values are looked up among those over the domain: in O(n log n)
-/// operations, and memory for these. Short lists, and all where the field has no domain for them, go as
-/// `naive_evaluate_at` does. The only error is `Memory`.
+/// memory for the tree. Where the field has no roots of unity for a power of two of the points or coefficients,
+/// each half of the points is handed what the product over it leaves, by the divisions and products of
+/// `DensePolynomial`, which take as long as these. Where all points are zero or elements of a domain of a few
+/// times as many, up to 32, as there are points or coefficients, their values are looked up among those over the
+/// domain: in O(n log n) operations, and memory for these. Short lists, and all where the field has no domain for
+/// them, go as `naive_evaluate_at` does. The only error is `Memory`.
 pub fn evaluate_at<F: FftField>(
     alloc: Global,
     polynomial: &DensePolynomial<F>,
@@ -44,7 +45,7 @@ pub fn evaluate_at<F: FftField>(
     values_at_many::<F, GeneralEvaluationDomain<F>>(alloc, polynomial, points)
 }
 
-// The values at some points: looked up, or by a tree over them.
+// The values at some points: looked up, by a table of roots of unity, or by remainders where the field has no such table.
 fn values_at_many<F: FftField, D: EvaluationDomain<F>>(
     alloc: Global,
     polynomial: &DensePolynomial<F>,
@@ -54,103 +55,47 @@ fn values_at_many<F: FftField, D: EvaluationDomain<F>>(
     ensures values { IfOk result (λ v. AreValuesAt F.field points.now v.items (of_list F.field polynomial.now)) }
     ensures memory { IsOkUnless result PolyError.Memory }
 {
-    match values_by_lookup::<F, D>(alloc, polynomial, points)? {
-        Some(values) => Ok(values),
-        None => values_by_own_tree::<F, D>(alloc, polynomial, points),
-    }
-}
-
-// The values at some points, by a tree over them, moved off the roots of unity: there what `values_by_tree` divides by
-// is seldom zero.
-fn values_by_own_tree<F: FftField, D: EvaluationDomain<F>>(
-    alloc: Global,
-    polynomial: &DensePolynomial<F>,
-    points: &[F],
-) -> Result<Vec<F>, PolyError>
-    requires not_empty { 0 < length points.now }
-    ensures values { IfOk result (λ v. AreValuesAt F.field points.now v.items (of_list F.field polynomial.now)) }
-    ensures memory { IsOkUnless result PolyError.Memory }
-{
-    let inverse = F::GENERATOR.inverse().unwrap();
-    let moved = moved_points(alloc, points, F::GENERATOR)?;
-    let back = with_powers(alloc, polynomial, inverse)?;
-    let levels = Levels::<F, D>::new(alloc, moved.len())?;
-    let tree = Products::new(alloc, &levels, &moved)?;
-    values_by_tree(alloc, &tree, &back, &moved)
-}
-
-/// The values at the points of a tree, of which there are some: looked up, or down the tree.
-pub fn values_with_tree<F: FftField, D: EvaluationDomain<F>>(
-    alloc: Global,
-    tree: &Products<F, D>,
-    polynomial: &DensePolynomial<F>,
-    points: &[F],
-) -> Result<Vec<F>, PolyError>
-    requires not_empty { 0 < length points.now }
-    requires tree { IsTreeOver F.field D.domain points.now tree.now }
-    ensures values { IfOk result (λ v. AreValuesAt F.field points.now v.items (of_list F.field polynomial.now)) }
-    ensures memory { IsOkUnless result PolyError.Memory }
-{
-    match values_by_lookup::<F, D>(alloc, polynomial, points)? {
-        Some(values) => Ok(values),
-        None => values_by_tree(alloc, tree, polynomial, points),
-    }
-}
-
-// The values at the points of a tree, of which there are some, down the tree.
-fn values_by_tree<F: FftField, D: EvaluationDomain<F>>(
-    alloc: Global,
-    tree: &Products<F, D>,
-    polynomial: &DensePolynomial<F>,
-    points: &[F],
-) -> Result<Vec<F>, PolyError>
-    requires not_empty { 0 < length points.now }
-    requires tree { IsTreeOver F.field D.domain points.now tree.now }
-    ensures values { IfOk result (λ v. AreValuesAt F.field points.now v.items (of_list F.field polynomial.now)) }
-    ensures memory { IsOkUnless result PolyError.Memory }
-{
-    if let Some(values) = values_by_leaf(alloc, tree, polynomial, points)? {
+    if let Some(values) = values_by_lookup::<F, D>(alloc, polynomial, points)? {
         return Ok(values);
     }
-    match values_by_coset(alloc, tree, polynomial, points)? {
-        Some(values) => Ok(values),
-        None => values_by_series(alloc, tree, polynomial, points),
+    let count = points.len().max(polynomial.coeffs().len());
+    match BlockRoots::new(alloc, count)? {
+        Some(blocks) => values_by_table(alloc, &blocks, polynomial, points),
+        None => values_by_remainders(alloc, polynomial, points),
     }
 }
 
-// The same where the whole tree goes by a table of roots of unity, and none of the points is one of these.
-fn values_by_leaf<F: FftField, D: EvaluationDomain<F>>(
+// The values at some points, from what is left of the polynomial by the product of x - z over them.
+fn values_by_remainders<F: FftField>(
     alloc: Global,
-    tree: &Products<F, D>,
-    polynomial: &DensePolynomial<F>,
-    points: &[F],
-) -> Result<Option<Vec<F>>, AllocError>
-    requires not_empty { 0 < length points.now }
-    requires tree { IsTreeOver F.field D.domain points.now tree.now }
-    ensures values { IfOk result (λ found. IfSome found (λ v. AreValuesAt F.field points.now v.items
-        (of_list F.field polynomial.now))) }
-{
-    match tree {
-        Tree::Few(leaf) => leaf.values(alloc, points, polynomial.coeffs()),
-        Tree::Halves(_, _, _, _, _) => Ok(None),
-    }
-}
-
-// The same through an inverse power series of the product, or a division where the field has no domain for that.
-fn values_by_series<F: FftField, D: EvaluationDomain<F>>(
-    alloc: Global,
-    tree: &Products<F, D>,
     polynomial: &DensePolynomial<F>,
     points: &[F],
 ) -> Result<Vec<F>, PolyError>
     requires not_empty { 0 < length points.now }
-    requires tree { IsTreeOver F.field D.domain points.now tree.now }
     ensures values { IfOk result (λ v. AreValuesAt F.field points.now v.items (of_list F.field polynomial.now)) }
     ensures memory { IsOkUnless result PolyError.Memory }
 {
-    let scaled = scaled_by::<F, D>(alloc, polynomial, tree.product(), points.len())?;
-    let values = tree.values(alloc, points, &scaled)?;
-    Ok(values)
+    let tree = Products::new(alloc, points)?;
+    let rest = remainder(alloc, polynomial, tree.product())?;
+    tree.values(alloc, &rest, points)
+}
+
+/// The values at the points of a tree, of which there are some: looked up, or by the tree.
+pub fn values_with_tree<F: FftField, D: EvaluationDomain<F>>(
+    alloc: Global,
+    tree: &Products<F>,
+    polynomial: &DensePolynomial<F>,
+    points: &[F],
+) -> Result<Vec<F>, PolyError>
+    requires not_empty { 0 < length points.now }
+    requires tree { IsTreeOver F.field points.now tree.now }
+    ensures values { IfOk result (λ v. AreValuesAt F.field points.now v.items (of_list F.field polynomial.now)) }
+    ensures memory { IsOkUnless result PolyError.Memory }
+{
+    match values_by_lookup::<F, D>(alloc, polynomial, points)? {
+        Some(values) => Ok(values),
+        None => tree.values(alloc, polynomial, points),
+    }
 }
 
 /// The values of a polynomial at points, in their order, each for itself.

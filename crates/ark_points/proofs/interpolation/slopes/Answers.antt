@@ -14,7 +14,7 @@ returns-clause-slopes g c =
     let is : of_list K c.from_coefficients_vec-derivative.result ≡ derived K (nodes K points) =
     c.from_coefficients_vec-derivative.ensures.coefficients ∙ c.in_ok-coeffs.ensures
     ∙ ap (λ t. derived K (of_list K t)) (c.coeffs.ensures.same ∙ c.product.ensures)
-    ∙ ap (derived K) (tree-whole K g.met.F.Field.field_laws g.D.EvaluationDomain.domain points c.args.tree.now c.requires.tree) in
+    ∙ ap (derived K) (tree-whole K g.met.F.Field.field_laws points c.args.tree.now c.requires.tree) in
     IfOk-weaker c.values_with_tree.result _ _ (λ v h. subst (HasValues K (length points) (of_list K points) (of_list K v.items)) is h.values) c.values_with_tree.ensures.values
 
 pub returns-clause-len : goal.returns-clause-len
