@@ -13,7 +13,6 @@ mod lookup;
 mod moved;
 mod pairs;
 mod parts;
-mod places;
 mod quotients;
 mod repeated;
 mod roots;
