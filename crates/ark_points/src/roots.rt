@@ -52,6 +52,7 @@ pub fn values_by_tree<F: FftField>(
     ensures memory { IsOkUnless result PolyError.Memory }
 {
     let size = blocks.size();
+    // What a product leaves of a polynomial is never so long.
     if polynomial.coeffs().len() > size {
         return naive_evaluate_at(alloc, polynomial, points);
     }
