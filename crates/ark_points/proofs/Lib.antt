@@ -5,6 +5,7 @@ pub mod AtMultiples
 pub mod Basis
 pub mod BlockWeighed
 pub mod BlockWraps
+pub mod Digits
 pub mod Halves
 pub mod HandedDown
 pub mod Lagrange

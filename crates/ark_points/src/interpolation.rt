@@ -4,19 +4,19 @@ ghost use Rattle.std.specs.Prelude.{◌≡◌, ◌≢◌, ℕ, ◌<◌, length, 
 ghost use Rattle.ark_math.specs.Linear.{linear_factor};
 ghost use Rattle.ark_math.specs.Outcome.{IsOkUnlessEither};
 ghost use Rattle.ark_math.specs.Univariate.{IsBelow, of_list};
-ghost use Rattle.ark_points.specs.Points.{AreDifferent, AreValuesAt, HasRepeated, HasValues, IsThrough, x_of, y_of};
+ghost use Rattle.ark_points.specs.Points.{AreDifferent, HasRepeated, HasValues, IsThrough, x_of, y_of};
 ghost use Rattle.ark_blocks.specs.Roots.{nodes};
 ghost use Rattle.ark_points.specs.Tree.{IsTreeOver, derived};
 
 use crate::error::PointsError;
 use crate::items::has_zero;
-use crate::lookup::sampled_size;
+use crate::lookup::domain_of_samples;
 use crate::moved::{moved_pairs, with_powers};
 use crate::pairs::first_parts;
 use crate::parts::constant;
 use crate::repeated::has_repeated;
 use crate::tree::Products;
-use crate::values::values_at_many;
+use crate::values::values_with_tree;
 use ark_base::{FftField, Field, PolyError, Polynomial, batch_inversion};
 use ark_poly::univariate::DensePolynomial;
 use ark_poly::{DenseUVPolynomial, EvaluationDomain, GeneralEvaluationDomain};
@@ -50,12 +50,12 @@ pub fn from_points<F: FftField>(
     if points.len() <= FEW || GeneralEvaluationDomain::<F>::new(points.len()).is_none() {
         return naive_from_points(alloc, points);
     }
-    through_many(alloc, points)
+    through_many::<F, GeneralEvaluationDomain<F>>(alloc, points)
 }
 
 // The polynomial through some pairs, by the one through those with x moved off the roots of unity: by a generator, but not
-// where the x are such roots, and values at them are looked up.
-fn through_many<F: FftField>(
+// where values at x are looked up among those over a domain.
+fn through_many<F: FftField, D: EvaluationDomain<F>>(
     alloc: Global,
     points: &[(F, F)],
 ) -> Result<DensePolynomial<F>, PointsError>
@@ -65,31 +65,27 @@ fn through_many<F: FftField>(
         → HasRepeated (length points.now) (x_of F.field points.now) }
     ensures errors { IsOkUnlessEither result PointsError.Memory PointsError.RepeatedPoint }
 {
-    let factor = factor_for(points);
+    let factor = factor_for::<F, D>(points);
     let moved = moved_pairs(alloc, points, factor)?;
-    let through = through_pairs(alloc, &moved)?;
+    let through = through_pairs::<F, D>(alloc, &moved)?;
     Ok(with_powers(alloc, &through, factor)?)
 }
 
 // By what the x of some pairs are moved.
-fn factor_for<F: FftField>(points: &[(F, F)]) -> F
+fn factor_for<F: FftField, D: EvaluationDomain<F>>(points: &[(F, F)]) -> F
     requires { 0 < length points.now }
     ensures { result ≢ F.field.zero }
 {
     let last = points.len() - 1;
-    match sampled_size(
-        points.len(),
-        points[0].0,
-        points[last / 2].0,
-        points[last].0,
-    ) {
+    let (first, middle, end) = (points[0].0, points[last / 2].0, points[last].0);
+    match domain_of_samples::<F, D>(points.len(), first, middle, end) {
         Some(_) => F::one(),
         None => F::GENERATOR,
     }
 }
 
 // The polynomial through some pairs, by a tree over their x as they are.
-fn through_pairs<F: FftField>(
+fn through_pairs<F: FftField, D: EvaluationDomain<F>>(
     alloc: Global,
     points: &[(F, F)],
 ) -> Result<DensePolynomial<F>, PointsError>
@@ -101,11 +97,11 @@ fn through_pairs<F: FftField>(
 {
     let xs = first_parts(alloc, points)?;
     let tree = Products::new(alloc, &xs)?;
-    through_tree(alloc, &tree, &xs, points)
+    through_tree::<F, D>(alloc, &tree, &xs, points)
 }
 
 // The polynomial through pairs that have these x.
-fn through_tree<F: FftField>(
+fn through_tree<F: FftField, D: EvaluationDomain<F>>(
     alloc: Global,
     tree: &Products<F>,
     xs: &[F],
@@ -119,7 +115,7 @@ fn through_tree<F: FftField>(
         → HasRepeated (length points.now) (x_of F.field points.now) }
     ensures errors { IsOkUnlessEither result PointsError.Memory PointsError.RepeatedPoint }
 {
-    let slopes = slopes(alloc, tree, xs)?;
+    let slopes = slopes::<F, D>(alloc, tree, xs)?;
     if has_zero(&slopes) {
         // Two points are one, as the plain way tells.
         let polynomial = naive_from_points(alloc, points)?;
@@ -151,7 +147,11 @@ fn summed_up<F: FftField>(
 }
 
 // The slope at each point of the product of x - z over all of them.
-fn slopes<F: FftField>(alloc: Global, tree: &Products<F>, points: &[F]) -> Result<Vec<F>, PolyError>
+fn slopes<F: FftField, D: EvaluationDomain<F>>(
+    alloc: Global,
+    tree: &Products<F>,
+    points: &[F],
+) -> Result<Vec<F>, PolyError>
     requires not_empty { 0 < length points.now }
     requires tree { IsTreeOver F.field points.now tree.now }
     ensures len { IfOk result (λ v. length v.items ≡ length points.now) }
@@ -161,26 +161,7 @@ fn slopes<F: FftField>(alloc: Global, tree: &Products<F>, points: &[F]) -> Resul
 {
     let coeffs = derivative(alloc, tree.product().coeffs())?;
     let derivative = DensePolynomial::from_coefficients_vec(coeffs);
-    values_with_tree(alloc, tree, &derivative, points)
-}
-
-// The values at the points of a tree: looked up where they are roots of unity, and else by the tree.
-fn values_with_tree<F: FftField>(
-    alloc: Global,
-    tree: &Products<F>,
-    polynomial: &DensePolynomial<F>,
-    points: &[F],
-) -> Result<Vec<F>, PolyError>
-    requires not_empty { 0 < length points.now }
-    requires tree { IsTreeOver F.field points.now tree.now }
-    ensures values { IfOk result (λ v. AreValuesAt F.field points.now v.items (of_list F.field polynomial.now)) }
-    ensures memory { IsOkUnless result PolyError.Memory }
-{
-    let last = points.len() - 1;
-    match sampled_size(points.len(), points[0], points[last / 2], points[last]) {
-        Some(_) => values_at_many(alloc, polynomial, points),
-        None => tree.values(alloc, polynomial, points),
-    }
+    values_with_tree::<F, D>(alloc, tree, &derivative, points)
 }
 
 // The coefficients of the formal derivative.

@@ -1,7 +1,6 @@
 //! Loops over lists of field elements.
 
-ghost use Rattle.std.specs.Prelude.{◌≡◌, ◌≢◌, ℕ, ◌+◌, ◌*◌, ◌/◌, ◌<◌, false, length, IfOk, IsTrue};
-ghost use Rattle.ark_blocks.specs.Blocks.{IsPowerOfTwo};
+ghost use Rattle.std.specs.Prelude.{◌≡◌, ◌≢◌, ℕ, ◌+◌, ◌*◌, ◌/◌, ◌<◌, false, length, IfOk};
 ghost use Rattle.ark_math.specs.Field.{minus, power};
 ghost use Rattle.ark_math.specs.Module.{itself, sum_below};
 ghost use Rattle.ark_math.specs.Univariate.{of_list};
@@ -22,18 +21,6 @@ pub fn has_zero<F: Field>(items: &[F]) -> bool
     false
 }
 
-/// Whether all items are zero.
-pub fn are_zero<F: Field>(items: &[F]) -> bool
-    ensures { IsTrue result → (i : ℕ) → i < length items.now → of_list F.field items.now i ≡ F.field.zero }
-{
-    for i in 0..items.len() {
-        if !items[i].is_zero() {
-            return false;
-        }
-    }
-    true
-}
-
 /// Multiplies each item by what is left of `whole` without the power at its place.
 pub fn multiply_by_gaps<F: Field>(items: &mut [F], whole: F, powers: &[F])
     requires { length items.old ≡ length powers.now }
@@ -46,14 +33,16 @@ pub fn multiply_by_gaps<F: Field>(items: &mut [F], whole: F, powers: &[F])
     }
 }
 
-/// Raises each item to the power of the exponent, by squaring all of them in turn.
+/// Raises each item to the power of the exponent: squares all as long as it is even.
 pub fn raise_each<F: Field>(items: &mut [F], exponent: usize)
-    requires { IsPowerOfTwo exponent }
+    requires { 0 < exponent }
     ensures len { length items.new ≡ length items.old }
     ensures powers { (i : ℕ) → i < length items.old → of_list F.field items.new i
         ≡ power F.field (of_list F.field items.old i) exponent }
 {
-    if exponent > 1 {
+    if exponent % 2 == 1 {
+        raise_one_by_one(items, exponent);
+    } else {
         square_each(items);
         raise_each(items, exponent / 2);
     }
@@ -68,6 +57,21 @@ fn square_each<F: Field>(items: &mut [F])
     for i in 0..items.len() {
         let own = items[i];
         items[i] = own * own;
+    }
+}
+
+// Raises each item to the power of the exponent, each for itself.
+fn raise_one_by_one<F: Field>(items: &mut [F], exponent: usize)
+    ensures len { length items.new ≡ length items.old }
+    ensures powers { (i : ℕ) → i < length items.old → of_list F.field items.new i
+        ≡ power F.field (of_list F.field items.old i) exponent }
+{
+    if exponent == 1 {
+        return;
+    }
+    for i in 0..items.len() {
+        let own = items[i];
+        items[i] = own.pow(exponent as u64);
     }
 }
 
@@ -111,6 +115,21 @@ pub fn add_products<F: Field>(items: &mut [F], left: &[F], right: &[F])
     for i in 0..items.len() {
         items[i] = items[i] + left[i] * right[i];
     }
+}
+
+/// The powers of an element from 0 on, so many.
+pub fn powers<F: Field>(alloc: Global, element: F, count: usize) -> Result<Vec<F>, AllocError>
+    ensures len { IfOk result (λ v. length v.items ≡ count) }
+    ensures powers { IfOk result (λ v. (i : ℕ) → i < count
+        → of_list F.field v.items i ≡ power F.field element i) }
+{
+    let mut powers = Vec::with_capacity(alloc, count)?;
+    let mut next = F::one();
+    for _ in 0..count {
+        powers.push(next)?;
+        next *= element;
+    }
+    Ok(powers)
 }
 
 /// Multiplies each item by the factor's power at its place.

@@ -13,6 +13,7 @@ mod lookup;
 mod moved;
 mod pairs;
 mod parts;
+mod places;
 mod quotients;
 mod repeated;
 mod roots;

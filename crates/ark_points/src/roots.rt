@@ -9,10 +9,9 @@ ghost use Rattle.ark_points.specs.Steps.{AreOffRoots, ArePowers, IsOffRoot};
 ghost use Rattle.ark_points.specs.Tree.{IsBlockTreeOver};
 
 use crate::blocks::BlockProducts;
-use crate::items::are_zero;
 use crate::table::powers_of;
 use crate::values::naive_evaluate_at;
-use ark_base::{FftField, Field, PolyError, Polynomial};
+use ark_base::{FftField, Field, PolyError};
 use ark_blocks::BlockRoots;
 use ark_poly::DenseUVPolynomial;
 use ark_poly::univariate::DensePolynomial;
@@ -52,7 +51,6 @@ pub fn values_by_tree<F: FftField>(
     ensures memory { IsOkUnless result PolyError.Memory }
 {
     let size = blocks.size();
-    // What a product leaves of a polynomial is never so long.
     if polynomial.coeffs().len() > size {
         return naive_evaluate_at(alloc, polynomial, points);
     }
@@ -109,29 +107,12 @@ fn values_of_others<F: FftField>(
     ensures values { IfOk result (λ v. AreValuesAt F.field points.now v.items (of_list F.field polynomial.now)) }
     ensures memory { IsOkUnless result PolyError.Memory }
 {
-    if are_zero(points) {
-        return values_at_zero(alloc, polynomial, points);
-    }
     let count = count_for(blocks, points.len());
     let tree = BlockProducts::new(alloc, blocks, points, count)?;
     match tree.values(alloc, blocks, points, powers, known, count)? {
         Some(values) => Ok(values),
         None => naive_evaluate_at(alloc, polynomial, points),
     }
-}
-
-// The same where all points are zero.
-fn values_at_zero<F: FftField>(
-    alloc: Global,
-    polynomial: &DensePolynomial<F>,
-    points: &[F],
-) -> Result<Vec<F>, PolyError>
-    requires { (i : ℕ) → i < length points.now → of_list F.field points.now i ≡ F.field.zero }
-    ensures values { IfOk result (λ v. AreValuesAt F.field points.now v.items (of_list F.field polynomial.now)) }
-    ensures memory { IsOkUnless result PolyError.Memory }
-{
-    let value = polynomial.evaluate(alloc, &F::zero())?;
-    Ok(vec![in alloc; value; points.len()]?)
 }
 
 // The least power of two that isn't below the number of points.

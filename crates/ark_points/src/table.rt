@@ -155,7 +155,7 @@ pub fn powers_of<F: Field>(
     points: &[F],
     exponent: usize,
 ) -> Result<Vec<F>, AllocError>
-    requires { IsPowerOfTwo exponent }
+    requires { 0 < exponent }
     ensures { IfOk result (λ v. ArePowers F.field exponent points.now v.items) }
 {
     let mut powers = Vec::from_slice(alloc, points)?;

@@ -3,8 +3,9 @@
 ghost use Rattle.std.specs.Prelude.{◌≡◌, ◌<◌, length, IfOk, IsOkUnless};
 ghost use Rattle.ark_math.specs.Univariate.{of_list};
 ghost use Rattle.ark_points.specs.Points.{AreValuesAt, HasValues};
+ghost use Rattle.ark_points.specs.Tree.{IsTreeOver};
 
-use crate::lookup::table_size;
+use crate::lookup::values_by_lookup;
 use crate::quotients::remainder;
 use crate::roots::values_by_table;
 use crate::tree::Products;
@@ -23,10 +24,10 @@ const FEW: usize = 256;
 /// of products of x - z, where each part of the points is handed what has the polynomial's values there; and
 /// memory for the tree. Where the field has no roots of unity for a power of two of the points or coefficients,
 /// each half of the points is handed what the product over it leaves, by the divisions and products of
-/// `DensePolynomial`, which take as long as these. Where all points are zero or roots of unity of the order of a
-/// power of two that is at most 32 times the least one from the number of points or coefficients on, their values
-/// are looked up among those at all of these roots: in O(n log n) operations, and memory for these. Short lists,
-/// and all where the field has no domain for them, go as `naive_evaluate_at` does. The only error is `Memory`.
+/// `DensePolynomial`, which take as long as these. Where all points are zero or elements of a domain of a few
+/// times as many, up to 32, as there are points or coefficients, their values are looked up among those over the
+/// domain: in O(n log n) operations, and memory for these. Short lists, and all where the field has no domain for
+/// them, go as `naive_evaluate_at` does. The only error is `Memory`.
 pub fn evaluate_at<F: FftField>(
     alloc: Global,
     polynomial: &DensePolynomial<F>,
@@ -41,11 +42,11 @@ pub fn evaluate_at<F: FftField>(
     if is_short || GeneralEvaluationDomain::<F>::new(points.len()).is_none() {
         return naive_evaluate_at(alloc, polynomial, points);
     }
-    values_at_many(alloc, polynomial, points)
+    values_at_many::<F, GeneralEvaluationDomain<F>>(alloc, polynomial, points)
 }
 
-/// The values at some points, by a table of roots of unity, or by remainders where the field has no such table.
-pub fn values_at_many<F: FftField>(
+// The values at some points: looked up, by a table of roots of unity, or by remainders where the field has no such table.
+fn values_at_many<F: FftField, D: EvaluationDomain<F>>(
     alloc: Global,
     polynomial: &DensePolynomial<F>,
     points: &[F],
@@ -54,8 +55,11 @@ pub fn values_at_many<F: FftField>(
     ensures values { IfOk result (λ v. AreValuesAt F.field points.now v.items (of_list F.field polynomial.now)) }
     ensures memory { IsOkUnless result PolyError.Memory }
 {
+    if let Some(values) = values_by_lookup::<F, D>(alloc, polynomial, points)? {
+        return Ok(values);
+    }
     let count = points.len().max(polynomial.coeffs().len());
-    match BlockRoots::new(alloc, table_size(count, points))? {
+    match BlockRoots::new(alloc, count)? {
         Some(blocks) => values_by_table(alloc, &blocks, polynomial, points),
         None => values_by_remainders(alloc, polynomial, points),
     }
@@ -74,6 +78,24 @@ fn values_by_remainders<F: FftField>(
     let tree = Products::new(alloc, points)?;
     let rest = remainder(alloc, polynomial, tree.product())?;
     tree.values(alloc, &rest, points)
+}
+
+/// The values at the points of a tree, of which there are some: looked up, or by the tree.
+pub fn values_with_tree<F: FftField, D: EvaluationDomain<F>>(
+    alloc: Global,
+    tree: &Products<F>,
+    polynomial: &DensePolynomial<F>,
+    points: &[F],
+) -> Result<Vec<F>, PolyError>
+    requires not_empty { 0 < length points.now }
+    requires tree { IsTreeOver F.field points.now tree.now }
+    ensures values { IfOk result (λ v. AreValuesAt F.field points.now v.items (of_list F.field polynomial.now)) }
+    ensures memory { IsOkUnless result PolyError.Memory }
+{
+    match values_by_lookup::<F, D>(alloc, polynomial, points)? {
+        Some(values) => Ok(values),
+        None => tree.values(alloc, polynomial, points),
+    }
 }
 
 /// The values of a polynomial at points, in their order, each for itself.
