@@ -8,7 +8,7 @@ pub use ark_traits::{
     CanonicalDeserialize, CanonicalSerialize, Compress, DomainCoeff, Either, Failed, FftField,
     Field, IoSink, IoSource, Lanes, One, PolyError, Polynomial, SerializationError, Sink, Source,
     Spelled, Valid, Work, Zero, batch_inversion, k_adicity, list_size, log2, read_list,
-    read_number, recompress, write_list, write_number, written_then_read,
+    read_number, recompress, recompressed_and_back, write_list, write_number, written_then_read,
 };
 pub use fields::{
     BabyBear, BabyBearModulus, Goldilocks, GoldilocksModulus, KoalaBear, KoalaBearModulus,

@@ -521,6 +521,8 @@ impl<M: PrimeModulus> Field for PrimeField<M> {
     ghost elements_law = { λ _. prime_elements M.modulus };
 
     ghost modes_law = { λ _ _. one_format _ };
+
+    ghost memory_law = { λ m. m };
 }
 
 impl<M: PrimeModulus> DomainCoeff<PrimeField<M>> for PrimeField<M> {

@@ -1,14 +1,14 @@
 -- What several reads take together.
-use Rattle.std.proofs.Common.{◌≡◌, ℕ, ◌^◌, ◌<◌, List, [], ◌∷◌, ◌++◌, length, Err, inl, inr, refl, sym, ap, ◌∙◌, append_assoc, append-nil, arith, subst}
+use Rattle.std.proofs.Common.{◌≡◌, ℕ, ◌^◌, ◌<◌, List, [], ◌∷◌, ◌++◌, length, Result, Ok, Err, inl, inr, refl, sym, ap, ◌∙◌, append_assoc, append-nil, arith, subst}
 use Rattle.std.specs.Io.KnownBytes.{Consumes}
 use Rattle.std.proofs.KnownBytes.{Consumes-nil, Consumes-trans}
-use Rattle.ark_math.specs.Format.{Format, IsFormat, IsOneToOne, ◌⊗◌, number, little_endian, word, items, HaveSpellings, list, lawful, either}
+use Rattle.ark_math.specs.Format.{Format, IsFormat, IsOneToOne, ◌⊗◌, number, little_endian, word, items, HaveSpellings, list, lawful, stored, either}
 use Rattle.ark_bytes.proofs.Writing.{HaveSpellings-push, items-push}
 use Rattle.ark_math.proofs.Formats.Ends.{spelled}
 use Rattle.ark_math.proofs.Formats.Unfinished.{unfinished_fields, unfinished_number, unfinished_length, unfinished_item, unfinished_first, unfinished_second, unfinished_tag, unfinished_left, unfinished_right}
 use Rattle.ark_bytes.specs.declared.error.SerializationError.{SerializationError}
 use Rattle.ark_bytes.specs.declared.error.SerializationError.TheVariants.{IoError, InvalidData, Memory}
-use Rattle.ark_bytes.specs.Reading.{SourceState, Takes, TakesFault, TakesSpelling, HasStopped, Refuses, Fills}
+use Rattle.ark_bytes.specs.Reading.{SourceState, Takes, TakesFault, TakesSpelling, HasStopped, Refuses, ReadsAs, Reads, Fills}
 
 pub Takes-nil : (a : SourceState) → Takes a a []
 Takes-nil a = record { consumes = Consumes-nil a.remaining; failures = refl }
@@ -23,32 +23,38 @@ pub stopped_later : (a b c : SourceState) → b.failures ≡ a.failures → HasS
 stopped_later a b c e (inl more) = inl (omega (arith, e, more))
 stopped_later a b c e (inr end) = inr end
 
+-- where a reader takes memory for what a part of it does
+pub refused_weaker : {X : Type 0} (format : Format X) (M N : Type 0) → (M → N) → (a b : SourceState) (e : SerializationError) → Refuses format M a b e → Refuses format N a b e
+refused_weaker format M N takes a b IoError r = r
+refused_weaker format M N takes a b InvalidData r = r
+refused_weaker format M N takes a b Memory r = takes r
+
 -- ---- values
 
 module _ {X Y : Type 0} (first : Format X) (second : Format Y) (A : IsFormat first) where
-  pub refused_first : (a b : SourceState) (e : SerializationError) → Refuses first a b e → Refuses (first ⊗ second) a b e
-  refused_first a b IoError r = record {
+  pub refused_first : (M : Type 0) (a b : SourceState) (e : SerializationError) → Refuses first M a b e → Refuses (first ⊗ second) M a b e
+  refused_first M a b IoError r = record {
     taken = r.taken;
     consumes = r.consumes;
     unfinished = unfinished_first first second A r.taken r.unfinished;
     stopped = r.stopped;
   }
-  refused_first a b InvalidData r = record { taken = r.taken; takes = r.takes; fault = inl r.fault }
-  refused_first a b Memory r = tt
+  refused_first M a b InvalidData r = record { taken = r.taken; takes = r.takes; fault = inl r.fault }
+  refused_first M a b Memory r = r
 
-  pub refused_second : (a b c : SourceState) (x : X) (e : SerializationError) → TakesSpelling first a b x → Refuses second b c e → Refuses (first ⊗ second) a c e
-  refused_second a b c x IoError t r = record {
+  pub refused_second : (M : Type 0) (a b c : SourceState) (x : X) (e : SerializationError) → TakesSpelling first a b x → Refuses second M b c e → Refuses (first ⊗ second) M a c e
+  refused_second M a b c x IoError t r = record {
     taken = first.spelling x ++ r.taken;
     consumes = Consumes-trans a.remaining b.remaining c.remaining (first.spelling x) r.taken t.takes.consumes r.consumes;
     unfinished = unfinished_second first second A (first.spelling x) r.taken (spelled first x t.has) r.unfinished;
     stopped = stopped_later a b c t.takes.failures r.stopped;
   }
-  refused_second a b c x InvalidData t r = record {
+  refused_second M a b c x InvalidData t r = record {
     taken = first.spelling x ++ r.taken;
     takes = Takes-trans a b c (first.spelling x) r.taken t.takes r.takes;
     fault = inr (record { value = x; has = t.has; fault = r.taken; faulty = r.fault; is = refl });
   }
-  refused_second a b c x Memory t r = tt
+  refused_second M a b c x Memory t r = r
 
   pub read_pair : (a b c : SourceState) (x : X) (y : Y) → TakesSpelling first a b x → TakesSpelling second b c y → TakesSpelling (first ⊗ second) a c (x, y)
   read_pair a b c x y s t = record { has = (s.has, t.has); takes = Takes-trans a b c (first.spelling x) (second.spelling y) s.takes t.takes }
@@ -64,7 +70,7 @@ read_bytes a b width n bytes read same size spelled_so below t =
       takes = subst (Takes a b) (sym same ∙ sym spelled_so ∙ ap (λ k. little_endian k n) long) t;
     }
 
-pub refused_number : (a b : SourceState) (width : ℕ) (bytes : List ℕ) (e : SerializationError) → length bytes ≡ width → Fills {A = Unit {0}} bytes a b (Err e) → Refuses (number width) a b e
+pub refused_number : (a b : SourceState) (width : ℕ) (bytes : List ℕ) (e : SerializationError) → length bytes ≡ width → Fills {A = Unit {0}} bytes a b (Err e) → Refuses (number width) ⊥ a b e
 refused_number a b width bytes IoError size f = record {
   taken = f.taken;
   consumes = f.consumes;
@@ -72,7 +78,7 @@ refused_number a b width bytes IoError size f = record {
   stopped = f.stopped;
 }
 refused_number a b width bytes InvalidData size f = absurd f
-refused_number a b width bytes Memory size f = tt
+refused_number a b width bytes Memory size f = f
 
 pub same_width : (a b : SourceState) (width other n : ℕ) → width ≡ other → TakesSpelling (number width) a b n → TakesSpelling (number other) a b n
 same_width a b width other n e t = subst (λ w. TakesSpelling (number w) a b n) e t
@@ -106,18 +112,18 @@ module _ {X : Type 0} (item : Format X) (I : IsFormat item) where
       let q = subst (λ n. TakesItems a b n xs) (sym same) p in
       record { has = (q.counts, q.have); takes = q.takes }
 
-  pub refused_length : (a b : SourceState) (e : SerializationError) → Refuses word a b e → Refuses (list item) a b e
-  refused_length a b IoError r = record {
+  pub refused_length : (M : Type 0) (a b : SourceState) (e : SerializationError) → Refuses word ⊥ a b e → Refuses (list item) M a b e
+  refused_length M a b IoError r = record {
     taken = r.taken;
     consumes = r.consumes;
     unfinished = unfinished_length item I r.taken r.unfinished;
     stopped = r.stopped;
   }
-  refused_length a b InvalidData r = absurd r.fault
-  refused_length a b Memory r = tt
+  refused_length M a b InvalidData r = absurd r.fault
+  refused_length M a b Memory r = absurd r
 
-  pub refused_item : (a b c : SourceState) (count : ℕ) (xs : List X) (e : SerializationError) → length xs < count → TakesItems a b count xs → Refuses item b c e → Refuses (list item) a c e
-  refused_item a b c count xs IoError few p r =
+  pub refused_item : (M : Type 0) (a b c : SourceState) (count : ℕ) (xs : List X) (e : SerializationError) → length xs < count → TakesItems a b count xs → Refuses item M b c e → Refuses (list item) (Unit {0}) a c e
+  refused_item M a b c count xs IoError few p r =
       let w = word.spelling count in
       record {
         taken = w ++ (items item xs ++ r.taken);
@@ -126,27 +132,27 @@ module _ {X : Type 0} (item : Format X) (I : IsFormat item) where
         unfinished = unfinished_item item I count xs r.taken p.counts p.have few r.unfinished;
         stopped = stopped_later a b c p.takes.failures r.stopped;
       }
-  refused_item a b c count xs InvalidData few p r =
+  refused_item M a b c count xs InvalidData few p r =
       let w = word.spelling count in
       record {
         taken = w ++ (items item xs ++ r.taken);
         takes = subst (Takes a c) (append_assoc w (items item xs) r.taken) (Takes-trans a b c (w ++ items item xs) r.taken p.takes r.takes);
         fault = record { count = count; counts = p.counts; front = xs; have = p.have; fewer = few; fault = r.taken; faulty = r.fault; is = refl };
       }
-  refused_item a b c count xs Memory few p r = tt
+  refused_item M a b c count xs Memory few p r = tt
 
 -- ---- values spelled as their fields
 
 module _ {X Y : Type 0} (layout : Format X) (fields : Y → X) (IsLawful : Y → Type 0) where
-  pub refused_fields : (a b : SourceState) (e : SerializationError) → Refuses layout a b e → Refuses (lawful layout fields IsLawful) a b e
-  refused_fields a b IoError r = record {
+  pub refused_fields : (M : Type 0) (a b : SourceState) (e : SerializationError) → Refuses layout M a b e → Refuses (lawful layout fields IsLawful) M a b e
+  refused_fields M a b IoError r = record {
     taken = r.taken;
     consumes = r.consumes;
     unfinished = unfinished_fields layout fields IsLawful r.taken r.unfinished;
     stopped = r.stopped;
   }
-  refused_fields a b InvalidData r = record { taken = r.taken; takes = r.takes; fault = inl r.fault }
-  refused_fields a b Memory r = tt
+  refused_fields M a b InvalidData r = record { taken = r.taken; takes = r.takes; fault = inl r.fault }
+  refused_fields M a b Memory r = r
 
   pub read_fields : (a b : SourceState) (x : X) (y : Y) → x ≡ fields y → IsLawful y → TakesSpelling layout a b x → TakesSpelling (lawful layout fields IsLawful) a b y
   read_fields a b x y e h t = record { has = (subst layout.HasSpelling e t.has, h); takes = subst (λ v. Takes a b (layout.spelling v)) e t.takes }
@@ -160,6 +166,11 @@ module _ {X Y : Type 0} (layout : Format X) (fields : Y → X) (IsLawful : Y →
     fault = inr (record { whole = spelled layout x t.has; none = none });
   }
 
+-- a value of a type of lawful values alone, whose fields were read
+pub reads_fields : {X Y : Type 0} (layout : Format X) (fields : Y → X) (M : Type 0) (a b : SourceState) (r : Result Y SerializationError) → ReadsAs fields layout M a b r → Reads (stored layout fields) M a b r
+reads_fields layout fields M a b (Ok y) t = read_fields layout fields (λ _. Unit {0}) a b (fields y) y refl tt t
+reads_fields layout fields M a b (Err e) t = refused_fields layout fields (λ _. Unit {0}) M a b e t
+
 -- a value that is none of the lawful ones, where a spelling tells its value
 pub unlawful_value : {X : Type 0} (layout : Format X) (IsLawful : X → Type 0) → IsOneToOne layout → (a b : SourceState) (x : X) → (IsLawful x → ⊥) → TakesSpelling layout a b x
     → TakesFault (lawful layout (λ (y : X). y) IsLawful) a b
@@ -169,40 +180,40 @@ unlawful_value {X = X} layout IsLawful one a b x none t =
 -- ---- one of two
 
 module _ {X Y : Type 0} (first : Format X) (second : Format Y) where
-  pub refused_tag : (a b : SourceState) (e : SerializationError) → Refuses (number 1) a b e → Refuses (either first second) a b e
-  refused_tag a b IoError r = record {
+  pub refused_tag : (M : Type 0) (a b : SourceState) (e : SerializationError) → Refuses (number 1) ⊥ a b e → Refuses (either first second) M a b e
+  refused_tag M a b IoError r = record {
     taken = r.taken;
     consumes = r.consumes;
     unfinished = unfinished_tag first second r.taken r.unfinished;
     stopped = r.stopped;
   }
-  refused_tag a b InvalidData r = absurd r.fault
-  refused_tag a b Memory r = tt
+  refused_tag M a b InvalidData r = absurd r.fault
+  refused_tag M a b Memory r = absurd r
 
-  pub refused_left : (a b c : SourceState) (e : SerializationError) → TakesSpelling (number 1) a b 0 → Refuses first b c e → Refuses (either first second) a c e
-  refused_left a b c IoError t r = record {
+  pub refused_left : (M : Type 0) (a b c : SourceState) (e : SerializationError) → TakesSpelling (number 1) a b 0 → Refuses first M b c e → Refuses (either first second) M a c e
+  refused_left M a b c IoError t r = record {
     taken = 0 ∷ r.taken;
     consumes = Consumes-trans a.remaining b.remaining c.remaining (0 ∷ []) r.taken t.takes.consumes r.consumes;
     unfinished = unfinished_left first second r.taken r.unfinished;
     stopped = stopped_later a b c t.takes.failures r.stopped;
   }
-  refused_left a b c InvalidData t r = record {
+  refused_left M a b c InvalidData t r = record {
     taken = 0 ∷ r.taken;
     takes = Takes-trans a b c (0 ∷ []) r.taken t.takes r.takes;
     fault = inl (refl, r.fault);
   }
-  refused_left a b c Memory t r = tt
+  refused_left M a b c Memory t r = r
 
-  pub refused_right : (a b c : SourceState) (e : SerializationError) → TakesSpelling (number 1) a b 1 → Refuses second b c e → Refuses (either first second) a c e
-  refused_right a b c IoError t r = record {
+  pub refused_right : (M : Type 0) (a b c : SourceState) (e : SerializationError) → TakesSpelling (number 1) a b 1 → Refuses second M b c e → Refuses (either first second) M a c e
+  refused_right M a b c IoError t r = record {
     taken = 1 ∷ r.taken;
     consumes = Consumes-trans a.remaining b.remaining c.remaining (1 ∷ []) r.taken t.takes.consumes r.consumes;
     unfinished = unfinished_right first second r.taken r.unfinished;
     stopped = stopped_later a b c t.takes.failures r.stopped;
   }
-  refused_right a b c InvalidData t r = record {
+  refused_right M a b c InvalidData t r = record {
     taken = 1 ∷ r.taken;
     takes = Takes-trans a b c (1 ∷ []) r.taken t.takes r.takes;
     fault = inr (inl (refl, r.fault));
   }
-  refused_right a b c Memory t r = tt
+  refused_right M a b c Memory t r = r

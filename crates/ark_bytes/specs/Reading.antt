@@ -54,16 +54,16 @@ pub record TakesLess {X : Type 0} (format : Format X) (old new : SourceState) : 
   pub unfinished : IsUnfinished format taken
   pub stopped : HasStopped old new
 
--- what a refused reading took. Of `Memory` nothing is said
-abbrev pub Refuses : {X : Type 0} → Format X → SourceState → SourceState → SerializationError → Type 0
-Refuses format old new IoError = TakesLess format old new
-Refuses format old new InvalidData = TakesFault format old new
-Refuses format old new Memory = Unit {0}
+-- what a refused reading took. `Memory` comes only where reading takes memory, and nothing more is said of it
+abbrev pub Refuses : {X : Type 0} → Format X → Type 0 → SourceState → SourceState → SerializationError → Type 0
+Refuses format TakesMemory old new IoError = TakesLess format old new
+Refuses format TakesMemory old new InvalidData = TakesFault format old new
+Refuses format TakesMemory old new Memory = TakesMemory
 
 -- what a call that reads a value did, where clauses see the value by `view`
-abbrev pub ReadsAs : {V X : Type 0} → (V → X) → Format X → SourceState → SourceState → Result V SerializationError → Type 0
-ReadsAs view format old new (Ok value) = TakesSpelling format old new (view value)
-ReadsAs view format old new (Err e) = Refuses format old new e
+abbrev pub ReadsAs : {V X : Type 0} → (V → X) → Format X → Type 0 → SourceState → SourceState → Result V SerializationError → Type 0
+ReadsAs view format TakesMemory old new (Ok value) = TakesSpelling format old new (view value)
+ReadsAs view format TakesMemory old new (Err e) = Refuses format TakesMemory old new e
 
-abbrev pub Reads : {X : Type 0} → Format X → SourceState → SourceState → Result X SerializationError → Type 0
-Reads format old new result = ReadsAs (λ v. v) format old new result
+abbrev pub Reads : {X : Type 0} → Format X → Type 0 → SourceState → SourceState → Result X SerializationError → Type 0
+Reads format TakesMemory old new result = ReadsAs (λ v. v) format TakesMemory old new result

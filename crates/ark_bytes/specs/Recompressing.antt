@@ -13,11 +13,12 @@ pub record Moves {X A : Type 0} (from to : Format X) (old_source new_source : So
   pub writes : Writes to value old new result
 
 -- reading refused, and nothing was written
-pub record RefusesToRead {X : Type 0} (from : Format X) (old_source new_source : SourceState) (old new : SinkState) (e : SerializationError) : Type 0 where
-  pub refuses : Refuses from old_source new_source e
+pub record RefusesToRead {X : Type 0} (from : Format X) (TakesMemory : Type 0) (old_source new_source : SourceState) (old new : SinkState) (e : SerializationError) : Type 0 where
+  pub refuses : Refuses from TakesMemory old_source new_source e
   pub kept : Keeps old.contents new.contents
   pub failures : new.failures ≡ old.failures
 
-abbrev pub Recompresses : {X A : Type 0} → Format X → Format X → SourceState → SourceState → SinkState → SinkState → Result A SerializationError → Type 0
-Recompresses {A = A} from to old_source new_source old new (Ok u) = Moves {A = A} from to old_source new_source old new (Ok u)
-Recompresses {A = A} from to old_source new_source old new (Err e) = Moves {A = A} from to old_source new_source old new (Err e) ⊎ RefusesToRead from old_source new_source old new e
+abbrev pub Recompresses : {X A : Type 0} → Format X → Format X → Type 0 → SourceState → SourceState → SinkState → SinkState → Result A SerializationError → Type 0
+Recompresses {A = A} from to TakesMemory old_source new_source old new (Ok u) = Moves {A = A} from to old_source new_source old new (Ok u)
+Recompresses {A = A} from to TakesMemory old_source new_source old new (Err e) =
+    Moves {A = A} from to old_source new_source old new (Err e) ⊎ RefusesToRead from TakesMemory old_source new_source old new e

@@ -28,7 +28,7 @@ pub fn recompress<T: CanonicalSerialize + CanonicalDeserialize, R: Source, W: Si
     writer: &mut W,
     to: Compress,
 ) -> Result<(), SerializationError>
-    ensures { Recompresses (T.format from) (T.format to)
+    ensures { Recompresses (T.format from) (T.format to) T.takes_memory
         (source_state R.remaining R.failures reader.old) (source_state R.remaining R.failures reader.new)
         (sink_state W.contents W.failures writer.old) (sink_state W.contents W.failures writer.new) result }
 {

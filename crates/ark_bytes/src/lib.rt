@@ -16,7 +16,7 @@ mod traits;
 
 pub use compress::{Compress, recompress};
 pub use error::{Failed, SerializationError};
-pub use laws::written_then_read;
+pub use laws::{recompressed_and_back, written_then_read};
 pub use lists::{list_size, read_list, write_list};
 pub use numbers::{read_number, write_number};
 pub use one_of_two::Either;

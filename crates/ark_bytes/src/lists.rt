@@ -1,4 +1,4 @@
-//! Lists: their length, and then their items.
+//! Lists: their length, and then their items. A `Vec` is read and written as its items.
 
 ghost use Rattle.std.specs.Prelude.{◌≡◌, ◌≤◌, ◌^◌, length, IfSome, IsNone};
 ghost use Rattle.ark_math.specs.Format.{list};
@@ -10,7 +10,7 @@ use crate::error::SerializationError;
 use crate::numbers::{read_number, write_number};
 use crate::sink::Sink;
 use crate::source::Source;
-use crate::traits::{CanonicalDeserialize, CanonicalSerialize};
+use crate::traits::{CanonicalDeserialize, CanonicalSerialize, Spelled, Valid};
 use std::alloc::Global;
 
 /// Reads a list. It grows as its items arrive: nothing is reserved by a length that was read.
@@ -19,7 +19,7 @@ pub fn read_list<T: CanonicalDeserialize, R: Source>(
     reader: &mut R,
     mode: Compress,
 ) -> Result<Vec<T>, SerializationError>
-    ensures { ReadsAs (λ v. v.items) (list (T.format mode))
+    ensures { ReadsAs (λ v. v.items) (list (T.format mode)) (Unit {0})
         (source_state R.remaining R.failures reader.old)
         (source_state R.remaining R.failures reader.new) result }
 {
@@ -60,4 +60,63 @@ pub fn list_size<T: CanonicalSerialize>(items: &[T], mode: Compress) -> Option<u
         size = size.checked_add(item.serialized_size(mode)?)?;
     }
     Some(size)
+}
+
+impl<T: Spelled> Spelled for Vec<T> {
+    ghost use Rattle.std.specs.Prelude.{List, map};
+    ghost use Rattle.ark_math.specs.Format.{list, stored};
+    ghost use Rattle.ark_math.proofs.Formats.Ends.{list_is_format, lawful_is_format};
+    ghost use Rattle.ark_math.proofs.Formats.OneToOne.{list_shows, lawful_shows};
+
+    ghost format = { λ mode. stored (list (T.format mode)) (λ v. v.items) };
+
+    ghost format_law = { λ mode. lawful_is_format (list (T.format mode)) (λ v. v.items)
+        (λ _. Unit {0}) (list_is_format (T.format mode) (T.format_law mode)) };
+
+    ghost Shown = { List T.Shown };
+
+    ghost shown = { λ v. map T.shown v.items };
+
+    ghost tells = { λ mode. lawful_shows (list (T.format mode)) (λ v. v.items) (λ _. Unit {0})
+        (map T.shown) (λ v. map T.shown v.items)
+        (list_shows (T.format mode) (T.format_law mode) T.shown (T.tells mode)) (λ x y e. e) };
+}
+
+impl<T: CanonicalSerialize> CanonicalSerialize for Vec<T> {
+    ghost use Rattle.ark_math.specs.Format.{list};
+    ghost use Rattle.ark_math.proofs.Formats.Modes.{keeps_by_fields, keeps_in_lists};
+
+    fn serialize_with_mode<W: Sink>(
+        &self,
+        writer: &mut W,
+        mode: Compress,
+    ) -> Result<(), SerializationError> {
+        write_list(self, writer, mode)
+    }
+
+    fn serialized_size(&self, mode: Compress) -> Option<usize> {
+        list_size(self, mode)
+    }
+
+    ghost both_modes = { λ mode other. keeps_by_fields (list (T.format mode)) (list (T.format other))
+        (λ v. v.items) (λ _. Unit {0})
+        (keeps_in_lists (T.format mode) (T.format other) (T.format_law mode) (T.both_modes mode other)) };
+}
+
+impl<T: Valid> Valid for Vec<T> {
+    fn check(&self) -> Result<(), SerializationError> {
+        Ok(())
+    }
+}
+
+impl<T: CanonicalDeserialize> CanonicalDeserialize for Vec<T> {
+    ghost takes_memory = { Unit {0} };
+
+    fn deserialize_with_mode<R: Source>(
+        alloc: Global,
+        reader: &mut R,
+        mode: Compress,
+    ) -> Result<Self, SerializationError> {
+        read_list(alloc, reader, mode)
+    }
 }

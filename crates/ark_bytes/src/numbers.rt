@@ -27,10 +27,11 @@ fn number_of(bytes: &[u8]) -> u64
     value
 }
 
-/// Reads a number of so many bytes. `IoError` comes where the reader ends or fails before the last one.
+/// Reads a number of so many bytes. `IoError` comes where the reader ends or fails before the last one, and is the only
+/// error.
 pub fn read_number<R: Source>(reader: &mut R, width: usize) -> Result<u64, SerializationError>
     requires { width ≤ 8 }
-    ensures { Reads (number width) (source_state R.remaining R.failures reader.old)
+    ensures { Reads (number width) ⊥ (source_state R.remaining R.failures reader.old)
         (source_state R.remaining R.failures reader.new) result }
 {
     let mut buffer = [0u8; 8];
@@ -74,6 +75,9 @@ impl Spelled for u8 {
 }
 
 impl CanonicalSerialize for u8 {
+    ghost use Rattle.ark_math.specs.Format.{number};
+    ghost use Rattle.ark_math.proofs.Formats.Modes.{keeps_itself};
+
     fn serialize_with_mode<W: Sink>(
         &self,
         writer: &mut W,
@@ -85,6 +89,8 @@ impl CanonicalSerialize for u8 {
     fn serialized_size(&self, _mode: Compress) -> Option<usize> {
         Some(1)
     }
+
+    ghost both_modes = { λ _ _. keeps_itself (number 1) };
 }
 
 impl Valid for u8 {
@@ -94,6 +100,8 @@ impl Valid for u8 {
 }
 
 impl CanonicalDeserialize for u8 {
+    ghost takes_memory = { ⊥ };
+
     fn deserialize_with_mode<R: Source>(
         _alloc: Global,
         reader: &mut R,
@@ -121,6 +129,9 @@ impl Spelled for u32 {
 }
 
 impl CanonicalSerialize for u32 {
+    ghost use Rattle.ark_math.specs.Format.{number};
+    ghost use Rattle.ark_math.proofs.Formats.Modes.{keeps_itself};
+
     fn serialize_with_mode<W: Sink>(
         &self,
         writer: &mut W,
@@ -132,6 +143,8 @@ impl CanonicalSerialize for u32 {
     fn serialized_size(&self, _mode: Compress) -> Option<usize> {
         Some(4)
     }
+
+    ghost both_modes = { λ _ _. keeps_itself (number 4) };
 }
 
 impl Valid for u32 {
@@ -141,6 +154,8 @@ impl Valid for u32 {
 }
 
 impl CanonicalDeserialize for u32 {
+    ghost takes_memory = { ⊥ };
+
     fn deserialize_with_mode<R: Source>(
         _alloc: Global,
         reader: &mut R,
@@ -168,6 +183,9 @@ impl Spelled for u64 {
 }
 
 impl CanonicalSerialize for u64 {
+    ghost use Rattle.ark_math.specs.Format.{number};
+    ghost use Rattle.ark_math.proofs.Formats.Modes.{keeps_itself};
+
     fn serialize_with_mode<W: Sink>(
         &self,
         writer: &mut W,
@@ -179,6 +197,8 @@ impl CanonicalSerialize for u64 {
     fn serialized_size(&self, _mode: Compress) -> Option<usize> {
         Some(8)
     }
+
+    ghost both_modes = { λ _ _. keeps_itself (number 8) };
 }
 
 impl Valid for u64 {
@@ -188,6 +208,8 @@ impl Valid for u64 {
 }
 
 impl CanonicalDeserialize for u64 {
+    ghost takes_memory = { ⊥ };
+
     fn deserialize_with_mode<R: Source>(
         _alloc: Global,
         reader: &mut R,
@@ -215,6 +237,9 @@ impl Spelled for usize {
 }
 
 impl CanonicalSerialize for usize {
+    ghost use Rattle.ark_math.specs.Format.{number};
+    ghost use Rattle.ark_math.proofs.Formats.Modes.{keeps_itself};
+
     fn serialize_with_mode<W: Sink>(
         &self,
         writer: &mut W,
@@ -226,6 +251,8 @@ impl CanonicalSerialize for usize {
     fn serialized_size(&self, _mode: Compress) -> Option<usize> {
         Some(8)
     }
+
+    ghost both_modes = { λ _ _. keeps_itself (number 8) };
 }
 
 impl Valid for usize {
@@ -235,6 +262,8 @@ impl Valid for usize {
 }
 
 impl CanonicalDeserialize for usize {
+    ghost takes_memory = { ⊥ };
+
     fn deserialize_with_mode<R: Source>(
         _alloc: Global,
         reader: &mut R,

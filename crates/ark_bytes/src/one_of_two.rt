@@ -41,6 +41,10 @@ impl<A: Spelled, B: Spelled> Spelled for Either<A, B> {
 }
 
 impl<A: CanonicalSerialize, B: CanonicalSerialize> CanonicalSerialize for Either<A, B> {
+    ghost use Rattle.ark_math.specs.Format.{either};
+    ghost use Rattle.ark_math.proofs.Formats.Modes.{keeps_by_fields, keeps_in_either};
+    ghost use Rattle.ark_bytes.specs.Either.{sum_of};
+
     fn serialize_with_mode<W: Sink>(
         &self,
         writer: &mut W,
@@ -65,6 +69,11 @@ impl<A: CanonicalSerialize, B: CanonicalSerialize> CanonicalSerialize for Either
         };
         size.checked_add(1)
     }
+
+    ghost both_modes = { λ mode other. keeps_by_fields (either (A.format mode) (B.format mode))
+        (either (A.format other) (B.format other)) sum_of (λ _. Unit {0})
+        (keeps_in_either (A.format mode) (A.format other) (B.format mode) (B.format other)
+        (A.both_modes mode other) (B.both_modes mode other)) };
 }
 
 impl<A: Valid, B: Valid> Valid for Either<A, B> {
@@ -74,6 +83,10 @@ impl<A: Valid, B: Valid> Valid for Either<A, B> {
 }
 
 impl<A: CanonicalDeserialize, B: CanonicalDeserialize> CanonicalDeserialize for Either<A, B> {
+    ghost use Rattle.std.specs.Prelude.{◌⊎◌};
+
+    ghost takes_memory = { A.takes_memory ⊎ B.takes_memory };
+
     fn deserialize_with_mode<R: Source>(
         alloc: Global,
         reader: &mut R,

@@ -26,6 +26,8 @@ impl<A: Spelled, B: Spelled> Spelled for (A, B) {
 }
 
 impl<A: CanonicalSerialize, B: CanonicalSerialize> CanonicalSerialize for (A, B) {
+    ghost use Rattle.ark_math.proofs.Formats.Modes.{keeps_in_pairs};
+
     fn serialize_with_mode<W: Sink>(
         &self,
         writer: &mut W,
@@ -40,6 +42,9 @@ impl<A: CanonicalSerialize, B: CanonicalSerialize> CanonicalSerialize for (A, B)
         let second = self.1.serialized_size(mode)?;
         first.checked_add(second)
     }
+
+    ghost both_modes = { λ mode other. keeps_in_pairs (A.format mode) (A.format other)
+        (B.format mode) (B.format other) (A.format_law mode) (A.both_modes mode other) (B.both_modes mode other) };
 }
 
 impl<A: Valid, B: Valid> Valid for (A, B) {
@@ -49,6 +54,10 @@ impl<A: Valid, B: Valid> Valid for (A, B) {
 }
 
 impl<A: CanonicalDeserialize, B: CanonicalDeserialize> CanonicalDeserialize for (A, B) {
+    ghost use Rattle.std.specs.Prelude.{◌⊎◌};
+
+    ghost takes_memory = { A.takes_memory ⊎ B.takes_memory };
+
     fn deserialize_with_mode<R: Source>(
         alloc: Global,
         reader: &mut R,

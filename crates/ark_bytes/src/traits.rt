@@ -31,8 +31,11 @@ pub trait Spelled {
     ghost tells: { (mode : Compress) → Tells shown (format mode) };
 }
 
-/// A type whose values are written.
+/// A type whose values are written. Both modes tell the same: values that are spelled alike in one are so in the other.
 pub trait CanonicalSerialize: Spelled {
+    ghost use Rattle.ark_math.specs.Format.{KeepsAlike};
+    ghost use Rattle.ark_bytes.specs.declared.compress.Compress.{Compress};
+
     /// Appends the value's spelling in the mode. `IoError` comes only where the writer failed in this call, and then a
     /// beginning of the spelling was appended; it is the only error. No memory is taken.
     fn serialize_with_mode<W: Sink>(
@@ -66,6 +69,8 @@ pub trait CanonicalSerialize: Spelled {
     {
         self.serialize_with_mode(writer, Compress::No)
     }
+
+    ghost both_modes: { (mode other : Compress) → KeepsAlike (Self.format mode) (Self.format other) };
 }
 
 /// A type that can tell whether a value keeps its invariants, which always hold.
@@ -77,15 +82,19 @@ pub trait Valid {
 
 /// A type whose values are read. Every value is checked.
 pub trait CanonicalDeserialize: Spelled + Valid + Drop {
+    // Whether reading takes memory, and so may answer `Memory`.
+    ghost takes_memory: { Type 0 };
+
     /// Reads a value that is spelled in the mode. `Ok` took exactly a spelling of the value. `InvalidData`: the bytes
     /// that were taken begin no spelling. `IoError`: the reader ended or failed before that was seen. `Memory` comes
-    /// where a growth was refused; nothing is reserved by a length that was read.
+    /// where a growth was refused, and only of types whose reading takes memory; nothing is reserved by a length that was
+    /// read.
     fn deserialize_with_mode<R: Source>(
         alloc: Global,
         reader: &mut R,
         mode: Compress,
     ) -> Result<Self, SerializationError>
-        ensures { Reads (Self.format mode) (source_state R.remaining R.failures reader.old)
+        ensures { Reads (Self.format mode) takes_memory (source_state R.remaining R.failures reader.old)
             (source_state R.remaining R.failures reader.new) result };
 
     /// `deserialize_with_mode` in the mode `Yes`.
@@ -93,7 +102,7 @@ pub trait CanonicalDeserialize: Spelled + Valid + Drop {
         alloc: Global,
         reader: &mut R,
     ) -> Result<Self, SerializationError>
-        ensures { Reads (Self.format Compress.Yes) (source_state R.remaining R.failures reader.old)
+        ensures { Reads (Self.format Compress.Yes) takes_memory (source_state R.remaining R.failures reader.old)
             (source_state R.remaining R.failures reader.new) result }
     {
         Self::deserialize_with_mode(alloc, reader, Compress::Yes)
@@ -104,7 +113,7 @@ pub trait CanonicalDeserialize: Spelled + Valid + Drop {
         alloc: Global,
         reader: &mut R,
     ) -> Result<Self, SerializationError>
-        ensures { Reads (Self.format Compress.No) (source_state R.remaining R.failures reader.old)
+        ensures { Reads (Self.format Compress.No) takes_memory (source_state R.remaining R.failures reader.old)
             (source_state R.remaining R.failures reader.new) result }
     {
         Self::deserialize_with_mode(alloc, reader, Compress::No)

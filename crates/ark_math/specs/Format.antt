@@ -43,6 +43,10 @@ pub record AreSpelledAlike {X : Type 0} (format : Format X) (x y : X) : Type 0 w
   pub other : format.HasSpelling y
   pub same : format.spelling x ≡ format.spelling y
 
+-- values that are spelled alike in one format are so in the other one
+abbrev pub KeepsAlike : {X : Type 0} → Format X → Format X → Type 0
+KeepsAlike {X = X} from to = (x y : X) → AreSpelledAlike from x y → AreSpelledAlike to x y
+
 -- ---- numbers
 
 -- n in so many bytes, the low one first

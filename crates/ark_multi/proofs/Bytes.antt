@@ -15,7 +15,7 @@ use Rattle.ark_multi.specs.SortedTerms.{AreTerms}
 use Rattle.ark_multi.proofs.SortedTerms.{IsTermOrder, rising_like, All_like}
 use Rattle.ark_bytes.specs.Reading.{SourceState, TakesSpelling, TakesFault, Refuses}
 use Rattle.ark_bytes.specs.Writing.{SinkState, PutsSpelling, Stops, Writes}
-use Rattle.ark_bytes.proofs.Reading.{refused_first, refused_second, refused_fields, read_pair, unlawful}
+use Rattle.ark_bytes.proofs.Reading.{refused_first, refused_second, refused_weaker, refused_fields, read_pair, unlawful}
 use Rattle.ark_bytes.proofs.Writing.{stops_before, write_fields, write_pair}
 use Rattle.ark_bytes.specs.declared.error.SerializationError.{SerializationError}
 
@@ -50,11 +50,17 @@ module _ {X Y Z : Type 0} (first : Format X) (second : Format Y) (fields : Z →
       (write_pair first second a b c (fields z).0 (fields z).1 r (subst (PutsSpelling first a b) same s) (subst (λ v. Writes second v b c r) other t))
 
   module _ (A : IsFormat first) where
-    pub refused_in_first : (a b : SourceState) (e : SerializationError) → Refuses first a b e → Refuses (lawful (first ⊗ second) fields IsLawful) a b e
-    refused_in_first a b e r = refused_fields (first ⊗ second) fields IsLawful a b e (refused_first first second A a b e r)
+    -- of a type whose reading takes memory, for one of both fields or for more
+    pub refused_in_first : (M : Type 0) (a b : SourceState) (e : SerializationError) → Refuses first M a b e → Refuses (lawful (first ⊗ second) fields IsLawful) (Unit {0}) a b e
+    refused_in_first M a b e r =
+        refused_fields (first ⊗ second) fields IsLawful (Unit {0}) a b e
+        (refused_first first second A (Unit {0}) a b e (refused_weaker first M (Unit {0}) (λ m. tt) a b e r))
 
-    pub refused_in_second : (a b c : SourceState) (x : X) (e : SerializationError) → TakesSpelling first a b x → Refuses second b c e → Refuses (lawful (first ⊗ second) fields IsLawful) a c e
-    refused_in_second a b c x e t r = refused_fields (first ⊗ second) fields IsLawful a c e (refused_second first second A a b c x e t r)
+    pub refused_in_second : (M : Type 0) (a b c : SourceState) (x : X) (e : SerializationError) → TakesSpelling first a b x → Refuses second M b c e
+        → Refuses (lawful (first ⊗ second) fields IsLawful) (Unit {0}) a c e
+    refused_in_second M a b c x e t r =
+        refused_fields (first ⊗ second) fields IsLawful (Unit {0}) a c e
+        (refused_second first second A (Unit {0}) a b c x e t (refused_weaker second M (Unit {0}) (λ m. tt) b c e r))
 
     pub fault_in_both : {V : Type 0} (view : X × Y → V) → Tells view (first ⊗ second) → (Kept : X × Y → Type 0) → ((p q : X × Y) → view p ≡ view q → Kept q → Kept p) → ((z : Z) → IsLawful z → Kept (fields z))
         → (a b c : SourceState) (x : X) (y : Y) → ¬ Kept (x, y) → TakesSpelling first a b x → TakesSpelling second b c y → TakesFault (lawful (first ⊗ second) fields IsLawful) a c

@@ -13,7 +13,7 @@ dense_table K p = record { variables = p.num_vars; value = of_list K p.evaluatio
 
 -- the table of which a sparse extension holds the entries that aren't zero; what its type keeps of the field, in the
 -- unnamed arguments, is no part of it
-abbrev pub sparse_table : {F : Type 0} {a b c d e f g h i j k l m n o p q r : _} → FieldOn F → SparseMultilinearExtension F a b c d e f g h i j k l m n o p q r → Table F
+abbrev pub sparse_table : {F : Type 0} {a b c d e f g h i j k l m n o p q r s : _} → FieldOn F → SparseMultilinearExtension F a b c d e f g h i j k l m n o p q r s → Table F
 sparse_table K s = record { variables = s.num_vars; value = of_pairs K s.evaluations.items }
 
 -- the values of a table at all its corners, in order

@@ -206,6 +206,8 @@ impl Field for Four {
     ghost elements_law = { λ _. four_elements };
 
     ghost modes_law = { λ _ _. one_format _ };
+
+    ghost memory_law = { λ m. m };
 }
 
 impl DomainCoeff<Four> for Four {

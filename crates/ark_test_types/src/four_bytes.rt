@@ -53,6 +53,8 @@ impl Spelled for Four {
 }
 
 impl CanonicalSerialize for Four {
+    ghost use Rattle.ark_math.proofs.Formats.Modes.{keeps_itself};
+
     fn serialize_with_mode<W: Sink>(
         &self,
         writer: &mut W,
@@ -64,6 +66,8 @@ impl CanonicalSerialize for Four {
     fn serialized_size(&self, _mode: Compress) -> Option<usize> {
         Some(1)
     }
+
+    ghost both_modes = { λ _ _. keeps_itself (stored (number 1) four_number) };
 }
 
 impl Valid for Four {
@@ -73,6 +77,8 @@ impl Valid for Four {
 }
 
 impl CanonicalDeserialize for Four {
+    ghost takes_memory = { ⊥ };
+
     fn deserialize_with_mode<R: Source>(
         _alloc: Global,
         reader: &mut R,

@@ -40,7 +40,7 @@ pub trait One: PartialEq {
 }
 
 /// A field: a commutative ring with 1 different from 0, in which every value but 0 has an inverse. In bytes each element
-/// has a spelling of its own, all of one length, and both modes are the same.
+/// has a spelling of its own, all of one length, both modes are the same, and reading takes no memory.
 pub trait Field: Copy
     + Eq
     + Ord
@@ -143,6 +143,8 @@ pub trait Field: Copy
     ghost elements_law: { (mode : Compress) → AreElements (Self.format mode) element_size };
 
     ghost modes_law: { (mode other : Compress) → AreAlike (Self.format mode) (Self.format other) };
+
+    ghost memory_law: { ¬ Self.takes_memory };
 }
 
 /// A module over a field: the values that domains transform. Each value has a meaning, and the laws speak of

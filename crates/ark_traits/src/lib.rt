@@ -13,7 +13,7 @@ mod work;
 pub use ark_bytes::{
     CanonicalDeserialize, CanonicalSerialize, Compress, Either, Failed, IoSink, IoSource,
     SerializationError, Sink, Source, Spelled, Valid, list_size, read_list, read_number,
-    recompress, write_list, write_number, written_then_read,
+    recompress, recompressed_and_back, write_list, write_number, written_then_read,
 };
 pub use error::PolyError;
 pub use field::{DomainCoeff, FftField, Field, One, Zero};

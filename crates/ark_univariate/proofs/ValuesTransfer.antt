@@ -10,7 +10,7 @@ use Rattle.ark_bytes.specs.declared.error.SerializationError.{SerializationError
 use Rattle.ark_bytes.specs.Writing.{SinkState, PutsSpelling, Stops, Writes}
 use Rattle.ark_bytes.specs.Reading.{SourceState, Refuses, TakesSpelling, TakesFault}
 use Rattle.ark_bytes.proofs.Writing.{stops_before, write_pair, write_fields}
-use Rattle.ark_bytes.proofs.Reading.{refused_first, refused_second, read_pair, refused_fields, unlawful}
+use Rattle.ark_bytes.proofs.Reading.{refused_first, refused_second, refused_weaker, read_pair, refused_fields, unlawful}
 use Rattle.ark_univariate.specs.Values.{Values, list_and_domain, AreAsMany}
 
 module _ {F D : Type 0} (e : Format F) (d : Format D) (domain : D → Domain F) where
@@ -28,14 +28,15 @@ module _ {F D : Type 0} (e : Format F) (d : Format D) (domain : D → Domain F) 
       (write_pair (list e) d a b c v.evals v.domain r (subst (PutsSpelling (list e) a b) same p) (subst (λ y. Writes d y b c r) here w))
 
   module _ (E : IsFormat e) where
-    pub refused_in_list : (a b : SourceState) (error : SerializationError) → Refuses (list e) a b error → Refuses (evaluations e d list_and_domain (AreAsMany domain)) a b error
+    pub refused_in_list : (a b : SourceState) (error : SerializationError) → Refuses (list e) (Unit {0}) a b error → Refuses (evaluations e d list_and_domain (AreAsMany domain)) (Unit {0}) a b error
     refused_in_list a b error r =
-        refused_fields (list e ⊗ d) list_and_domain (AreAsMany domain) a b error (refused_first (list e) d (list_is_format e E) a b error r)
+        refused_fields (list e ⊗ d) list_and_domain (AreAsMany domain) (Unit {0}) a b error (refused_first (list e) d (list_is_format e E) (Unit {0}) a b error r)
 
-    pub refused_in_domain : (a b c : SourceState) (us : List F) (error : SerializationError) → TakesSpelling (list e) a b us → Refuses d b c error
-        → Refuses (evaluations e d list_and_domain (AreAsMany domain)) a c error
-    refused_in_domain a b c us error t r =
-        refused_fields (list e ⊗ d) list_and_domain (AreAsMany domain) a c error (refused_second (list e) d (list_is_format e E) a b c us error t r)
+    pub refused_in_domain : (M : Type 0) (a b c : SourceState) (us : List F) (error : SerializationError) → TakesSpelling (list e) a b us → Refuses d M b c error
+        → Refuses (evaluations e d list_and_domain (AreAsMany domain)) (Unit {0}) a c error
+    refused_in_domain M a b c us error t r =
+        refused_fields (list e ⊗ d) list_and_domain (AreAsMany domain) (Unit {0}) a c error
+        (refused_second (list e) d (list_is_format e E) (Unit {0}) a b c us error t (refused_weaker d M (Unit {0}) (λ m. tt) b c error r))
 
     module _ {V : Type 0} (view : F → V) (one : Tells view e) (two : Tells domain d) where
       other_count : (us vs : List F) (x y : D) → (list e ⊗ d).HasSpelling (us, x) → (list e ⊗ d).HasSpelling (vs, y) → (list e ⊗ d).spelling (us, x) ≡ (list e ⊗ d).spelling (vs, y)

@@ -18,15 +18,15 @@ use Rattle.ark_univariate.specs.declared.domain.general.GeneralEvaluationDomain.
 
 -- what a type keeps of the field, in the unnamed arguments, is not spelled
 
-abbrev pub radix2_coset : {F : Type 0} {a b c d e f g h i j k l m n o p q r s t : _} → Radix2EvaluationDomain F a b c d e f g h i j k l m n o p q r s t → Coset F a b c d e f g h i j k l m n o p q r s t
+abbrev pub radix2_coset : {F : Type 0} {a b c d e f g h i j k l m n o p q r s t u : _} → Radix2EvaluationDomain F a b c d e f g h i j k l m n o p q r s t u → Coset F a b c d e f g h i j k l m n o p q r s t u
 radix2_coset domain = domain.coset
 
-abbrev pub mixed_radix_coset : {F : Type 0} {a b c d e f g h i j k l m n o p q r s t : _} → MixedRadixEvaluationDomain F a b c d e f g h i j k l m n o p q r s t → Coset F a b c d e f g h i j k l m n o p q r s t
+abbrev pub mixed_radix_coset : {F : Type 0} {a b c d e f g h i j k l m n o p q r s t u : _} → MixedRadixEvaluationDomain F a b c d e f g h i j k l m n o p q r s t u → Coset F a b c d e f g h i j k l m n o p q r s t u
 mixed_radix_coset domain = domain.coset
 
 -- which of both kinds
-abbrev pub either_of : {F : Type 0} {a b c d e f g h i j k l m n o p q r s t : _} → GeneralEvaluationDomain F a b c d e f g h i j k l m n o p q r s t
-    → Either (Radix2EvaluationDomain F a b c d e f g h i j k l m n o p q r s t) (MixedRadixEvaluationDomain F a b c d e f g h i j k l m n o p q r s t)
+abbrev pub either_of : {F : Type 0} {a b c d e f g h i j k l m n o p q r s t u : _} → GeneralEvaluationDomain F a b c d e f g h i j k l m n o p q r s t u
+    → Either (Radix2EvaluationDomain F a b c d e f g h i j k l m n o p q r s t u) (MixedRadixEvaluationDomain F a b c d e f g h i j k l m n o p q r s t u)
 either_of (Radix2 domain) = First domain
 either_of (MixedRadix domain) = Second domain
 

@@ -8,13 +8,13 @@ use Rattle.ark_univariate.specs.declared.domain.general.GeneralEvaluationDomain.
 
 -- what a type keeps of the field, in the unnamed arguments, is no part of the domain
 
-abbrev pub radix2_domain : {F : Type 0} {a b c d e f g h i j k l m n o p q r s t : _} → Radix2EvaluationDomain F a b c d e f g h i j k l m n o p q r s t → Domain F
+abbrev pub radix2_domain : {F : Type 0} {a b c d e f g h i j k l m n o p q r s t u : _} → Radix2EvaluationDomain F a b c d e f g h i j k l m n o p q r s t u → Domain F
 radix2_domain domain = coset_domain radix2 domain.coset
 
-abbrev pub mixed_radix_domain : {F : Type 0} {a b c d e f g h i j k l m n o p q r s t : _} → MixedRadixEvaluationDomain F a b c d e f g h i j k l m n o p q r s t → Domain F
+abbrev pub mixed_radix_domain : {F : Type 0} {a b c d e f g h i j k l m n o p q r s t u : _} → MixedRadixEvaluationDomain F a b c d e f g h i j k l m n o p q r s t u → Domain F
 mixed_radix_domain domain = coset_domain mixed_radix domain.coset
 
 -- of either kind
-abbrev pub general_domain : {F : Type 0} {a b c d e f g h i j k l m n o p q r s t : _} → GeneralEvaluationDomain F a b c d e f g h i j k l m n o p q r s t → Domain F
+abbrev pub general_domain : {F : Type 0} {a b c d e f g h i j k l m n o p q r s t u : _} → GeneralEvaluationDomain F a b c d e f g h i j k l m n o p q r s t u → Domain F
 general_domain (Radix2 domain) = radix2_domain domain
 general_domain (MixedRadix domain) = mixed_radix_domain domain

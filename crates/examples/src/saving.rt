@@ -1,6 +1,6 @@
 //! Saving and loading: a polynomial in a file, and the same one that is read from it.
 
-ghost use Rattle.std.specs.Prelude.{◌≡◌, ◌≢◌, IfOk, IfErr};
+ghost use Rattle.std.specs.Prelude.{◌≡◌, IfOk, IsOkUnless};
 ghost use Rattle.std.specs.Io.KnownBytes.{Appends, Consumes};
 ghost use Rattle.ark_math.specs.Layouts.{dense};
 
@@ -18,7 +18,7 @@ pub fn saved_and_loaded<F: Field>(
     polynomial: &DensePolynomial<F>,
 ) -> Result<DensePolynomial<F>, SerializationError>
     ensures same { IfOk result (λ loaded. loaded ≡ polynomial.now) }
-    ensures faultless { IfErr result (λ e. e ≢ SerializationError.InvalidData) }
+    ensures memory { IsOkUnless result SerializationError.Memory }
 {
     written_then_read(alloc, polynomial, Compress::Yes)
 }

@@ -77,6 +77,10 @@ impl Spelled for LexicographicTerm {
 }
 
 impl CanonicalSerialize for LexicographicTerm {
+    ghost use Rattle.ark_math.specs.Format.{stored};
+    ghost use Rattle.ark_math.specs.Layouts.{term};
+    ghost use Rattle.ark_math.proofs.Formats.Modes.{keeps_itself};
+
     fn serialize_with_mode<W: Sink>(
         &self,
         writer: &mut W,
@@ -88,6 +92,8 @@ impl CanonicalSerialize for LexicographicTerm {
     fn serialized_size(&self, mode: Compress) -> Option<usize> {
         self.term.serialized_size(mode)
     }
+
+    ghost both_modes = { λ _ _. keeps_itself (stored term (λ t. t.term)) };
 }
 
 impl Valid for LexicographicTerm {
@@ -97,6 +103,8 @@ impl Valid for LexicographicTerm {
 }
 
 impl CanonicalDeserialize for LexicographicTerm {
+    ghost takes_memory = { Unit {0} };
+
     fn deserialize_with_mode<R: Source>(
         alloc: Global,
         reader: &mut R,

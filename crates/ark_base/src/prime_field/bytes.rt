@@ -53,6 +53,10 @@ impl<M: PrimeModulus> Spelled for PrimeField<M> {
 }
 
 impl<M: PrimeModulus> CanonicalSerialize for PrimeField<M> {
+    ghost use Rattle.ark_math.proofs.Formats.Modes.{keeps_itself};
+    ghost use Rattle.ark_base.specs.Widths.{residue};
+    ghost use Rattle.ark_base.specs.Element.{number};
+
     fn serialize_with_mode<W: Sink>(
         &self,
         writer: &mut W,
@@ -64,6 +68,8 @@ impl<M: PrimeModulus> CanonicalSerialize for PrimeField<M> {
     fn serialized_size(&self, _mode: Compress) -> Option<usize> {
         Some(PrimeField::<M>::width())
     }
+
+    ghost both_modes = { λ _ _. keeps_itself (residue M.MODULUS number) };
 }
 
 impl<M: PrimeModulus> Valid for PrimeField<M> {
@@ -73,6 +79,8 @@ impl<M: PrimeModulus> Valid for PrimeField<M> {
 }
 
 impl<M: PrimeModulus> CanonicalDeserialize for PrimeField<M> {
+    ghost takes_memory = { ⊥ };
+
     fn deserialize_with_mode<R: Source>(
         _alloc: Global,
         reader: &mut R,

@@ -27,13 +27,15 @@ module _ (s : Adicity) (n : ℕ) (lawful : IsAdicity s) (size : IsSupported s n)
       let some : 0 < 2 ^ size.0 * odd_base s.odd ^ size.1 = mul-lt 0 0 (2 ^ size.0) (odd_base s.odd ^ size.1) (pow_pos size.0) base in
       omega (arith, some, size.2.product, z)
 
-  pub few_twos : (a : ℕ) → IsGreatestPower 2 n a → a < 64
-  few_twos a p =
+  pub twos_below : size.0 < 64
+  twos_below =
       let base = power_positive (odd_base s.odd) size.1 (base_positive s lawful) in
       let within : 2 ^ size.0 * 1 ≤ 2 ^ size.0 * odd_base s.odd ^ size.1 = mul-le-mul_left (2 ^ size.0) base in
       let fits : n < 2 ^ 64 = size.2.fits in
-      let below : size.0 < 64 = power_lt size.0 64 (omega (arith, within, fits, size.2.product)) in
-      omega (arith, below, twos_are a p)
+      power_lt size.0 64 (omega (arith, within, fits, size.2.product))
+
+  pub few_twos : (a : ℕ) → IsGreatestPower 2 n a → a < 64
+  few_twos a p = omega (arith, twos_below, twos_are a p)
 
   pub base_above_one : (base most : ℕ) → s.odd ≡ Some (base, most) → 2 ≤ base
   base_above_one base most some = omega (arith, (lawful (base, most) some).0)

@@ -1,12 +1,15 @@
--- Domains in bytes: their layouts are formats, a spelling tells size and offset, and all other fields follow from these.
-use Rattle.std.proofs.Common.{◌≡◌, ℕ, ◌==◌, ◌&&◌, Bool, true, Decides, sym, ap, ap₂, ◌∙◌, subst}
+-- Domains in bytes: their layouts are formats, a spelling tells size and offset, all other fields follow from these, and so
+-- both modes tell the same.
+use Rattle.std.proofs.Common.{◌≡◌, ℕ, ◌^◌, ◌<◌, ◌==◌, ◌&&◌, Bool, true, Decides, sym, ap, ap₂, ◌∙◌, subst, arith}
 use Rattle.std.proofs.lemmas.Bool.{and_parts, and_from, eqb-true, eq-eqb}
 use Rattle.ark_math.specs.Field.{FieldOn, IsField, power, natural}
 use Rattle.ark_math.specs.Root.{Adicity, IsAdicity, Splits}
-use Rattle.ark_math.specs.Format.{Format, IsFormat, Tells, IsOneToOne, word, number, ◌⊗◌}
-use Rattle.ark_math.specs.Layouts.{DomainFields, long_domain, short_domain}
+use Rattle.ark_math.specs.Format.{Format, IsFormat, KeepsAlike, Tells, IsOneToOne, word, number, ◌⊗◌}
+use Rattle.ark_math.specs.Layouts.{AreAlike, DomainFields, long_domain, short_domain}
 use Rattle.ark_math.proofs.Domains.Costs.{one_split}
+use Rattle.ark_math.proofs.Domains.Exponents.{twos_below}
 use Rattle.ark_math.proofs.Formats.Ends.{number_is_format, pair_is_format, lawful_is_format}
+use Rattle.ark_math.proofs.Formats.Modes.{one_format, pair_alike, lawful_alike, keeps_alike}
 use Rattle.ark_math.proofs.Formats.OneToOne.{number_tells, pair_shows, pair_tells, lawful_shows}
 
 -- ---- layouts
@@ -99,6 +102,58 @@ module _ {F : Type 0} (K : FieldOn F) (N : IsField K) where
     where
       at_size : (size : c.0.0 ≡ d.0.0) → Splits s c.0.0 c.0.1 m → Splits s d.0.0 c.0.1 m
       at_size size h = subst (λ x. Splits s x c.0.1 m) size h
+
+-- ---- both modes
+
+-- the exponent of two in a size of 64 bits fits 32
+exponent_fits : (s : Adicity) (n twos odds : ℕ) → IsAdicity s → Splits s n twos odds → twos < 256 ^ 4
+exponent_fits s n twos odds adicity split = omega (arith, twos_below s n adicity (twos, odds, split))
+
+module _ {F D : Type 0} (K : FieldOn F) (N : IsField K) (s : Adicity) (root : ℕ → F) (eq : F → F → Bool) (adicity : IsAdicity s) (decides : (x y : F) → Decides (eq x y) (x ≡ y))
+    (fields : D → DomainFields F) (odds : D → ℕ) (kept : (d : D) → AreKept K s root eq (odds d) (fields d)) (e other : Format F) (E : IsFormat e) (one : IsOneToOne e) (all : (x : F) → other.HasSpelling x) where
+  same_fields : (x y : D) → ◌≡◌ {A = ℕ × F} ((fields x).0.0, offset_of (fields x)) ((fields y).0.0, offset_of (fields y)) → fields x ≡ fields y
+  same_fields x y h = one_kept K N s root eq adicity decides (fields x) (fields y) (odds x) (odds y) (kept x) (kept y) (ap (λ p. p.0) h) (ap (λ p. p.1) h)
+
+  -- a size and its exponent of two that fit, and elements
+  has_long : (d : D) → (fields d).0.0 < 256 ^ 8 → (long_domain other fields).HasSpelling d
+  has_long d fits =
+      let a = (fields d).1 in
+      let exponent = exponent_fits s (fields d).0.0 (fields d).0.1 (odds d) adicity (kept d).splits in
+      (((fits, exponent), (((all a.0.0.0, all a.0.0.1), (all a.0.1.0, all a.0.1.1)), ((all a.1.0.0, all a.1.0.1), all a.1.1))), tt)
+
+  pub short_keeps_long : KeepsAlike (short_domain e (λ d. ((fields d).0.0, offset_of (fields d)))) (long_domain other fields)
+  short_keeps_long x y h =
+      let told = short_one_to_one e E one ((fields x).0.0, offset_of (fields x)) ((fields y).0.0, offset_of (fields y)) h.has.0 h.other.0 h.same in
+      record {
+        has = has_long x h.has.0.0;
+        other = has_long y h.other.0.0;
+        same = ap (λ f. ((word ⊗ number 4) ⊗ (((other ⊗ other) ⊗ (other ⊗ other)) ⊗ ((other ⊗ other) ⊗ other))).spelling f) (same_fields x y told);
+      }
+
+-- size and offset are among the fields
+pub long_keeps_short : {F D : Type 0} (fields : D → DomainFields F) (e other : Format F) → IsFormat e → IsOneToOne e → ((x : F) → other.HasSpelling x)
+    → KeepsAlike (long_domain e fields) (short_domain other (λ d. ((fields d).0.0, offset_of (fields d))))
+long_keeps_short {F = F} fields e other E one all x y h =
+    let told = long_one_to_one e E one (fields x) (fields y) h.has.0 h.other.0 h.same in
+    record {
+      has = ((h.has.0.0.0, all (offset_of (fields x))), tt);
+      other = ((h.other.0.0.0, all (offset_of (fields y))), tt);
+      same = ap (λ (f : DomainFields F). (word ⊗ other).spelling (f.0.0, offset_of f)) told;
+    }
+
+pub short_keeps : {F D : Type 0} (e other : Format F) → AreAlike e other → (fields : D → ℕ × F) → KeepsAlike (short_domain e fields) (short_domain other fields)
+short_keeps e other A fields = keeps_alike (short_domain e fields) (short_domain other fields) (lawful_alike fields (λ _. Unit {0}) (word ⊗ e) (word ⊗ other) (pair_alike word word e other (one_format word) A))
+
+pub long_keeps : {F D : Type 0} (e other : Format F) → AreAlike e other → (fields : D → DomainFields F) → KeepsAlike (long_domain e fields) (long_domain other fields)
+long_keeps e other A fields =
+    let two = pair_alike e other e other A A in
+    let front = pair_alike (e ⊗ e) (other ⊗ other) (e ⊗ e) (other ⊗ other) two two in
+    let back = pair_alike (e ⊗ e) (other ⊗ other) e other two A in
+    let elements = pair_alike ((e ⊗ e) ⊗ (e ⊗ e)) ((other ⊗ other) ⊗ (other ⊗ other)) ((e ⊗ e) ⊗ e) ((other ⊗ other) ⊗ other) front back in
+    let layout = (word ⊗ number 4) ⊗ (((e ⊗ e) ⊗ (e ⊗ e)) ⊗ ((e ⊗ e) ⊗ e)) in
+    let layout_too = (word ⊗ number 4) ⊗ (((other ⊗ other) ⊗ (other ⊗ other)) ⊗ ((other ⊗ other) ⊗ other)) in
+    keeps_alike (long_domain e fields) (long_domain other fields)
+    (lawful_alike fields (λ _. Unit {0}) layout layout_too (pair_alike (word ⊗ number 4) (word ⊗ number 4) (((e ⊗ e) ⊗ (e ⊗ e)) ⊗ ((e ⊗ e) ⊗ e)) (((other ⊗ other) ⊗ (other ⊗ other)) ⊗ ((other ⊗ other) ⊗ other)) (one_format (word ⊗ number 4)) elements))
 
 -- ---- comparing
 

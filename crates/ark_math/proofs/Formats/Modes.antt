@@ -1,9 +1,11 @@
--- Modes that are alike: what is made of alike formats is.
-use Rattle.std.proofs.Common.{◌≡◌, ℕ, List, [], ◌∷◌, ◌++◌, length, inl, inr, refl, sym, ap, ◌∙◌}
+-- Modes that are alike, and modes that tell the same: what is made of such formats is.
+use Rattle.std.proofs.Common.{◌≡◌, ℕ, List, [], ◌∷◌, ◌++◌, length, inl, inr, refl, sym, ap, ◌∙◌, arith}
+use Rattle.std.proofs.lemmas.List.{append_cancel_left}
 use Rattle.ark_math.specs.Field.{FieldOn}
 use Rattle.ark_math.specs.Univariate.{IsTrimmed, IsSparse}
-use Rattle.ark_math.specs.Format.{Format, IsSpelled, IsLaterFault, IsItemFault, HaveSpellings, items, word, ◌⊗◌, list, lawful}
+use Rattle.ark_math.specs.Format.{Format, IsFormat, IsSpelled, IsLaterFault, IsItemFault, HaveSpellings, KeepsAlike, items, word, ◌⊗◌, list, lawful, either}
 use Rattle.ark_math.specs.Layouts.{AreAlike, dense, sparse, multivariate, dense_extension, sparse_extension}
+use Rattle.ark_math.proofs.Formats.Ends.{one_number, spelled, number_is_format}
 
 -- where both modes have one format
 pub one_format : {F : Type 0} (e : Format F) → AreAlike e e
@@ -104,3 +106,78 @@ module _ {F : Type 0} (e other : Format F) (A : AreAlike e other) where
   multivariate_alike t also B fields =
       lawful_alike fields (λ _. Unit {0}) (word ⊗ list (e ⊗ t)) (word ⊗ list (other ⊗ also))
       (pair_alike word word (list (e ⊗ t)) (list (other ⊗ also)) (one_format word) (list_alike (e ⊗ t) (other ⊗ also) (pair_alike e other t also A B)))
+
+-- ---- what is spelled alike in one format and in another one
+
+-- where both modes have one format
+pub keeps_itself : {X : Type 0} (e : Format X) → KeepsAlike e e
+keeps_itself e x y h = h
+
+pub keeps_alike : {X : Type 0} (e other : Format X) → AreAlike e other → KeepsAlike e other
+keeps_alike e other A x y h = record {
+  has = (A.have x).0 h.has;
+  other = (A.have y).0 h.other;
+  same = sym (A.spellings x) ∙ h.same ∙ A.spellings y;
+}
+
+pub keeps_in_pairs : {X Y : Type 0} (a c : Format X) (b d : Format Y) → IsFormat a → KeepsAlike a c → KeepsAlike b d → KeepsAlike (a ⊗ b) (c ⊗ d)
+keeps_in_pairs a c b d A P Q x y h =
+    let fronts = A.one_end (a.spelling x.0) (a.spelling y.0) (b.spelling x.1) (b.spelling y.1) (inl (spelled a x.0 h.has.0)) (inl (spelled a y.0 h.other.0)) h.same in
+    let rests = append_cancel_left (a.spelling x.0) (b.spelling x.1) (b.spelling y.1) (h.same ∙ ap (λ l. l ++ b.spelling y.1) (sym fronts)) in
+    let p = P x.0 y.0 (record { has = h.has.0; other = h.other.0; same = fronts }) in
+    let q = Q x.1 y.1 (record { has = h.has.1; other = h.other.1; same = rests }) in
+    record {
+      has = (p.has, q.has);
+      other = (p.other, q.other);
+      same = ap (λ s. s ++ d.spelling x.1) p.same ∙ ap (λ s. c.spelling y.0 ++ s) q.same;
+    }
+
+module _ {X : Type 0} (e other : Format X) (E : IsFormat e) (K : KeepsAlike e other) where
+  items_keep : (us vs : List X) → HaveSpellings e us → HaveSpellings e vs → length us ≡ length vs → items e us ≡ items e vs
+      → HaveSpellings other us × HaveSpellings other vs × (items other us ≡ items other vs)
+  items_keep [] [] p q l h = (tt, tt, refl)
+  items_keep [] (v ∷ vs) p q l h = absurd (omega (arith, l))
+  items_keep (u ∷ us) [] p q l h = absurd (omega (arith, l))
+  items_keep (u ∷ us) (v ∷ vs) p q l h =
+      let s = e.spelling u in
+      let t = e.spelling v in
+      let fronts = E.one_end s t (items e us) (items e vs) (inl (spelled e u p.0)) (inl (spelled e v q.0)) h in
+      let rests = append_cancel_left s (items e us) (items e vs) (h ∙ ap (λ l. l ++ items e vs) (sym fronts)) in
+      let first = K u v (record { has = p.0; other = q.0; same = fronts }) in
+      let more = items_keep us vs p.1 q.1 (omega (arith, l)) rests in (
+        (first.has, more.0),
+        (first.other, more.1),
+        ap (λ l. l ++ items other us) first.same ∙ ap (λ l. other.spelling v ++ l) more.2,
+      )
+
+  pub keeps_in_lists : KeepsAlike (list e) (list other)
+  keeps_in_lists x y h =
+      let s = word.spelling (length x) in
+      let t = word.spelling (length y) in
+      let words = (number_is_format 8).one_end s t (items e x) (items e y) (inl (spelled word (length x) h.has.0)) (inl (spelled word (length y) h.other.0)) h.same in
+      let rests = append_cancel_left s (items e x) (items e y) (h.same ∙ ap (λ l. l ++ items e y) (sym words)) in
+      let all = items_keep x y h.has.1 h.other.1 (one_number 8 (length x) (length y) h.has.0 h.other.0 words) rests in
+      record {
+        has = (h.has.0, all.0);
+        other = (h.other.0, all.1);
+        same = ap (λ l. l ++ items other x) words ∙ ap (λ l. t ++ l) all.2;
+      }
+
+pub keeps_by_fields : {X Y : Type 0} (e other : Format X) (fields : Y → X) (IsLawful : Y → Type 0) → KeepsAlike e other → KeepsAlike (lawful e fields IsLawful) (lawful other fields IsLawful)
+keeps_by_fields e other fields IsLawful K x y h =
+    let k = K (fields x) (fields y) (record { has = h.has.0; other = h.other.0; same = h.same }) in
+    record { has = (k.has, h.has.1); other = (k.other, h.other.1); same = k.same }
+
+pub keeps_in_either : {X Y : Type 0} (a c : Format X) (b d : Format Y) → KeepsAlike a c → KeepsAlike b d → KeepsAlike (either a b) (either c d)
+keeps_in_either a c b d P Q (inl x) (inl y) h =
+    let e = h.same in
+    let tails : a.spelling x ≡ a.spelling y = cc in
+    let k = P x y (record { has = h.has; other = h.other; same = tails }) in
+    record { has = k.has; other = k.other; same = ap (λ l. 0 ∷ l) k.same }
+keeps_in_either a c b d P Q (inl x) (inr y) h = let e = h.same in cc
+keeps_in_either a c b d P Q (inr x) (inl y) h = let e = h.same in cc
+keeps_in_either a c b d P Q (inr x) (inr y) h =
+    let e = h.same in
+    let tails : b.spelling x ≡ b.spelling y = cc in
+    let k = Q x y (record { has = h.has; other = h.other; same = tails }) in
+    record { has = k.has; other = k.other; same = ap (λ l. 1 ∷ l) k.same }

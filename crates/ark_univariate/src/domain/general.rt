@@ -145,6 +145,8 @@ impl<F: FftField> EvaluationDomain<F> for GeneralEvaluationDomain<F> {
         (F.elements_law mode).one_to_one (λ x y. one_domain mixed_radix F.root F.equality_law
         x.coset.root_is y.coset.root_is) mode) };
 
+    ghost memory_law = { λ m. m };
+
     ghost sizes = { general_sizes F.adicity };
 
     ghost one_size = { one_general_size F.adicity };

@@ -501,6 +501,9 @@ pub trait EvaluationDomain<F: FftField>: Copy
     // In each mode a spelling tells the domain.
     ghost told: { (mode : Compress) → Tells domain (Self.format mode) };
 
+    // Reading one takes no memory.
+    ghost memory_law: { ¬ Self.takes_memory };
+
     // A chosen size is one of the kind's, and the only one.
     ghost sizes: { (k : ℕ) (kind : Kind) (n : ℕ) → chooses k kind n → IsSize F.adicity kind n × (k ≤ n) };
 

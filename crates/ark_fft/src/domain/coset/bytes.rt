@@ -60,6 +60,8 @@ impl<F: FftField> Spelled for Coset<F> {
 }
 
 impl<F: FftField> CanonicalSerialize for Coset<F> {
+    ghost use Rattle.ark_fft.specs.CosetBytes.{all_fields, domain_keeps};
+
     fn serialize_with_mode<W: Sink>(
         &self,
         writer: &mut W,
@@ -77,6 +79,20 @@ impl<F: FftField> CanonicalSerialize for Coset<F> {
             Compress::No => self.fields().serialized_size(mode),
         }
     }
+
+    ghost both_modes = { λ mode other. domain_keeps F.field F.field_laws F.adicity F.root F.eq F.roots_law.base
+        F.equality_law all_fields (λ c. c.odd_exponent)
+        (λ c. record {
+          splits = c.splits;
+          size_element_is = c.size_element_is;
+          size_inverse_is = c.size_inverse_is;
+          root_is = c.root_is;
+          root_inverse_is = c.root_inverse_is;
+          offset_inverse_is = c.offset_inverse_is;
+          offset_power_is = c.offset_power_is;
+        })
+        (F.format mode) (F.format other) (F.format_law mode) (F.elements_law mode).one_to_one
+        (F.elements_law other).all (F.modes_law mode other) mode other };
 }
 
 impl<F: FftField> Valid for Coset<F> {
@@ -86,6 +102,8 @@ impl<F: FftField> Valid for Coset<F> {
 }
 
 impl<F: FftField> CanonicalDeserialize for Coset<F> {
+    ghost takes_memory = { ⊥ };
+
     fn deserialize_with_mode<R: Source>(
         alloc: Global,
         reader: &mut R,

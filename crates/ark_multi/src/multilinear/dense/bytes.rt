@@ -29,6 +29,11 @@ impl<F: Spelled> Spelled for DenseMultilinearExtension<F> {
 }
 
 impl<F: CanonicalSerialize> CanonicalSerialize for DenseMultilinearExtension<F> {
+    ghost use Rattle.ark_math.specs.Format.{◌⊗◌, list, word};
+    ghost use Rattle.ark_math.proofs.Formats.Ends.{list_is_format};
+    ghost use Rattle.ark_math.proofs.Formats.Modes.{keeps_by_fields, keeps_in_lists, keeps_in_pairs};
+    ghost use Rattle.ark_math.proofs.Formats.Modes.{keeps_itself};
+
     fn serialize_with_mode<W: Sink>(
         &self,
         writer: &mut W,
@@ -43,6 +48,13 @@ impl<F: CanonicalSerialize> CanonicalSerialize for DenseMultilinearExtension<F> 
         let variables = self.num_vars.serialized_size(mode)?;
         values.checked_add(variables)
     }
+
+    ghost both_modes = { λ mode other. keeps_by_fields (list (F.format mode) ⊗ word)
+        (list (F.format other) ⊗ word) (λ p. (p.evaluations.items, p.num_vars)) (λ _. Unit {0})
+        (keeps_in_pairs (list (F.format mode)) (list (F.format other)) word word
+        (list_is_format (F.format mode) (F.format_law mode))
+        (keeps_in_lists (F.format mode) (F.format other) (F.format_law mode) (F.both_modes mode other))
+        (keeps_itself word)) };
 }
 
 impl<F: Valid> Valid for DenseMultilinearExtension<F> {
@@ -52,6 +64,8 @@ impl<F: Valid> Valid for DenseMultilinearExtension<F> {
 }
 
 impl<F: CanonicalDeserialize> CanonicalDeserialize for DenseMultilinearExtension<F> {
+    ghost takes_memory = { Unit {0} };
+
     fn deserialize_with_mode<R: Source>(
         alloc: Global,
         reader: &mut R,

@@ -29,6 +29,9 @@ impl<F: Field> Spelled for SparseMultilinearExtension<F> {
 }
 
 impl<F: Field> CanonicalSerialize for SparseMultilinearExtension<F> {
+    ghost use Rattle.ark_math.specs.Layouts.{sparse_extension};
+    ghost use Rattle.ark_math.proofs.Formats.Modes.{keeps_alike, sparse_extension_alike};
+
     fn serialize_with_mode<W: Sink>(
         &self,
         writer: &mut W,
@@ -43,6 +46,12 @@ impl<F: Field> CanonicalSerialize for SparseMultilinearExtension<F> {
         let rest = (self.num_vars, self.zero).serialized_size(mode)?;
         entries.checked_add(rest)
     }
+
+    ghost both_modes = { λ mode other. keeps_alike
+        (sparse_extension (F.format mode) (λ p. (p.evaluations.items, (p.num_vars, p.zero))))
+        (sparse_extension (F.format other) (λ p. (p.evaluations.items, (p.num_vars, p.zero))))
+        (sparse_extension_alike (F.format mode) (F.format other) (F.modes_law mode other)
+        (λ p. (p.evaluations.items, (p.num_vars, p.zero)))) };
 }
 
 impl<F: Field> Valid for SparseMultilinearExtension<F> {
@@ -52,6 +61,8 @@ impl<F: Field> Valid for SparseMultilinearExtension<F> {
 }
 
 impl<F: Field> CanonicalDeserialize for SparseMultilinearExtension<F> {
+    ghost takes_memory = { Unit {0} };
+
     fn deserialize_with_mode<R: Source>(
         alloc: Global,
         reader: &mut R,

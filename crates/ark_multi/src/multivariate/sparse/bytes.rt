@@ -34,6 +34,9 @@ impl<F: Field, T: Term> Spelled for SparsePolynomial<F, T> {
 }
 
 impl<F: Field, T: Term> CanonicalSerialize for SparsePolynomial<F, T> {
+    ghost use Rattle.ark_math.specs.Layouts.{multivariate};
+    ghost use Rattle.ark_math.proofs.Formats.Modes.{keeps_alike, multivariate_alike};
+
     fn serialize_with_mode<W: Sink>(
         &self,
         writer: &mut W,
@@ -48,6 +51,12 @@ impl<F: Field, T: Term> CanonicalSerialize for SparsePolynomial<F, T> {
         let terms = list_size(&self.terms, mode)?;
         variables.checked_add(terms)
     }
+
+    ghost both_modes = { λ mode other. keeps_alike
+        (multivariate (F.format mode) (T.format mode) (λ p. (p.num_vars, p.terms.items)))
+        (multivariate (F.format other) (T.format other) (λ p. (p.num_vars, p.terms.items)))
+        (multivariate_alike (F.format mode) (F.format other) (F.modes_law mode other) (T.format mode)
+        (T.format other) (T.modes_law mode other) (λ p. (p.num_vars, p.terms.items))) };
 }
 
 impl<F: Field, T: Term> Valid for SparsePolynomial<F, T> {
@@ -57,6 +66,8 @@ impl<F: Field, T: Term> Valid for SparsePolynomial<F, T> {
 }
 
 impl<F: Field, T: Term> CanonicalDeserialize for SparsePolynomial<F, T> {
+    ghost takes_memory = { Unit {0} };
+
     fn deserialize_with_mode<R: Source>(
         alloc: Global,
         reader: &mut R,

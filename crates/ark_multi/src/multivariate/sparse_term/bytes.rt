@@ -25,6 +25,9 @@ impl Spelled for SparseTerm {
 }
 
 impl CanonicalSerialize for SparseTerm {
+    ghost use Rattle.ark_math.specs.Layouts.{term};
+    ghost use Rattle.ark_math.proofs.Formats.Modes.{keeps_itself};
+
     fn serialize_with_mode<W: Sink>(
         &self,
         writer: &mut W,
@@ -36,6 +39,8 @@ impl CanonicalSerialize for SparseTerm {
     fn serialized_size(&self, mode: Compress) -> Option<usize> {
         list_size(&self.powers, mode)
     }
+
+    ghost both_modes = { λ _ _. keeps_itself term };
 }
 
 impl Valid for SparseTerm {
@@ -45,6 +50,8 @@ impl Valid for SparseTerm {
 }
 
 impl CanonicalDeserialize for SparseTerm {
+    ghost takes_memory = { Unit {0} };
+
     fn deserialize_with_mode<R: Source>(
         alloc: Global,
         reader: &mut R,

@@ -59,6 +59,12 @@ impl<F: FftField> Spelled for GeneralEvaluationDomain<F> {
 }
 
 impl<F: FftField> CanonicalSerialize for GeneralEvaluationDomain<F> {
+    ghost use Rattle.ark_math.specs.Layouts.{general_domain as tagged};
+    ghost use Rattle.ark_math.proofs.Formats.Modes.{keeps_by_fields};
+    ghost use Rattle.ark_bytes.specs.Either.{sum_of};
+    ghost use Rattle.ark_fft.specs.CosetBytes.{all_fields};
+    ghost use Rattle.ark_univariate.specs.DomainBytes.{radix2_coset, mixed_radix_coset, either_of, coset_format};
+
     fn serialize_with_mode<W: Sink>(
         &self,
         writer: &mut W,
@@ -70,6 +76,14 @@ impl<F: FftField> CanonicalSerialize for GeneralEvaluationDomain<F> {
     fn serialized_size(&self, mode: Compress) -> Option<usize> {
         self.to_either().serialized_size(mode)
     }
+
+    ghost both_modes = { λ mode other. keeps_by_fields
+        (tagged (coset_format all_fields radix2_coset (F.format mode) mode)
+        (coset_format all_fields mixed_radix_coset (F.format mode) mode) sum_of)
+        (tagged (coset_format all_fields radix2_coset (F.format other) other)
+        (coset_format all_fields mixed_radix_coset (F.format other) other) sum_of)
+        either_of (λ _. Unit {0})
+        (⟦<Either<Radix2EvaluationDomain<F>, MixedRadixEvaluationDomain<F>> as CanonicalSerialize>⟧.both_modes mode other) };
 }
 
 impl<F: FftField> Valid for GeneralEvaluationDomain<F> {
@@ -79,6 +93,8 @@ impl<F: FftField> Valid for GeneralEvaluationDomain<F> {
 }
 
 impl<F: FftField> CanonicalDeserialize for GeneralEvaluationDomain<F> {
+    ghost takes_memory = { ⊥ };
+
     fn deserialize_with_mode<R: Source>(
         alloc: Global,
         reader: &mut R,

@@ -108,6 +108,8 @@ impl<F: FftField> EvaluationDomain<F> for MixedRadixEvaluationDomain<F> {
         (F.elements_law mode).one_to_one (λ x y. one_domain mixed_radix_kind F.root F.equality_law x.coset.root_is
         y.coset.root_is) mode };
 
+    ghost memory_law = { λ m. m };
+
     ghost sizes = { mixed_sizes F.adicity };
 
     ghost one_size = { one_mixed_size F.adicity };

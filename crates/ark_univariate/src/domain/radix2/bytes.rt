@@ -29,6 +29,10 @@ impl<F: FftField> Spelled for Radix2EvaluationDomain<F> {
 }
 
 impl<F: FftField> CanonicalSerialize for Radix2EvaluationDomain<F> {
+    ghost use Rattle.ark_math.proofs.Formats.Modes.{keeps_by_fields};
+    ghost use Rattle.ark_fft.specs.CosetBytes.{all_fields, domain_format};
+    ghost use Rattle.ark_univariate.specs.DomainBytes.{radix2_coset};
+
     fn serialize_with_mode<W: Sink>(
         &self,
         writer: &mut W,
@@ -40,6 +44,10 @@ impl<F: FftField> CanonicalSerialize for Radix2EvaluationDomain<F> {
     fn serialized_size(&self, mode: Compress) -> Option<usize> {
         self.coset.serialized_size(mode)
     }
+
+    ghost both_modes = { λ mode other. keeps_by_fields (domain_format (F.format mode) all_fields mode)
+        (domain_format (F.format other) all_fields other) radix2_coset (λ _. Unit {0})
+        (⟦<Coset<F> as CanonicalSerialize>⟧.both_modes mode other) };
 }
 
 impl<F: FftField> Valid for Radix2EvaluationDomain<F> {
@@ -49,6 +57,8 @@ impl<F: FftField> Valid for Radix2EvaluationDomain<F> {
 }
 
 impl<F: FftField> CanonicalDeserialize for Radix2EvaluationDomain<F> {
+    ghost takes_memory = { ⊥ };
+
     fn deserialize_with_mode<R: Source>(
         alloc: Global,
         reader: &mut R,

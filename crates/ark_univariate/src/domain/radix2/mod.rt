@@ -107,6 +107,8 @@ impl<F: FftField> EvaluationDomain<F> for Radix2EvaluationDomain<F> {
         (F.elements_law mode).one_to_one (λ x y. one_domain radix2_kind F.root F.equality_law x.coset.root_is
         y.coset.root_is) mode };
 
+    ghost memory_law = { λ m. m };
+
     ghost sizes = { radix2_sizes F.adicity };
 
     ghost one_size = { one_radix2_size F.adicity };

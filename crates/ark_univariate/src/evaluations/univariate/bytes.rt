@@ -30,6 +30,9 @@ impl<F: FftField, D: EvaluationDomain<F>> Spelled for Evaluations<F, D> {
 }
 
 impl<F: FftField, D: EvaluationDomain<F>> CanonicalSerialize for Evaluations<F, D> {
+    ghost use Rattle.ark_univariate.specs.Values.{AreAsMany};
+    ghost use Rattle.ark_univariate.specs.ValuesBytes.{values_keep};
+
     fn serialize_with_mode<W: Sink>(
         &self,
         writer: &mut W,
@@ -44,6 +47,10 @@ impl<F: FftField, D: EvaluationDomain<F>> CanonicalSerialize for Evaluations<F, 
         let domain = self.domain.serialized_size(mode)?;
         evals.checked_add(domain)
     }
+
+    ghost both_modes = { λ mode other. values_keep (F.format mode) (D.format mode) (AreAsMany D.domain)
+        (F.format_law mode) (D.format_law mode) (F.format other) (D.format other)
+        (F.both_modes mode other) (D.both_modes mode other) };
 }
 
 impl<F: FftField, D: EvaluationDomain<F>> Valid for Evaluations<F, D> {
@@ -53,6 +60,8 @@ impl<F: FftField, D: EvaluationDomain<F>> Valid for Evaluations<F, D> {
 }
 
 impl<F: FftField, D: EvaluationDomain<F>> CanonicalDeserialize for Evaluations<F, D> {
+    ghost takes_memory = { Unit {0} };
+
     fn deserialize_with_mode<R: Source>(
         alloc: Global,
         reader: &mut R,

@@ -26,6 +26,9 @@ impl<F: Field> Spelled for DensePolynomial<F> {
 }
 
 impl<F: Field> CanonicalSerialize for DensePolynomial<F> {
+    ghost use Rattle.ark_math.specs.Layouts.{dense};
+    ghost use Rattle.ark_math.proofs.Formats.Modes.{dense_alike, keeps_alike};
+
     fn serialize_with_mode<W: Sink>(
         &self,
         writer: &mut W,
@@ -37,6 +40,9 @@ impl<F: Field> CanonicalSerialize for DensePolynomial<F> {
     fn serialized_size(&self, mode: Compress) -> Option<usize> {
         list_size(&self.coeffs, mode)
     }
+
+    ghost both_modes = { λ mode other. keeps_alike (dense F.field (F.format mode)) (dense F.field (F.format other))
+        (dense_alike (F.format mode) (F.format other) (F.modes_law mode other) F.field) };
 }
 
 impl<F: Field> Valid for DensePolynomial<F> {
@@ -46,6 +52,8 @@ impl<F: Field> Valid for DensePolynomial<F> {
 }
 
 impl<F: Field> CanonicalDeserialize for DensePolynomial<F> {
+    ghost takes_memory = { Unit {0} };
+
     /// `InvalidData` comes where the last coefficient is zero.
     fn deserialize_with_mode<R: Source>(
         alloc: Global,

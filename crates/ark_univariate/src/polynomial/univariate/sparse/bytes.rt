@@ -26,6 +26,9 @@ impl<F: Field> Spelled for SparsePolynomial<F> {
 }
 
 impl<F: Field> CanonicalSerialize for SparsePolynomial<F> {
+    ghost use Rattle.ark_math.specs.Layouts.{sparse};
+    ghost use Rattle.ark_math.proofs.Formats.Modes.{sparse_alike, keeps_alike};
+
     fn serialize_with_mode<W: Sink>(
         &self,
         writer: &mut W,
@@ -37,6 +40,9 @@ impl<F: Field> CanonicalSerialize for SparsePolynomial<F> {
     fn serialized_size(&self, mode: Compress) -> Option<usize> {
         list_size(&self.coeffs, mode)
     }
+
+    ghost both_modes = { λ mode other. keeps_alike (sparse F.field (F.format mode)) (sparse F.field (F.format other))
+        (sparse_alike (F.format mode) (F.format other) (F.modes_law mode other) F.field) };
 }
 
 impl<F: Field> Valid for SparsePolynomial<F> {
@@ -46,6 +52,8 @@ impl<F: Field> Valid for SparsePolynomial<F> {
 }
 
 impl<F: Field> CanonicalDeserialize for SparsePolynomial<F> {
+    ghost takes_memory = { Unit {0} };
+
     /// `InvalidData` comes where degrees don't rise, or a coefficient is zero.
     fn deserialize_with_mode<R: Source>(
         alloc: Global,

@@ -7,12 +7,12 @@ use Rattle.ark_fft.proofs.domain.coset.bytes.CosetCanonicalDeserialize.deseriali
 pub returns-in_err-size-in-Yes : goal.returns-in_err-size-in-Yes
 returns-in_err-size-in-Yes g c =
     let p = err_from_is_err_and c.from_residual.result c.from_residual.ensures.1 in
-    rw (p.1, p.2) (refused_short (g.F.Spelled.format c.args.mode) all_fields c.args.mode c.in-Yes.is _ _ _ c.in_err-size-in-Yes.ensures)
+    rw (p.1, p.2) (refused_short (g.F.Spelled.format c.args.mode) all_fields c.args.mode g.F.CanonicalDeserialize.takes_memory g.met.F.Field.memory_law c.in-Yes.is _ _ _ c.in_err-size-in-Yes.ensures)
 
 pub returns-in_err-fields-in-No : goal.returns-in_err-fields-in-No
 returns-in_err-fields-in-No g c =
     let p = err_from_is_err_and c.from_residual-in_err-fields-in-No.result c.from_residual-in_err-fields-in-No.ensures.1 in
-    rw (p.1, p.2) (refused_long (g.F.Spelled.format c.args.mode) all_fields c.args.mode c.in-No.is _ _ _ c.in_err-fields-in-No.ensures)
+    rw (p.1, p.2) (refused_long (g.F.Spelled.format c.args.mode) all_fields c.args.mode g.F.CanonicalDeserialize.takes_memory g.met.F.Field.memory_law c.in-No.is _ _ _ c.in_err-fields-in-No.ensures)
 
 pub returns-in_ok-size-in-Yes : goal.returns-in_ok-size-in-Yes
 returns-in_ok-size-in-Yes g c =

@@ -11,13 +11,13 @@ pub returns-in_err-evaluations : goal.returns-in_err-evaluations
 returns-in_err-evaluations g c =
     let p = err_from_is_err_and c.from_residual.result c.from_residual.ensures.1 in
     let item = g.F.Spelled.format c.args.mode in
-    rw (p.1, p.2) (refused_in_first (list item) word (λ p. (p.evaluations.items, p.num_vars)) (λ _. Unit {0}) (list_is_format item (g.F.Spelled.format_law c.args.mode)) _ _ _ c.in_err-evaluations.ensures)
+    rw (p.1, p.2) (refused_in_first (list item) word (λ p. (p.evaluations.items, p.num_vars)) (λ _. Unit {0}) (list_is_format item (g.F.Spelled.format_law c.args.mode)) (Unit {0}) _ _ _ c.in_err-evaluations.ensures)
 
 pub returns-in_err-num_vars : goal.returns-in_err-num_vars
 returns-in_err-num_vars g c =
     let p = err_from_is_err_and c.from_residual-in_err-num_vars.result c.from_residual-in_err-num_vars.ensures.1 in
     let item = g.F.Spelled.format c.args.mode in
-    rw (p.1, p.2) (refused_in_second (list item) word (λ p. (p.evaluations.items, p.num_vars)) (λ _. Unit {0}) (list_is_format item (g.F.Spelled.format_law c.args.mode)) _ _ _ _ _ c.in_ok-evaluations.ensures c.in_err-num_vars.ensures)
+    rw (p.1, p.2) (refused_in_second (list item) word (λ p. (p.evaluations.items, p.num_vars)) (λ _. Unit {0}) (list_is_format item (g.F.Spelled.format_law c.args.mode)) ⊥ _ _ _ _ _ c.in_ok-evaluations.ensures c.in_err-num_vars.ensures)
 
 pub returns-else-is_table_len : goal.returns-else-is_table_len
 returns-else-is_table_len g c =

@@ -1,4 +1,4 @@
-use Rattle.std.proofs.Common.{◌≡◌, sym, ◌∙◌, subst}
+use Rattle.std.proofs.Common.{◌≡◌, ◌⊎◌, sym, ◌∙◌, subst}
 use Rattle.std.proofs.lemmas.Bool.{true≢false}
 use Rattle.std.proofs.lemmas.Result.{err_from_is_err_and}
 use Rattle.ark_math.specs.Format.{word, ◌⊗◌, list}
@@ -13,14 +13,14 @@ returns-in_err-evaluations g c =
     let p = err_from_is_err_and c.from_residual.result c.from_residual.ensures.1 in
     let item = g.F.Spelled.format c.args.mode in
     let law = pair_is_format word item (number_is_format 8) (g.F.Spelled.format_law c.args.mode) in
-    rw (p.1, p.2) (refused_in_first (list (word ⊗ item)) (word ⊗ item) (λ p. (p.evaluations.items, (p.num_vars, p.zero))) (λ _. Unit {0}) (list_is_format (word ⊗ item) law) _ _ _ c.in_err-evaluations.ensures)
+    rw (p.1, p.2) (refused_in_first (list (word ⊗ item)) (word ⊗ item) (λ p. (p.evaluations.items, (p.num_vars, p.zero))) (λ _. Unit {0}) (list_is_format (word ⊗ item) law) (Unit {0}) _ _ _ c.in_err-evaluations.ensures)
 
 pub returns-in_err-num_vars : goal.returns-in_err-num_vars
 returns-in_err-num_vars g c =
     let p = err_from_is_err_and c.from_residual-in_err-num_vars.result c.from_residual-in_err-num_vars.ensures.1 in
     let item = g.F.Spelled.format c.args.mode in
     let law = pair_is_format word item (number_is_format 8) (g.F.Spelled.format_law c.args.mode) in
-    rw (p.1, p.2) (refused_in_second (list (word ⊗ item)) (word ⊗ item) (λ p. (p.evaluations.items, (p.num_vars, p.zero))) (λ _. Unit {0}) (list_is_format (word ⊗ item) law) _ _ _ _ _ c.in_ok-evaluations.ensures c.in_err-num_vars.ensures)
+    rw (p.1, p.2) (refused_in_second (list (word ⊗ item)) (word ⊗ item) (λ p. (p.evaluations.items, (p.num_vars, p.zero))) (λ _. Unit {0}) (list_is_format (word ⊗ item) law) (⊥ ⊎ g.F.CanonicalDeserialize.takes_memory) _ _ _ _ _ c.in_ok-evaluations.ensures c.in_err-num_vars.ensures)
 
 pub returns-else-are_entries : goal.returns-else-are_entries
 returns-else-are_entries g c =

@@ -14,13 +14,13 @@ pub returns-in_err-num_vars : goal.returns-in_err-num_vars
 returns-in_err-num_vars g c =
     let p = err_from_is_err_and c.from_residual.result c.from_residual.ensures.1 in
     let item = g.F.Spelled.format c.args.mode ⊗ g.T.Spelled.format c.args.mode in
-    rw (p.1, p.2) (refused_in_first word (list item) (λ p. (p.num_vars, p.terms.items)) (λ _. Unit {0}) (number_is_format 8) _ _ _ c.in_err-num_vars.ensures)
+    rw (p.1, p.2) (refused_in_first word (list item) (λ p. (p.num_vars, p.terms.items)) (λ _. Unit {0}) (number_is_format 8) ⊥ _ _ _ c.in_err-num_vars.ensures)
 
 pub returns-in_err-terms : goal.returns-in_err-terms
 returns-in_err-terms g c =
     let p = err_from_is_err_and c.from_residual-in_err-terms.result c.from_residual-in_err-terms.ensures.1 in
     let item = g.F.Spelled.format c.args.mode ⊗ g.T.Spelled.format c.args.mode in
-    rw (p.1, p.2) (refused_in_second word (list item) (λ p. (p.num_vars, p.terms.items)) (λ _. Unit {0}) (number_is_format 8) _ _ _ _ _ c.in_ok-num_vars.ensures c.in_err-terms.ensures)
+    rw (p.1, p.2) (refused_in_second word (list item) (λ p. (p.num_vars, p.terms.items)) (λ _. Unit {0}) (number_is_format 8) (Unit {0}) _ _ _ _ _ c.in_ok-num_vars.ensures c.in_err-terms.ensures)
 
 pub returns-else-are_terms : goal.returns-else-are_terms
 returns-else-are_terms g c =

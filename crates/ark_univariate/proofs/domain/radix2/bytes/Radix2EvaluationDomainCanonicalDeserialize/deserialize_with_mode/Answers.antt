@@ -11,7 +11,7 @@ pub returns-in_err-coset : goal.returns-in_err-coset
 returns-in_err-coset g c =
     let p = err_from_is_err_and c.from_residual.result c.from_residual.ensures.1 in
     let mode = c.args.mode in
-    rw (p.1, p.2) (refused_fields (domain_format (g.F.Spelled.format mode) all_fields mode) radix2_coset (λ _. Unit {0}) _ _ _ c.in_err-coset.ensures)
+    rw (p.1, p.2) (refused_fields (domain_format (g.F.Spelled.format mode) all_fields mode) radix2_coset (λ _. Unit {0}) ⊥ _ _ _ c.in_err-coset.ensures)
 
 pub returns-else-coset-eq0 : goal.returns-else-coset-eq0
 returns-else-coset-eq0 g c =

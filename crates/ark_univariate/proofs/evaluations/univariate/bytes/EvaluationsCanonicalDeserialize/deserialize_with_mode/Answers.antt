@@ -14,7 +14,7 @@ returns-in_err-domain g c =
     let p = err_from_is_err_and c.from_residual-in_err-domain.result c.from_residual-in_err-domain.ensures.1 in
     let mode = c.args.mode in
     rw (p.1, p.2)
-    (refused_in_domain (g.F.Spelled.format mode) (g.D.Spelled.format mode) g.D.EvaluationDomain.domain (g.F.Spelled.format_law mode) _ _ _ _ _ c.in_ok-evals.ensures
+    (refused_in_domain (g.F.Spelled.format mode) (g.D.Spelled.format mode) g.D.EvaluationDomain.domain (g.F.Spelled.format_law mode) g.D.CanonicalDeserialize.takes_memory _ _ _ _ _ c.in_ok-evals.ensures
     c.in_err-domain.ensures)
 
 pub returns-else-len-size : goal.returns-else-len-size

@@ -12,7 +12,7 @@ pub returns-in_err-coeffs : goal.returns-in_err-coeffs
 returns-in_err-coeffs g c =
     let e = g.F.Spelled.format c.args.mode in
     let p = err_from_is_err_and c.from_residual.result c.from_residual.ensures.1 in
-    rw (p.1, p.2) (refused_fields (list (word ⊗ e)) (λ ps. ps) (IsSparse g.F.Field.field) _ _ _ c.in_err-coeffs.ensures)
+    rw (p.1, p.2) (refused_fields (list (word ⊗ e)) (λ ps. ps) (IsSparse g.F.Field.field) (Unit {0}) _ _ _ c.in_err-coeffs.ensures)
 
 pub returns-else-is_sparse : goal.returns-else-is_sparse
 returns-else-is_sparse g c =
