@@ -4,6 +4,9 @@
 //! variables that is zero at all corners but three, and whether it accepts one prover's rounds of either claim.
 #![tactic(auto)]
 
+ghost use Rattle.std.specs.Prelude.{◌≡◌, length, IfOk};
+ghost use Rattle.ark_sum_check.specs.Provers.{variables_of};
+
 mod accepted;
 mod opening;
 mod sharing;
@@ -90,7 +93,9 @@ fn print_answers(rt: &impl Print, alloc: Global) -> anyhow::Result<()> {
 }
 
 /// The value of a factor of two variables at the challenges.
-fn value_at<F: Field>(alloc: Global, table: &[F; 4], rounds: &[Round<F>]) -> Result<F, PolyError> {
+fn value_at<F: Field>(alloc: Global, table: &[F; 4], rounds: &[Round<F>]) -> Result<F, PolyError>
+    requires { length rounds.now ≡ 2 }
+{
     let challenges: Vec<F> = rounds.iter().map(|round| round.challenge).collect(alloc)?;
     let extension = DenseMultilinearExtension::from_evaluations_vec(
         2,
@@ -134,7 +139,9 @@ fn two_factors<F: Field>(
     alloc: Global,
     left: &[F; 4],
     right: &[F; 4],
-) -> Result<Prover<F>, SumCheckError> {
+) -> Result<Prover<F>, SumCheckError>
+    ensures { IfOk result (λ prover. variables_of prover ≡ 2) }
+{
     let mut tables = Vec::with_capacity(alloc, 2)?;
     tables.push(Vec::from_slice(alloc, left)?)?;
     tables.push(Vec::from_slice(alloc, right)?)?;
