@@ -117,7 +117,10 @@ impl<F: Numbered> OfBlocks<F> {
         if !is_twice || self.coeffs.len() != len || half > self.table.size() / 2 {
             return Ok(Answered::NoFit);
         }
-        list_of(self.table.twice_upper_half(alloc, &self.values, &self.coeffs, half))
+        list_of(
+            self.table
+                .twice_upper_half(alloc, &self.values, &self.coeffs, half),
+        )
     }
 }
 

@@ -101,7 +101,10 @@ fn in_place<F: Field, P: Polynomial<F>>(
 }
 
 /// The polynomial that is read from its own bytes, whose only refusal is that of memory.
-fn read_back<F: Field, P: Polynomial<F>>(alloc: Global, p: &P) -> Result<Answered<F, P>, PolyError> {
+fn read_back<F: Field, P: Polynomial<F>>(
+    alloc: Global,
+    p: &P,
+) -> Result<Answered<F, P>, PolyError> {
     match polynomial_read_back(alloc, p, Compress::No) {
         Ok(read) => Ok(Answered::Polynomial(read)),
         Err(_) => Err(PolyError::Memory),

@@ -151,7 +151,9 @@ impl<F: Numbered, D: EvaluationDomain<F>> OfOne<F, D> {
                 let division = self.left.divide_by_transforms(alloc, &self.right)?;
                 Ok(Answered::Flag(division.is_some()))
             }
-            "into_sparse" => sparse_of(DenseOrSparsePolynomial::from(&self.left).into_sparse(alloc)),
+            "into_sparse" => sparse_of(DenseOrSparsePolynomial::from(&self.left).into_sparse(
+                alloc,
+            )),
             _ => Ok(Answered::NoCall),
         }
     }

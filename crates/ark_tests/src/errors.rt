@@ -96,11 +96,7 @@ fn errors_of_shares(rt: HostRuntime) -> Result<(), Fail> {
 fn errors_of_sum_checks(rt: HostRuntime) -> Result<(), Fail> {
     let rows = [
         (SumCheckError::Memory, "Memory", 1),
-        (
-            SumCheckError::SmallCharacteristic,
-            "SmallCharacteristic",
-            2,
-        ),
+        (SumCheckError::SmallCharacteristic, "SmallCharacteristic", 2),
     ];
     for (error, name, number) in rows {
         assert!(rt; shows(rt.alloc(), &error, name, name)?);
@@ -147,7 +143,12 @@ fn errors_of_joining(rt: HostRuntime) -> Result<(), Fail> {
             "DifferentFiles",
             2,
         ),
-        (JoinError::GivenTwice, "a piece is given twice", "GivenTwice", 3),
+        (
+            JoinError::GivenTwice,
+            "a piece is given twice",
+            "GivenTwice",
+            3,
+        ),
         (JoinError::TooFew, "too few pieces", "TooFew", 4),
         (
             JoinError::WrongDigest,

@@ -46,7 +46,12 @@ fn answer_of_dense<F: Numbered>(
     match name {
         "both_products" => {
             let (product, plain) = both_products(alloc, left, right)?;
-            joined(alloc, text_of(alloc, product.coeffs()), ";", text_of(alloc, plain.coeffs()))
+            joined(
+                alloc,
+                text_of(alloc, product.coeffs()),
+                ";",
+                text_of(alloc, plain.coeffs()),
+            )
         }
         "degree_of_product" => degree(alloc, left, right),
         _ => text_of(alloc, sparse_and_back(alloc, left)?.coeffs()),
@@ -101,8 +106,9 @@ fn all_values<F: Numbered, D: EvaluationDomain<F>>(
 ) -> Answer {
     let dense = DensePolynomial::from_sparse(alloc, sparse)?;
     let either = DenseOrSparsePolynomial::from(sparse);
-    let (of_dense, of_sparse, of_either) =
-        values_of_all_forms(alloc, &dense, sparse, either, domain)?;
+    let (of_dense, of_sparse, of_either) = values_of_all_forms(
+        alloc, &dense, sparse, either, domain,
+    )?;
     let others = joined(
         alloc,
         text_of(alloc, of_sparse.evals()),

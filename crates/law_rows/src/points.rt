@@ -11,9 +11,7 @@ use ark_test_types::numbered::Numbered;
 use ark_univariate::DenseUVPolynomial;
 use ark_univariate::univariate::DensePolynomial;
 use row_words::rows::Answer;
-use row_words::words::{
-    element, elements, joined, no_fit, no_row, number, one, size, text_of,
-};
+use row_words::words::{element, elements, joined, no_fit, no_row, number, one, size, text_of};
 use std::alloc::{AllocError, Global};
 
 /// The answer to a call and two lists, or a list and a number.
@@ -28,7 +26,12 @@ pub fn answer<F: Numbered>(alloc: Global, words: &[String]) -> Answer {
             text_of_outcome(alloc, weights_at(alloc, &list, element(second.as_str())))
         }
         "lane_of" => lane(alloc, &list, size(second.as_str())),
-        _ => answer_of_two(alloc, name.as_str(), list, &run_or_list(alloc, second.as_str())?),
+        _ => answer_of_two(
+            alloc,
+            name.as_str(),
+            list,
+            &run_or_list(alloc, second.as_str())?,
+        ),
     }
 }
 
@@ -72,7 +75,12 @@ fn of_pairs<F: Numbered>(alloc: Global, name: &str, pairs: &[(F, F)]) -> Answer 
 fn divided<F: Numbered>(alloc: Global, coeffs: Vec<F>, point: F) -> Answer {
     let p = DensePolynomial::from_coefficients_vec(coeffs);
     let (quotient, value) = divide_by_linear(alloc, &p, point)?;
-    joined(alloc, text_of(alloc, quotient.coeffs()), ";", one(alloc, value))
+    joined(
+        alloc,
+        text_of(alloc, quotient.coeffs()),
+        ";",
+        one(alloc, value),
+    )
 }
 
 /// The elements in a lane of rows of two.
