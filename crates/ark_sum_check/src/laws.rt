@@ -15,9 +15,9 @@ pub fn few_unlucky_challenges<F: Field>(degree: usize)
         → AtMost degree (IsUnlucky F.field degree m ts values) }
 {}
 
-/// A law of all rounds: where they are accepted of a claim, and the last claim is the product's value at the challenges, the
-/// claim is the sum over the cube, or at one of the rounds the challenge is one of at most `degree` elements, which are
-/// settled by the claim's tables, the challenges before it and the round's values. `verify` tells what is asked of rounds.
+/// A law of all rounds: where they are accepted of a claim, and the last claim is the product's value at the challenges,
+/// the claim is the sum over the cube, or at one of the rounds the challenge is one of at most `degree` elements, which
+/// are settled by the tables, the challenges before it and the round's values. Clauses of `verify` give what is asked.
 pub fn true_or_one_of_few<F: Field>(degree: usize)
     ensures { (claim : F) (rounds : List (Round F)) (last : F) (ts : List (ℕ → F)) → length ts ≤ degree
         → (0 < length rounds → AreDifferent F.field (degree + 1))

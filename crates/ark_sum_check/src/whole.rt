@@ -22,9 +22,9 @@ pub trait Challenger<F> {
         ensures { challenge_gives self.old values.now result self.new };
 }
 
-/// All rounds, with challenges as they come, each of which the challenger gives for the values of its round. Whatever these
-/// are, the rounds are true and so accepted of the sum over the cube, with the product's value at the challenges as the last
-/// claim.
+/// All rounds, with challenges as they come, each of which the challenger gives for the values of its round. Whatever
+/// these are, the rounds are true and so accepted of the sum over the cube, with the product's value at the challenges as
+/// the last claim.
 pub fn prove<F: Field, C: Challenger<F>>(
     alloc: Global,
     prover: Prover<F>,
@@ -36,7 +36,8 @@ pub fn prove<F: Field, C: Challenger<F>>(
     ensures accepted { IfOk result (λ rounds. AreAccepted F.field (length (tables_of F.field prover))
         (cube_sum F.field (variables_of prover) (tables_of F.field prover)) rounds.items
         (product_value F.field (tables_of F.field prover) (challenges rounds.items))) }
-    ensures drawn { IfOk result (λ rounds. AreDrawn C.challenge_gives challenger.old rounds.items challenger.new) }
+    ensures drawn { IfOk result (λ rounds.
+        AreDrawn C.challenge_gives challenger.old rounds.items challenger.new) }
     ensures memory { IsOkUnless result SumCheckError.Memory }
 {
     // There is a factor, so a round has two values at least.
@@ -64,7 +65,8 @@ pub fn prove_sparse<F: Field, C: Challenger<F>>(
     ensures accepted { IfOk result (λ rounds. AreAccepted F.field 1
         (cube_sum F.field prover.variables (factor_of F.field prover)) rounds.items
         (product_value F.field (factor_of F.field prover) (challenges rounds.items))) }
-    ensures drawn { IfOk result (λ rounds. AreDrawn C.challenge_gives challenger.old rounds.items challenger.new) }
+    ensures drawn { IfOk result (λ rounds.
+        AreDrawn C.challenge_gives challenger.old rounds.items challenger.new) }
     ensures memory { IsOkUnless result SumCheckError.Memory }
 {
     let mut left = prover;
