@@ -1,10 +1,11 @@
 //! Small callers of what stands on polynomials, as a user writes them: an opening at a point; a secret that any three of
-//! five shares give back; and a sum-check, from a claim on a sum over the cube to a claim on one value. The program prints
+//! five shares give back; the sum of two secrets from the sums of their shares; and a sum-check, from a claim on a sum over the cube to a claim on one value. The program prints
 //! what each gives, of the sum-check what the verifier says of a true claim and of a false one, and of an extension of forty
 //! variables that is zero at all corners but three.
 #![tactic(auto)]
 
 mod opening;
+mod shared_sum;
 mod sharing;
 mod sum_check_whole;
 
@@ -13,8 +14,9 @@ use ark_poly::DenseUVPolynomial;
 use ark_sharing::{SharingError, share};
 use ark_sum_check::{Challenger, Prover, SparseProver, SumCheckError, Verdict};
 use opening::opening;
-use rand::Rng;
-use rand_pcg::Pcg64;
+use rand::rngs::StdRng;
+use rand::{CryptoRng, SeedableRng};
+use shared_sum::sum_from_shares;
 use sharing::shared_and_given_back;
 use std::alloc::Global;
 use std::io::Print;
@@ -41,13 +43,25 @@ fn print_opening(rt: &impl Print, alloc: Global) -> anyhow::Result<()> {
 }
 
 fn print_secret(rt: &impl Print, alloc: Global) -> anyhow::Result<()> {
-    // A generator for secrets takes the place of this one, whose draws anyone can repeat.
-    let mut rng = Pcg64::new(5, 8);
+    // A seed from the system, as of `rand::make_rng`, takes the place of this one, whose draws anyone can repeat.
+    let mut rng = StdRng::seed_from_u64(5);
     let points = [1, 2, 3, 4, 5].map(F65537::from);
     let secret = shared_and_given_back(alloc, F65537::from(1234), 3, &points, &mut rng)?;
     println!(rt; "the secret from three of five shares: {}", secret.value())?;
     let differs = differs_when_drawn_again(alloc, F65537::from(1234), &points, &mut rng)?;
     println!(rt; "drawn again, the first share is another: {differs}")?;
+    let sum = sum_from_shares(
+        alloc,
+        F65537::from(1234),
+        &[7, 8].map(F65537::from),
+        F65537::from(4321),
+        &[9, 10].map(F65537::from),
+        &points,
+    )?;
+    println!(rt;
+        "the sum of two secrets from the sums of their shares: {}",
+        sum.value()
+    )?;
     Ok(())
 }
 
@@ -71,7 +85,7 @@ fn print_sum_checks(rt: &impl Print, alloc: Global) -> anyhow::Result<()> {
 }
 
 /// Whether two sharings of one secret give the first point different shares, as drawn coefficients do.
-fn differs_when_drawn_again<F: Field, R: Rng>(
+fn differs_when_drawn_again<F: Field, R: CryptoRng>(
     alloc: Global,
     secret: F,
     points: &[F],
