@@ -2,4 +2,5 @@
 pub mod Element
 pub mod Reductions
 pub use Rattle.ark_traits.proofs.Cost
+pub use Rattle.ark_bytes.proofs.ReadBack
 pub use Rattle.ark_bytes.proofs.Transfer

@@ -2,6 +2,7 @@
 #![tactic(auto)]
 
 mod fields;
+mod laws;
 mod prime_field;
 
 pub use ark_traits::{
@@ -13,6 +14,7 @@ pub use ark_traits::{
 pub use fields::{
     BabyBear, BabyBearModulus, Goldilocks, GoldilocksModulus, KoalaBear, KoalaBearModulus,
 };
+pub use laws::small_numbers_are_different;
 pub use prime_field::{
     F5, F433, F65537, Modulus5, Modulus433, Modulus65537, PrimeField, PrimeModulus,
 };

@@ -1,6 +1,6 @@
 //! Values over runs of a table's elements, and polynomials from them.
 
-ghost use Rattle.std.specs.Prelude.{◌≡◌, ℕ, suc, ◌+◌, ◌*◌, ◌^◌, ◌<◌, ◌≤◌, length, take, IfOk, OnOk};
+ghost use Rattle.std.specs.Prelude.{◌≡◌, ℕ, suc, ◌+◌, ◌*◌, ◌^◌, ◌<◌, ◌≤◌, length, take, IfOk, OnErr, OnOk};
 ghost use Rattle.ark_math.specs.Field.{minus};
 ghost use Rattle.ark_math.specs.Univariate.{IsBelow, of_list, product, value_below};
 ghost use Rattle.ark_blocks.specs.Blocks.{AreFirstValues, AreReversed, AreRoots, IsPowerOfTwo, element_of, size_of};
@@ -28,7 +28,8 @@ impl<F: FftField> BlockRoots<F> {
         Ok(values)
     }
 
-    /// Behind the values at the first elements those at as many more, of the polynomial with these coefficients.
+    /// Behind the values at the first elements those at as many more, of the polynomial with these coefficients. After an
+    /// error the values are as they were.
     pub fn double(&self, values: &mut Vec<F>, coeffs: &[F]) -> Result<(), AllocError>
         requires power { IsPowerOfTwo (length values.old.items) }
         requires room { length values.old.items + length values.old.items ≤ size_of self.now }
@@ -37,13 +38,14 @@ impl<F: FftField> BlockRoots<F> {
             (of_list F.field coeffs.now) values.old.items
             → AreFirstValues F.field self.now (length values.old.items + length values.old.items)
             (of_list F.field coeffs.now) values.new.items) }
+        ensures kept { OnErr result (values.new.items ≡ values.old.items) }
     {
         let count = 2 * values.len();
         self.extend(values, coeffs, count)
     }
 
     /// Behind the values at the first elements those up to `count`, of the polynomial with these coefficients, of which
-    /// there are at most twice as many as values known.
+    /// there are at most twice as many as values known. After an error the values are as they were.
     pub fn extend(&self, values: &mut Vec<F>, coeffs: &[F], count: usize) -> Result<(), AllocError>
         requires power { IsPowerOfTwo (length values.old.items) }
         requires whole { IsPowerOfTwo count }
@@ -53,10 +55,17 @@ impl<F: FftField> BlockRoots<F> {
         ensures values { OnOk result (AreFirstValues F.field self.now (length values.old.items)
             (of_list F.field coeffs.now) values.old.items
             → AreFirstValues F.field self.now count (of_list F.field coeffs.now) values.new.items) }
+        ensures kept { OnErr result (values.new.items ≡ values.old.items) }
     {
         let len = values.len();
         values.reserve(count - len)?;
-        push_blocks(values, coeffs, &self.roots, 1, count / len, len)
+        match push_blocks(values, coeffs, &self.roots, 1, count / len, len) {
+            Ok(()) => Ok(()),
+            Err(refused) => {
+                values.truncate(len);
+                Err(refused)
+            }
+        }
     }
 
     /// Puts the coefficients of the polynomial that has these values at the first elements in their place.
@@ -124,6 +133,7 @@ fn push_blocks<F: Field>(
     requires within { end * len ≤ length roots.now + length roots.now }
     requires fits { length roots.now + length roots.now < 2 ^ 64 }
     ensures len { OnOk result (length values.new.items ≡ end * len) }
+    ensures before { take (length values.old.items) values.new.items ≡ values.old.items }
     ensures values { OnOk result ((x : ℕ → F) → AreRoots F.field x roots.now
         → ((i : ℕ) → i < first * len → of_list F.field values.old.items i
         ≡ value_below F.field (len + len) (of_list F.field coeffs.now) (x i))
@@ -151,7 +161,7 @@ fn push_block<F: Field>(
     requires within { suc block * len ≤ length roots.now + length roots.now }
     requires fits { length roots.now + length roots.now < 2 ^ 64 }
     ensures len { OnOk result (length values.new.items ≡ length values.old.items + len) }
-    ensures before { OnOk result (take (length values.old.items) values.new.items ≡ values.old.items) }
+    ensures before { take (length values.old.items) values.new.items ≡ values.old.items }
     ensures values { OnOk result ((x : ℕ → F) → AreRoots F.field x roots.now → (i : ℕ) → i < len
         → of_list F.field values.new.items (length values.old.items + i)
         ≡ value_below F.field (len + len) (of_list F.field coeffs.now) (x (block * len + i))) }

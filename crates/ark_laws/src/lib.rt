@@ -12,6 +12,7 @@ pub use multivariate::{
     values_with_exchanged_variables,
 };
 pub use univariate::{
-    both_products, degree_of_product, dense_and_back, division_at_point, divisions_of_all_forms,
-    sparse_and_back, values_of_all_forms, values_of_both_forms, weighted_sum, without_root,
+    always_sparse, always_trimmed, both_products, degree_of_product, dense_and_back,
+    division_at_point, divisions_of_all_forms, sparse_and_back, value_of_linear_factor,
+    values_of_all_forms, values_of_both_forms, weighted_sum, without_root,
 };

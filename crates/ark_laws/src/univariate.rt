@@ -2,11 +2,13 @@
 
 ghost use Rattle.std.specs.Prelude.{◌≡◌, ◌≢◌, ◌↔◌, ◌⊎◌, ℕ, ◌+◌, List, IsTrue, IfOk, IfErr, IfSome};
 ghost use Rattle.std.specs.Prelude.{IsOk, IsOkUnless, IsSome};
+ghost use Rattle.ark_math.specs.Field.{minus};
 ghost use Rattle.ark_math.specs.Linear.{constant, linear_factor};
 ghost use Rattle.ark_math.specs.Module.{itself, sum_below};
 ghost use Rattle.ark_math.specs.Outcome.{IsOkUnlessEither};
 ghost use Rattle.ark_math.specs.Points.{AreValues, AreWeights};
-ghost use Rattle.ark_math.specs.Univariate.{IsBelow, IsDegree, IsDivision, IsQuotient, IsTrimmed, IsValue};
+ghost use Rattle.ark_math.specs.Univariate.{IsBelow, IsDegree, IsDivision, IsQuotient, IsSparse};
+ghost use Rattle.ark_math.specs.Univariate.{IsTrimmed, IsValue};
 ghost use Rattle.ark_math.specs.Univariate.{added, nothing, of_list, of_pairs, product};
 ghost use Rattle.ark_univariate.specs.DenseOrSparse.{denoted};
 
@@ -15,6 +17,26 @@ use ark_traits::{FftField, Field, PolyError, Polynomial, Zero};
 use ark_univariate::univariate::{DenseOrSparsePolynomial, DensePolynomial, SparsePolynomial};
 use ark_univariate::{DenseUVPolynomial, EvaluationDomain, Evaluations};
 use std::alloc::Global;
+
+/// A law: of every dense polynomial the list is trimmed, as its type promises; so no other list of one denotes the same.
+pub fn always_trimmed<F: Field>(polynomial: &DensePolynomial<F>)
+    ensures { IsTrimmed F.field polynomial.now }
+{
+    polynomial.coeffs();
+}
+
+/// A law: of every sparse polynomial the degrees rise and no coefficient is zero, as its type promises; so no other list
+/// of one denotes the same.
+pub fn always_sparse<F: Field>(polynomial: &SparsePolynomial<F>)
+    ensures { IsSparse F.field polynomial.now }
+{
+    polynomial.coeffs();
+}
+
+/// A law: the value of x - z at a point is the point less z.
+pub fn value_of_linear_factor<F: Field>(root: F, point: F)
+    ensures { IsValue F.field (linear_factor F.field root) point (minus F.field point root) }
+{}
 
 /// The product by `mul` and the one by `naive_mul`: they have the same coefficients, and are equal by `==`. An
 /// error is that of one of them.

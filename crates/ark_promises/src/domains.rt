@@ -44,14 +44,14 @@ pub fn transformed_back<F: FftField, D: EvaluationDomain<F>, T: DomainCoeff<F>>(
     domain.ifft_counted(alloc, evals, work)
 }
 
-/// A domain from its bytes: exactly a spelling of it is taken.
+/// A domain from its bytes: exactly a spelling of it is taken, and memory only where its type takes any.
 pub fn domain_read<F: FftField, D: EvaluationDomain<F>, R: Source>(
     alloc: Global,
     reader: &mut R,
     mode: Compress,
 ) -> Result<D, SerializationError>
-    ensures { Reads (D.CanonicalDeserialize.format mode) (source_state R.remaining R.failures reader.old)
-        (source_state R.remaining R.failures reader.new) result }
+    ensures { Reads (D.CanonicalDeserialize.format mode) D.takes_memory
+        (source_state R.remaining R.failures reader.old) (source_state R.remaining R.failures reader.new) result }
 {
     D::deserialize_with_mode(alloc, reader, mode)
 }

@@ -3,10 +3,10 @@
 ghost use Rattle.std.specs.Prelude.{◌≡◌, ◌<◌, IfOk, true};
 ghost use Rattle.ark_sum_check.specs.Cube.{bound_to};
 ghost use Rattle.ark_sum_check.specs.Provers.{tables_of, variables_of};
-ghost use Rattle.ark_sum_check.specs.Rounds.{IsRound};
+ghost use Rattle.ark_sum_check.specs.Rounds.{AreDrawn, IsRound};
 
 use ark_base::Field;
-use ark_sum_check::{Prover, Round, SumCheckError, Verifier};
+use ark_sum_check::{Challenger, Prover, Round, SumCheckError, Verifier, prove};
 use std::alloc::Global;
 
 /// Takes a round, and says whether it was accepted.
@@ -27,4 +27,15 @@ pub fn bound<F: Field>(prover: &mut Prover<F>, challenge: F)
     ensures tables { tables_of F.field prover.new ≡ bound_to F.field challenge (tables_of F.field prover.old) }
 {
     prover.bind(challenge);
+}
+
+/// All rounds, each with the challenge that the challenger gives for its values.
+pub fn all_rounds<F: Field, C: Challenger<F>>(
+    alloc: Global,
+    prover: Prover<F>,
+    challenger: &mut C,
+) -> Result<Vec<Round<F>>, SumCheckError>
+    ensures { IfOk result (λ rounds. AreDrawn C.challenge_gives challenger.old rounds.items challenger.new) }
+{
+    prove(alloc, prover, challenger)
 }

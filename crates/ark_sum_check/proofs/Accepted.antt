@@ -8,13 +8,13 @@ use Rattle.ark_math.proofs.Algebra.Ring.{ring2_by}
 use Rattle.ark_math.proofs.Polynomials.Univariate.{IsBelow-more, difference-below}
 use Rattle.ark_math.proofs.Polynomials.UnivariateValues.{one_value, value-difference, value-nothing}
 use Rattle.ark_sum_check.specs.Cube.{bound_to, cube_sum, product_value, round_value}
-use Rattle.ark_sum_check.specs.Rounds.{AddsUp, AreAccepted, AreDifferent, AreTrueRounds, HasUnlucky, IsRefusedAt, IsRound, IsSound, IsTrueRound, IsUnlucky, challenges}
+use Rattle.ark_sum_check.specs.Rounds.{AddsUp, AreAccepted, AreDifferent, AreDrawn, AreTrueRounds, HasUnlucky, IsRefusedAt, IsRound, IsSound, IsTrueRound, IsUnlucky, challenges}
 use Rattle.ark_sum_check.specs.declared.round.Round.{Round}
 use Rattle.ark_sum_check.proofs.ValuesThrough.{one_value_through}
 use Rattle.ark_sum_check.proofs.TrueRounds.{cube_sum-halves, cube_sum-none, natural-one, product_value-cons, true_polynomial}
 
 module _ {F : Type 0} (K : FieldOn F) (N : IsField K) where
-  length-bound_to : (ts : List (ℕ → F)) (x : F) → length (bound_to K x ts) ≡ length ts
+  pub length-bound_to : (ts : List (ℕ → F)) (x : F) → length (bound_to K x ts) ≡ length ts
   length-bound_to [] x = refl
   length-bound_to (t ∷ ts) x = ap suc (length-bound_to ts x)
 
@@ -176,3 +176,8 @@ module _ {F : Type 0} (K : FieldOn F) (d : ℕ) (ts : List (ℕ → F)) where
 -- as many challenges as rounds
 pub length-challenges : {F : Type 0} (rs : List (Round F)) → length (challenges rs) ≡ length rs
 length-challenges rs = length-map rs (λ r. r.challenge)
+
+-- one more challenge
+pub AreDrawn-push : {F C : Type 0} (gives : C → List F → F → C → Type 0) (a : C) (rs : List (Round F)) (b : C) (values : List F) (r : Round F) (c : C) → AreDrawn gives a rs b → gives b values r.challenge c → values ≡ r.values.items → AreDrawn gives a (rs ++ r ∷ []) c
+AreDrawn-push gives a [] b values r c h g e = (c, subst (λ vs. gives a vs r.challenge c) e (subst (λ s. gives s values r.challenge c) (sym h) g), refl)
+AreDrawn-push gives a (u ∷ us) b values r c h g e = (h.0, h.1, AreDrawn-push gives h.0 us b values r c h.2 g e)

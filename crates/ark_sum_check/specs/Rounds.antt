@@ -1,5 +1,5 @@
 -- The rounds of a sum-check. The first round binds the first variable, and so on.
-use Rattle.std.specs.Prelude.{◌≡◌, ◌≢◌, ◌⊎◌, ℕ, suc, zero, List, [], ◌∷◌, ◌+◌, ◌<◌, ◌≤◌, length, map}
+use Rattle.std.specs.Prelude.{◌≡◌, ◌≢◌, ◌⊎◌, ℕ, suc, zero, List, [], ◌∷◌, ◌++◌, ◌+◌, ◌<◌, ◌≤◌, length, map}
 use Rattle.ark_math.specs.Field.{FieldOn, natural}
 use Rattle.ark_math.specs.Univariate.{IsBelow, IsValue, difference, nothing, of_list}
 use Rattle.ark_sum_check.specs.Cube.{bound_to, cube_sum, product_value, round_value}
@@ -44,6 +44,11 @@ IsRefusedAt {F} K d claim (r ∷ rs) (suc i) = (next : F) × IsRound K d claim r
 abbrev pub challenges : {F : Type 0} → List (Round F) → List F
 challenges rs = map (λ r. r.challenge) rs
 
+-- rounds whose challenges came one after the other, each for its round's values, from one state of a challenger to another
+abbrev pub AreDrawn : {F C : Type 0} → (C → List F → F → C → Type 0) → C → List (Round F) → C → Type 0
+AreDrawn gives c [] end = c ≡ end
+AreDrawn {C = C} gives c (r ∷ rs) end = (next : C) × gives c r.values.items r.challenge next × AreDrawn gives next rs end
+
 -- ---- true rounds
 
 -- a round's true polynomial, of degree d at most, by its values at 0, 1, .., d; m variables are left after it
@@ -82,3 +87,18 @@ HasUnlucky K d ts (r ∷ rs) = IsUnlucky K d (length rs) ts r.values.items r.cha
 -- challenges, or a round is unlucky
 abbrev pub IsSound : {F : Type 0} → FieldOn F → ℕ → F → List (Round F) → F → List (ℕ → F) → Type 0
 IsSound K d claim rs last ts = (claim ≡ cube_sum K (length rs) ts) ⊎ (last ≢ product_value K ts (challenges rs)) ⊎ HasUnlucky K d ts rs
+
+-- the tables that are left when the first variables are bound to these elements
+abbrev pub left_after : {F : Type 0} → FieldOn F → List F → List (ℕ → F) → List (ℕ → F)
+left_after K [] ts = ts
+left_after K (x ∷ xs) ts = left_after K xs (bound_to K x ts)
+
+-- one of the rounds: d elements at most are unlucky for its values and the challenges before it, and its own challenge is
+-- one of them
+pub record HasOneOfFew {F : Type 0} (K : FieldOn F) (d : ℕ) (ts : List (ℕ → F)) (rs : List (Round F)) : Type 0 where
+  pub before : List (Round F)
+  pub round : Round F
+  pub after : List (Round F)
+  pub is : rs ≡ before ++ round ∷ after
+  pub few : AtMost d (IsUnlucky K d (length after) (left_after K (challenges before) ts) round.values.items)
+  pub unlucky : IsUnlucky K d (length after) (left_after K (challenges before) ts) round.values.items round.challenge

@@ -1,6 +1,7 @@
 //! The verifier of a sum-check.
 
-ghost use Rattle.std.specs.Prelude.{◌≡◌, ◌↔◌, ℕ, List, ◌+◌, ◌≤◌, length, IfOk, IsTrue, OnErr, Err, true, false};
+ghost use Rattle.std.specs.Prelude.{◌≡◌, ◌≢◌, ◌↔◌, ℕ, List, ◌+◌, ◌<◌, ◌≤◌, length};
+ghost use Rattle.std.specs.Prelude.{IfOk, IsTrue, OnErr, Err, true, false};
 ghost use Rattle.ark_sum_check.specs.Rounds.{AddsUp, AreAccepted, AreDifferent, IsRefusedAt, IsRound, IsSound};
 
 use crate::error::SumCheckError;
@@ -44,6 +45,7 @@ impl<F: Field> Verifier<F> {
             → IfOk result (λ fits. (fits ≡ true) × (next ≡ self.new.claim)) }
         ensures refused { IfOk result (λ fits. fits ≡ false
             → AddsUp F.field self.old.degree self.old.claim round.now.values.items → ⊥) }
+        ensures different { IfOk result (λ fits. fits ≡ true → AreDifferent F.field (self.old.degree + 1)) }
         ensures degree { self.new.degree ≡ self.old.degree }
         ensures kept { IfOk result (λ fits. fits ≡ false → self.new ≡ self.old) }
         ensures unchanged { OnErr result (self.new ≡ self.old) }
@@ -71,7 +73,8 @@ impl<F: Field> Verifier<F> {
 
 /// What a verifier says of all rounds of a claim, of polynomials of this degree at most. There are as many rounds as
 /// variables, which the caller tests: what `sound` says is of tables with so many variables. The last claim is compared
-/// with the product's value at the challenges.
+/// with the product's value at the challenges. Where a round was accepted, 0, 1, .., d are different elements, as the law
+/// `true_or_one_of_few` asks.
 pub fn verify<F: Field>(
     alloc: Global,
     degree: usize,
@@ -86,6 +89,8 @@ pub fn verify<F: Field>(
         → IsRefusedAt F.field degree claim rounds.now i) }
     ensures sound { IfOk result (λ verdict. (last : F) → verdict ≡ Verdict.Accepted last
         → (ts : List (ℕ → F)) → length ts ≤ degree → IsSound F.field degree claim rounds.now last ts) }
+    ensures different { IfOk result (λ verdict. 0 < length rounds.now → verdict ≢ Verdict.Refused 0
+        → AreDifferent F.field (degree + 1)) }
     ensures small { result ≡ Err SumCheckError.SmallCharacteristic → AreDifferent F.field (degree + 1) → ⊥ }
 {
     let mut verifier = Verifier { degree, claim };

@@ -4,7 +4,7 @@ use crate::given::named;
 use crate::swept::{Call, Ended, attempt};
 use ark_base::{
     CanonicalDeserialize, CanonicalSerialize, Compress, FftField, IoSink, PolyError,
-    SerializationError, read_list, recompress, written_then_read,
+    SerializationError, read_list, recompress, recompressed_and_back, written_then_read,
 };
 use ark_poly::multivariate::{self, SparseTerm};
 use ark_poly::univariate::{DensePolynomial, SparsePolynomial};
@@ -71,6 +71,8 @@ impl<T: CanonicalSerialize + CanonicalDeserialize> Call for OfBytes<T> {
                 Ok(list) => Ok(Answered::Number(list.len())),
                 Err(error) => refused(error),
             },
+            "recompressed_and_back to yes" => self.there_and_back(alloc, Compress::Yes),
+            "recompressed_and_back to no" => self.there_and_back(alloc, Compress::No),
             "written_then_read" => value_read(written_then_read(alloc, &self.value, self.mode)),
             "check" => match self.value.check() {
                 Ok(()) => Ok(Answered::Number(0)),
@@ -96,6 +98,16 @@ impl<T: CanonicalSerialize + CanonicalDeserialize> Call for OfBytes<T> {
 }
 
 impl<T: CanonicalSerialize + CanonicalDeserialize> OfBytes<T> {
+    /// The bytes in the other mode and back. They are a whole spelling, so that `IoError` says of the lists that are written
+    /// to that their growth was refused.
+    fn there_and_back(&self, alloc: Global, to: Compress) -> Result<Answered<T>, PolyError> {
+        match recompressed_and_back::<T>(alloc, &self.bytes, self.mode, to) {
+            Ok(bytes) => Ok(Answered::Bytes(bytes)),
+            Err(SerializationError::IoError) => Err(PolyError::Memory),
+            Err(error) => refused(error),
+        }
+    }
+
     /// Makes a call that writes to the room.
     fn written(&mut self, alloc: Global, name: &str) -> Result<Answered<T>, PolyError> {
         let Some(room) = self.room.take() else {
@@ -169,6 +181,7 @@ pub fn answer_of_bytes<F: FftField, R: Print>(
 ) -> Result<Ended, PolyError> {
     match kind {
         "bytes element" => attempt::<OfBytes<F>, R>(alloc, watched, name, given),
+        "bytes list" => attempt::<OfBytes<Vec<F>>, R>(alloc, watched, name, given),
         "bytes dense" => attempt::<OfBytes<DensePolynomial<F>>, R>(alloc, watched, name, given),
         "bytes sparse" => attempt::<OfBytes<SparsePolynomial<F>>, R>(alloc, watched, name, given),
         "bytes term" => attempt::<OfBytes<SparseTerm>, R>(alloc, watched, name, given),

@@ -2,8 +2,9 @@
 
 use crate::given::{domain_named, element_named, named, size_named};
 use crate::swept::Call;
-use ark_base::{FftField, Lanes, PolyError, Work};
-use ark_poly::EvaluationDomain;
+use ark_base::{Compress, FftField, Lanes, PolyError, Work};
+use ark_laws::domain_read_back;
+use ark_poly::{DenseUVPolynomial, EvaluationDomain};
 use ark_test_types::nothing::Nothing;
 use ark_test_types::numbered::Numbered;
 use rand_pcg::Pcg64;
@@ -66,6 +67,8 @@ impl<F: Numbered, D: EvaluationDomain<F>> Call for OverDomain<F, D> {
         match name {
             "ifft_of_pairs" => pairs_answer(self.domain.ifft(alloc, &self.pairs)),
             "mul_polynomials_in_evaluation_domain" => self.products(alloc),
+            "filter_polynomial" => filter_of(alloc, &self.domain, &self.part),
+            "domain_read_back" => read_back(alloc, &self.domain),
             "fft_of_nothings" => self.of_nothings(alloc),
             "fft_of_listed_nothings" => self.of_listed_nothings(alloc),
             _ => self.transform(alloc, name),
@@ -222,6 +225,27 @@ fn pairs_answer<F: FftField, D>(
     made: Result<Vec<Lanes<F>>, PolyError>,
 ) -> Result<Answered<F, D>, PolyError> {
     Ok(Answered::Pairs(made?))
+}
+
+/// The coefficients of the filter, up to the highest.
+fn filter_of<F: FftField, D: EvaluationDomain<F>>(
+    alloc: Global,
+    domain: &D,
+    part: &D,
+) -> Result<Answered<F, D>, PolyError> {
+    let filter = domain.filter_polynomial(alloc, part)?;
+    Ok(Answered::Elements(Vec::from_slice(alloc, filter.coeffs())?))
+}
+
+/// The domain that is read from its own bytes, whose only refusal is that of memory.
+fn read_back<F: FftField, D: EvaluationDomain<F>>(
+    alloc: Global,
+    domain: &D,
+) -> Result<Answered<F, D>, PolyError> {
+    match domain_read_back(alloc, domain, Compress::Yes) {
+        Ok(read) => Ok(Answered::Domain(Some(read))),
+        Err(_) => Err(PolyError::Memory),
+    }
 }
 
 fn list_changed<F: FftField, D>(done: Result<(), PolyError>) -> Result<Answered<F, D>, PolyError> {

@@ -3,7 +3,8 @@
 use crate::given::{element_named, named};
 use crate::kinds::{Kind, both_named};
 use crate::swept::Call;
-use ark_base::{Field, PolyError, Polynomial};
+use ark_base::{Compress, Field, PolyError, Polynomial};
+use ark_laws::polynomial_read_back;
 use ark_test_types::numbered::Numbered;
 use row_words::rows::Answer;
 use row_words::words::{no_fit, no_row, one};
@@ -46,6 +47,7 @@ impl<F: Numbered, P: Kind<F>> Call for OfForm<F, P> {
             "clone" => polynomial_of(copied(&self.left)),
             "zero" => polynomial_of(P::zero(alloc)),
             "neg" => polynomial_of(self.left.neg(alloc)),
+            "polynomial_read_back" => read_back(alloc, &self.left),
             "evaluate" if self.left.point_fits(&self.point) => {
                 value_of(self.left.evaluate(alloc, &self.point))
             }
@@ -57,7 +59,11 @@ impl<F: Numbered, P: Kind<F>> Call for OfForm<F, P> {
     }
 
     fn is_same(&self, other: &Self) -> bool {
-        self.left == other.left && self.right == other.right && self.point == other.point
+        self.left == other.left
+            && self.right == other.right
+            && self.point == other.point
+            && self.left.kept_variables() == other.left.kept_variables()
+            && self.right.kept_variables() == other.right.kept_variables()
     }
 
     fn text(&self, alloc: Global, answered: &Answered<F, P>) -> Answer {
@@ -91,6 +97,17 @@ fn in_place<F: Field, P: Polynomial<F>>(
             )
         }
         _ => Ok(Answered::NoCall),
+    }
+}
+
+/// The polynomial that is read from its own bytes, whose only refusal is that of memory.
+fn read_back<F: Field, P: Polynomial<F>>(
+    alloc: Global,
+    p: &P,
+) -> Result<Answered<F, P>, PolyError> {
+    match polynomial_read_back(alloc, p, Compress::No) {
+        Ok(read) => Ok(Answered::Polynomial(read)),
+        Err(_) => Err(PolyError::Memory),
     }
 }
 

@@ -25,6 +25,9 @@ pub trait Kind<F: Field>: Polynomial<F> {
 
     /// What it keeps.
     fn text(&self, alloc: Global) -> Answer;
+
+    /// How many variables it keeps, or none.
+    fn kept_variables(&self) -> Option<usize>;
 }
 
 /// The polynomials that the words of both names spell.
@@ -52,6 +55,10 @@ impl<F: Numbered> Kind<F> for DensePolynomial<F> {
     fn text(&self, alloc: Global) -> Answer {
         text_of(alloc, self.coeffs())
     }
+
+    fn kept_variables(&self) -> Option<usize> {
+        None
+    }
 }
 
 /// By the terms.
@@ -66,6 +73,10 @@ impl<F: Numbered> Kind<F> for SparsePolynomial<F> {
 
     fn text(&self, alloc: Global) -> Answer {
         text_of_terms(alloc, self.coeffs())
+    }
+
+    fn kept_variables(&self) -> Option<usize> {
+        None
     }
 }
 
@@ -92,6 +103,10 @@ impl<F: Numbered> Kind<F> for multivariate::SparsePolynomial<F, SparseTerm> {
             push_term(&mut text, term)?;
         }
         Ok(text)
+    }
+
+    fn kept_variables(&self) -> Option<usize> {
+        Some(self.num_vars())
     }
 }
 
@@ -134,6 +149,10 @@ impl<F: Numbered> Kind<F> for DenseMultilinearExtension<F> {
     fn text(&self, alloc: Global) -> Answer {
         text_of(alloc, &self.to_evaluations(alloc)?)
     }
+
+    fn kept_variables(&self) -> Option<usize> {
+        Some(self.num_vars())
+    }
 }
 
 /// By the number of variables, a stroke and the entries, or by all values.
@@ -161,5 +180,9 @@ impl<F: Numbered> Kind<F> for SparseMultilinearExtension<F> {
         }
         let num_vars = text_of_numbers(alloc, &[self.num_vars() as u64]);
         joined(alloc, num_vars, "/", text_of_terms(alloc, &entries))
+    }
+
+    fn kept_variables(&self) -> Option<usize> {
+        Some(self.num_vars())
     }
 }

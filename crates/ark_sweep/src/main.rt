@@ -7,6 +7,7 @@
 //! status then tells how it ended.
 #![tactic(auto)]
 
+mod blocks;
 mod bytes;
 mod codes;
 mod domains;
@@ -15,15 +16,20 @@ mod given;
 mod kinds;
 mod programs;
 mod several;
+mod shares;
+mod sum_checks;
 mod swept;
 mod univariate;
 
+use crate::blocks::OfBlocks;
 use crate::bytes::answer_of_bytes;
 use crate::codes::{OfCode, OfDecoder};
 use crate::domains::OverDomain;
 use crate::forms::OfForm;
 use crate::programs::OfProgram;
 use crate::several::OfSeveral;
+use crate::shares::OfShares;
+use crate::sum_checks::OfSumChecks;
 use crate::swept::{Ended, attempt};
 use crate::univariate::OfOne;
 use ark_base::PolyError;
@@ -97,6 +103,9 @@ fn over_any<F: Numbered, R: Print>(
         }
         "several_variables" => attempt::<OfSeveral<F>, R>(alloc, watched, name, given),
         "decoder" => attempt::<OfDecoder<F>, R>(alloc, watched, name, given),
+        "blocks" => attempt::<OfBlocks<F>, R>(alloc, watched, name, given),
+        "shares" => attempt::<OfShares<F>, R>(alloc, watched, name, given),
+        "sum_checks" => attempt::<OfSumChecks<F>, R>(alloc, watched, name, given),
         _ => over_mixed::<F, R>(alloc, watched, form, name, given),
     }
 }

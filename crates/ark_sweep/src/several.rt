@@ -14,11 +14,14 @@ use rand_pcg::Pcg64;
 use row_words::rows::Answer;
 use row_words::words::{elements, no_fit, no_row, one, text_of_flags};
 use std::alloc::Global;
+use std::mem;
 
-/// A term, a table, values, a point, a factor, a number of variables, and the windows of variables.
+/// A term, powers, a table, values, a point, a factor, a number of variables, and the windows of variables.
 #[derive(Drop)]
 pub struct OfSeveral<F: Field> {
     term: SparseTerm,
+    // Given by value, and so gone after a call.
+    powers: Vec<(usize, usize)>,
     dense: DenseMultilinearExtension<F>,
     values: Vec<F>,
     point: Vec<F>,
@@ -67,6 +70,7 @@ impl<F: Numbered> Call for OfSeveral<F> {
         let (values, point) = lists_named(alloc, words)?;
         Ok(OfSeveral {
             term,
+            powers: pairs_of(alloc, named(words, "powers"))?,
             dense,
             values,
             point,
@@ -82,6 +86,10 @@ impl<F: Numbered> Call for OfSeveral<F> {
 
     fn call(&mut self, alloc: Global, name: &str) -> Result<Answered<F>, PolyError> {
         match name.split_once(' ') {
+            Some(("term", "new")) => {
+                let powers = mem::replace(&mut self.powers, Vec::new(alloc));
+                term_of(SparseTerm::new(alloc, powers))
+            }
             Some(("term", name)) => self.of_terms(name),
             Some(("multivariate", _)) => drawn_polynomial(alloc, self.number),
             Some(("dense_extension", name)) => self.of_dense(alloc, name),
@@ -93,6 +101,7 @@ impl<F: Numbered> Call for OfSeveral<F> {
     fn is_same(&self, other: &Self) -> bool {
         self.term == other.term
             && self.dense == other.dense
+            && self.dense.num_vars() == other.dense.num_vars()
             && self.values == other.values
             && self.point == other.point
     }

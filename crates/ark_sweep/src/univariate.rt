@@ -3,13 +3,14 @@
 use crate::given::{domain_named, named, size_named};
 use crate::kinds::{Kind, both_named};
 use crate::swept::Call;
-use ark_base::{FftField, PolyError, batch_inversion};
-use ark_poly::univariate::{DensePolynomial, SparsePolynomial};
+use ark_base::{Compress, FftField, PolyError, batch_inversion};
+use ark_laws::values_read_back;
+use ark_poly::univariate::{DenseOrSparsePolynomial, DensePolynomial, SparsePolynomial};
 use ark_poly::{DenseUVPolynomial, EvaluationDomain, Evaluations};
 use ark_test_types::numbered::Numbered;
 use rand_pcg::Pcg64;
 use row_words::rows::Answer;
-use row_words::words::{elements, no_row, text_of, text_of_flags};
+use row_words::words::{elements, no_row, text_of, text_of_flags, text_of_terms};
 use std::alloc::Global;
 
 /// Two dense polynomials and a sparse one, a list, a number, a domain, and values over it.
@@ -29,6 +30,7 @@ pub struct OfOne<F: FftField, D: EvaluationDomain<F>> {
 #[derive(Drop)]
 pub enum Answered<F: FftField> {
     Dense(DensePolynomial<F>),
+    Sparse(SparsePolynomial<F>),
     DenseInPlace,
     ValuesInPlace,
     ListInPlace,
@@ -93,7 +95,9 @@ impl<F: Numbered, D: EvaluationDomain<F>> Call for OfOne<F, D> {
     fn call(&mut self, alloc: Global, name: &str) -> Result<Answered<F>, PolyError> {
         match name.split_once(' ') {
             Some(("dense", name)) => self.of_dense(alloc, name),
+            Some(("sparse", name)) => self.of_sparse(alloc, name),
             Some(("values", name)) => self.values_in_place(alloc, name),
+            _ if name == "values_read_back" => self.read_back(alloc),
             _ => in_place(
                 batch_inversion(alloc, &mut self.list),
                 Answered::ListInPlace,
@@ -113,6 +117,7 @@ impl<F: Numbered, D: EvaluationDomain<F>> Call for OfOne<F, D> {
     fn text(&self, alloc: Global, answered: &Answered<F>) -> Answer {
         match answered {
             Answered::Dense(p) => text_of(alloc, p.coeffs()),
+            Answered::Sparse(p) => text_of_terms(alloc, p.coeffs()),
             Answered::DenseInPlace => text_of(alloc, self.left.coeffs()),
             Answered::ValuesInPlace => text_of(alloc, self.values.evals()),
             Answered::ListInPlace => text_of(alloc, &self.list),
@@ -138,7 +143,42 @@ impl<F: Numbered, D: EvaluationDomain<F>> OfOne<F, D> {
                 self.left.mul_over_domain(alloc, &self.right, self.domain),
             ),
             "rand" => self.drawn(alloc),
+            "mul" => dense_of(self.left.mul(alloc, &self.right)),
+            "div" => dense_of(self.left.div(alloc, &self.right)),
+            "add_sparse" => dense_of(self.left.add_sparse(alloc, &self.sparse)),
+            "sub_sparse" => dense_of(self.left.sub_sparse(alloc, &self.sparse)),
+            "divide_by_transforms" => {
+                let division = self.left.divide_by_transforms(alloc, &self.right)?;
+                Ok(Answered::Flag(division.is_some()))
+            }
+            "into_sparse" => sparse_of(DenseOrSparsePolynomial::from(&self.left).into_sparse(
+                alloc,
+            )),
             _ => Ok(Answered::NoCall),
+        }
+    }
+
+    /// Makes a call of sparse polynomials.
+    fn of_sparse(&self, alloc: Global, name: &str) -> Result<Answered<F>, PolyError> {
+        let held = DenseOrSparsePolynomial::from(&self.sparse);
+        match name {
+            "mul" => sparse_of(self.sparse.mul(alloc, &self.sparse)),
+            "to_dense" => dense_of(DensePolynomial::from_sparse(alloc, &self.sparse)),
+            "into_dense" => dense_of(held.into_dense(alloc)),
+            "divide_with_q_and_r" => {
+                let divisor = DenseOrSparsePolynomial::from(&self.right);
+                let division = held.divide_with_q_and_r(alloc, &divisor)?;
+                Ok(Answered::Flag(division.is_some()))
+            }
+            _ => Ok(Answered::NoCall),
+        }
+    }
+
+    /// The values that are read from their own bytes, whose only refusal is that of memory.
+    fn read_back(&self, alloc: Global) -> Result<Answered<F>, PolyError> {
+        match values_read_back(alloc, &self.values, Compress::No) {
+            Ok(read) => Ok(Answered::Flag(read == self.values)),
+            Err(_) => Err(PolyError::Memory),
         }
     }
 
@@ -174,6 +214,12 @@ fn dense_of<F: FftField>(
     made: Result<DensePolynomial<F>, PolyError>,
 ) -> Result<Answered<F>, PolyError> {
     Ok(Answered::Dense(made?))
+}
+
+fn sparse_of<F: FftField>(
+    made: Result<SparsePolynomial<F>, PolyError>,
+) -> Result<Answered<F>, PolyError> {
+    Ok(Answered::Sparse(made?))
 }
 
 /// Makes a call that changes the first values, where they are over one domain, and tells whether there is one of this name.

@@ -1,7 +1,14 @@
 ghost use Rattle.std.specs.Prelude.{IsOkUnless};
 
-use ark_base::PolyError;
-use std::alloc::Global;
+use ark_base::{PolyError, SerializationError};
+use ark_points::PointsError;
+use ark_sharing::SharingError;
+use ark_sum_check::SumCheckError;
+use rs_code::RsError;
+use shards_format::{Damage, JoinError};
+use shards_streams::StreamError;
+use std::alloc::{AllocError, Global};
+use std::fmt::{Debug, Display};
 use std::test::Fail;
 
 // A refused growth is known to be `Memory` after `?`.
@@ -11,6 +18,18 @@ fn single(alloc: Global, item: u8) -> Result<Vec<u8>, PolyError>
     let mut items = Vec::with_capacity(alloc, 1)?;
     items.push(item)?;
     Ok(items)
+}
+
+// Whether the error shows the text, and its name for debugging.
+fn shows<E: Display + Debug>(
+    alloc: Global,
+    error: &E,
+    text: &str,
+    name: &str,
+) -> Result<bool, AllocError> {
+    let shown = format!(in alloc; "{error}")?;
+    let named = format!(in alloc; "{error:?}")?;
+    Ok(shown.as_str() == text && named.as_str() == name)
 }
 
 #[test]
@@ -24,10 +43,137 @@ fn shows_each_name_and_number(rt: HostRuntime) -> Result<(), Fail> {
         (PolyError::NotSparse, "NotSparse", 6),
     ];
     for (error, name, number) in rows {
-        assert_eq!(rt; format!(in rt.alloc(); "{error}")?.as_str(), name);
-        assert_eq!(rt; format!(in rt.alloc(); "{error:?}")?.as_str(), name);
+        assert!(rt; shows(rt.alloc(), &error, name, name)?);
         assert_eq!(rt; error as u8, number);
     }
     assert_eq!(rt; single(rt.alloc(), 7)?.len(), 1);
+    Ok(())
+}
+
+#[test]
+fn errors_of_bytes(rt: HostRuntime) -> Result<(), Fail> {
+    let rows = [
+        (SerializationError::IoError, "IoError", 1),
+        (SerializationError::InvalidData, "InvalidData", 2),
+        (SerializationError::Memory, "Memory", 3),
+    ];
+    for (error, name, number) in rows {
+        assert!(rt; shows(rt.alloc(), &error, name, name)?);
+        assert_eq!(rt; error as u8, number);
+    }
+    Ok(())
+}
+
+#[test]
+fn errors_at_points(rt: HostRuntime) -> Result<(), Fail> {
+    let rows = [
+        (PointsError::Memory, "Memory", 1),
+        (PointsError::RepeatedPoint, "RepeatedPoint", 2),
+    ];
+    for (error, name, number) in rows {
+        assert!(rt; shows(rt.alloc(), &error, name, name)?);
+        assert_eq!(rt; error as u8, number);
+    }
+    Ok(())
+}
+
+#[test]
+fn errors_of_shares(rt: HostRuntime) -> Result<(), Fail> {
+    let rows = [
+        (SharingError::Memory, "Memory", 1),
+        (SharingError::WrongThreshold, "WrongThreshold", 2),
+        (SharingError::ZeroPoint, "ZeroPoint", 3),
+        (SharingError::RepeatedPoint, "RepeatedPoint", 4),
+    ];
+    for (error, name, number) in rows {
+        assert!(rt; shows(rt.alloc(), &error, name, name)?);
+        assert_eq!(rt; error as u8, number);
+    }
+    Ok(())
+}
+
+#[test]
+fn errors_of_sum_checks(rt: HostRuntime) -> Result<(), Fail> {
+    let rows = [
+        (SumCheckError::Memory, "Memory", 1),
+        (SumCheckError::SmallCharacteristic, "SmallCharacteristic", 2),
+    ];
+    for (error, name, number) in rows {
+        assert!(rt; shows(rt.alloc(), &error, name, name)?);
+        assert_eq!(rt; error as u8, number);
+    }
+    Ok(())
+}
+
+#[test]
+fn errors_of_codes(rt: HostRuntime) -> Result<(), Fail> {
+    let rows = [
+        (RsError::Memory, "Memory", 1),
+        (RsError::WrongLength, "WrongLength", 2),
+        (RsError::TooManyErased, "TooManyErased", 3),
+        (RsError::NoCodeword, "NoCodeword", 4),
+    ];
+    for (error, name, number) in rows {
+        assert!(rt; shows(rt.alloc(), &error, name, name)?);
+        assert_eq!(rt; error as u8, number);
+    }
+    Ok(())
+}
+
+#[test]
+fn errors_of_pieces(rt: HostRuntime) -> Result<(), Fail> {
+    let rows = [
+        (Damage::NoPiece, "not a piece, or cut short", "NoPiece", 1),
+        (Damage::Changed, "damaged", "Changed", 2),
+    ];
+    for (error, text, name, number) in rows {
+        assert!(rt; shows(rt.alloc(), &error, text, name)?);
+        assert_eq!(rt; error as u8, number);
+    }
+    Ok(())
+}
+
+#[test]
+fn errors_of_joining(rt: HostRuntime) -> Result<(), Fail> {
+    let rows = [
+        (JoinError::Memory, "not enough memory", "Memory", 1),
+        (
+            JoinError::DifferentFiles,
+            "the pieces are not of one file",
+            "DifferentFiles",
+            2,
+        ),
+        (
+            JoinError::GivenTwice,
+            "a piece is given twice",
+            "GivenTwice",
+            3,
+        ),
+        (JoinError::TooFew, "too few pieces", "TooFew", 4),
+        (
+            JoinError::WrongDigest,
+            "the pieces do not give the file",
+            "WrongDigest",
+            5,
+        ),
+    ];
+    for (error, text, name, number) in rows {
+        assert!(rt; shows(rt.alloc(), &error, text, name)?);
+        assert_eq!(rt; error as u8, number);
+    }
+    Ok(())
+}
+
+#[test]
+fn errors_of_streams(rt: HostRuntime) -> Result<(), Fail> {
+    let rows = [
+        (StreamError::Memory, "not enough memory", "Memory"),
+        (StreamError::Read(7), "reading failed", "Read(7)"),
+        (StreamError::Write(7), "writing failed", "Write(7)"),
+        (StreamError::TooLong, "the file is too long", "TooLong"),
+    ];
+    for (error, text, name) in rows {
+        assert!(rt; shows(rt.alloc(), &error, text, name)?);
+    }
     Ok(())
 }

@@ -54,15 +54,15 @@ fn checked(alloc: Global, field: u64, rows: &str) -> Answer {
     written(alloc, &text, status)
 }
 
-/// A writer that fails after so many bytes.
+/// A writer that fails once, after so many bytes.
 fn stopping(alloc: Global, room: usize) -> Result<IoSink<StopWriter>, AllocError> {
     let taken = Vec::with_capacity(alloc, room)?;
-    Ok(IoSink::new(StopWriter { room, taken }))
+    Ok(IoSink::new(StopWriter::new(room, taken)))
 }
 
-/// Whether it holds just these bytes.
+/// Whether it holds just these bytes, and was not asked to write more.
 fn holds(out: IoSink<StopWriter>, bytes: &[u8]) -> bool {
-    out.into_inner().taken.as_slice() == bytes
+    out.into_inner().stopped_after(bytes)
 }
 
 /// A row for `check`: words between spaces, an equals sign and a text.

@@ -1,10 +1,12 @@
-//! An erasure code: values for n holders, of whom any k give all of them back.
+//! An erasure code: values for n holders, of whom any k give all of them back, and one more than k show a wrong value.
 
-ghost use Rattle.std.specs.Prelude.{◌≡◌, map, IfOk};
+ghost use Rattle.std.specs.Prelude.{◌≡◌, ◌≢◌, ◌+◌, ◌<◌, List, Some, None, get_or, length, map, IfOk};
+ghost use Rattle.ark_math.specs.Module.{item};
 ghost use Rattle.ark_math.specs.Transform.{transform};
+ghost use Rattle.rs_code.specs.Codeword.{AgreesBut, IsCodeword, erasure_count};
 
 use ark_base::{DomainCoeff, FftField};
-use rs_code::{Code, RsError};
+use rs_code::{Code, RsError, one_wrong_value};
 use std::alloc::Global;
 
 /// What comes back of a message's values when those at the marked places are lost: all of them.
@@ -19,4 +21,22 @@ pub fn lost_and_restored<F: FftField, T: DomainCoeff<F>>(
 {
     let values = code.encode(alloc, message)?;
     code.decoder(alloc, lost)?.restore(alloc, &values)
+}
+
+/// What comes back of a word: nothing where more than `k` values are known, and all of them but one are a codeword's.
+pub fn restored_if_right<F: FftField, T: DomainCoeff<F>>(
+    alloc: Global,
+    code: &Code<F>,
+    word: &[Option<T>],
+    place: usize,
+) -> Result<Vec<T>, RsError>
+    ensures refused { (c : List T.Meaning) (x : T) → length word.now ≡ code.now.domain.size
+        → code.now.k + erasure_count word.now < code.now.domain.size
+        → IsCodeword F.field T.group code.now.domain code.now.k c
+        → AgreesBut T.group T.meaning word.now place c
+        → get_or word.now place None ≡ Some x → item T.group c place ≢ T.meaning x
+        → IfOk result (λ _. ⊥) }
+{
+    one_wrong_value::<F, _, T>(code, word, place);
+    code.restore(alloc, word)
 }

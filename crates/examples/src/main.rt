@@ -1,13 +1,15 @@
 //! Small callers, as a user of the crates writes them: a transform and back, values on a coset, an interpolation, the
 //! convolution of two lists, a combination of two polynomials, an opening, exact costs, the first round of a sum-check,
-//! what chooses a value of a table, values that are lost and restored, a polynomial in a file, the values of a sparse one,
-//! fields and a module of one's own. The program prints what each gives.
+//! what chooses a value of a table, values that are lost and restored, a wrong one that is refused, a polynomial in a file,
+//! one error for a program, the values of a sparse polynomial, fields and a module of one's own. The program prints what
+//! each gives.
 #![tactic(auto)]
 
 mod combination;
 mod convolution;
 mod coset;
 mod cost;
+mod errors;
 mod field;
 mod holders;
 mod interpolation;
@@ -30,8 +32,9 @@ use combination::combination;
 use convolution::convolution;
 use coset::values_on_coset;
 use cost::{over_sixteen_and_back, restored_of_eighteen};
+use errors::{CallError, value_of_saved};
 use field::{F97, quotient};
-use holders::lost_and_restored;
+use holders::{lost_and_restored, restored_if_right};
 use interpolation::interpolated_value;
 use large_field::{F18446742974197923841, size_for_a_hundred_million};
 use module::{Point, points_of_curve};
@@ -85,6 +88,9 @@ fn main(rt: HostRuntime) -> anyhow::Result<()> {
     )?;
     let values = held(alloc, &[1, 2, 3].map(F65537::from))?;
     print_list(&rt, alloc, "of eight values, five of them lost", &values)?;
+    if let Err(refused) = one_wrong(alloc, &[1, 2, 3].map(F65537::from)) {
+        println!(rt; "of eight values, one of them wrong: {refused}")?;
+    }
     print_saved(&rt, alloc)?;
     print_fields(&rt, alloc)?;
     let coeffs = [(1, 2), (3, 4), (5, 6)].map(|(x, y)| Point {
@@ -218,6 +224,24 @@ fn held<F: FftField>(alloc: Global, message: &[F]) -> anyhow::Result<Vec<F>> {
     Ok(lost_and_restored(alloc, &code, message, &lost)?)
 }
 
+/// What comes back of the message's eight values where one of them is another.
+fn one_wrong<F: FftField>(alloc: Global, message: &[F]) -> anyhow::Result<Vec<F>> {
+    let code = Code::new(message.len(), 8).ok_or(PolyError::NoDomain)?;
+    let mut word = Vec::with_capacity(alloc, 8)?;
+    for value in &code.encode(alloc, message)? {
+        word.push(Some(*value))?;
+    }
+    word[5] = Some(F::zero());
+    Ok(restored_if_right(alloc, &code, &word, 5)?)
+}
+
+/// The value at a point of the polynomial with these coefficients, from its bytes.
+fn from_bytes<F: Field>(alloc: Global, coeffs: &[F], point: F) -> Result<F, CallError> {
+    let polynomial = DensePolynomial::from_coefficients_slice(alloc, coeffs)?;
+    let bytes = save(&polynomial, Vec::new(alloc))?;
+    value_of_saved(alloc, &bytes, point)
+}
+
 /// The polynomial that is loaded from a file in which this one was saved.
 fn through_file<F: Field>(
     rt: &impl Files,
@@ -234,7 +258,13 @@ fn through_file<F: Field>(
 fn print_saved(rt: &(impl Print + Files), alloc: Global) -> anyhow::Result<()> {
     let polynomial = DensePolynomial::from_coefficients_slice(alloc, &[1, 2, 3].map(F65537::from))?;
     let loaded = through_file(rt, alloc, &saved_and_loaded(alloc, &polynomial)?)?;
-    print_list(rt, alloc, "saved and loaded", loaded.coeffs())
+    print_list(rt, alloc, "saved and loaded", loaded.coeffs())?;
+    let value = from_bytes(alloc, &[1, 2, 3].map(F65537::from), F65537::from(2))?;
+    print_list(rt, alloc, "the value at 2 of what was saved", &[value])?;
+    if let Err(refused) = value_of_saved(alloc, &[1], F65537::from(2)) {
+        println!(rt; "of one byte: {refused}")?;
+    }
+    Ok(())
 }
 
 /// The values of the polynomial with these terms over four elements.

@@ -2,7 +2,7 @@
 //!
 //! The words are a type, modes, and bytes in hex. After one mode the answer has the spellings of the value that was read, the
 //! full one and the short one; after two modes with `>` between them it has what `recompress` writes. Or it has the refusal.
-//! How many bytes are left stands at the end. In place of modes `changed` and `drawn` count how readings end where the bytes
+//! How many bytes are left stands at the end. After two modes with `<` between them it has the bytes there and back. In place of modes `changed` and `drawn` count how readings end where the bytes
 //! are changed and cut, and of drawn bytes.
 
 use crate::reading::answer_of;
@@ -30,6 +30,7 @@ pub fn answer<F: FftField>(alloc: Global, words: &[String]) -> Answer {
 fn of_polynomials<F: FftField>(alloc: Global, kind: &str, modes: &str, bytes: &[u8]) -> Answer {
     match kind {
         "element" => answer_of::<F>(alloc, bytes, modes),
+        "list" => answer_of::<Vec<F>>(alloc, bytes, modes),
         "dense" => answer_of::<DensePolynomial<F>>(alloc, bytes, modes),
         "sparse" => answer_of::<SparsePolynomial<F>>(alloc, bytes, modes),
         "term" => answer_of::<SparseTerm>(alloc, bytes, modes),
@@ -45,6 +46,7 @@ fn of_polynomials<F: FftField>(alloc: Global, kind: &str, modes: &str, bytes: &[
 fn of_domains<F: FftField>(alloc: Global, kind: &str, modes: &str, bytes: &[u8]) -> Answer {
     match kind {
         "radix2" => of_domain::<F, Radix2EvaluationDomain<F>>(alloc, modes, bytes),
+        "radix2_and_word" => of_pair::<F, Radix2EvaluationDomain<F>>(alloc, modes, bytes),
         "mixed" => of_domain::<F, MixedRadixEvaluationDomain<F>>(alloc, modes, bytes),
         "general" => of_domain::<F, GeneralEvaluationDomain<F>>(alloc, modes, bytes),
         "evaluations" => of_values::<F, Radix2EvaluationDomain<F>>(alloc, modes, bytes),
@@ -59,6 +61,15 @@ fn of_domain<F: FftField, D: EvaluationDomain<F>>(
     bytes: &[u8],
 ) -> Answer {
     answer_of::<D>(alloc, bytes, modes)
+}
+
+/// A domain, and a number of one word.
+fn of_pair<F: FftField, D: EvaluationDomain<F>>(
+    alloc: Global,
+    modes: &str,
+    bytes: &[u8],
+) -> Answer {
+    answer_of::<(D, u64)>(alloc, bytes, modes)
 }
 
 fn of_values<F: FftField, D: EvaluationDomain<F>>(

@@ -1,19 +1,25 @@
-//! Answers rows of laws, by what calls together give; of bytes that are read and written; and of erasure codes.
+//! Answers rows of laws, by what calls together give; of values at points; of bytes that are read and written; and of
+//! erasure codes.
 //!
-//! The first word is a field's order. The second is `bytes`, `code` or what a law is about, and its module says which words
-//! follow.
+//! The first word is a field's order. The second is `bytes`, `code`, `points` or what a law is about, and its module says
+//! which words follow; or it is `large`, for bytes of an element of one of three large fields.
 #![tactic(auto)]
 
 mod bytes;
 mod codes;
 mod drawn_words;
 mod extensions;
+mod forms;
 mod hostile;
 mod pairs;
+mod points;
 mod reading;
 mod univariate;
 
+use crate::reading::answer_of;
+use ark_base::{BabyBearModulus, GoldilocksModulus, KoalaBearModulus, PrimeField, PrimeModulus};
 use ark_test_types::numbered::Numbered;
+use row_words::hex::bytes_of;
 use row_words::rows::{Answer, FieldRows, Rows, answer_lines, over_field};
 use row_words::words::no_row;
 use std::alloc::Global;
@@ -23,8 +29,32 @@ struct LawRows;
 
 impl Rows for LawRows {
     fn answer(alloc: Global, words: &[String]) -> Answer {
+        let [field, subject, rest @ ..] = words else {
+            return no_row(alloc);
+        };
+        if subject.as_str() == "large" {
+            return of_large(alloc, field.as_str(), rest);
+        }
         over_field::<LawRows>(alloc, words)
     }
+}
+
+/// The answer on bytes of an element of a large field, whose order is the first word: modes, and bytes in hex.
+fn of_large(alloc: Global, field: &str, words: &[String]) -> Answer {
+    match field {
+        "2013265921" => of_element::<BabyBearModulus>(alloc, words),
+        "2130706433" => of_element::<KoalaBearModulus>(alloc, words),
+        "18446744069414584321" => of_element::<GoldilocksModulus>(alloc, words),
+        _ => no_row(alloc),
+    }
+}
+
+fn of_element<M: PrimeModulus>(alloc: Global, words: &[String]) -> Answer {
+    let [modes, word] = words else {
+        return no_row(alloc);
+    };
+    let bytes = bytes_of(alloc, word.as_str())?;
+    answer_of::<PrimeField<M>>(alloc, &bytes, modes.as_str())
 }
 
 impl FieldRows for LawRows {
@@ -37,6 +67,8 @@ impl FieldRows for LawRows {
             "code" => codes::answer::<F>(alloc, words),
             "dense" => univariate::answer_of_dense::<F>(alloc, words),
             "values" => univariate::answer_of_values::<F>(alloc, words),
+            "forms" => forms::answer::<F>(alloc, words),
+            "points" => points::answer::<F>(alloc, words),
             "dense_extension" => extensions::answer_by_values::<F>(alloc, words),
             "sparse_extension" => extensions::answer_by_entries::<F>(alloc, words),
             _ => no_row(alloc),

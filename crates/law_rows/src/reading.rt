@@ -3,7 +3,7 @@
 use crate::hostile::{changed, drawn};
 use ark_base::{
     CanonicalDeserialize, CanonicalSerialize, Compress, IoSink, IoSource, SerializationError,
-    Source, recompress,
+    Source, recompress, recompressed_and_back,
 };
 use ark_test_types::single_bytes::SingleBytes;
 use row_words::hex::text_of;
@@ -21,7 +21,23 @@ pub fn answer_of<T: CanonicalSerialize + CanonicalDeserialize>(
     match modes {
         "changed" => changed::<T>(alloc, bytes),
         "drawn" => drawn::<T>(alloc, bytes),
-        _ => answer_in_modes::<T>(alloc, bytes, modes),
+        _ => match modes.split_once('<') {
+            Some((from, to)) => there_and_back::<T>(alloc, bytes, mode_of(from), mode_of(to)),
+            None => answer_in_modes::<T>(alloc, bytes, modes),
+        },
+    }
+}
+
+/// The bytes from one mode to the other and back, or the refusal.
+fn there_and_back<T: CanonicalSerialize + CanonicalDeserialize>(
+    alloc: Global,
+    bytes: &[u8],
+    from: Compress,
+    to: Compress,
+) -> Answer {
+    match recompressed_and_back::<T>(alloc, bytes, from, to) {
+        Ok(back) => text_of(alloc, &back),
+        Err(error) => Ok(format!(in alloc; "{error}")?),
     }
 }
 
@@ -49,7 +65,7 @@ fn answer_in_modes<T: CanonicalSerialize + CanonicalDeserialize>(
         return told(alloc, "another answer byte by byte");
     }
     for taken in 0..bytes.len() - left.min(bytes.len()) {
-        if !is_unfinished::<T>(alloc, &bytes[..taken], modes) {
+        if !is_unfinished::<T>(alloc, bytes, taken, modes) {
             return told(alloc, "a beginning is taken");
         }
     }
@@ -109,14 +125,21 @@ fn read_and_written<T: CanonicalSerialize + CanonicalDeserialize, S: Source>(
     }
 }
 
-/// Whether the bytes are refused with `IoError`, in the mode that is read, where they end and where reading fails after
-/// them.
-fn is_unfinished<T: CanonicalDeserialize>(alloc: Global, bytes: &[u8], modes: &str) -> bool {
-    let from = modes.split_once('>').map_or(modes, |pair| pair.0);
-    let mut rest = bytes;
-    let mut failing = IoSource::new(StopReader { bytes });
-    is_io_error(T::deserialize_with_mode(alloc, &mut rest, mode_of(from)))
-        && is_io_error(T::deserialize_with_mode(alloc, &mut failing, mode_of(from)))
+/// Whether so many of the bytes are refused with `IoError`, in the mode that is read, where they end and where reading
+/// fails once after them, and the others aren't asked for.
+fn is_unfinished<T: CanonicalDeserialize>(
+    alloc: Global,
+    bytes: &[u8],
+    taken: usize,
+    modes: &str,
+) -> bool {
+    let mode = mode_of(modes.split_once('>').map_or(modes, |pair| pair.0));
+    let (first, others) = bytes.split_at(taken.min(bytes.len()));
+    let mut rest = first;
+    let mut failing = IoSource::new(StopReader::new(first, others));
+    is_io_error(T::deserialize_with_mode(alloc, &mut rest, mode))
+        && is_io_error(T::deserialize_with_mode(alloc, &mut failing, mode))
+        && !failing.into_inner().is_asked_again
 }
 
 fn is_io_error<T: Drop>(read: Result<T, SerializationError>) -> bool {
@@ -143,7 +166,8 @@ fn spelling_of<T: CanonicalSerialize>(alloc: Global, value: &T, mode: Compress) 
     text_of(alloc, &bytes)
 }
 
-/// Whether just these bytes are written where the writer fails after them, and the answer is `IoError`.
+/// Whether just these bytes are written where the writer fails once after them, it isn't asked again, and the answer is
+/// `IoError`.
 fn stops_at<T: CanonicalSerialize>(
     alloc: Global,
     value: &T,
@@ -152,7 +176,7 @@ fn stops_at<T: CanonicalSerialize>(
 ) -> Result<bool, AllocError> {
     let room = beginning.len();
     let taken = Vec::with_capacity(alloc, room)?;
-    let mut sink = IoSink::new(StopWriter { room, taken });
+    let mut sink = IoSink::new(StopWriter::new(room, taken));
     let is_told = is_io_error(value.serialize_with_mode(&mut sink, mode));
-    Ok(is_told && sink.into_inner().taken.as_slice() == beginning)
+    Ok(is_told && sink.into_inner().stopped_after(beginning))
 }

@@ -1,18 +1,24 @@
 //! Small callers of what stands on polynomials, as a user writes them: an opening at a point; a secret that any three of
-//! five shares give back; the sum of two secrets from the sums of their shares; and a sum-check, from a claim on a sum over the cube to a claim on one value. The program prints
-//! what each gives, of the sum-check what the verifier says of a true claim and of a false one, and of an extension of forty
-//! variables that is zero at all corners but three.
+//! five shares give back; the sum of two secrets from the sums of their shares; and a sum-check, from a claim on a sum over
+//! the cube to a claim on one value. The program prints what each gives, of the sum-check what the verifier says of a true
+//! claim and of a false one, of an extension of forty variables that is zero at all corners but three, and whether it
+//! accepts one prover's rounds of either claim.
 #![tactic(auto)]
 
+ghost use Rattle.std.specs.Prelude.{◌≡◌, length, IfOk};
+ghost use Rattle.ark_sum_check.specs.Provers.{variables_of};
+
+mod accepted;
 mod opening;
 mod shared_sum;
 mod sharing;
 mod sum_check_whole;
 
-use ark_base::{F65537, Field, PrimeField, PrimeModulus};
-use ark_poly::DenseUVPolynomial;
+use accepted::is_accepted;
+use ark_base::{F65537, Field, PolyError, PrimeField, PrimeModulus};
+use ark_poly::{DenseMultilinearExtension, DenseUVPolynomial, Polynomial};
 use ark_sharing::{SharingError, share};
-use ark_sum_check::{Challenger, Prover, SparseProver, SumCheckError, Verdict};
+use ark_sum_check::{Challenger, Prover, Round, SparseProver, SumCheckError, Verdict, prove};
 use opening::opening;
 use rand::rngs::StdRng;
 use rand::{CryptoRng, SeedableRng};
@@ -26,7 +32,8 @@ fn main(rt: HostRuntime) -> anyhow::Result<()> {
     let alloc = rt.alloc();
     print_opening(&rt, alloc)?;
     print_secret(&rt, alloc)?;
-    print_sum_checks(&rt, alloc)
+    print_sum_checks(&rt, alloc)?;
+    print_answers(&rt, alloc)
 }
 
 fn print_opening(rt: &impl Print, alloc: Global) -> anyhow::Result<()> {
@@ -84,6 +91,34 @@ fn print_sum_checks(rt: &impl Print, alloc: Global) -> anyhow::Result<()> {
     print_verdict(rt, 23, verdict)
 }
 
+/// The same rounds of a true claim and of a false one, with the product's value at the challenges.
+fn print_answers(rt: &impl Print, alloc: Global) -> anyhow::Result<()> {
+    let left = [1, 2, 3, 4].map(F65537::from);
+    let right = [5, 6, 7, 8].map(F65537::from);
+    let mut drawn = Drawn {
+        left: vec![in alloc; F65537::from(20), F65537::from(10)]?,
+    };
+    let rounds = prove(alloc, two_factors(alloc, &left, &right)?, &mut drawn)?;
+    let value = value_at(alloc, &left, &rounds)? * value_at(alloc, &right, &rounds)?;
+    for claim in [70, 71] {
+        let accepted = is_accepted(alloc, 2, F65537::from(claim), &rounds, value)?;
+        println!(rt; "sum {claim} with this value: {accepted}")?;
+    }
+    Ok(())
+}
+
+/// The value of a factor of two variables at the challenges.
+fn value_at<F: Field>(alloc: Global, table: &[F; 4], rounds: &[Round<F>]) -> Result<F, PolyError>
+    requires { length rounds.now ≡ 2 }
+{
+    let challenges: Vec<F> = rounds.iter().map(|round| round.challenge).collect(alloc)?;
+    let extension = DenseMultilinearExtension::from_evaluations_vec(
+        2,
+        Vec::from_slice(alloc, table)?,
+    );
+    extension.evaluate(alloc, &challenges)
+}
+
 /// Whether two sharings of one secret give the first point different shares, as drawn coefficients do.
 fn differs_when_drawn_again<F: Field, R: CryptoRng>(
     alloc: Global,
@@ -119,7 +154,9 @@ fn two_factors<F: Field>(
     alloc: Global,
     left: &[F; 4],
     right: &[F; 4],
-) -> Result<Prover<F>, SumCheckError> {
+) -> Result<Prover<F>, SumCheckError>
+    ensures { IfOk result (λ prover. variables_of prover ≡ 2) }
+{
     let mut tables = Vec::with_capacity(alloc, 2)?;
     tables.push(Vec::from_slice(alloc, left)?)?;
     tables.push(Vec::from_slice(alloc, right)?)?;

@@ -107,7 +107,7 @@ module _ {F : Type 0} (K : FieldOn F) (N : IsField K) (d : Domain F) where
 
 -- ---- the marked places and the others
 
-mark_count-not : (marks : List Bool) → mark_count marks + mark_count (map not marks) ≡ length marks
+pub mark_count-not : (marks : List Bool) → mark_count marks + mark_count (map not marks) ≡ length marks
 mark_count-not [] = refl
 mark_count-not (true ∷ marks) =
     let e = sum_by-cons (λ (mark : Bool). cond mark 1 0) true marks in

@@ -1,6 +1,7 @@
 -- Lemmas of this crate: the mathematics of restoration, and what the steps of its functions need.
 pub mod BlockProducts
 pub mod ChosenFactors
+pub mod Distance
 pub mod Divided
 pub mod Factors
 pub mod Kept

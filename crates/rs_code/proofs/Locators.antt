@@ -28,7 +28,7 @@ module _ {F M : Type 0} {K : FieldOn F} {V : ModuleOn F M} (N : IsField K) (L : 
   pub value-same : (n : ℕ) (a b : ℕ → M) (x : F) → ((i : ℕ) → i < n → a i ≡ b i) → value K V n a x ≡ value K V n b x
   value-same n a b x h = sum_below-same V n (λ i. V.scale (power K x i) (a i)) (λ i. V.scale (power K x i) (b i)) (λ i l. ap (V.scale (power K x i)) (h i l))
 
-  value-plus : (n : ℕ) (a b : ℕ → M) (x : F) → value K V n (λ i. V.plus (a i) (b i)) x ≡ V.plus (value K V n a x) (value K V n b x)
+  pub value-plus : (n : ℕ) (a b : ℕ → M) (x : F) → value K V n (λ i. V.plus (a i) (b i)) x ≡ V.plus (value K V n a x) (value K V n b x)
   value-plus n a b x =
       sum_below-same V n (λ i. V.scale (power K x i) (V.plus (a i) (b i))) (λ i. V.plus (V.scale (power K x i) (a i)) (V.scale (power K x i) (b i))) (λ i l. L.scale_plus (power K x i) (a i) (b i))
       ∙ sum_below-plus L n (λ i. V.scale (power K x i) (a i)) (λ i. V.scale (power K x i) (b i))

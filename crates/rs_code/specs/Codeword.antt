@@ -1,5 +1,5 @@
 -- Codewords, and words with places erased.
-use Rattle.std.specs.Prelude.{◌≡◌, ℕ, ◌≤◌, Bool, true, false, List, length, Option, Some, None, get_or, count_by, is_none}
+use Rattle.std.specs.Prelude.{◌≡◌, ◌≢◌, ℕ, ◌≤◌, Bool, true, false, List, length, Option, Some, None, get_or, count_by, is_none}
 use Rattle.ark_math.specs.Field.{FieldOn}
 use Rattle.ark_math.specs.Module.{ModuleOn, item}
 use Rattle.ark_math.specs.Domain.{Domain}
@@ -12,6 +12,10 @@ IsCodeword {F} {M} K V d k c = (m : List M) × (length m ≤ k) × (c ≡ transf
 -- c has the word's value, by its meaning, at each place that isn't erased
 abbrev pub AgreesWith : {F M X : Type 0} → ModuleOn F M → (X → M) → List (Option X) → List M → Type 0
 AgreesWith {F} {M} {X} V meaning word c = (i : ℕ) (x : X) → get_or word i None ≡ Some x → item V c i ≡ meaning x
+
+-- c has the word's value at each place that isn't erased, but maybe at one place
+abbrev pub AgreesBut : {F M X : Type 0} → ModuleOn F M → (X → M) → List (Option X) → ℕ → List M → Type 0
+AgreesBut {F} {M} {X} V meaning word place c = (i : ℕ) (x : X) → i ≢ place → get_or word i None ≡ Some x → item V c i ≡ meaning x
 
 -- how many places of a word are erased
 abbrev pub erasure_count : {X : Type 0} → List (Option X) → ℕ

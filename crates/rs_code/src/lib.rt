@@ -5,6 +5,7 @@
 mod code;
 mod decoder;
 mod error;
+mod laws;
 mod locator;
 mod marks;
 mod part;
@@ -16,3 +17,4 @@ mod turns;
 pub use code::{Code, DomainCode};
 pub use decoder::{Decoder, DomainDecoder};
 pub use error::RsError;
+pub use laws::{is_of_radix2, minimum_distance, one_wrong_value};

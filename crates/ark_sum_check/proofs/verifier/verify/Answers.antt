@@ -1,6 +1,6 @@
-use Rattle.std.proofs.Common.{◌≡◌, sym, subst, ◌∙◌}
+use Rattle.std.proofs.Common.{◌≡◌, ◌+◌, sym, subst, ◌∙◌}
 use Rattle.ark_math.proofs.Outcomes.Tests.{decided}
-use Rattle.ark_sum_check.specs.Rounds.{AddsUp, AreAccepted, IsRefusedAt, IsRound}
+use Rattle.ark_sum_check.specs.Rounds.{AddsUp, AreAccepted, AreDifferent, IsRefusedAt, IsRound}
 use Rattle.ark_sum_check.proofs.Accepted.{IsReached-end, IsReached-more, IsReached-refused, sound}
 use Rattle.ark_sum_check.proofs.verifier.verify.Goals as goal
 
@@ -29,6 +29,7 @@ loop-index-preserved g c =
           (subst (λ d. IsRound K d claim r next) v.degree (c.in_ok-fits.ensures.accepted c.if-not-fits.false))
           (λ y t. (c.in_ok-fits.ensures.only y (subst (λ d. IsRound K d claim r y) (sym v.degree) t)).1);
       degree = c.take.ensures.degree ∙ v.degree;
+      different = λ _. subst (λ d. AreDifferent K (d + 1)) v.degree (c.in_ok-fits.ensures.different c.if-not-fits.false);
     }
 
 pub returns-clause-sound : goal.returns-clause-sound

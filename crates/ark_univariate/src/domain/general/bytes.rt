@@ -59,11 +59,9 @@ impl<F: FftField> Spelled for GeneralEvaluationDomain<F> {
 }
 
 impl<F: FftField> CanonicalSerialize for GeneralEvaluationDomain<F> {
-    ghost use Rattle.ark_math.specs.Layouts.{general_domain as tagged};
-    ghost use Rattle.ark_math.proofs.Formats.Modes.{keeps_by_fields};
-    ghost use Rattle.ark_bytes.specs.Either.{sum_of};
     ghost use Rattle.ark_fft.specs.CosetBytes.{all_fields};
     ghost use Rattle.ark_univariate.specs.DomainBytes.{radix2_coset, mixed_radix_coset, either_of, coset_format};
+    ghost use Rattle.ark_univariate.specs.DomainBytes.{coset_keeps, coset_kept, either_domain_keeps};
 
     fn serialize_with_mode<W: Sink>(
         &self,
@@ -77,13 +75,17 @@ impl<F: FftField> CanonicalSerialize for GeneralEvaluationDomain<F> {
         self.to_either().serialized_size(mode)
     }
 
-    ghost both_modes = { λ mode other. keeps_by_fields
-        (tagged (coset_format all_fields radix2_coset (F.format mode) mode)
-        (coset_format all_fields mixed_radix_coset (F.format mode) mode) sum_of)
-        (tagged (coset_format all_fields radix2_coset (F.format other) other)
-        (coset_format all_fields mixed_radix_coset (F.format other) other) sum_of)
-        either_of (λ _. Unit {0})
-        (⟦<Either<Radix2EvaluationDomain<F>, MixedRadixEvaluationDomain<F>> as CanonicalSerialize>⟧.both_modes mode other) };
+    ghost both_modes = { λ mode other. either_domain_keeps either_of
+        (coset_format all_fields radix2_coset (F.format mode) mode)
+        (coset_format all_fields mixed_radix_coset (F.format mode) mode)
+        (coset_format all_fields radix2_coset (F.format other) other)
+        (coset_format all_fields mixed_radix_coset (F.format other) other)
+        (coset_keeps F.field F.field_laws F.adicity F.root F.eq F.roots_law.base F.equality_law all_fields
+        (λ c. c.odd_exponent) coset_kept radix2_coset (F.format mode) (F.format other) (F.format_law mode)
+        (F.elements_law mode).one_to_one (F.elements_law other).all (F.modes_law mode other) mode other)
+        (coset_keeps F.field F.field_laws F.adicity F.root F.eq F.roots_law.base F.equality_law all_fields
+        (λ c. c.odd_exponent) coset_kept mixed_radix_coset (F.format mode) (F.format other) (F.format_law mode)
+        (F.elements_law mode).one_to_one (F.elements_law other).all (F.modes_law mode other) mode other) };
 }
 
 impl<F: FftField> Valid for GeneralEvaluationDomain<F> {

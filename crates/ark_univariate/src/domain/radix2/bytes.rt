@@ -29,9 +29,8 @@ impl<F: FftField> Spelled for Radix2EvaluationDomain<F> {
 }
 
 impl<F: FftField> CanonicalSerialize for Radix2EvaluationDomain<F> {
-    ghost use Rattle.ark_math.proofs.Formats.Modes.{keeps_by_fields};
-    ghost use Rattle.ark_fft.specs.CosetBytes.{all_fields, domain_format};
-    ghost use Rattle.ark_univariate.specs.DomainBytes.{radix2_coset};
+    ghost use Rattle.ark_fft.specs.CosetBytes.{all_fields};
+    ghost use Rattle.ark_univariate.specs.DomainBytes.{radix2_coset, coset_keeps, coset_kept};
 
     fn serialize_with_mode<W: Sink>(
         &self,
@@ -45,9 +44,10 @@ impl<F: FftField> CanonicalSerialize for Radix2EvaluationDomain<F> {
         self.coset.serialized_size(mode)
     }
 
-    ghost both_modes = { λ mode other. keeps_by_fields (domain_format (F.format mode) all_fields mode)
-        (domain_format (F.format other) all_fields other) radix2_coset (λ _. Unit {0})
-        (⟦<Coset<F> as CanonicalSerialize>⟧.both_modes mode other) };
+    ghost both_modes = { λ mode other. coset_keeps F.field F.field_laws F.adicity F.root F.eq F.roots_law.base
+        F.equality_law all_fields (λ c. c.odd_exponent) coset_kept radix2_coset (F.format mode) (F.format other)
+        (F.format_law mode) (F.elements_law mode).one_to_one (F.elements_law other).all
+        (F.modes_law mode other) mode other };
 }
 
 impl<F: FftField> Valid for Radix2EvaluationDomain<F> {

@@ -1,4 +1,4 @@
-use Rattle.std.proofs.Common.{◌≡◌, ◌+◌, ◌*◌, ◌/◌, ◌<◌, max, length, sym, ap, subst, ◌∙◌, arith, Result, Ok, Err, OnOk}
+use Rattle.std.proofs.Common.{◌≡◌, ◌+◌, ◌*◌, ◌/◌, ◌<◌, max, length, sym, ap, subst, ◌∙◌, arith}
 use Rattle.std.proofs.lemmas.Nat.{pow_pos}
 use Rattle.ark_math.specs.Univariate.{of_list}
 use Rattle.ark_math.proofs.Polynomials.Univariate.{IsBelow-more}
@@ -8,16 +8,11 @@ use Rattle.ark_blocks.proofs.Padded.{whole_blocks}
 use Rattle.ark_blocks.proofs.Runs.{first_item, first_values}
 use Rattle.ark_blocks.proofs.table.BlockRoots.extend.Goals as goal
 
--- what follows from two things where there is a result
-both : {T E : Type 0} {P Q S : Type 0} (r : Result T E) → (P → Q → S) → OnOk r P → OnOk r Q → OnOk r S
-both (Ok x) f p q = f p q
-both (Err e) f p q = tt
-
-pub returns : goal.returns
-returns g c =
+pub returns-in-Ok-clause-values : goal.returns-in-Ok-clause-values
+returns-in-Ok-clause-values g c V =
     let K = g.F.Field.field in
     let N = g.met.F.Field.field_laws in
-    let d = c.push_blocks.ensures in
+    let d = c.in-Ok.ensures in
     let len = c.len-len.result in
     let count = c.args.count in
     let coeffs = c.args.coeffs.now in
@@ -33,13 +28,10 @@ returns g c =
     let below = IsBelow-more K (length coeffs) (len + len) a (omega (arith, c.requires.few, many)) (of_list-below K coeffs) in
     let own : AreRoots K x table = subst (λ t. AreRoots K (element_of K t) t) c.self.view_is c.self.invariant.roots in
     let roots : AreRoots K x c.deref.result.now = subst (AreRoots K x) (sym (c.deref.ensures.value ∙ c.self.view_is)) own in
-    record {
-      values = both c.push_blocks.result
-          (λ made values V. first_values K N x count (len + len) a new below (made ∙ all) (λ i l.
-          values x roots
-          (λ j few.
-          ap (λ t. of_list K t j) c.in_ok-reserve.ensures.items
-          ∙ first_item K N x (length old) (len + len) a old below V j (omega (arith, few, many)))
-          i (subst (λ t. i < t) (sym all) l)))
-          d.len d.values;
-    }
+    first_values K N x count (len + len) a new below (d.len ∙ all)
+    (λ i l.
+    d.values x roots
+    (λ j few.
+    ap (λ t. of_list K t j) c.in_ok-reserve.ensures.items
+    ∙ first_item K N x (length old) (len + len) a old below V j (omega (arith, few, many)))
+    i (subst (λ t. i < t) (sym all) l))
