@@ -6,7 +6,8 @@ use ark_base::{Field, PolyError, Polynomial};
 use ark_points::{evaluate_at, from_points};
 use ark_poly::univariate::DensePolynomial;
 use ark_sharing::share;
-use rand_pcg::Pcg64;
+use rand::SeedableRng;
+use rand::rngs::StdRng;
 use std::alloc::Global;
 use std::io::Print;
 use std::time::Clock;
@@ -66,7 +67,7 @@ const THRESHOLD: usize = 3;
 #[derive(Drop)]
 pub struct Shares<F: Field> {
     pub points: Vec<F>,
-    pub rng: Pcg64,
+    pub rng: StdRng,
     pub sum: F,
 }
 
@@ -129,7 +130,7 @@ pub fn report_shares<F: Counted>(
     }
     let mut shares = Shares::<F> {
         points,
-        rng: Pcg64::new(2, 1),
+        rng: StdRng::seed_from_u64(2),
         sum: F::zero(),
     };
     let name = "share_3_of_5";

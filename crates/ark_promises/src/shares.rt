@@ -1,16 +1,16 @@
 //! Calls of secret sharing.
 
-ghost use Rattle.std.specs.Prelude.{length, IfOk};
+ghost use Rattle.std.specs.Prelude.{◌∷◌, length, IfOk};
 ghost use Rattle.ark_math.specs.Univariate.{of_list};
-ghost use Rattle.ark_sharing.specs.Sharing.{AreNotZero};
+ghost use Rattle.ark_sharing.specs.Sharing.{AreNotZero, AreShares};
 
 use ark_base::Field;
-use ark_sharing::{SharingError, share};
-use rand::Rng;
+use ark_sharing::{SharingError, share, share_with};
+use rand::CryptoRng;
 use std::alloc::Global;
 
 /// Shares of a secret, one for each point, of which any `k` give it back.
-pub fn shared<F: Field, R: Rng>(
+pub fn shared<F: Field, R: CryptoRng>(
     alloc: Global,
     secret: F,
     k: usize,
@@ -20,4 +20,16 @@ pub fn shared<F: Field, R: Rng>(
     ensures { IfOk result (λ _. AreNotZero F.field (length points.now) (of_list F.field points.now)) }
 {
     share(alloc, secret, k, points, rng)
+}
+
+/// Shares of a secret by coefficients of the caller's own.
+pub fn shared_with<F: Field>(
+    alloc: Global,
+    secret: F,
+    coeffs: &[F],
+    points: &[F],
+) -> Result<Vec<(F, F)>, SharingError>
+    ensures { IfOk result (λ shares. AreShares F.field (of_list F.field (secret ∷ coeffs.now)) shares.items) }
+{
+    share_with(alloc, secret, coeffs, points)
 }

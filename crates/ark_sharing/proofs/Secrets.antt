@@ -1,5 +1,5 @@
 -- A secret beside its shares: the points with zero before them.
-use Rattle.std.proofs.Common.{◌≡◌, ℕ, zero, suc, ◌+◌, ◌<◌, ◌≤◌, sym, ◌∙◌, subst, arith, add-one, List, length, refl}
+use Rattle.std.proofs.Common.{◌≡◌, ℕ, zero, suc, ◌+◌, ◌<◌, ◌≤◌, sym, ◌∙◌, subst, arith, add-one, List, ◌∷◌, length, refl}
 use Rattle.ark_math.specs.Field.{FieldOn, IsField}
 use Rattle.ark_math.specs.Module.{itself, sum_below}
 use Rattle.ark_math.specs.Univariate.{IsBelow, IsValue, of_list, value_below}
@@ -60,3 +60,15 @@ module _ {F : Type 0} (K : FieldOn F) (N : IsField K) where
             ∙ ring2 K N (λ a r. (a, a ⊕ nought ⊗ r)) refl (a 0) (value_below K n (λ i. a (suc i)) K.zero)
             ∙ sym (value_below-first K N n a K.zero),
       )
+
+  -- a sharing for fewer shares is one for more
+  pub sharing_more : (k n : ℕ) (s : F) (a : ℕ → F) → k ≤ n → IsSharing K k s a → IsSharing K n s a
+  sharing_more k n s a l h = record { below = IsBelow-more K k n a l h.below; at_zero = h.at_zero }
+
+  -- a secret before coefficients
+  pub sharing_of_list : (s : F) (c : List F) → IsSharing K (length c + 1) s (of_list K (s ∷ c))
+  sharing_of_list s c =
+      record {
+        below = subst (λ n. IsBelow K n (of_list K (s ∷ c))) (sym (add-one (length c))) (of_list-below K (s ∷ c));
+        at_zero = first_at_zero (s ∷ c) s refl;
+      }

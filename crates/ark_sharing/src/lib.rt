@@ -7,6 +7,9 @@ mod reconstruction;
 mod shares;
 
 pub use error::SharingError;
-pub use laws::one_sharing_for_each_secret;
+pub use laws::{
+    as_many_sharings_for_each_secret, multiple_of_sharing, one_sharing_for_each_secret,
+    sum_of_sharings,
+};
 pub use reconstruction::reconstruct;
-pub use shares::share;
+pub use shares::{share, share_with};

@@ -1,7 +1,8 @@
 //! Small callers of what stands on polynomials, as a user writes them: an opening at a point; a secret that any three of
-//! five shares give back; and a sum-check, from a claim on a sum over the cube to a claim on one value. The program prints
-//! what each gives, of the sum-check what the verifier says of a true claim and of a false one, of an extension of forty
-//! variables that is zero at all corners but three, and whether it accepts one prover's rounds of either claim.
+//! five shares give back; the sum of two secrets from the sums of their shares; and a sum-check, from a claim on a sum over
+//! the cube to a claim on one value. The program prints what each gives, of the sum-check what the verifier says of a true
+//! claim and of a false one, of an extension of forty variables that is zero at all corners but three, and whether it
+//! accepts one prover's rounds of either claim.
 #![tactic(auto)]
 
 ghost use Rattle.std.specs.Prelude.{◌≡◌, length, IfOk};
@@ -9,6 +10,7 @@ ghost use Rattle.ark_sum_check.specs.Provers.{variables_of};
 
 mod accepted;
 mod opening;
+mod shared_sum;
 mod sharing;
 mod sum_check_whole;
 
@@ -18,8 +20,9 @@ use ark_poly::{DenseMultilinearExtension, DenseUVPolynomial, Polynomial};
 use ark_sharing::{SharingError, share};
 use ark_sum_check::{Challenger, Prover, Round, SparseProver, SumCheckError, Verdict, prove};
 use opening::opening;
-use rand::Rng;
-use rand_pcg::Pcg64;
+use rand::rngs::StdRng;
+use rand::{CryptoRng, SeedableRng};
+use shared_sum::sum_from_shares;
 use sharing::shared_and_given_back;
 use std::alloc::Global;
 use std::io::Print;
@@ -47,13 +50,25 @@ fn print_opening(rt: &impl Print, alloc: Global) -> anyhow::Result<()> {
 }
 
 fn print_secret(rt: &impl Print, alloc: Global) -> anyhow::Result<()> {
-    // A generator for secrets takes the place of this one, whose draws anyone can repeat.
-    let mut rng = Pcg64::new(5, 8);
+    // A seed from the system, as of `rand::make_rng`, takes the place of this one, whose draws anyone can repeat.
+    let mut rng = StdRng::seed_from_u64(5);
     let points = [1, 2, 3, 4, 5].map(F65537::from);
     let secret = shared_and_given_back(alloc, F65537::from(1234), 3, &points, &mut rng)?;
     println!(rt; "the secret from three of five shares: {}", secret.value())?;
     let differs = differs_when_drawn_again(alloc, F65537::from(1234), &points, &mut rng)?;
     println!(rt; "drawn again, the first share is another: {differs}")?;
+    let sum = sum_from_shares(
+        alloc,
+        F65537::from(1234),
+        &[7, 8].map(F65537::from),
+        F65537::from(4321),
+        &[9, 10].map(F65537::from),
+        &points,
+    )?;
+    println!(rt;
+        "the sum of two secrets from the sums of their shares: {}",
+        sum.value()
+    )?;
     Ok(())
 }
 
@@ -105,7 +120,7 @@ fn value_at<F: Field>(alloc: Global, table: &[F; 4], rounds: &[Round<F>]) -> Res
 }
 
 /// Whether two sharings of one secret give the first point different shares, as drawn coefficients do.
-fn differs_when_drawn_again<F: Field, R: Rng>(
+fn differs_when_drawn_again<F: Field, R: CryptoRng>(
     alloc: Global,
     secret: F,
     points: &[F],

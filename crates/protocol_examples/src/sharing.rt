@@ -4,11 +4,11 @@ ghost use Rattle.std.specs.Prelude.{◌≡◌, IfOk};
 
 use ark_base::Field;
 use ark_sharing::{SharingError, reconstruct, share};
-use rand::Rng;
+use rand::CryptoRng;
 use std::alloc::Global;
 
 /// What the last k of the shares give back: the secret.
-pub fn shared_and_given_back<F: Field, R: Rng>(
+pub fn shared_and_given_back<F: Field, R: CryptoRng>(
     alloc: Global,
     secret: F,
     k: usize,
