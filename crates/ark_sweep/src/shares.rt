@@ -3,18 +3,20 @@
 use crate::given::{element_named, named, size_named};
 use crate::swept::Call;
 use ark_base::{FftField, PolyError};
-use ark_sharing::{SharingError, reconstruct, share};
+use ark_sharing::{SharingError, reconstruct, share, share_with};
 use ark_test_types::numbered::Numbered;
-use rand_pcg::Pcg64;
+use rand::SeedableRng;
+use rand::rngs::StdRng;
 use row_words::rows::Answer;
 use row_words::words::{elements, no_row, one, text_of_numbers};
 use std::alloc::{AllocError, Global};
 
-/// A secret, how many shares give it back, points, and shares: each value at the point of its place.
+/// A secret, how many shares give it back, coefficients, points, and shares: each value at the point of its place.
 #[derive(Drop)]
 pub struct OfShares<F: FftField> {
     secret: F,
     k: usize,
+    coeffs: Vec<F>,
     points: Vec<F>,
     shares: Vec<(F, F)>,
 }
@@ -50,15 +52,20 @@ impl<F: Numbered> Call for OfShares<F> {
         Ok(OfShares {
             secret: element_named(words, "secret"),
             k: size_named(words, "k"),
+            coeffs: elements(alloc, named(words, "coeffs"))?,
             shares: shares_of(alloc, &points, &values)?,
             points,
         })
     }
 
     fn call(&mut self, alloc: Global, name: &str) -> Result<Answered<F>, PolyError> {
-        let mut rng = Pcg64::new(48, 1);
+        let mut rng = StdRng::seed_from_u64(48);
         match name {
             "share" => match share(alloc, self.secret, self.k, &self.points, &mut rng) {
+                Ok(shares) => Ok(Answered::Shares(shares)),
+                Err(error) => refused(error),
+            },
+            "share_with" => match share_with(alloc, self.secret, &self.coeffs, &self.points) {
                 Ok(shares) => Ok(Answered::Shares(shares)),
                 Err(error) => refused(error),
             },
@@ -71,10 +78,10 @@ impl<F: Numbered> Call for OfShares<F> {
     }
 
     fn is_same(&self, other: &Self) -> bool {
-        self.points == other.points && self.shares == other.shares
+        self.coeffs == other.coeffs && self.points == other.points && self.shares == other.shares
     }
 
-    /// Of shares, which are drawn, how many there are, and what the last `k` of them give back.
+    /// Of shares, which may be drawn, how many there are, and what the last `k` of them give back.
     fn text(&self, alloc: Global, answered: &Answered<F>) -> Answer {
         match answered {
             Answered::Shares(shares) => {
