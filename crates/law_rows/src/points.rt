@@ -90,7 +90,10 @@ fn lane<F: Numbered>(alloc: Global, list: &[F], i: usize) -> Answer {
     }
     let mut rows = Vec::new(alloc);
     for k in 0..list.len() / 2 {
-        rows.push(Row::new([list[2 * k], list[2 * k + 1]]))?;
+        let pair = &list[2 * k..2 * k + 2];
+        if pair.len() == 2 {
+            rows.push(Row::from_slice(pair))?;
+        }
     }
     text_of(alloc, &lane_of::<F, 2>(alloc, &rows, i)?)
 }
