@@ -231,7 +231,9 @@ fn one_wrong<F: FftField>(alloc: Global, message: &[F]) -> anyhow::Result<Vec<F>
     for value in &code.encode(alloc, message)? {
         word.push(Some(*value))?;
     }
-    word[5] = Some(F::zero());
+    if let Some(value) = word.get_mut(5) {
+        *value = Some(F::zero());
+    }
     Ok(restored_if_right(alloc, &code, &word, 5)?)
 }
 

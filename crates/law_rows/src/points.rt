@@ -90,12 +90,19 @@ fn lane<F: Numbered>(alloc: Global, list: &[F], i: usize) -> Answer {
     }
     let mut rows = Vec::new(alloc);
     for k in 0..list.len() / 2 {
-        let pair = &list[2 * k..2 * k + 2];
-        if pair.len() == 2 {
-            rows.push(Row::from_slice(pair))?;
+        if let Some(row) = row_of::<F, 2>(&list[2 * k..2 * k + 2]) {
+            rows.push(row)?;
         }
     }
     text_of(alloc, &lane_of::<F, 2>(alloc, &rows, i)?)
+}
+
+/// These elements side by side, where they are `N`.
+fn row_of<F: Numbered, const N: usize>(items: &[F]) -> Option<Row<F, N>> {
+    if items.len() != N {
+        return None;
+    }
+    Some(Row::from_slice(items))
 }
 
 /// The elements of a run, or those whose numbers stand between commas.

@@ -4,7 +4,9 @@ use Rattle.examples.proofs.holders.restored_if_right.Goals as goal
 
 -- what comes back would be a codeword with all the word's values, and none has them
 pub returns : goal.returns
-returns g c y x size spare codeword agrees known wrong =
-    IfOk_both c.restore.result
-    (λ v is has. c.one_wrong_value.ensures x y (map g.T.DomainCoeff.meaning v.items) size spare codeword agrees known wrong is has)
-    c.restore.ensures.codeword c.restore.ensures.agrees
+returns g c = record {
+  refused = λ y x size spare codeword agrees known wrong.
+      IfOk_both c.restore.result
+      (λ v is has. c.one_wrong_value.ensures x y (map g.T.DomainCoeff.meaning v.items) size spare codeword agrees known wrong is has)
+      c.restore.ensures.codeword c.restore.ensures.agrees;
+}

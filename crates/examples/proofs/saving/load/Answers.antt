@@ -1,5 +1,6 @@
 use Rattle.std.proofs.Common.{Ok, ap, ◌∙◌}
 use Rattle.ark_base.specs.declared.Compress.TheVariants.{Yes}
+use Rattle.ark_bytes.specs.declared.error.SerializationError.{SerializationError}
 use Rattle.ark_math.specs.Layouts.{dense}
 use Rattle.ark_math.proofs.Callers.Bytes.{only_spelled}
 use Rattle.ark_math.proofs.Formats.Polynomials.{dense_is_format, dense_tells}
@@ -13,5 +14,5 @@ returns-clause-same g c p more has known =
     let e = g.F.Spelled.format Yes in
     let law = g.F.Spelled.format_law Yes in
     let held = ap g.R.Read.remaining c.new-source.ensures.inner ∙ known in
-    only_spelled (dense K e) (dense_tells K e law (g.met.F.Field.elements_law Yes).one_to_one) p (Ok c.in_ok-polynomial.polynomial)
+    only_spelled {E = SerializationError} (dense K e) (dense_tells K e law (g.met.F.Field.elements_law Yes).one_to_one) p (Ok c.in_ok-polynomial.polynomial)
     (reads_back (dense K e) (dense_is_format K e law) (Unit {0}) _ _ p more (Ok c.in_ok-polynomial.polynomial) has held c.in_ok-polynomial.ensures)
