@@ -1,10 +1,8 @@
 //! One error for a program that calls several crates: `?` makes it of each of theirs.
 
-ghost use Rattle.std.specs.Prelude.{◌≡◌, ◌++◌, ℕ, List, IfOk};
-ghost use Rattle.ark_math.specs.Layouts.{dense};
-ghost use Rattle.ark_math.specs.Univariate.{IsValue, of_list};
+ghost use Rattle.std.specs.Prelude.{◌≡◌};
 
-use ark_base::{CanonicalDeserialize, Compress, Field, PolyError, SerializationError};
+use ark_base::{CanonicalDeserialize, Field, PolyError, SerializationError};
 use ark_poly::Polynomial;
 use ark_poly::univariate::DensePolynomial;
 use rs_code::RsError;
@@ -56,12 +54,7 @@ impl From<RsError> for CallError {
 }
 
 /// The value at a point of the polynomial that these bytes spell at their beginning.
-pub fn value_of_saved<F: Field>(alloc: Global, bytes: &[u8], point: F) -> Result<F, CallError>
-    ensures value { IfOk result (λ y. (p : List F) (more : List ℕ)
-        → (dense F.field (F.format Compress.Yes)).HasSpelling p
-        → bytes.now ≡ (dense F.field (F.format Compress.Yes)).spelling p ++ more
-        → IsValue F.field (of_list F.field p) point y) }
-{
+pub fn value_of_saved<F: Field>(alloc: Global, bytes: &[u8], point: F) -> Result<F, CallError> {
     let mut source = bytes;
     let polynomial = DensePolynomial::deserialize_compressed(alloc, &mut source)?;
     Ok(polynomial.evaluate(alloc, &point)?)

@@ -6,12 +6,11 @@ use ark_points::{
     PointsError, divide_by_linear, evaluate_at, first_parts, from_points, naive_evaluate_at,
     naive_from_points, paired, points_and_back, values_and_back, weights_at,
 };
-use ark_rows::{Row, lane_of};
 use ark_test_types::numbered::Numbered;
 use ark_univariate::DenseUVPolynomial;
 use ark_univariate::univariate::DensePolynomial;
 use row_words::rows::Answer;
-use row_words::words::{element, elements, joined, no_fit, no_row, number, one, size, text_of};
+use row_words::words::{element, elements, joined, no_fit, no_row, number, one, text_of};
 use std::alloc::{AllocError, Global};
 
 /// The answer to a call and two lists, or a list and a number.
@@ -25,7 +24,6 @@ pub fn answer<F: Numbered>(alloc: Global, words: &[String]) -> Answer {
         "weights_at" => {
             text_of_outcome(alloc, weights_at(alloc, &list, element(second.as_str())))
         }
-        "lane_of" => lane(alloc, &list, size(second.as_str())),
         _ => answer_of_two(
             alloc,
             name.as_str(),
@@ -81,28 +79,6 @@ fn divided<F: Numbered>(alloc: Global, coeffs: Vec<F>, point: F) -> Answer {
         ";",
         one(alloc, value),
     )
-}
-
-/// The elements in a lane of rows of two.
-fn lane<F: Numbered>(alloc: Global, list: &[F], i: usize) -> Answer {
-    if i >= 2 {
-        return no_fit(alloc);
-    }
-    let mut rows = Vec::new(alloc);
-    for k in 0..list.len() / 2 {
-        if let Some(row) = row_of::<F, 2>(&list[2 * k..2 * k + 2]) {
-            rows.push(row)?;
-        }
-    }
-    text_of(alloc, &lane_of::<F, 2>(alloc, &rows, i)?)
-}
-
-/// These elements side by side, where they are `N`.
-fn row_of<F: Numbered, const N: usize>(items: &[F]) -> Option<Row<F, N>> {
-    if items.len() != N {
-        return None;
-    }
-    Some(Row::from_slice(items))
 }
 
 /// The elements of a run, or those whose numbers stand between commas.
