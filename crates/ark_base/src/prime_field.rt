@@ -438,7 +438,10 @@ impl<M: PrimeModulus> Neg for PrimeField<M> {
 }
 
 impl<M: PrimeModulus> Field for PrimeField<M> {
-    ghost use Rattle.ark_base.specs.Element.{field_of};
+    ghost use Rattle.rand_core.specs.Stream.{next_u64};
+    ghost use Rattle.rand.specs.Draw.{Gives};
+    ghost use Rattle.rand.specs.Uniform.{canon};
+    ghost use Rattle.ark_base.specs.Element.{field_of, number};
     ghost use Rattle.ark_base.specs.ElementLaws.{prime_field_laws, prime_field_equals, natural_residue};
     ghost use Rattle.ark_base.specs.ElementBytes.{prime_elements};
     ghost use Rattle.ark_base.specs.Widths.{width_of};
@@ -447,6 +450,8 @@ impl<M: PrimeModulus> Field for PrimeField<M> {
     ghost field = { field_of M.modulus };
 
     ghost element_size = { width_of M.MODULUS };
+
+    ghost draws = { λ s x t. Gives (canon (2 ^ 64) next_u64 M.MODULUS) s (number x) t };
 
     /// By Euclid's algorithm. At each step a factor times the value leaves the remainder beside it.
     fn inverse(&self) -> Option<Self> {
@@ -468,7 +473,7 @@ impl<M: PrimeModulus> Field for PrimeField<M> {
         Some(last_factor)
     }
 
-    /// A number below the prime, each as likely as the others.
+    /// A number below the prime, by Canon's method of words of 64 bits. No clause speaks of probabilities.
     fn rand<R: Rng>(rng: &mut R) -> Self {
         PrimeField {
             value: rng.random_range(0..M::MODULUS),

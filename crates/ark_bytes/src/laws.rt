@@ -1,9 +1,9 @@
 //! What writing and reading give together.
 
-ghost use Rattle.std.specs.Prelude.{◌≡◌, List, ℕ, ◌++◌, IfOk, IsOkUnless};
-ghost use Rattle.ark_math.specs.Format.{AreSpelledAlike};
+ghost use Rattle.std.specs.Prelude.{◌≡◌, List, ℕ, IfOk, IsOkUnless};
+ghost use Rattle.ark_math.specs.Format.{AreSpelledAlike, BeginsWithSpelling};
 
-use crate::compress::{Compress, recompress};
+use crate::compress::Compress;
 use crate::error::SerializationError;
 use crate::sink::IoSink;
 use crate::traits::{CanonicalDeserialize, CanonicalSerialize};
@@ -44,22 +44,21 @@ pub fn written_then_read<T: CanonicalSerialize + CanonicalDeserialize>(
     T::deserialize_with_mode(alloc, &mut source, mode)
 }
 
-/// Bytes that begin with a value's spelling in one mode, recompressed to the other mode and back: the bytes with which
-/// they begin.
+/// What `recompress` gives there and back: of bytes that begin with a value's spelling in the mode `from` just that
+/// spelling, by way of the same value's in the mode `to`. `Memory` is the only error then, and of other bytes an error
+/// comes as in reading.
 pub fn recompressed_and_back<T: CanonicalSerialize + CanonicalDeserialize>(
     alloc: Global,
     bytes: &[u8],
     from: Compress,
     to: Compress,
 ) -> Result<Vec<u8>, SerializationError>
-    ensures { IfOk result (λ back. (rest : List ℕ) × (bytes.now ≡ back.items ++ rest)) }
+    ensures same { IfOk result (λ back. BeginsWithSpelling (T.format from) bytes.now back.items) }
+    ensures memory { (first : List ℕ) → BeginsWithSpelling (T.format from) bytes.now first
+        → IsOkUnless result SerializationError.Memory }
 {
     let mut source = bytes;
-    let mut there = IoSink::new(Vec::new(alloc));
-    recompress::<T, _, _>(alloc, &mut source, from, &mut there, to)?;
-    let turned = there.into_inner();
-    let mut other = turned.as_slice();
-    let mut back = IoSink::new(Vec::new(alloc));
-    recompress::<T, _, _>(alloc, &mut other, to, &mut back, from)?;
-    Ok(back.into_inner())
+    let value = T::deserialize_with_mode(alloc, &mut source, from)?;
+    let again: T = written_then_read(alloc, &value, to)?;
+    bytes_of(alloc, &again, from)
 }

@@ -1,5 +1,5 @@
 -- Secrets in shares: values of a polynomial whose value at zero is the secret.
-use Rattle.std.specs.Prelude.{◌≡◌, ◌≢◌, ℕ, ◌<◌, List, length, map, zip}
+use Rattle.std.specs.Prelude.{◌≡◌, ◌≢◌, ℕ, ◌<◌, List, [], ◌∷◌, length, map, zip}
 use Rattle.ark_math.specs.Field.{FieldOn}
 use Rattle.ark_math.specs.Univariate.{IsBelow, IsValue}
 use Rattle.ark_points.specs.Points.{HasValues, x_of, y_of}
@@ -12,6 +12,11 @@ pub record IsSharing {F : Type 0} (K : FieldOn F) (k : ℕ) (secret : F) (a : �
 -- each share is a point and the value of a there
 abbrev pub AreShares : {F : Type 0} → FieldOn F → (ℕ → F) → List (F × F) → Type 0
 AreShares K a shares = HasValues K (length shares) (x_of K shares) (y_of K shares) a
+
+-- the values come one after another, each as `draws` says of the state that the one before it left
+abbrev pub AreDrawn : {F S : Type 0} → (S → F → S → Type 0) → S → List F → S → Type 0
+AreDrawn draws old [] new = old ≡ new
+AreDrawn {S = S} draws old (value ∷ values) new = (next : S) × draws old value next × AreDrawn draws next values new
 
 -- a is a sharing of the secret, and has these shares
 abbrev pub IsSharingWith : {F : Type 0} → FieldOn F → ℕ → F → List (F × F) → (ℕ → F) → Type 0

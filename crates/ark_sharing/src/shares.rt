@@ -1,11 +1,11 @@
 //! Shares of a secret.
 
 ghost use Rattle.std.specs.Prelude.{◌≡◌, ◌↔◌, ◌⊎◌, ℕ, ◌+◌, ◌^◌, ◌<◌, ◌≤◌, List, ◌∷◌, length, map};
-ghost use Rattle.std.specs.Prelude.{Err, IfOk, OnOk, IsTrue, IsOkUnless};
+ghost use Rattle.std.specs.Prelude.{Err, IfOk, OnErr, OnOk, IsTrue, IsOkUnless};
 ghost use Rattle.ark_math.specs.Outcome.{IsOkUnlessEither};
 ghost use Rattle.ark_math.specs.Univariate.{of_list};
 ghost use Rattle.ark_points.specs.Points.{AreDifferent, HasRepeated};
-ghost use Rattle.ark_sharing.specs.Sharing.{AreNotZero, AreShares, HasZero, IsSharing};
+ghost use Rattle.ark_sharing.specs.Sharing.{AreDrawn, AreNotZero, AreShares, HasZero, IsSharing};
 
 use crate::error::SharingError;
 use ark_base::Field;
@@ -20,8 +20,8 @@ use std::alloc::{AllocError, Global};
 /// exactly where a point is zero, else `RepeatedPoint` exactly where two of them are one; nothing is drawn then.
 ///
 /// Fewer than `k` shares tell nothing of the secret where the coefficients are drawn uniformly, and unknown to others:
-/// `as_many_sharings_for_each_secret`. That they are is the generator's, whose type has to say that it is made for secrets.
-/// No clause says which values `F::rand` draws of it, so none here says that the coefficients are these.
+/// `as_many_sharings_for_each_secret`. The coefficients are what `F` draws of the generator, one after another; that
+/// these are uniform and unknown is the generator's, whose type has to say that it is made for secrets.
 ///
 /// It takes `k - 1` draws and `k` products for each point, a comparison for each two points, and memory for the
 /// coefficients, twice, the values and the shares.
@@ -35,7 +35,8 @@ pub fn share<F: Field, R: CryptoRng>(
     ensures points { IfOk result (λ shares. map (λ s. s.0) shares.items ≡ points.now) }
     ensures sharing { IfOk result (λ shares. (a : ℕ → F) × IsSharing F.field k secret a
         × AreShares F.field a shares.items) }
-    ensures coefficients { IfOk result (λ shares. (coeffs : List F) × (length coeffs + 1 ≡ k)
+    ensures drawn { IfOk result (λ shares. (coeffs : List F) × (length coeffs + 1 ≡ k)
+        × AreDrawn F.draws (R.stream rng.old) coeffs (R.stream rng.new)
         × AreShares F.field (of_list F.field (secret ∷ coeffs)) shares.items) }
     ensures threshold { IfOk result (λ _. (0 < k) × (k ≤ length points.now)) }
     ensures different { IfOk result (λ _. AreDifferent (length points.now) (of_list F.field points.now)) }
@@ -47,6 +48,7 @@ pub fn share<F: Field, R: CryptoRng>(
     ensures repeated { (result ≡ Err SharingError.RepeatedPoint)
         ↔ (0 < k) × (k ≤ length points.now) × AreNotZero F.field (length points.now) (of_list F.field points.now)
         × HasRepeated (length points.now) (of_list F.field points.now) }
+    ensures undrawn { OnErr result (λ e. (e ≡ SharingError.Memory) ⊎ (R.stream rng.new ≡ R.stream rng.old)) }
 {
     if k == 0 || k > points.len() {
         return Err(SharingError::WrongThreshold);
@@ -115,13 +117,15 @@ fn check_points<F: Field>(points: &[F]) -> Result<(), SharingError>
     Ok(())
 }
 
-// Drawn values.
+// Values drawn one after another.
 fn drawn<F: Field, R: CryptoRng>(
     alloc: Global,
     count: usize,
     rng: &mut R,
 ) -> Result<Vec<F>, AllocError>
-    ensures { IfOk result (λ coeffs. length coeffs.items ≡ count) }
+    ensures count { IfOk result (λ coeffs. length coeffs.items ≡ count) }
+    ensures drawn { IfOk result (λ coeffs.
+        AreDrawn F.draws (R.stream rng.old) coeffs.items (R.stream rng.new)) }
 {
     let mut coeffs = Vec::with_capacity(alloc, count)?;
     for _ in 0..count {

@@ -71,8 +71,18 @@ impl<T: CanonicalSerialize + CanonicalDeserialize> Call for OfBytes<T> {
                 Ok(list) => Ok(Answered::Number(list.len())),
                 Err(error) => refused(error),
             },
-            "recompressed_and_back to yes" => self.there_and_back(alloc, Compress::Yes),
-            "recompressed_and_back to no" => self.there_and_back(alloc, Compress::No),
+            "recompressed_and_back to yes" => bytes_back(recompressed_and_back::<T>(
+                alloc,
+                &self.bytes,
+                self.mode,
+                Compress::Yes,
+            )),
+            "recompressed_and_back to no" => bytes_back(recompressed_and_back::<T>(
+                alloc,
+                &self.bytes,
+                self.mode,
+                Compress::No,
+            )),
             "written_then_read" => value_read(written_then_read(alloc, &self.value, self.mode)),
             "check" => match self.value.check() {
                 Ok(()) => Ok(Answered::Number(0)),
@@ -98,16 +108,6 @@ impl<T: CanonicalSerialize + CanonicalDeserialize> Call for OfBytes<T> {
 }
 
 impl<T: CanonicalSerialize + CanonicalDeserialize> OfBytes<T> {
-    /// The bytes in the other mode and back. They are a whole spelling, so that `IoError` says of the lists that are written
-    /// to that their growth was refused.
-    fn there_and_back(&self, alloc: Global, to: Compress) -> Result<Answered<T>, PolyError> {
-        match recompressed_and_back::<T>(alloc, &self.bytes, self.mode, to) {
-            Ok(bytes) => Ok(Answered::Bytes(bytes)),
-            Err(SerializationError::IoError) => Err(PolyError::Memory),
-            Err(error) => refused(error),
-        }
-    }
-
     /// Makes a call that writes to the room.
     fn written(&mut self, alloc: Global, name: &str) -> Result<Answered<T>, PolyError> {
         let Some(room) = self.room.take() else {
@@ -150,6 +150,14 @@ fn mode_of(word: &str) -> Compress {
 fn value_read<T>(read: Result<T, SerializationError>) -> Result<Answered<T>, PolyError> {
     match read {
         Ok(value) => Ok(Answered::Value(value)),
+        Err(error) => refused(error),
+    }
+}
+
+/// The bytes that came back.
+fn bytes_back<T>(back: Result<Vec<u8>, SerializationError>) -> Result<Answered<T>, PolyError> {
+    match back {
+        Ok(bytes) => Ok(Answered::Bytes(bytes)),
         Err(error) => refused(error),
     }
 }

@@ -1,6 +1,7 @@
 //! Fields, modules over them, and fields with roots of unity.
 
-ghost use Rattle.std.specs.Prelude.{◌≡◌, ◌≢◌, ◌↔◌, ℕ, ◌<◌, ◌^◌, Option, Decides, IfSome, IsSome, IsNone};
+ghost use Rattle.std.specs.Prelude.{◌≡◌, ◌≢◌, ◌↔◌, ℕ, ◌<◌, ◌^◌, Option, Decides, IfSome, IsSome, IsNone, ⊤};
+ghost use Rattle.rand_core.specs.Stream.{Stream};
 ghost use Rattle.ark_math.specs.Field.{FieldOn, IsField, minus, power, natural};
 ghost use Rattle.ark_math.specs.Module.{ModuleOn, IsModule, IsItself};
 ghost use Rattle.ark_math.specs.Root.{Adicity, IsSupported, AreRoots, AreGreatest};
@@ -66,6 +67,9 @@ pub trait Field: Copy
     // How many bytes the spelling of an element has.
     ghost element_size: { ℕ };
 
+    // Which value is drawn of a generator's stream, and the stream that is left. Nothing is said of it by default.
+    ghost draws: { Stream → Self → Stream → Type 0 } = { λ _ _ _. ⊤ };
+
     /// The inverse, and `None` exactly at zero.
     fn inverse(&self) -> Option<Self>
         ensures some { IfSome result (λ y. field.times self.now y ≡ field.one) }
@@ -95,8 +99,9 @@ pub trait Field: Copy
         result
     }
 
-    /// A value drawn from the generator. Which one is left open.
-    fn rand<R: Rng>(rng: &mut R) -> Self;
+    /// A value drawn from the generator: the one that the type draws of what the generator answers next.
+    fn rand<R: Rng>(rng: &mut R) -> Self
+        ensures drawn { draws (R.stream rng.old) result (R.stream rng.new) };
 
     ghost field_laws: { IsField field };
 

@@ -1,8 +1,10 @@
 //! One error for a program that calls several crates: `?` makes it of each of theirs.
 
-ghost use Rattle.std.specs.Prelude.{◌≡◌};
+ghost use Rattle.std.specs.Prelude.{◌≡◌, ◌++◌, ℕ, List, IfOk};
+ghost use Rattle.ark_math.specs.Layouts.{dense};
+ghost use Rattle.ark_math.specs.Univariate.{IsValue, of_list};
 
-use ark_base::{CanonicalDeserialize, Field, PolyError, SerializationError};
+use ark_base::{CanonicalDeserialize, Compress, Field, PolyError, SerializationError};
 use ark_poly::Polynomial;
 use ark_poly::univariate::DensePolynomial;
 use rs_code::RsError;
@@ -54,7 +56,12 @@ impl From<RsError> for CallError {
 }
 
 /// The value at a point of the polynomial that these bytes spell at their beginning.
-pub fn value_of_saved<F: Field>(alloc: Global, bytes: &[u8], point: F) -> Result<F, CallError> {
+pub fn value_of_saved<F: Field>(alloc: Global, bytes: &[u8], point: F) -> Result<F, CallError>
+    ensures value { IfOk result (λ y. (p : List F) (more : List ℕ)
+        → (dense F.field (F.format Compress.Yes)).HasSpelling p
+        → bytes.now ≡ (dense F.field (F.format Compress.Yes)).spelling p ++ more
+        → IsValue F.field (of_list F.field p) point y) }
+{
     let mut source = bytes;
     let polynomial = DensePolynomial::deserialize_compressed(alloc, &mut source)?;
     Ok(polynomial.evaluate(alloc, &point)?)

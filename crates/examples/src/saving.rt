@@ -1,6 +1,6 @@
 //! Saving and loading: a polynomial in a file, and the same one that is read from it.
 
-ghost use Rattle.std.specs.Prelude.{◌≡◌, IfOk, IsOkUnless};
+ghost use Rattle.std.specs.Prelude.{◌≡◌, ◌++◌, ℕ, List, Some, IfOk, IsOkUnless};
 ghost use Rattle.std.specs.Io.KnownBytes.{Appends, Consumes};
 ghost use Rattle.ark_math.specs.Layouts.{dense};
 
@@ -24,7 +24,7 @@ pub fn saved_and_loaded<F: Field>(
 }
 
 /// Writes the polynomial to a file, or whatever takes bytes, and gives that back, to be flushed: of what is known to be
-/// in it, just the spelling is new.
+/// in it, just the spelling is new. `load` gives the same polynomial back, whatever is written behind it.
 pub fn save<F: Field, W: Write + Drop>(
     polynomial: &DensePolynomial<F>,
     file: W,
@@ -39,13 +39,16 @@ pub fn save<F: Field, W: Write + Drop>(
 }
 
 /// Reads a polynomial from a file, or whatever gives bytes, and gives that back, to be read on: of what is known to be
-/// left in it, just the spelling was taken.
+/// left in it, just the spelling was taken; and where that begins with what `save` wrote, it is the same polynomial.
 pub fn load<F: Field, R: Read + Drop>(
     alloc: Global,
     file: R,
 ) -> Result<(DensePolynomial<F>, R), SerializationError>
     ensures loaded { IfOk result (λ read. Consumes (R.remaining file) (R.remaining read.1)
         ((dense F.field (F.format Compress.Yes)).spelling read.0)) }
+    ensures same { IfOk result (λ read. (p : List F) (more : List ℕ)
+        → (dense F.field (F.format Compress.Yes)).HasSpelling p
+        → R.remaining file ≡ Some ((dense F.field (F.format Compress.Yes)).spelling p ++ more) → read.0 ≡ p) }
 {
     let mut source = IoSource::new(file);
     let polynomial = DensePolynomial::deserialize_compressed(alloc, &mut source)?;

@@ -2,7 +2,8 @@
 //! erasure codes.
 //!
 //! The first word is a field's order. The second is `bytes`, `code`, `points` or what a law is about, and its module says
-//! which words follow; or it is `large`, for bytes of an element of one of three large fields.
+//! which words follow; or it is `large`, for bytes of an element of one of three large fields, or `lanes`, for elements side
+//! by side over one field.
 #![tactic(auto)]
 
 mod bytes;
@@ -11,6 +12,7 @@ mod drawn_words;
 mod extensions;
 mod forms;
 mod hostile;
+mod lanes;
 mod pairs;
 mod points;
 mod reading;
@@ -32,10 +34,11 @@ impl Rows for LawRows {
         let [field, subject, rest @ ..] = words else {
             return no_row(alloc);
         };
-        if subject.as_str() == "large" {
-            return of_large(alloc, field.as_str(), rest);
+        match subject.as_str() {
+            "large" => of_large(alloc, field.as_str(), rest),
+            "lanes" => lanes::answer(alloc, rest),
+            _ => over_field::<LawRows>(alloc, words),
         }
-        over_field::<LawRows>(alloc, words)
     }
 }
 

@@ -1,18 +1,26 @@
--- The value that was read first, and its spelling in the first mode once more.
-use Rattle.std.proofs.Common.{[], ◌++◌, Some, ap, sym, append-nil, ◌∙◌}
-use Rattle.ark_bytes.proofs.ReadBack.{turned_back}
+-- What was read has the spelling there, and what is read of its other spelling is spelled alike in both modes.
+use Rattle.std.proofs.Common.{◌++◌, Some, Err, refl, ap, sym, ◌∙◌}
+use Rattle.std.proofs.lemmas.Result.{IfOk-weaker, err_from_is_err_and}
+use Rattle.ark_bytes.proofs.ReadBack.{reads_unless}
 use Rattle.ark_bytes.proofs.laws.recompressed_and_back.Goals as goal
 
-pub returns : goal.returns
-returns g c =
-    let from = g.T.Spelled.format c.args.from in
-    let to = g.T.Spelled.format c.args.to in
-    let first = c.in_ok-recompress.ensures in
-    let empty = ap (λ v. v.items) c.new-there.ensures.inner ∙ c.new.ensures.items in
-    let turned = ap (λ v. v.items) c.into_inner-turned.ensures ∙ first.writes.puts.appends ∙ ap (λ l. l ++ to.spelling first.value) empty in
-    let held = c.as_slice-other.ensures.value ∙ turned ∙ sym (append-nil (to.spelling first.value)) in
-    let again = turned_back from to (g.T.Spelled.format_law c.args.to) (g.met.T.CanonicalSerialize.both_modes c.args.to c.args.from) first.value [] _ _ _ _ _ first.writes.has
-    (ap (λ l. Some l) held) c.in_ok-recompress-2.ensures in
-    let nothing = ap (λ v. v.items) c.new-back.ensures.inner ∙ c.new-2.ensures.items in
-    let back = ap (λ v. v.items) c.into_inner.ensures ∙ again.appends ∙ ap (λ l. l ++ from.spelling first.value) nothing in
-    (_, first.takes.takes.consumes ∙ ap (λ l. l ++ c.recompress.new.reader.now) (sym back))
+pub returns-clause-same : goal.returns-clause-same
+returns-clause-same g c =
+    let value = c.in_ok-value.ensures in
+    let alike = g.met.T.CanonicalSerialize.both_modes c.args.to c.args.from _ _ c.in_ok-again.ensures.alike in
+    IfOk-weaker c.bytes_of.result _ _
+    (λ back spelled. record {
+      value = _;
+      has = value.has;
+      spells = spelled ∙ alike.same;
+      rest = _;
+      begins = value.takes.consumes ∙ ap (λ l. l ++ c.deserialize_with_mode.new.reader.now) (sym (spelled ∙ alike.same));
+    })
+    c.bytes_of.ensures.spelled
+
+pub returns-in_err-value-clause-memory : goal.returns-in_err-value-clause-memory
+returns-in_err-value-clause-memory g c first begins =
+    let p = err_from_is_err_and c.from_residual.result c.from_residual.ensures.1 in
+    let unless = reads_unless (g.T.Spelled.format c.args.from) (g.T.Spelled.format_law c.args.from) g.T.CanonicalDeserialize.takes_memory _ _ begins.value begins.rest (Err c.in_err-value.field-0.0) begins.has
+    (ap (λ l. Some l) (begins.begins ∙ ap (λ l. l ++ begins.rest) begins.spells)) refl c.in_err-value.ensures in
+    rw (p.1, p.2) unless

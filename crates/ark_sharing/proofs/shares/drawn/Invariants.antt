@@ -1,5 +1,10 @@
 use Rattle.std.proofs.Common.{◌≡◌, length}
+use Rattle.ark_sharing.specs.Sharing.{AreDrawn}
 use Rattle.ark_sharing.proofs.shares.drawn.Given as goal
 
 abbrev pub invariant-loop : goal.invariant-loop
-invariant-loop g l = length l.coeffs.items ≡ l.counter
+invariant-loop g l =
+    record {
+      count : length l.coeffs.items ≡ l.counter;
+      drawn : AreDrawn g.F.Field.draws (g.R.Rng.stream l.fn.rng.now) l.coeffs.items (g.R.Rng.stream l.rng);
+    }

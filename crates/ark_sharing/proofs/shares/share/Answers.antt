@@ -10,13 +10,13 @@ returns-clause-sharing g c =
     let K = g.F.Field.field in
     let secret = c.args.secret in
     let coeffs = c.deref.result.now in
-    let count : length coeffs + 1 ≡ c.args.k = omega (arith, ap length c.deref.ensures.value, c.in_ok-coeffs.ensures) in
+    let count : length coeffs + 1 ≡ c.args.k = omega (arith, ap length c.deref.ensures.value, c.in_ok-coeffs.ensures.count) in
     IfOk-weaker c.values_of_sharing.result _ _
     (λ shares h. (of_list K (secret ∷ coeffs), subst (λ n. IsSharing K n secret (of_list K (secret ∷ coeffs))) count (sharing_of_list K g.met.F.Field.field_laws secret coeffs), h))
     c.values_of_sharing.ensures.values
 
-pub returns-clause-coefficients : goal.returns-clause-coefficients
-returns-clause-coefficients g c =
+pub returns-clause-drawn : goal.returns-clause-drawn
+returns-clause-drawn g c =
     let coeffs = c.deref.result.now in
-    let count : length coeffs + 1 ≡ c.args.k = omega (arith, ap length c.deref.ensures.value, c.in_ok-coeffs.ensures) in
-    IfOk-weaker c.values_of_sharing.result _ _ (λ shares h. (coeffs, count, h)) c.values_of_sharing.ensures.values
+    let count : length coeffs + 1 ≡ c.args.k = omega (arith, ap length c.deref.ensures.value, c.in_ok-coeffs.ensures.count) in
+    IfOk-weaker c.values_of_sharing.result _ _ (λ shares h. (coeffs, count, c.in_ok-coeffs.ensures.drawn, h)) c.values_of_sharing.ensures.values
