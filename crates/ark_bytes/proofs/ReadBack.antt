@@ -1,10 +1,12 @@
 -- What is read from the bytes of a value that was written.
 use Rattle.std.proofs.Common.{◌≡◌, ℕ, List, ◌++◌, Option, Some, None, Result, Ok, Err, IfOk, IsOkUnless, inl, inr, refl, sym, ap, ◌∙◌, append-nil, arith, subst}
 use Rattle.std.specs.Io.KnownBytes.{Consumes, IsAtEnd}
-use Rattle.ark_math.specs.Format.{Format, IsFormat, IsUnfinished, Tells, AreSpelledAlike}
+use Rattle.ark_math.specs.Format.{Format, IsFormat, IsUnfinished, Tells, AreSpelledAlike, KeepsAlike}
 use Rattle.ark_math.proofs.Formats.Ends.{spelled, fault_not_front}
 use Rattle.ark_math.proofs.Formats.OneToOne.{shown_front, alike_tells}
 use Rattle.ark_bytes.specs.Reading.{SourceState, TakesSpelling, TakesFault, Reads}
+use Rattle.ark_bytes.specs.Writing.{SinkState, Puts}
+use Rattle.ark_bytes.specs.Recompressing.{Moves}
 use Rattle.ark_bytes.specs.declared.error.SerializationError.{SerializationError}
 use Rattle.ark_bytes.specs.declared.error.SerializationError.TheVariants.{IoError, InvalidData, Memory}
 
@@ -62,3 +64,10 @@ module _ {X : Type 0} (format : Format X) (F : IsFormat format) where
 pub shows_back : {X V : Type 0} (format : Format X) (view : X → V) → Tells view format → (value : X) (r : Result X SerializationError) → IfOk r (λ read. AreSpelledAlike format read value) → IfOk r (λ read. view read ≡ view value)
 shows_back format view tells value (Ok read) a = alike_tells format view tells read value a
 shows_back format view tells value (Err error) a = tt
+
+-- a value whose spelling in one mode was read, and written in the other one, has that of the value whose spelling was there
+pub turned_back : {X A : Type 0} (from to : Format X) → IsFormat to → KeepsAlike to from → (value : X) (more : List ℕ) (u : A) (a b : SourceState) (old new : SinkState) → to.HasSpelling value
+    → a.remaining ≡ Some (to.spelling value ++ more) → Moves {A = A} to from a b old new (Ok u) → Puts old new (from.spelling value)
+turned_back from to T keeps value more u a b old new p known m =
+    let alike = read_back to T a b value m.value more p known m.takes in
+    subst (Puts old new) (keeps m.value value alike).same m.writes.puts

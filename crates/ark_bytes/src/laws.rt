@@ -1,7 +1,7 @@
 //! What writing and reading give together.
 
-ghost use Rattle.std.specs.Prelude.{◌≡◌, List, ℕ, IfOk, IsOkUnless};
-ghost use Rattle.ark_math.specs.Format.{AreSpelledAlike, BeginsWithSpelling};
+ghost use Rattle.std.specs.Prelude.{◌≡◌, List, ℕ, ◌++◌, IfOk, IsOkUnless};
+ghost use Rattle.ark_math.specs.Format.{AreSpelledAlike, BeginsWithOneOfTwo};
 
 use crate::compress::Compress;
 use crate::error::SerializationError;
@@ -44,21 +44,25 @@ pub fn written_then_read<T: CanonicalSerialize + CanonicalDeserialize>(
     T::deserialize_with_mode(alloc, &mut source, mode)
 }
 
-/// What `recompress` gives there and back: of bytes that begin with a value's spelling in the mode `from` just that
-/// spelling, by way of the same value's in the mode `to`. `Memory` is the only error then, and of other bytes an error
-/// comes as in reading.
+/// What `recompress` gives there and back, of bytes that begin with a value's spelling in the mode `from`: the same value's
+/// spelling in the mode `to`, and from it just the bytes with which these begin. `Memory` is the only error then; other
+/// bytes are refused.
 pub fn recompressed_and_back<T: CanonicalSerialize + CanonicalDeserialize>(
     alloc: Global,
     bytes: &[u8],
     from: Compress,
     to: Compress,
-) -> Result<Vec<u8>, SerializationError>
-    ensures same { IfOk result (λ back. BeginsWithSpelling (T.format from) bytes.now back.items) }
-    ensures memory { (first : List ℕ) → BeginsWithSpelling (T.format from) bytes.now first
-        → IsOkUnless result SerializationError.Memory }
+) -> Result<(Vec<u8>, Vec<u8>), SerializationError>
+    ensures same { IfOk result (λ lists.
+        BeginsWithOneOfTwo (T.format from) (T.format to) bytes.now lists.1.items lists.0.items) }
+    ensures memory { (value : T) (rest : List ℕ) → (T.format from).HasSpelling value
+        → bytes.now ≡ (T.format from).spelling value ++ rest → IsOkUnless result SerializationError.Memory }
 {
     let mut source = bytes;
     let value = T::deserialize_with_mode(alloc, &mut source, from)?;
-    let again: T = written_then_read(alloc, &value, to)?;
-    bytes_of(alloc, &again, from)
+    let there = bytes_of(alloc, &value, to)?;
+    let mut turned = there.as_slice();
+    let again = T::deserialize_with_mode(alloc, &mut turned, to)?;
+    let back = bytes_of(alloc, &again, from)?;
+    Ok((there, back))
 }

@@ -47,11 +47,12 @@ pub record AreSpelledAlike {X : Type 0} (format : Format X) (x y : X) : Type 0 w
 abbrev pub KeepsAlike : {X : Type 0} → Format X → Format X → Type 0
 KeepsAlike {X = X} from to = (x y : X) → AreSpelledAlike from x y → AreSpelledAlike to x y
 
--- the bytes begin with these, which are the spelling of a value
-pub record BeginsWithSpelling {X : Type 0} (format : Format X) (bytes first : List ℕ) : Type 0 where
+-- the bytes begin with `first`, which is the spelling of a value, and `second` is that value's other spelling
+pub record BeginsWithOneOfTwo {X : Type 0} (format other : Format X) (bytes first second : List ℕ) : Type 0 where
   pub value : X
   pub has : format.HasSpelling value
   pub spells : first ≡ format.spelling value
+  pub other_spells : second ≡ other.spelling value
   pub rest : List ℕ
   pub begins : bytes ≡ first ++ rest
 

@@ -155,9 +155,11 @@ fn value_read<T>(read: Result<T, SerializationError>) -> Result<Answered<T>, Pol
 }
 
 /// The bytes that came back.
-fn bytes_back<T>(back: Result<Vec<u8>, SerializationError>) -> Result<Answered<T>, PolyError> {
-    match back {
-        Ok(bytes) => Ok(Answered::Bytes(bytes)),
+fn bytes_back<T>(
+    lists: Result<(Vec<u8>, Vec<u8>), SerializationError>,
+) -> Result<Answered<T>, PolyError> {
+    match lists {
+        Ok((_, bytes)) => Ok(Answered::Bytes(bytes)),
         Err(error) => refused(error),
     }
 }

@@ -36,7 +36,7 @@ fn there_and_back<T: CanonicalSerialize + CanonicalDeserialize>(
     to: Compress,
 ) -> Answer {
     match recompressed_and_back::<T>(alloc, bytes, from, to) {
-        Ok(back) => text_of(alloc, &back),
+        Ok((_, back)) => text_of(alloc, &back),
         Err(error) => Ok(format!(in alloc; "{error}")?),
     }
 }
