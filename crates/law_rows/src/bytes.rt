@@ -63,13 +63,13 @@ fn of_domain<F: FftField, D: EvaluationDomain<F>>(
     answer_of::<D>(alloc, bytes, modes)
 }
 
-/// A domain, and a number of one word.
+/// A domain, and a list of elements, as a word over it.
 fn of_pair<F: FftField, D: EvaluationDomain<F>>(
     alloc: Global,
     modes: &str,
     bytes: &[u8],
 ) -> Answer {
-    answer_of::<(D, u64)>(alloc, bytes, modes)
+    answer_of::<(D, Vec<F>)>(alloc, bytes, modes)
 }
 
 fn of_values<F: FftField, D: EvaluationDomain<F>>(
