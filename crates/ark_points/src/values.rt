@@ -24,9 +24,9 @@ const FEW: usize = 256;
 /// of products of x - z, where each part of the points is handed what has the polynomial's values there; and
 /// memory for the tree. Where the field has no roots of unity for a power of two of the points or coefficients,
 /// each half of the points is handed what the product over it leaves, by the divisions and products of
-/// `DensePolynomial`, which take as long as these. Where all points are zero or elements of a domain of a few
-/// times as many, up to 32, as there are points or coefficients, their values are looked up among those over the
-/// domain: in O(n log n) operations, and memory for these. Short lists, and all where the field has no domain for
+/// `DensePolynomial`, which take as long as these. Where all points are zero or elements of a domain for a few
+/// times as many elements, up to 32, as there are points or coefficients, their values are looked up among those over
+/// the domain: in O(n log n) operations, and memory for these. Short lists, and all where the field has no domain for
 /// them, go as `naive_evaluate_at` does. The only error is `Memory`.
 pub fn evaluate_at<F: FftField>(
     alloc: Global,
