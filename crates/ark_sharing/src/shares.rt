@@ -1,7 +1,7 @@
 //! Shares of a secret.
 
 ghost use Rattle.std.specs.Prelude.{◌≡◌, ◌↔◌, ◌⊎◌, ℕ, ◌+◌, ◌^◌, ◌<◌, ◌≤◌, List, ◌∷◌, length, map};
-ghost use Rattle.std.specs.Prelude.{Err, IfOk, OnErr, OnOk, IsTrue, IsOkUnless};
+ghost use Rattle.std.specs.Prelude.{Err, IfErr, IfOk, OnOk, IsTrue, IsOkUnless};
 ghost use Rattle.ark_math.specs.Outcome.{IsOkUnlessEither};
 ghost use Rattle.ark_math.specs.Univariate.{of_list};
 ghost use Rattle.ark_points.specs.Points.{AreDifferent, HasRepeated};
@@ -48,7 +48,7 @@ pub fn share<F: Field, R: CryptoRng>(
     ensures repeated { (result ≡ Err SharingError.RepeatedPoint)
         ↔ (0 < k) × (k ≤ length points.now) × AreNotZero F.field (length points.now) (of_list F.field points.now)
         × HasRepeated (length points.now) (of_list F.field points.now) }
-    ensures undrawn { OnErr result (λ e. (e ≡ SharingError.Memory) ⊎ (R.stream rng.new ≡ R.stream rng.old)) }
+    ensures undrawn { IfErr result (λ e. (e ≡ SharingError.Memory) ⊎ (R.stream rng.new ≡ R.stream rng.old)) }
 {
     if k == 0 || k > points.len() {
         return Err(SharingError::WrongThreshold);

@@ -6,5 +6,5 @@ abbrev pub invariant-loop : goal.invariant-loop
 invariant-loop g l =
     record {
       count : length l.coeffs.items ≡ l.counter;
-      drawn : AreDrawn g.F.Field.draws (g.R.Rng.stream l.fn.rng.now) l.coeffs.items (g.R.Rng.stream l.rng);
+      drawn : AreDrawn g.F.Field.draws (g.R.Rng.stream l.fn.rng) l.coeffs.items (g.R.Rng.stream l.rng);
     }
