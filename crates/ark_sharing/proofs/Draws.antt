@@ -1,5 +1,5 @@
 -- Values that are drawn one after another.
-use Rattle.std.proofs.Common.{◌≡◌, List, [], ◌∷◌, ◌++◌, refl, sym, subst}
+use Rattle.std.proofs.Common.{List, [], ◌∷◌, ◌++◌, refl, sym, subst}
 use Rattle.ark_sharing.specs.Sharing.{AreDrawn}
 
 -- and one more

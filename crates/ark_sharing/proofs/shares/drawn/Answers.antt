@@ -1,4 +1,4 @@
-use Rattle.std.proofs.Common.{◌∷◌, [], ◌++◌, length, length-append, ap, sym, subst, arith}
+use Rattle.std.proofs.Common.{◌∷◌, [], length, length-append, ap, sym, subst, arith}
 use Rattle.ark_sharing.specs.Sharing.{AreDrawn}
 use Rattle.ark_sharing.proofs.Draws.{AreDrawn-push}
 use Rattle.ark_sharing.proofs.shares.drawn.Goals as goal
