@@ -11,7 +11,7 @@ use Rattle.examples.proofs.errors.value_of_saved.Goals as goal
 pub returns-clause-spelled : goal.returns-clause-spelled
 returns-clause-spelled g c =
     let read = c.in_ok-polynomial.ensures in
-    (c.in_ok-polynomial.polynomial, _, read.has, read.takes.consumes, c.in_ok-value.ensures.value)
+    (c.in_ok-polynomial.polynomial, _, read.has, read.takes.consumes, c.in_ok-evaluate.ensures.value)
 
 -- as the polynomial whose spelling is there, and no other one is
 pub returns-clause-value : goal.returns-clause-value
@@ -22,4 +22,4 @@ returns-clause-value g c p more has known =
     let same =
     only_spelled {E = ℕ} (dense K e) (dense_tells K e law (g.met.F.Field.elements_law Yes).one_to_one) p (Ok c.in_ok-polynomial.polynomial)
     (reads_back (dense K e) (dense_is_format K e law) (Unit {0}) _ _ p more (Ok c.in_ok-polynomial.polynomial) has (ap (λ l. Some l) known) c.in_ok-polynomial.ensures) in
-    subst (λ q. IsValue K (of_list K q) c.args.point c.in_ok-value.value) same c.in_ok-value.ensures.value
+    subst (λ q. IsValue K (of_list K q) c.args.point c.in_ok-evaluate.field-0) same c.in_ok-evaluate.ensures.value
