@@ -88,7 +88,9 @@ fn main(rt: HostRuntime) -> anyhow::Result<()> {
     )?;
     let values = held(alloc, &[1, 2, 3].map(F65537::from))?;
     print_list(&rt, alloc, "of eight values, five of them lost", &values)?;
-    if let Err(refused) = one_wrong(alloc, &[1, 2, 3].map(F65537::from)) {
+    let right = with_sixth(alloc, &[1, 2, 3].map(F65537::from), F65537::from(56578))?;
+    print_list(&rt, alloc, "of eight values, all of them right", &right)?;
+    if let Err(refused) = with_sixth(alloc, &[1, 2, 3].map(F65537::from), F65537::from(0)) {
         println!(rt; "of eight values, one of them wrong: {refused}")?;
     }
     print_saved(&rt, alloc)?;
@@ -224,15 +226,15 @@ fn held<F: FftField>(alloc: Global, message: &[F]) -> anyhow::Result<Vec<F>> {
     Ok(lost_and_restored(alloc, &code, message, &lost)?)
 }
 
-/// What comes back of the message's eight values where one of them is another.
-fn one_wrong<F: FftField>(alloc: Global, message: &[F]) -> anyhow::Result<Vec<F>> {
+/// What comes back of the message's eight values where the sixth one is this.
+fn with_sixth<F: FftField>(alloc: Global, message: &[F], sixth: F) -> anyhow::Result<Vec<F>> {
     let code = Code::new(message.len(), 8).ok_or(PolyError::NoDomain)?;
     let mut word = Vec::with_capacity(alloc, 8)?;
     for value in &code.encode(alloc, message)? {
         word.push(Some(*value))?;
     }
     if let Some(value) = word.get_mut(5) {
-        *value = Some(F::zero());
+        *value = Some(sixth);
     }
     Ok(restored_if_right(alloc, &code, &word, 5)?)
 }
