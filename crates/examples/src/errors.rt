@@ -55,8 +55,8 @@ impl From<RsError> for CallError {
     }
 }
 
-/// The value at a point of the polynomial that these bytes spell at their beginning, whichever it is. Where they spell none
-/// there is no value.
+/// The value at a point of the polynomial that these bytes spell at their beginning, whichever it is. Where
+/// they spell none there is no value.
 pub fn value_of_saved<F: Field>(alloc: Global, bytes: &[u8], point: F) -> Result<F, CallError>
     ensures spelled { IfOk result (λ y. (p : List F) × (more : List ℕ)
         × (dense F.field (F.format Compress.Yes)).HasSpelling p

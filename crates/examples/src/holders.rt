@@ -23,15 +23,16 @@ pub fn lost_and_restored<F: FftField, T: DomainCoeff<F>>(
     code.decoder(alloc, lost)?.restore(alloc, &values)
 }
 
-/// What comes back of a word: a list with all its values, and nothing where more than `k` values are known, and all of them
-/// but one are a codeword's.
+/// What comes back of a word: a list with all its values, and nothing where more than `k` values are known,
+/// and all of them but one are a codeword's.
 pub fn restored_if_right<F: FftField, T: DomainCoeff<F>>(
     alloc: Global,
     code: &Code<F>,
     word: &[Option<T>],
     place: usize,
 ) -> Result<Vec<T>, RsError>
-    ensures agrees { IfOk result (λ values. AgreesWith T.group T.meaning word.now (map T.meaning values.items)) }
+    ensures agrees { IfOk result (λ values.
+        AgreesWith T.group T.meaning word.now (map T.meaning values.items)) }
     ensures refused { (c : List T.Meaning) (x : T) → length word.now ≡ code.now.domain.size
         → code.now.k + erasure_count word.now < code.now.domain.size
         → IsCodeword F.field T.group code.now.domain code.now.k c
