@@ -6,9 +6,10 @@ pub mod Evaluations
 pub mod FourItems
 pub mod Joined
 pub mod Levels
-pub mod LinearFactors
 pub mod Padded
+pub mod PowersOfTwo
 pub mod Runs
 pub mod Splits
+pub mod Sums
 pub mod Tables
 pub mod Undone

@@ -3,7 +3,7 @@
 ghost use Rattle.std.specs.Prelude.{◌≡◌, ◌+◌, ◌<◌, length, IfOk, OnOk};
 ghost use Rattle.ark_math.specs.Linear.{linear_factor};
 ghost use Rattle.ark_math.specs.Univariate.{of_list, product};
-ghost use Rattle.ark_blocks.specs.Roots.{nodes};
+ghost use Rattle.ark_math.specs.Nodes.{nodes};
 
 use ark_traits::Field;
 use std::alloc::{AllocError, Global};

@@ -7,6 +7,8 @@ pub mod Exchanged
 pub mod Gathered
 pub mod OnlyMultilinear
 pub mod PairProducts
+pub mod LinearFactors
+pub mod LinearQuotients
 pub mod LongDivision
 pub mod Multilinear
 pub mod MultilinearTerms

@@ -11,11 +11,13 @@ pub mod Transform
 pub mod Cost
 pub mod Univariate
 pub mod Linear
+pub mod Nodes
 pub mod NormalForms
 pub mod Points
 pub mod Term
 pub mod Multivariate
 pub mod Multilinear
+pub mod AtPoints
 pub mod Forms
 pub mod Outcome
 pub mod Prime

@@ -1,4 +1,2 @@
--- Polynomials at points of a caller's own, and the words of the private steps.
-pub mod Points
+-- Words of the private steps.
 pub mod Steps
-pub mod Tree

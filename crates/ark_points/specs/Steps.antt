@@ -1,36 +1,11 @@
 -- Words of the private steps.
-use Rattle.std.specs.Prelude.{◌≡◌, ℕ, ◌<◌, ◌⊎◌, List, length, if◌then◌else◌, ◌==◌}
-use Rattle.ark_math.specs.Field.{FieldOn, minus, power}
-use Rattle.ark_math.specs.Module.{itself, sum_below}
-use Rattle.ark_math.specs.Multilinear.{product_below}
-use Rattle.ark_math.specs.Univariate.{of_list}
-use Rattle.ark_points.specs.Points.{x_of, y_of}
-
--- the product of t - x j for each j below n other than i
-abbrev pub differences : {F : Type 0} → FieldOn F → (ℕ → F) → ℕ → ℕ → F → F
-differences K x i n t = product_below K n (λ j. if j == i then K.one else minus K t (x j))
-
--- the sum of w 0, w 1, .., each times the power t of its point of a list
-abbrev pub power_sum : {F : Type 0} → FieldOn F → List F → (ℕ → F) → ℕ → F
-power_sum K zs w t = sum_below (itself K) (length zs) (λ i. K.times (w i) (power K (of_list K zs i) t))
+use Rattle.std.specs.Prelude.{◌≡◌, ℕ, ◌<◌, List, length}
+use Rattle.ark_math.specs.Field.{FieldOn, power}
+use Rattle.ark_math.specs.AtPoints.{x_of, y_of}
 
 -- a at c * x, as a polynomial in x
 abbrev pub at_multiple : {F : Type 0} → FieldOn F → F → (ℕ → F) → ℕ → F
 at_multiple K c a i = K.times (power K c i) (a i)
-
--- the power n of each point
-pub record ArePowers {F : Type 0} (K : FieldOn F) (n : ℕ) (points powers : List F) : Type 0 where
-  pub len : length powers ≡ length points
-  pub each : (i : ℕ) → i < length points → of_list K powers i ≡ power K (of_list K points i) n
-
--- y is x, with the power q that is p; or where p is one both are zero
-abbrev pub IsOffRoot : {F : Type 0} → FieldOn F → F → F → F → F → Type 0
-IsOffRoot K x p y q = ((y ≡ x) × (q ≡ p)) ⊎ ((p ≡ K.one) × (y ≡ K.zero) × (q ≡ K.zero))
-
--- each of the others is the point at its place, but where the power n of that one is one
-pub record AreOffRoots {F : Type 0} (K : FieldOn F) (n : ℕ) (points others : List F) : Type 0 where
-  pub len : length others ≡ length points
-  pub each : (i : ℕ) → i < length points → (of_list K others i ≡ of_list K points i) ⊎ (power K (of_list K points i) n ≡ K.one)
 
 -- the x of each pair times c, and its y
 pub record ArePairsMoved {F : Type 0} (K : FieldOn F) (c : F) (pairs moved : List (F × F)) : Type 0 where

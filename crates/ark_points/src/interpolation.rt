@@ -4,22 +4,21 @@ ghost use Rattle.std.specs.Prelude.{◌≡◌, ◌≢◌, ℕ, ◌<◌, length, 
 ghost use Rattle.ark_math.specs.Linear.{linear_factor};
 ghost use Rattle.ark_math.specs.Outcome.{IsOkUnlessEither};
 ghost use Rattle.ark_math.specs.Univariate.{IsBelow, of_list};
-ghost use Rattle.ark_points.specs.Points.{AreDifferent, HasRepeated, HasValues, IsThrough, x_of, y_of};
-ghost use Rattle.ark_blocks.specs.Roots.{nodes};
-ghost use Rattle.ark_points.specs.Tree.{IsTreeOver, derived};
+ghost use Rattle.ark_math.specs.AtPoints.{AreDifferent, HasRepeated, HasValues, IsThrough, x_of, y_of};
+ghost use Rattle.ark_math.specs.Nodes.{nodes};
+ghost use Rattle.ark_subproducts.specs.Tree.{IsTreeOver, derived};
 
 use crate::error::PointsError;
-use crate::items::has_zero;
 use crate::lookup::domain_of_samples;
 use crate::moved::{moved_pairs, with_powers};
 use crate::pairs::first_parts;
-use crate::parts::constant;
 use crate::repeated::has_repeated;
-use crate::tree::Products;
 use crate::values::values_with_tree;
 use ark_base::{FftField, Field, PolyError, Polynomial, batch_inversion};
+use ark_blocks::items::has_zero;
 use ark_poly::univariate::DensePolynomial;
 use ark_poly::{DenseUVPolynomial, EvaluationDomain, GeneralEvaluationDomain};
+use ark_subproducts::{SubproductTree, constant};
 use std::alloc::{AllocError, Global};
 
 // Up to so many pairs are taken one by one.
@@ -96,14 +95,14 @@ fn through_pairs<F: FftField, D: EvaluationDomain<F>>(
     ensures errors { IsOkUnlessEither result PointsError.Memory PointsError.RepeatedPoint }
 {
     let xs = first_parts(alloc, points)?;
-    let tree = Products::new(alloc, &xs)?;
+    let tree = SubproductTree::new(alloc, &xs)?;
     through_tree::<F, D>(alloc, &tree, &xs, points)
 }
 
 // The polynomial through pairs that have these x.
 fn through_tree<F: FftField, D: EvaluationDomain<F>>(
     alloc: Global,
-    tree: &Products<F>,
+    tree: &SubproductTree<F>,
     xs: &[F],
     points: &[(F, F)],
 ) -> Result<DensePolynomial<F>, PointsError>
@@ -127,7 +126,7 @@ fn through_tree<F: FftField, D: EvaluationDomain<F>>(
 // Lagrange's sum for pairs that have these x, with these slopes of the product of x - z at them.
 fn summed_up<F: FftField>(
     alloc: Global,
-    tree: &Products<F>,
+    tree: &SubproductTree<F>,
     xs: &[F],
     slopes: &[F],
     points: &[(F, F)],
@@ -149,7 +148,7 @@ fn summed_up<F: FftField>(
 // The slope at each point of the product of x - z over all of them.
 fn slopes<F: FftField, D: EvaluationDomain<F>>(
     alloc: Global,
-    tree: &Products<F>,
+    tree: &SubproductTree<F>,
     points: &[F],
 ) -> Result<Vec<F>, PolyError>
     requires not_empty { 0 < length points.now }

@@ -3,7 +3,7 @@
 ghost use Rattle.std.specs.Prelude.{◌≡◌, ◌≤◌, length, map, Err, IfOk};
 ghost use Rattle.ark_math.specs.Outcome.{IsOkUnlessEither};
 ghost use Rattle.ark_math.specs.Univariate.{of_list};
-ghost use Rattle.ark_points.specs.Points.{HasRepeated, x_of};
+ghost use Rattle.ark_math.specs.AtPoints.{HasRepeated, x_of};
 
 use crate::error::PointsError;
 use crate::interpolation::from_points;

@@ -5,7 +5,7 @@ ghost use Rattle.std.specs.Prelude.{◌≡◌, ℕ, ◌<◌, ◌↔◌, ◌⊎�
 ghost use Rattle.ark_math.specs.Field.{power};
 ghost use Rattle.ark_math.specs.Points.{AreValues};
 ghost use Rattle.ark_math.specs.Univariate.{IsValue, of_list};
-ghost use Rattle.ark_points.specs.Points.{AreValuesAt};
+ghost use Rattle.ark_math.specs.AtPoints.{AreValuesAt};
 
 use crate::places::take_places;
 use ark_base::{FftField, Field, PolyError, Polynomial};

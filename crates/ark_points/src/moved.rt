@@ -8,8 +8,8 @@ ghost use Rattle.std.specs.Prelude.{◌≡◌, IfOk};
 ghost use Rattle.ark_math.specs.Univariate.{of_list};
 ghost use Rattle.ark_points.specs.Steps.{ArePairsMoved, at_multiple};
 
-use crate::items::scale_by_powers;
 use ark_base::Field;
+use ark_blocks::items::scale_by_powers;
 use ark_poly::DenseUVPolynomial;
 use ark_poly::univariate::DensePolynomial;
 use std::alloc::{AllocError, Global};

@@ -2,17 +2,15 @@
 
 ghost use Rattle.std.specs.Prelude.{◌≡◌, ◌<◌, length, IfOk, IsOkUnless};
 ghost use Rattle.ark_math.specs.Univariate.{of_list};
-ghost use Rattle.ark_points.specs.Points.{AreValuesAt, HasValues};
-ghost use Rattle.ark_points.specs.Tree.{IsTreeOver};
+ghost use Rattle.ark_math.specs.AtPoints.{AreValuesAt, HasValues};
+ghost use Rattle.ark_subproducts.specs.Tree.{IsTreeOver};
 
 use crate::lookup::values_by_lookup;
-use crate::quotients::remainder;
-use crate::roots::values_by_table;
-use crate::tree::Products;
-use ark_base::{FftField, Field, PolyError, Polynomial};
+use ark_base::{FftField, PolyError};
 use ark_blocks::BlockRoots;
 use ark_poly::univariate::DensePolynomial;
 use ark_poly::{DenseUVPolynomial, EvaluationDomain, GeneralEvaluationDomain};
+use ark_subproducts::{SubproductTree, naive_evaluate_at, remainder, values_by_table};
 use std::alloc::Global;
 
 // Up to so many points or coefficients each value is found for itself.
@@ -75,7 +73,7 @@ fn values_by_remainders<F: FftField>(
     ensures values { IfOk result (λ v. AreValuesAt F.field points.now v.items (of_list F.field polynomial.now)) }
     ensures memory { IsOkUnless result PolyError.Memory }
 {
-    let tree = Products::new(alloc, points)?;
+    let tree = SubproductTree::new(alloc, points)?;
     let rest = remainder(alloc, polynomial, tree.product())?;
     tree.values(alloc, &rest, points)
 }
@@ -83,7 +81,7 @@ fn values_by_remainders<F: FftField>(
 /// The values at the points of a tree, of which there are some: looked up, or by the tree.
 pub fn values_with_tree<F: FftField, D: EvaluationDomain<F>>(
     alloc: Global,
-    tree: &Products<F>,
+    tree: &SubproductTree<F>,
     polynomial: &DensePolynomial<F>,
     points: &[F],
 ) -> Result<Vec<F>, PolyError>
@@ -96,26 +94,4 @@ pub fn values_with_tree<F: FftField, D: EvaluationDomain<F>>(
         Some(values) => Ok(values),
         None => tree.values(alloc, polynomial, points),
     }
-}
-
-/// The values of a polynomial at points, in their order, each for itself.
-///
-/// It takes a product for each coefficient at each point, and memory for the values. The only error is `Memory`.
-pub fn naive_evaluate_at<F: Field>(
-    alloc: Global,
-    polynomial: &DensePolynomial<F>,
-    points: &[F],
-) -> Result<Vec<F>, PolyError>
-    ensures len { IfOk result (λ v. length v.items ≡ length points.now) }
-    ensures values { IfOk result (λ v. HasValues F.field (length points.now) (of_list F.field points.now)
-        (of_list F.field v.items) (of_list F.field polynomial.now)) }
-    ensures memory { IsOkUnless result PolyError.Memory }
-{
-    let mut values = Vec::with_capacity(alloc, points.len())?;
-    for i in 0..points.len() {
-        let point = points[i];
-        let value = polynomial.evaluate(alloc, &point)?;
-        values.push(value)?;
-    }
-    Ok(values)
 }

@@ -3,8 +3,8 @@
 ghost use Rattle.std.specs.Prelude.{◌≡◌, ℕ, ◌<◌, List, length, IfOk, Err};
 ghost use Rattle.ark_math.specs.Outcome.{IsOkUnlessEither};
 ghost use Rattle.ark_math.specs.Univariate.{of_list};
-ghost use Rattle.ark_points.specs.Points.{AreDifferent, AreWeightsAt, HasRepeated};
-ghost use Rattle.ark_points.specs.Steps.{differences};
+ghost use Rattle.ark_math.specs.AtPoints.{AreDifferent, AreWeightsAt, HasRepeated};
+ghost use Rattle.ark_math.specs.AtPoints.{differences};
 
 use crate::error::PointsError;
 use crate::repeated::has_repeated;

@@ -3,7 +3,7 @@
 ghost use Rattle.std.specs.Prelude.{◌≡◌, length, IfOk};
 ghost use Rattle.ark_math.specs.Linear.{constant, linear_factor};
 ghost use Rattle.ark_math.specs.Univariate.{added, of_list, product};
-ghost use Rattle.ark_points.specs.Points.{AreDifferent, HasValues};
+ghost use Rattle.ark_math.specs.AtPoints.{AreDifferent, HasValues};
 
 use ark_base::{FftField, Field, PolyError};
 use ark_points::{PointsError, divide_by_linear, evaluate_at, weights_at};

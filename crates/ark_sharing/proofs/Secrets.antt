@@ -8,9 +8,9 @@ use Rattle.ark_math.proofs.Algebra.Solve.{◌⊗◌, ◌⊕◌, nought}
 use Rattle.ark_math.proofs.Polynomials.Univariate.{IsBelow-more}
 use Rattle.ark_math.proofs.Polynomials.UnivariateLists.{of_list-below}
 use Rattle.ark_math.proofs.Polynomials.UnivariateValues.{one_value, value_below-first}
-use Rattle.ark_points.specs.Points.{AreDifferent, AreWeightsAt, HasValues}
-use Rattle.ark_points.proofs.Newton.{only_interpolation, some_interpolation}
-use Rattle.ark_points.proofs.Lagrange.{weighted_values}
+use Rattle.ark_math.specs.AtPoints.{AreDifferent, AreWeightsAt, HasValues}
+use Rattle.ark_math.proofs.AtPoints.Newton.{only_interpolation, some_interpolation}
+use Rattle.ark_math.proofs.AtPoints.Lagrange.{weighted_values}
 use Rattle.ark_sharing.specs.Sharing.{AreNotZero, IsSharing}
 
 -- one value before others

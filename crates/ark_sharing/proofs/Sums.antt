@@ -9,8 +9,8 @@ use Rattle.ark_math.proofs.Algebra.Ring.{ring1, ring2}
 use Rattle.ark_math.proofs.Algebra.Solve.{◌⊕◌, ◌⊖◌, nought}
 use Rattle.ark_math.proofs.Polynomials.Univariate.{added-below, difference-below, scaled-below}
 use Rattle.ark_math.proofs.Polynomials.UnivariateValues.{value-added, value-difference, value-scaled}
-use Rattle.ark_points.specs.Points.{AreDifferent, x_of, y_of}
-use Rattle.ark_points.proofs.PairParts.{x_of_is}
+use Rattle.ark_math.specs.AtPoints.{AreDifferent, x_of, y_of}
+use Rattle.ark_math.proofs.AtPoints.PairParts.{x_of_is}
 use Rattle.ark_sharing.specs.Sharing.{AreNotZero, AreOneToOne, AreShares, IsSharing, IsSharingWith, added_shares, scaled_shares}
 use Rattle.ark_sharing.proofs.Secrets.{sharing_more, some_sharing}
 

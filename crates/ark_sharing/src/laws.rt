@@ -3,7 +3,7 @@
 
 ghost use Rattle.std.specs.Prelude.{◌≡◌, ℕ, ◌+◌, ◌<◌, length, map};
 ghost use Rattle.ark_math.specs.Univariate.{added, scaled};
-ghost use Rattle.ark_points.specs.Points.{AreDifferent, x_of};
+ghost use Rattle.ark_math.specs.AtPoints.{AreDifferent, x_of};
 ghost use Rattle.ark_sharing.specs.Sharing.{AreNotZero, AreOneToOne, AreShares, IsSharing, IsSharingWith};
 ghost use Rattle.ark_sharing.specs.Sharing.{added_shares, scaled_shares};
 

@@ -4,7 +4,7 @@ ghost use Rattle.std.specs.Prelude.{◌≡◌, ℕ, ◌≤◌, length, Err, IfOk
 ghost use Rattle.ark_math.specs.Module.{itself, sum_below};
 ghost use Rattle.ark_math.specs.Outcome.{IsOkUnlessEither};
 ghost use Rattle.ark_math.specs.Univariate.{of_list};
-ghost use Rattle.ark_points.specs.Points.{AreDifferent, HasRepeated, x_of, y_of};
+ghost use Rattle.ark_math.specs.AtPoints.{AreDifferent, HasRepeated, x_of, y_of};
 ghost use Rattle.ark_sharing.specs.Sharing.{AreShares, IsSharing};
 
 use crate::error::SharingError;

@@ -4,7 +4,7 @@ ghost use Rattle.std.specs.Prelude.{◌≡◌, ◌↔◌, ◌⊎◌, ℕ, ◌+�
 ghost use Rattle.std.specs.Prelude.{Err, IfErr, IfOk, OnOk, IsTrue, IsOkUnless};
 ghost use Rattle.ark_math.specs.Outcome.{IsOkUnlessEither};
 ghost use Rattle.ark_math.specs.Univariate.{of_list};
-ghost use Rattle.ark_points.specs.Points.{AreDifferent, HasRepeated};
+ghost use Rattle.ark_math.specs.AtPoints.{AreDifferent, HasRepeated};
 ghost use Rattle.ark_sharing.specs.Sharing.{AreDrawn, AreNotZero, AreShares, HasZero, IsSharing};
 
 use crate::error::SharingError;

@@ -12,7 +12,7 @@ use Rattle.ark_math.specs.Points.{AreValues, IsPlaceQuotient}
 use Rattle.ark_math.proofs.Algebra.Powers.{times_zero}
 use Rattle.ark_math.proofs.OverDomains.PlaceValues.{values-item, values-length}
 use Rattle.ark_math.proofs.Polynomials.UnivariateValues.{one_value}
-use Rattle.ark_blocks.specs.Roots.{nodes}
+use Rattle.ark_math.specs.Nodes.{nodes}
 use Rattle.rs_code.specs.Locator.{AreFactors, IsFactor, euler, lost, slope}
 use Rattle.rs_code.proofs.Factors.{nodes-value, slope-value}
 use Rattle.rs_code.proofs.Lost.{slope-lost}

@@ -1,7 +1,6 @@
 -- The polynomial with known roots: its coefficients, its values and those of x times its derivative.
-use Rattle.std.proofs.Common.{◌≡◌, ℕ, zero, suc, ◌+◌, ◌-◌, ◌/◌, ◌<◌, List, [], ◌∷◌, length, take, drop, sym, ◌∙◌, ap, ap₂, refl, subst, arith}
+use Rattle.std.proofs.Common.{◌≡◌, ℕ, zero, suc, ◌+◌, ◌<◌, List, [], ◌∷◌, length, sym, ◌∙◌, ap, refl, subst, arith}
 use mathlib.Core.Path.{fun_ext}
-use Rattle.std.proofs.lemmas.List.{length-drop, length-take-le}
 use Rattle.ark_math.specs.Field.{FieldOn, IsField, minus}
 use Rattle.ark_math.specs.Linear.{linear_factor}
 use Rattle.ark_math.specs.Module.{itself}
@@ -12,10 +11,9 @@ use Rattle.ark_math.proofs.Algebra.Ring.{ring2, ring3}
 use Rattle.ark_math.proofs.Polynomials.Univariate.{monomial-below}
 use Rattle.ark_math.proofs.Polynomials.UnivariateProducts.{product_comm}
 use Rattle.ark_math.proofs.Polynomials.UnivariateValues.{value_below-monomial, value_below-past}
-use Rattle.ark_blocks.specs.Roots.{nodes}
-use Rattle.ark_blocks.proofs.LinearFactors.{before, linear-product, nodes-joined}
+use Rattle.ark_math.specs.Nodes.{nodes}
+use Rattle.ark_math.proofs.Polynomials.LinearFactors.{before, linear-product}
 use Rattle.rs_code.specs.Locator.{located, slope, euler, by_factor, by_factors}
-use Rattle.rs_code.proofs.Places.{halves}
 use Rattle.rs_code.proofs.Locators.{value, IsShort, by_factors-short, by_factors-value, euler-value, euler-short}
 
 module _ {F : Type 0} (K : FieldOn F) (N : IsField K) where
@@ -29,27 +27,6 @@ module _ {F : Type 0} (K : FieldOn F) (N : IsField K) where
   nodes-factors : (rs : List F) → nodes K rs ≡ by_factors K (itself K) rs (monomial K 0 K.one)
   nodes-factors [] = refl
   nodes-factors (r ∷ rs) = factor-product r (nodes K rs) ∙ ap (by_factor K (itself K) r) (nodes-factors rs)
-
-  -- by halves, and by halves of these
-  abbrev pub half : List F → List F
-  half rs = take (length rs / 2) rs
-
-  abbrev pub other_half : List F → List F
-  other_half rs = take (length rs - length rs / 2) (drop (length rs / 2) rs)
-
-  pub length-half : (rs : List F) → length (half rs) ≡ length rs / 2
-  length-half rs = length-take-le (length rs / 2) rs (omega arith)
-
-  pub length-other_half : (rs : List F) → length (other_half rs) ≡ length rs - length rs / 2
-  length-other_half rs = length-take-le (length rs - length rs / 2) (drop (length rs / 2) rs) (omega (arith, length-drop (length rs / 2) rs))
-
-  pub nodes_halves : (rs : List F) → product K (nodes K (half rs)) (nodes K (other_half rs)) ≡ nodes K rs
-  nodes_halves rs = sym (nodes-joined K N (half rs) (other_half rs)) ∙ ap (nodes K) (halves rs (length rs / 2))
-
-  pub nodes-quarters : (rs : List F) (a b c d : ℕ → F) → a ≡ nodes K (half (half rs)) → b ≡ nodes K (other_half (half rs)) → c ≡ nodes K (half (other_half rs)) → d ≡ nodes K (other_half (other_half rs)) →
-      product K (product K a b) (product K c d) ≡ nodes K rs
-  nodes-quarters rs a b c d first second third fourth =
-      ap₂ (product K) (ap₂ (product K) first second ∙ nodes_halves (half rs)) (ap₂ (product K) third fourth ∙ nodes_halves (other_half rs)) ∙ nodes_halves rs
 
   one-short : IsShort (itself K) 1 (monomial K 0 K.one)
   one-short = monomial-below K 0 1 K.one (omega arith)

@@ -21,7 +21,7 @@ use Rattle.ark_math.proofs.OverDomains.Vanishing.{vanishing-below, vanishing-lea
 use Rattle.ark_math.proofs.Polynomials.Univariate.{IsBelow-less, difference-below, monomial-same, monomial-other}
 use Rattle.ark_math.proofs.Polynomials.UnivariateValues.{one_value, value_is, value-difference, value-monomial}
 use Rattle.ark_math.proofs.Polynomials.Zeros.{zeros_nothing}
-use Rattle.ark_blocks.specs.Roots.{nodes}
+use Rattle.ark_math.specs.Nodes.{nodes}
 use Rattle.rs_code.specs.Codeword.{mark_count}
 use Rattle.rs_code.specs.Locator.{euler, located, lost, slope}
 use Rattle.rs_code.proofs.Factors.{nodes-value, slope-value}

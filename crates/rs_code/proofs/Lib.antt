@@ -1,5 +1,4 @@
 -- Lemmas of this crate: the mathematics of restoration, and what the steps of its functions need.
-pub mod BlockProducts
 pub mod ChosenFactors
 pub mod Distance
 pub mod Divided
@@ -20,4 +19,3 @@ pub mod Spent
 pub mod TableOrder
 pub mod TurnFactors
 pub mod TurnedPlaces
-pub mod UpperParts

@@ -3,7 +3,7 @@ use Rattle.std.proofs.Common.{◌≡◌, ℕ, zero, suc, ◌+◌, ◌-◌, ◌<�
 use Rattle.std.specs.Prelude.{is_none}
 use Rattle.std.proofs.lemmas.Bool.{cases_lt}
 use Rattle.std.proofs.lemmas.Option.{none-some}
-use Rattle.std.proofs.lemmas.List.{take-append-drop, get_or-map, get_or_past, length-map}
+use Rattle.std.proofs.lemmas.List.{get_or-map, get_or_past, length-map}
 use Rattle.std.proofs.Math.Seq.{take-length}
 use Rattle.std.proofs.lemmas.List.Sums.{sum_by-cons}
 use Rattle.ark_math.specs.Field.{FieldOn, IsField}
@@ -32,14 +32,6 @@ module _ {F M : Type 0} {K : FieldOn F} {V : ModuleOn F M} (N : IsField K) (L : 
       V.scale factor z ≡ filled V mark own known found
   filled-by true own factor known found z e h = ap₂ V.scale e h
   filled-by false own factor known found z e h = ap₂ V.scale e h ∙ L.one_scale known
-
--- ---- beginnings
-
-pub tail : {X : Type 0} (xs : List X) (i : ℕ) → take (length xs - i) (drop i xs) ≡ drop i xs
-tail xs i = ap (λ n. take n (drop i xs)) (sym (length-drop i xs)) ∙ take-length (drop i xs)
-
-pub halves : {X : Type 0} (xs : List X) (i : ℕ) → take i xs ++ take (length xs - i) (drop i xs) ≡ xs
-halves xs i = ap (λ t. take i xs ++ t) (tail xs i) ∙ take-append-drop i xs
 
 -- ---- words as marks and values
 

@@ -1,12 +1,9 @@
 -- Words of the private steps: the polynomial that is zero at the erased places, and x times its derivative.
-use Rattle.std.specs.Prelude.{◌≡◌, ℕ, zero, suc, ◌+◌, ◌≤◌, ◌<◌, Bool, true, false, List, [], ◌∷◌, length, get_or, Option, Some, None, Vec}
-use Rattle.std.specs.declared.alloc.Global.{Global}
-use Rattle.ark_blocks.specs.Blocks.{AreFirstValues, IsPowerOfTwo}
+use Rattle.std.specs.Prelude.{◌≡◌, ℕ, zero, suc, ◌<◌, Bool, true, false, List, [], ◌∷◌, length, get_or}
 use Rattle.ark_math.specs.Field.{FieldOn, natural, minus}
 use Rattle.ark_math.specs.Module.{ModuleOn}
-use Rattle.ark_math.specs.Root.{Adicity}
-use Rattle.ark_math.specs.Domain.{Kind, Domain, IsSize, element}
-use Rattle.ark_math.specs.Univariate.{IsDegree, of_list}
+use Rattle.ark_math.specs.Domain.{Domain, element}
+use Rattle.ark_math.specs.Univariate.{of_list}
 
 -- the elements at the marked places, of which the first one is place i
 abbrev pub lost_from : {F : Type 0} → FieldOn F → Domain F → ℕ → List Bool → List F
@@ -60,19 +57,3 @@ weighed V false f y = V.scale f y
 abbrev pub filled : {F M : Type 0} → ModuleOn F M → Bool → F → M → M → M
 filled V true f y z = V.scale f z
 filled V false f y z = y
-
--- the degrees of three polynomials are n at most together
-abbrev pub DegreesWithin : {F : Type 0} → FieldOn F → (ℕ → F) → (ℕ → F) → (ℕ → F) → ℕ → Type 0
-DegreesWithin K a b c n = (i j k : ℕ) → IsDegree K a i → IsDegree K b j → IsDegree K c k → i + j + k ≤ n
-
--- domains have a size at or above k
-abbrev pub HasSizeFor : Adicity → ℕ → Type 0
-HasSizeFor s k = (kind : Kind) × (n : ℕ) × IsSize s kind n × (k ≤ n)
-
--- what is known of a polynomial before its values at n elements of a table are found: no more coefficients than that, or its
--- values at the first of these elements, at least half as many as coefficients
-abbrev pub IsBegun : {F : Type 0} → FieldOn F → List F → ℕ → List F → Option (Vec F Global) → Type 0
-IsBegun K table n coeffs None = length coeffs ≤ n
-IsBegun K table n coeffs (Some v) =
-    IsPowerOfTwo (length v.items) × (length v.items ≤ n) × (length coeffs ≤ length v.items + length v.items)
-    × AreFirstValues K table (length v.items) (of_list K coeffs) v.items

@@ -10,7 +10,7 @@ use Rattle.ark_math.proofs.Algebra.Ring.{ring2, ring3}
 use Rattle.ark_math.proofs.Domains.Elements.{times_not_zero, minus_not_zero, minus_same}
 use Rattle.ark_math.proofs.Polynomials.Univariate.{added-below, scaled-below, IsBelow-more}
 use Rattle.ark_math.proofs.Polynomials.UnivariateValues.{value-added, value-scaled}
-use Rattle.ark_blocks.specs.Roots.{nodes}
+use Rattle.ark_math.specs.Nodes.{nodes}
 use Rattle.rs_code.specs.Locator.{located}
 use Rattle.rs_code.proofs.Factors.{nodes-short, nodes-value}
 

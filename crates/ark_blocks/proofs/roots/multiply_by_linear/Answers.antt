@@ -6,7 +6,7 @@ use Rattle.ark_math.specs.Field.{minus}
 use Rattle.ark_math.specs.Linear.{linear_factor}
 use Rattle.ark_math.specs.Univariate.{of_list, product}
 use Rattle.ark_math.proofs.Polynomials.UnivariateLists.{of_list-past, of_list-set}
-use Rattle.ark_blocks.proofs.LinearFactors.{linear-product_below, linear-product_first, linear-product_past, of_list-pushed_zero}
+use Rattle.ark_math.proofs.Polynomials.LinearFactors.{linear-product_below, linear-product_first, linear-product_past, of_list-pushed_zero}
 use Rattle.ark_blocks.proofs.roots.multiply_by_linear.Goals as goal
 
 pub loop-i-init : goal.loop-i-init

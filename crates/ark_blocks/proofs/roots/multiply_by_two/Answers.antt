@@ -5,7 +5,7 @@ use Rattle.std.proofs.lemmas.List.{get_or_read, length-append, length-set}
 use Rattle.ark_math.specs.Field.{minus}
 use Rattle.ark_math.specs.Univariate.{of_list}
 use Rattle.ark_math.proofs.Polynomials.UnivariateLists.{of_list-past, of_list-set}
-use Rattle.ark_blocks.proofs.LinearFactors.{by_two, by_two-below, by_two-first, by_two-past, by_two-second, of_list-pushed_zero}
+use Rattle.ark_math.proofs.Polynomials.LinearFactors.{by_two, by_two-below, by_two-first, by_two-past, by_two-second, of_list-pushed_zero}
 use Rattle.ark_blocks.proofs.roots.multiply_by_two.Goals as goal
 
 pub loop-i-init : goal.loop-i-init

@@ -1,6 +1,6 @@
 use Rattle.std.proofs.Common.{◌≡◌, ◌+◌, ◌<◌, ◌≤◌, ℕ, length}
 use Rattle.ark_math.specs.Univariate.{of_list}
-use Rattle.ark_blocks.proofs.LinearFactors.{by_two}
+use Rattle.ark_math.proofs.Polynomials.LinearFactors.{by_two}
 use Rattle.ark_blocks.proofs.roots.multiply_by_two.Given as goal
 
 abbrev pub invariant-loop-i : goal.invariant-loop-i

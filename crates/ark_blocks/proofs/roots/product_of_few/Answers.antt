@@ -2,8 +2,8 @@ use Rattle.std.proofs.Common.{◌≡◌, suc, ◌+◌, ◌-◌, ◌*◌, ◌/◌
 use Rattle.std.proofs.lemmas.List.{take_all}
 use Rattle.ark_math.specs.Linear.{linear_factor}
 use Rattle.ark_math.specs.Univariate.{of_list, product}
-use Rattle.ark_blocks.specs.Roots.{nodes}
-use Rattle.ark_blocks.proofs.LinearFactors.{nodes-next}
+use Rattle.ark_math.specs.Nodes.{nodes}
+use Rattle.ark_math.proofs.Polynomials.LinearFactors.{nodes-next}
 use Rattle.ark_blocks.proofs.roots.product_of_few.Goals as goal
 use Rattle.ark_blocks.proofs.roots.product_of_few.Goals.{then-roots-eq1+in_ok-multiply_by_linear, else-roots-eq1}
 

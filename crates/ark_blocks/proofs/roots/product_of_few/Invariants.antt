@@ -1,6 +1,6 @@
 use Rattle.std.proofs.Common.{◌≡◌, ◌+◌, ◌*◌, length, take}
 use Rattle.ark_math.specs.Univariate.{of_list}
-use Rattle.ark_blocks.specs.Roots.{nodes}
+use Rattle.ark_math.specs.Nodes.{nodes}
 use Rattle.ark_blocks.proofs.roots.product_of_few.Given as goal
 
 abbrev pub invariant-loop-k : goal.invariant-loop-k

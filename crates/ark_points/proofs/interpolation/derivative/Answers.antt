@@ -5,7 +5,7 @@ use Rattle.std.proofs.lemmas.List.{get_or_read, get_or_push, get_or_append_left,
 use Rattle.ark_math.specs.Field.{natural}
 use Rattle.ark_math.specs.Univariate.{of_list}
 use Rattle.ark_math.proofs.Algebra.Powers.{times_zero}
-use Rattle.ark_points.specs.Tree.{derived}
+use Rattle.ark_subproducts.specs.Tree.{derived}
 use Rattle.ark_points.proofs.interpolation.derivative.Goals as goal
 
 pub loop-i-preserved : goal.loop-i-preserved

@@ -1,7 +1,7 @@
 use Rattle.std.proofs.Common.{◌≡◌, ◌+◌, ◌<◌, ◌≤◌, ℕ, length}
 use Rattle.ark_math.specs.Field.{natural}
 use Rattle.ark_math.specs.Univariate.{of_list}
-use Rattle.ark_points.specs.Tree.{derived}
+use Rattle.ark_subproducts.specs.Tree.{derived}
 use Rattle.ark_points.proofs.interpolation.derivative.Given as goal
 
 abbrev pub invariant-loop-i : goal.invariant-loop-i

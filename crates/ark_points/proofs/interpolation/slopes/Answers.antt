@@ -1,10 +1,10 @@
 use Rattle.std.proofs.Common.{◌≡◌, length, ap, subst, ◌∙◌}
 use Rattle.std.proofs.lemmas.Result.{IfOk-weaker}
 use Rattle.ark_math.specs.Univariate.{of_list}
-use Rattle.ark_points.specs.Points.{HasValues}
-use Rattle.ark_blocks.specs.Roots.{nodes}
-use Rattle.ark_points.specs.Tree.{derived}
-use Rattle.ark_points.proofs.Nodes.{tree-whole}
+use Rattle.ark_math.specs.AtPoints.{HasValues}
+use Rattle.ark_math.specs.Nodes.{nodes}
+use Rattle.ark_subproducts.specs.Tree.{derived}
+use Rattle.ark_subproducts.proofs.Nodes.{tree-whole}
 use Rattle.ark_points.proofs.interpolation.slopes.Goals as goal
 
 pub returns-clause-slopes : goal.returns-clause-slopes

@@ -1,11 +1,11 @@
 use Rattle.std.proofs.Common.{◌≡◌, length, sym, ap, subst, subst₂, ◌∙◌, arith}
 use Rattle.std.proofs.lemmas.List.{length-map}
 use Rattle.ark_math.specs.Univariate.{IsBelow, of_list}
-use Rattle.ark_points.specs.Points.{AreDifferent, HasValues, x_of, y_of}
-use Rattle.ark_points.specs.Tree.{weighed}
-use Rattle.ark_points.proofs.Newton.{only_interpolation}
-use Rattle.ark_points.proofs.PairParts.{x_of_is}
-use Rattle.ark_points.proofs.Weighed.{slopes_differ, weighed-below, weighed_values}
+use Rattle.ark_math.specs.AtPoints.{AreDifferent, HasValues, x_of, y_of}
+use Rattle.ark_subproducts.specs.Tree.{weighed}
+use Rattle.ark_math.proofs.AtPoints.Newton.{only_interpolation}
+use Rattle.ark_math.proofs.AtPoints.PairParts.{x_of_is}
+use Rattle.ark_subproducts.proofs.Weighed.{slopes_differ, weighed-below, weighed_values}
 use Rattle.ark_points.proofs.interpolation.summed_up.Goals as goal
 
 pub returns-clause-through : goal.returns-clause-through

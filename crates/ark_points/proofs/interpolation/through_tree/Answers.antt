@@ -1,8 +1,8 @@
 use Rattle.std.proofs.Common.{length, sym, subst}
 use Rattle.ark_math.specs.Univariate.{of_list}
-use Rattle.ark_points.specs.Points.{HasValues}
-use Rattle.ark_blocks.specs.Roots.{nodes}
-use Rattle.ark_points.specs.Tree.{derived}
+use Rattle.ark_math.specs.AtPoints.{HasValues}
+use Rattle.ark_math.specs.Nodes.{nodes}
+use Rattle.ark_subproducts.specs.Tree.{derived}
 use Rattle.ark_points.proofs.interpolation.through_tree.Goals as goal
 
 pub returns-then-has_zero-clause-through : goal.returns-then-has_zero-clause-through

@@ -2,8 +2,8 @@ use Rattle.std.proofs.Common.{◌≡◌, length, map, sym, ap, subst, ◌∙◌,
 use Rattle.std.proofs.lemmas.List.{length-map}
 use Rattle.ark_math.specs.Univariate.{of_list, IsValue}
 use Rattle.ark_math.proofs.Polynomials.UnivariateValues.{one_value}
-use Rattle.ark_points.specs.Points.{x_of, y_of}
-use Rattle.ark_points.proofs.PairParts.{same_items, x_of_is, y_of_is}
+use Rattle.ark_math.specs.AtPoints.{x_of, y_of}
+use Rattle.ark_math.proofs.AtPoints.PairParts.{same_items, x_of_is, y_of_is}
 use Rattle.ark_points.proofs.laws.points_and_back.Goals as goal
 
 pub returns-clause-same : goal.returns-clause-same

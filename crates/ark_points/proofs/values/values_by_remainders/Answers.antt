@@ -1,10 +1,10 @@
 use Rattle.std.proofs.Common.{◌≡◌, length, sym, ap, subst, ◌∙◌}
 use Rattle.std.proofs.lemmas.Result.{IfOk-weaker}
 use Rattle.ark_math.specs.Univariate.{of_list}
-use Rattle.ark_blocks.specs.Roots.{nodes}
-use Rattle.ark_points.specs.Tree.{IsMonic, whole}
-use Rattle.ark_points.proofs.Nodes.{nodes_monic, tree-whole}
-use Rattle.ark_points.proofs.Remainders.{values_of_remainder}
+use Rattle.ark_math.specs.Nodes.{nodes}
+use Rattle.ark_subproducts.specs.Tree.{IsMonic, whole}
+use Rattle.ark_subproducts.proofs.Nodes.{nodes_monic, tree-whole}
+use Rattle.ark_subproducts.proofs.Remainders.{values_of_remainder}
 use Rattle.ark_points.proofs.values.values_by_remainders.Goals as goal
 
 pub remainder-requires : goal.remainder-requires

@@ -5,21 +5,12 @@ use Rattle.ark_math.specs.Points.{AreValues, IsPlaceQuotient}
 use Rattle.ark_math.proofs.Lists.Lists.{written_back}
 use Rattle.ark_math.proofs.Callers.Transforms.{values_of_fft}
 use Rattle.ark_math.proofs.Domains.LawfulDomains.{lawful_domain, order}
-use Rattle.ark_blocks.specs.Roots.{nodes}
+use Rattle.ark_math.specs.Nodes.{nodes}
 use Rattle.rs_code.specs.Locator.{AreFactors, euler, lost}
 use Rattle.rs_code.proofs.Lost.{lost-length}
 use Rattle.rs_code.proofs.Sizes.{nodes_length}
 use Rattle.rs_code.proofs.ChosenFactors.{chosen_factors, own_exponents}
 use Rattle.rs_code.proofs.locator.factors_by_slopes.Goals as goal
-
-pub with_roots-requires : goal.with_roots-requires
-with_roots-requires g c =
-    let K = g.F.Field.field in
-    let d = g.D.EvaluationDomain.domain c.args.domain in
-    let lawful = g.met.D.EvaluationDomain.lawful c.args.domain in
-    record {
-      room = (d.kind, d.size, lawful.size_of, omega (arith, ap length (c.deref.ensures.value ∙ c.in_ok-roots.ensures), lost-length K d c.args.erased.now, c.requires.some_kept));
-    }
 
 pub returns-clause-factors : goal.returns-clause-factors
 returns-clause-factors g c =

@@ -3,12 +3,12 @@ use Rattle.std.proofs.lemmas.List.{get_or_past, length-map}
 use Rattle.ark_math.specs.Module.{item}
 use Rattle.ark_math.specs.Univariate.{of_list}
 use Rattle.ark_math.specs.Transform.{transform, IsInverse, IsOnlyInverse}
-use Rattle.ark_math.proofs.Lists.Lists.{written_back}
+use Rattle.ark_math.proofs.Lists.Lists.{written_back, tail}
 use Rattle.ark_math.proofs.Domains.LawfulDomains.{lawful_domain, order}
 use Rattle.rs_code.specs.Codeword.{AgreesElsewhere, IsCodeword, mark_count}
 use Rattle.rs_code.specs.Cost.{GrowsWithin}
 use Rattle.rs_code.specs.Locator.{by_factors, lost, weighed}
-use Rattle.rs_code.proofs.Places.{tail, zeros_from, zeros_dropped}
+use Rattle.rs_code.proofs.Places.{zeros_from, zeros_dropped}
 use Rattle.rs_code.proofs.Restored.{codeword-from_rest, interpolated-items, interpolated-rest}
 use Rattle.rs_code.proofs.Spent.{none_within, nothing_within, inverse_within, scalings_within, within_more}
 use Rattle.rs_code.proofs.decoder.DomainDecoder.interpolated.Goals as goal

@@ -1,5 +1,0 @@
-use Rattle.std.proofs.Common.{length}
-use Rattle.ark_points.proofs.blocks.BlockProducts+F.+with_values.Given as goal
-
-abbrev pub decreases-with_values : goal.decreases-with_values
-decreases-with_values g l = length l.points.now

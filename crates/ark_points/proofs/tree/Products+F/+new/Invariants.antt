@@ -1,5 +1,0 @@
-use Rattle.std.proofs.Common.{length}
-use Rattle.ark_points.proofs.tree.Products+F.+new.Given as goal
-
-abbrev pub decreases-new : goal.decreases-new
-decreases-new g l = length l.points.now

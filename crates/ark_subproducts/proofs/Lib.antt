@@ -1,0 +1,17 @@
+-- Lemmas of this crate: products of x - z over halves of points, what stands for a polynomial over each, sums of weights
+-- times products, and values at roots of unity.
+pub mod BlockWeighed
+pub mod BlockWraps
+pub mod Halves
+pub mod HandedDown
+pub mod Multiples
+pub mod Nodes
+pub mod PastProducts
+pub mod PowerSums
+pub mod Remainders
+pub mod RootPlaces
+pub mod StandIns
+pub mod TableProducts
+pub mod TableQuotients
+pub mod UpperParts
+pub mod Weighed

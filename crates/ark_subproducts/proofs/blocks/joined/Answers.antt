@@ -1,0 +1,79 @@
+use Rattle.std.proofs.Common.{◌≡◌, ◌+◌, ◌/◌, length, take, drop, sym, ap, ap₂, subst, subst₂, ◌∙◌, arith}
+use Rattle.std.proofs.lemmas.List.{length-drop, length-take-le}
+use Rattle.ark_blocks.specs.Blocks.{AreValuesFrom, element_of}
+use Rattle.ark_blocks.proofs.Runs.{values-product}
+use Rattle.ark_math.specs.Univariate.{IsBelow, of_list}
+use Rattle.ark_math.proofs.Polynomials.UnivariateLists.{trimmed_length}
+use Rattle.ark_math.specs.Nodes.{nodes}
+use Rattle.ark_subproducts.specs.Tree.{IsBlockTreeOver}
+use Rattle.ark_subproducts.proofs.Nodes.{blocks-whole, nodes-below, nodes-halves, nodes_monic}
+use Rattle.ark_subproducts.proofs.blocks.joined.Goals as goal
+
+pub extended-requires-clause-few : goal.extended-requires-clause-few
+extended-requires-clause-few g c =
+    let K = g.F.Field.field in
+    let N = g.met.F.Field.field_laws in
+    let points = c.args.points.now in
+    let half = length points / 2 in
+    let front = take half points in
+    let is : of_list K c.coeffs.result.now ≡ nodes K front =
+    ap (of_list K) (c.coeffs.ensures.same ∙ c.product.ensures)
+    ∙ blocks-whole K N c.args.blocks.now (c.args.count / 2) front c.deref.result.now (subst (IsBlockTreeOver K c.args.blocks.now (c.args.count / 2) front) (sym c.deref.ensures) c.requires.low) in
+    let short = trimmed_length K c.coeffs.result.now (length front + 1) c.coeffs.ensures.trimmed (subst (IsBelow K (length front + 1)) (sym is) (nodes-below K N front)) in
+    omega (arith, short, length-take-le half points (omega arith), c.requires.many, c.requires.room)
+
+pub extended-requires-2-clause-few : goal.extended-requires-2-clause-few
+extended-requires-2-clause-few g c =
+    let K = g.F.Field.field in
+    let N = g.met.F.Field.field_laws in
+    let points = c.args.points.now in
+    let half = length points / 2 in
+    let back = drop half points in
+    let is : of_list K c.coeffs-2.result.now ≡ nodes K back =
+    ap (of_list K) (c.coeffs-2.ensures.same ∙ c.product-2.ensures)
+    ∙ blocks-whole K N c.args.blocks.now (c.args.count / 2) back c.deref-2.result.now (subst (IsBlockTreeOver K c.args.blocks.now (c.args.count / 2) back) (sym c.deref-2.ensures) c.requires.high) in
+    let short = trimmed_length K c.coeffs-2.result.now (length back + 1) c.coeffs-2.ensures.trimmed (subst (IsBelow K (length back + 1)) (sym is) (nodes-below K N back)) in
+    omega (arith, short, length-drop half points, c.requires.many, c.requires.room)
+
+pub returns : goal.returns
+returns g c =
+    let K = g.F.Field.field in
+    let N = g.met.F.Field.field_laws in
+    let roots = c.args.blocks.now in
+    let x = element_of K roots in
+    let points = c.args.points.now in
+    let count = c.args.count in
+    let part = count / 2 in
+    let half = length points / 2 in
+    let front = take half points in
+    let back = drop half points in
+    let low = c.in_ok-low_values.low_values.items in
+    let high = c.in_ok-high_values.high_values.items in
+    let all = c.in_ok-values.values.items in
+    let low_is : of_list K c.coeffs.result.now ≡ nodes K front =
+    ap (of_list K) (c.coeffs.ensures.same ∙ c.product.ensures)
+    ∙ blocks-whole K N roots part front c.deref.result.now (subst (IsBlockTreeOver K roots part front) (sym c.deref.ensures) c.requires.low) in
+    let high_is : of_list K c.coeffs-2.result.now ≡ nodes K back =
+    ap (of_list K) (c.coeffs-2.ensures.same ∙ c.product-2.ensures)
+    ∙ blocks-whole K N roots part back c.deref-2.result.now (subst (IsBlockTreeOver K roots part back) (sym c.deref-2.ensures) c.requires.high) in
+    let V : AreValuesFrom K x 0 count (nodes K front) low = subst (λ a. AreValuesFrom K x 0 count a low) low_is c.in_ok-low_values.ensures.values in
+    let W : AreValuesFrom K x 0 count (nodes K back) high = subst (λ a. AreValuesFrom K x 0 count a high) high_is c.in_ok-high_values.ensures.values in
+    let len : length all ≡ count = c.in_ok-values.ensures.len ∙ ap length c.deref-3.ensures.value ∙ V.len in
+    let whole : AreValuesFrom K x 0 count (nodes K points) all =
+    subst (λ a. AreValuesFrom K x 0 count a all) (nodes-halves K N points half)
+    (values-product K N x 0 count (nodes K front) (nodes K back) low high all V W len
+    (λ i l.
+    c.in_ok-values.ensures.products i (omega (arith, l, ap length c.deref-3.ensures.value, V.len))
+    ∙ ap₂ (λ s t. K.times (of_list K s i) (of_list K t i)) c.deref-3.ensures.value c.deref-4.ensures.value)) in
+    let same = c.deref-5.ensures.value in
+    record {
+      tree = subst (IsBlockTreeOver K roots count points) (sym c.in_ok-new.ensures.ok) (
+        c.in_ok-product.ensures.monic (nodes K points)
+            (subst₂ (λ n v. AreValuesFrom K x 0 n (nodes K points) v) (sym (ap length same ∙ len)) (sym same) whole)
+            (nodes_monic K N points),
+        record { many = c.requires.many; low = V; high = W },
+        c.requires.low,
+        c.requires.high,
+      );
+      values = whole;
+    }

@@ -1,0 +1,38 @@
+use Rattle.std.proofs.Common.{◌≡◌, ℕ, ◌<◌, length, sym, ap, subst, subst₂, ◌∙◌, arith}
+use Rattle.ark_blocks.specs.Blocks.{AreValuesFrom, element_of}
+use Rattle.ark_math.specs.Univariate.{IsBelow, added, of_list, product}
+use Rattle.ark_math.proofs.Lists.Lists.{written_back}
+use Rattle.ark_subproducts.proofs.BlockWraps.{values_of_sums}
+use Rattle.ark_subproducts.proofs.blocks.sum_of_products.Goals as goal
+
+pub returns-clause-sum : goal.returns-clause-sum
+returns-clause-sum g c =
+    let K = g.F.Field.field in
+    let N = g.met.F.Field.field_laws in
+    let x = element_of K c.args.blocks.now in
+    let first = c.args.first.items in
+    let n = length first in
+    let own = c.as_mut_slice-items.ensures.value in
+    let sums = c.add_products.new.items in
+    let made = c.interpolate.new.values in
+    let w = c.as_mut_slice.result.now in
+    let size : length sums ≡ n = c.add_products.ensures.len ∙ c.multiply_places.ensures.len ∙ ap length own in
+    let all : length sums ≡ c.args.first.len = omega (arith, c.add_products.ensures.len, c.multiply_places.ensures.len, c.as_mut_slice-items.ensures.len) in
+    let every : length made ≡ c.in_ok-coeffs.coeffs.len = omega (arith, c.interpolate.ensures.len, c.as_mut_slice.ensures.len) in
+    let kept = written_back sums _ c.args.first.len all in
+    let back = written_back made _ c.in_ok-coeffs.coeffs.len every in
+    let copy : w ≡ sums = c.as_mut_slice.ensures.value ∙ c.in_ok-coeffs.ensures.items ∙ c.deref.ensures.value ∙ kept in
+    λ f a s b V U Y Z below.
+    let whole : ℕ → g.row.F.Denot = added K (product K f a) (product K s b) in
+    let W : AreValuesFrom K x 0 n whole sums =
+    values_of_sums K N x n f a s b first c.args.first_factor.now c.args.second.now c.args.second_factor.now sums V U Y Z size
+    (λ i l.
+    let inside = subst (λ t. i < t) (sym (ap length own)) l in
+    c.add_products.ensures.sums i (omega (arith, inside, c.multiply_places.ensures.len))
+    ∙ ap (λ t. K.plus t (K.times (of_list K c.args.second.now i) (of_list K c.args.second_factor.now i)))
+    (c.multiply_places.ensures.products i inside ∙ ap (λ t. K.times (of_list K t i) (of_list K c.args.first_factor.now i)) own)) in
+    let len : n ≡ length w = sym (ap length copy ∙ size) in
+    let coeffs =
+    ap (of_list K) back
+    ∙ c.interpolate.ensures.coefficients whole (subst (λ t. IsBelow K t whole) len below) (subst₂ (λ t v. AreValuesFrom K x 0 t whole v) len (sym copy) W) in
+    (coeffs, subst₂ (λ p v. AreValuesFrom K x 0 n p v) (sym coeffs) (sym kept) W)

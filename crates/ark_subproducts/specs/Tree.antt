@@ -1,0 +1,119 @@
+-- The product of x - z over points and over halves of them, and what stands for a polynomial over each part.
+use Rattle.std.specs.Prelude.{◌≡◌, ℕ, suc, ◌+◌, ◌-◌, ◌/◌, ◌<◌, ◌≤◌, List, [], ◌∷◌, length, take, drop, Option, Some, None, Vec}
+use Rattle.std.specs.declared.alloc.Global.{Global}
+use Rattle.ark_math.specs.Field.{FieldOn, natural}
+use Rattle.ark_math.specs.Linear.{linear_factor}
+use Rattle.ark_math.specs.Univariate.{IsBelow, IsValue, added, difference, monomial, nothing, of_list, product, scaled}
+use Rattle.ark_blocks.specs.Blocks.{AreFirstValues, IsPowerOfTwo, size_of}
+use Rattle.ark_math.specs.Nodes.{nodes}
+use Rattle.ark_subproducts.specs.declared.few.FewProducts.{FewProducts}
+use Rattle.ark_subproducts.specs.declared.tree.Leaf.{Leaf}
+use Rattle.ark_subproducts.specs.declared.tree.Leaf.TheVariants.{Plain, Blocks}
+use Rattle.ark_subproducts.specs.declared.tree.Tree.{Tree}
+use Rattle.ark_subproducts.specs.declared.tree.Tree.TheVariants.{Few, Halves'}
+
+-- what is left of m, which is of degree n, without a root, times s has p's value at that root as its coefficient before end
+abbrev pub StandsBefore : {F : Type 0} → FieldOn F → ℕ → ℕ → (ℕ → F) → (ℕ → F) → (ℕ → F) → Type 0
+StandsBefore {F} K end n m p s = (c : ℕ → F) (z : F) → IsBelow K n c → m ≡ product K c (linear_factor K z) → IsValue K p z (product K c s (end - 1))
+
+-- and that is the one before n, where s is below n too
+abbrev pub StandsFor : {F : Type 0} → FieldOn F → ℕ → (ℕ → F) → (ℕ → F) → (ℕ → F) → Type 0
+StandsFor K n m p s = StandsBefore K n n m p s
+
+-- the sum of w 0, w 1, .., each times the product of x - z for the others of a list
+abbrev pub weighed : {F : Type 0} → FieldOn F → List F → (ℕ → F) → ℕ → F
+weighed K [] w = nothing K
+weighed K (z ∷ zs) w = added K (scaled K (w 0) (nodes K zs)) (product K (linear_factor K z) (weighed K zs (λ i. w (suc i))))
+
+-- the formal derivative
+abbrev pub derived : {F : Type 0} → FieldOn F → (ℕ → F) → ℕ → F
+derived K a i = K.times (natural K (suc i)) (a (suc i))
+
+-- of degree n, with one as the leading coefficient
+pub record IsMonic {F : Type 0} (K : FieldOn F) (n : ℕ) (a : ℕ → F) : Type 0 where
+  pub leading : a n ≡ K.one
+  pub below : IsBelow K (n + 1) a
+
+-- the products over few points and over both halves of them
+pub record AreFewProducts {F : Type 0} (K : FieldOn F) (points : List F) (p : FewProducts F) : Type 0 where
+  pub whole : of_list K p.whole ≡ nodes K points
+  pub low : of_list K p.low.items ≡ nodes K (take (length points / 2) points)
+  pub low_count : length p.low.items ≡ length points / 2 + 1
+  pub high : of_list K p.high.items ≡ nodes K (drop (length points / 2) points)
+  pub high_count : length p.high.items ≡ length points - length points / 2 + 1
+
+-- x ^ n - 1
+abbrev pub power_less_one : {F : Type 0} → FieldOn F → ℕ → ℕ → F
+power_less_one K n = difference K (monomial K n K.one) (monomial K 0 K.one)
+
+-- the values of both halves' products over the first elements of a table, of which there are as many as told
+pub record HaveBlockValues {F : Type 0} (K : FieldOn F) (roots : List F) (count : ℕ) (points v w : List F) : Type 0 where
+  pub many : 2 < length points
+  pub low : AreFirstValues K roots count (nodes K (take (length points / 2) points)) v
+  pub high : AreFirstValues K roots count (nodes K (drop (length points / 2) points)) w
+
+-- the products over these points and over the halves of each part, with values over this many elements, and half as many for
+-- each half
+abbrev pub IsBlockTreeOver : {F : Type 0} → FieldOn F → List F → ℕ → List F → Tree (FewProducts F) (List F) (Vec F Global) → Type 0
+IsBlockTreeOver K roots count points (Few p) = AreFewProducts K points p
+IsBlockTreeOver K roots count points (Halves' p a low v b high w) =
+    (of_list K p ≡ nodes K points)
+    × HaveBlockValues K roots count points v.items w.items
+    × IsBlockTreeOver K roots (count / 2) (take (length points / 2) points) low
+    × IsBlockTreeOver K roots (count / 2) (drop (length points / 2) points) high
+
+-- what such a tree has for all of its points
+abbrev pub whole_of_blocks : {F : Type 0} → Tree (FewProducts F) (List F) (Vec F Global) → List F
+whole_of_blocks (Few p) = p.whole
+whole_of_blocks (Halves' p a low v b high w) = p
+
+-- a list gives a to such a tree: its coefficients, or where the tree has halves its values over as many elements as told
+abbrev pub IsGiven : {F : Type 0} → FieldOn F → List F → Tree (FewProducts F) (List F) (Vec F Global) → ℕ → (ℕ → F) → List F → Type 0
+IsGiven K roots (Few p) count a c = of_list K c ≡ a
+IsGiven K roots (Halves' p q low v b high w) count a c = AreFirstValues K roots count a c
+
+-- a list gives such a tree a polynomial below n of which this multiple is a
+pub record IsHanded {F : Type 0} (K : FieldOn F) (roots : List F) (tree : Tree (FewProducts F) (List F) (Vec F Global)) (count n : ℕ) (c : List F) (scale : F) (a : ℕ → F) : Type 0 where
+  pub own : ℕ → F
+  pub below : IsBelow K n own
+  pub given : IsGiven K roots tree count own c
+  pub multiple : scaled K scale own ≡ a
+
+-- the lengths of such lists, for a below n
+abbrev pub HasRoom : {F : Type 0} → Tree (FewProducts F) (List F) (Vec F Global) → ℕ → ℕ → ℕ → Type 0
+HasRoom (Few p) n count len = len ≤ n
+HasRoom (Halves' p q low v b high w) n count len = len ≡ count
+
+-- such a tree has halves
+abbrev pub IsHalved : {F : Type 0} → Tree (FewProducts F) (List F) (Vec F Global) → Type 0
+IsHalved (Few p) = ⊥
+IsHalved (Halves' p q low v b high w) = Unit
+
+-- where the last coefficients of what such a list gives may end: at n, and where the tree has halves also after it
+abbrev pub IsEnd : {F : Type 0} → Tree (FewProducts F) (List F) (Vec F Global) → ℕ → ℕ → ℕ → Type 0
+IsEnd (Few p) n count end = end ≡ n
+IsEnd (Halves' p q low v b high w) n count end = (n ≤ end) × (end ≤ count)
+
+-- what the products have for all of their points
+abbrev pub whole : {F : Type 0} → Tree (Leaf F) (List F) Unit → List F
+whole (Few (Plain p)) = p
+whole (Few (Blocks roots tree)) = whole_of_blocks tree.value
+whole (Halves' p a low v b high w) = p
+
+-- the product over these points, with a tree of products by a table of as many roots, or with the products over both halves
+abbrev pub IsTreeOver : {F : Type 0} → FieldOn F → List F → Tree (Leaf F) (List F) Unit → Type 0
+IsTreeOver K points (Few (Plain p)) = of_list K p ≡ nodes K points
+IsTreeOver K points (Few (Blocks roots tree)) = (length points ≤ size_of roots) × IsBlockTreeOver K roots (size_of roots) points tree.value
+IsTreeOver K points (Halves' p a low v b high w) =
+    (1 < length points)
+    × (of_list K p ≡ nodes K points)
+    × IsTreeOver K (take (length points / 2) points) low
+    × IsTreeOver K (drop (length points / 2) points) high
+
+-- what is known of a polynomial before its values at n elements of a table are found: no more coefficients than that, or its
+-- values at the first of these elements, at least half as many as coefficients
+abbrev pub IsBegun : {F : Type 0} → FieldOn F → List F → ℕ → List F → Option (Vec F Global) → Type 0
+IsBegun K table n coeffs None = length coeffs ≤ n
+IsBegun K table n coeffs (Some v) =
+    IsPowerOfTwo (length v.items) × (length v.items ≤ n) × (length coeffs ≤ length v.items + length v.items)
+    × AreFirstValues K table (length v.items) (of_list K coeffs) v.items
