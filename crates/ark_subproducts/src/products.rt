@@ -38,7 +38,10 @@ pub fn product_values<F: FftField>(
 }
 
 /// The product of x - z over any points. Where the field has no roots of unity for as many, both halves are multiplied.
-pub fn product_over<F: FftField>(alloc: Global, points: &[F]) -> Result<DensePolynomial<F>, PolyError>
+pub fn product_over<F: FftField>(
+    alloc: Global,
+    points: &[F],
+) -> Result<DensePolynomial<F>, PolyError>
     ensures product { IfOk result (λ p. of_list F.field p ≡ nodes F.field points.now) }
     ensures memory { IsOkUnless result PolyError.Memory }
 {
