@@ -7,10 +7,10 @@ use Rattle.ark_math.specs.Univariate.{IsBelow, IsValue, of_list, product, scaled
 use Rattle.ark_math.proofs.Polynomials.UnivariateProducts.{product_comm, product-below}
 use Rattle.ark_math.specs.AtPoints.{HasValues}
 use Rattle.ark_math.specs.Nodes.{nodes}
-use Rattle.ark_subproducts.specs.Tree.{StandsBefore, StandsFor}
+use Rattle.ark_subproducts.specs.Tree.{IsScaledRemainderBefore, IsScaledRemainder}
 use Rattle.ark_subproducts.proofs.Multiples.{product-scaled}
 use Rattle.ark_subproducts.proofs.Nodes.{nodes-below, nodes-halves}
-use Rattle.ark_subproducts.proofs.StandIns.{stands_for_factor}
+use Rattle.ark_subproducts.proofs.ScaledRemainders.{remainder_of_factor}
 
 module _ {F : Type 0} (K : FieldOn F) (N : IsField K) (points : List F) (half : ℕ) (less : half < length points) where
   front : length (take half points) ≡ half
@@ -19,27 +19,27 @@ module _ {F : Type 0} (K : FieldOn F) (N : IsField K) (points : List F) (half : 
   back : length (drop half points) ≡ length points - half
   back = length-drop half points
 
-  pub stands_low : 0 < half → (end : ℕ) → half ≤ end → (p s t : ℕ → F) → ((j : ℕ) → j < half → product K (nodes K (drop half points)) s (end - half + j) ≡ t j) → StandsBefore K end (length points) (nodes K points) p s → StandsFor K (length (take half points)) (nodes K (take half points)) p t
+  pub stands_low : 0 < half → (end : ℕ) → half ≤ end → (p s t : ℕ → F) → ((j : ℕ) → j < half → product K (nodes K (drop half points)) s (end - half + j) ≡ t j) → IsScaledRemainderBefore K end (length points) (nodes K points) p s → IsScaledRemainder K (length (take half points)) (nodes K (take half points)) p t
   stands_low some end inside p s t same stands =
-      subst (λ h. StandsFor K h (nodes K (take half points)) p t) (sym front)
-      (stands_for_factor K N end (length points) half (nodes K points) (nodes K (take half points)) (nodes K (drop half points)) p s t some inside (omega arith)
+      subst (λ h. IsScaledRemainder K h (nodes K (take half points)) p t) (sym front)
+      (remainder_of_factor K N end (length points) half (nodes K points) (nodes K (take half points)) (nodes K (drop half points)) p s t some inside (omega arith)
       (λ i l. nodes-below K N (drop half points) i (omega (arith, l, back))) (sym (nodes-halves K N points half)) same stands)
 
-  pub stands_high : (end : ℕ) → length points - half ≤ end → (p s t : ℕ → F) → ((j : ℕ) → j < length points - half → product K (nodes K (take half points)) s (end - (length points - half) + j) ≡ t j) → StandsBefore K end (length points) (nodes K points) p s → StandsFor K (length (drop half points)) (nodes K (drop half points)) p t
+  pub stands_high : (end : ℕ) → length points - half ≤ end → (p s t : ℕ → F) → ((j : ℕ) → j < length points - half → product K (nodes K (take half points)) s (end - (length points - half) + j) ≡ t j) → IsScaledRemainderBefore K end (length points) (nodes K points) p s → IsScaledRemainder K (length (drop half points)) (nodes K (drop half points)) p t
   stands_high end inside p s t same stands =
-      subst (λ h. StandsFor K h (nodes K (drop half points)) p t) (sym back)
-      (stands_for_factor K N end (length points) (length points - half) (nodes K points) (nodes K (drop half points)) (nodes K (take half points)) p s t (omega arith) inside (omega arith)
+      subst (λ h. IsScaledRemainder K h (nodes K (drop half points)) p t) (sym back)
+      (remainder_of_factor K N end (length points) (length points - half) (nodes K points) (nodes K (drop half points)) (nodes K (take half points)) p s t (omega arith) inside (omega arith)
       (λ i l. nodes-below K N (take half points) i (omega (arith, l, front)))
       (sym (nodes-halves K N points half) ∙ product_comm K N (nodes K (take half points)) (nodes K (drop half points)))
       same stands)
 
   -- multiples of these too
-  pub multiple_stands_low : 0 < half → (end : ℕ) → half ≤ end → (f : F) (p s t : ℕ → F) → ((j : ℕ) → j < half → product K (nodes K (drop half points)) s (end - half + j) ≡ t j) → StandsBefore K end (length points) (nodes K points) p (scaled K f s) → StandsFor K (length (take half points)) (nodes K (take half points)) p (scaled K f t)
-  multiple_stands_low some end inside f p s t same = stands_low some end inside p (scaled K f s) (scaled K f t)
+  pub multiple_remainder_low : 0 < half → (end : ℕ) → half ≤ end → (f : F) (p s t : ℕ → F) → ((j : ℕ) → j < half → product K (nodes K (drop half points)) s (end - half + j) ≡ t j) → IsScaledRemainderBefore K end (length points) (nodes K points) p (scaled K f s) → IsScaledRemainder K (length (take half points)) (nodes K (take half points)) p (scaled K f t)
+  multiple_remainder_low some end inside f p s t same = stands_low some end inside p (scaled K f s) (scaled K f t)
       (λ j l. product-scaled K N (nodes K (drop half points)) s f (end - half + j) ∙ ap (K.times f) (same j l))
 
-  pub multiple_stands_high : (end : ℕ) → length points - half ≤ end → (f : F) (p s t : ℕ → F) → ((j : ℕ) → j < length points - half → product K (nodes K (take half points)) s (end - (length points - half) + j) ≡ t j) → StandsBefore K end (length points) (nodes K points) p (scaled K f s) → StandsFor K (length (drop half points)) (nodes K (drop half points)) p (scaled K f t)
-  multiple_stands_high end inside f p s t same = stands_high end inside p (scaled K f s) (scaled K f t)
+  pub multiple_remainder_high : (end : ℕ) → length points - half ≤ end → (f : F) (p s t : ℕ → F) → ((j : ℕ) → j < length points - half → product K (nodes K (take half points)) s (end - (length points - half) + j) ≡ t j) → IsScaledRemainderBefore K end (length points) (nodes K points) p (scaled K f s) → IsScaledRemainder K (length (drop half points)) (nodes K (drop half points)) p (scaled K f t)
+  multiple_remainder_high end inside f p s t same = stands_high end inside p (scaled K f s) (scaled K f t)
       (λ j l. product-scaled K N (nodes K (take half points)) s f (end - (length points - half) + j) ∙ ap (K.times f) (same j l))
 
   -- a product with a half is short enough for a domain with room for all points

@@ -3,14 +3,14 @@
 pub mod BlockWeighed
 pub mod BlockWraps
 pub mod Halves
-pub mod HandedDown
+pub mod MiddleProducts
 pub mod Multiples
 pub mod Nodes
 pub mod PastProducts
 pub mod PowerSums
 pub mod Remainders
 pub mod RootPlaces
-pub mod StandIns
+pub mod ScaledRemainders
 pub mod TableProducts
 pub mod TableQuotients
 pub mod UpperParts

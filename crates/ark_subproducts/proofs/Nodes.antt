@@ -1,21 +1,22 @@
 -- The product of x - z over a list: its length, its leading coefficient, its factors and its roots.
-use Rattle.std.proofs.Common.{◌≡◌, ◌≢◌, ℕ, zero, suc, ◌+◌, ◌<◌, ◌≤◌, List, [], ◌∷◌, length, take, drop, ◌-◌, Vec, refl, sym, ◌∙◌, ap, ap₂, subst, arith}
+use Rattle.std.proofs.Common.{◌≡◌, ◌≢◌, ℕ, zero, suc, ◌+◌, ◌<◌, ◌≤◌, List, [], ◌∷◌, length, take, drop, ◌-◌, Vec, refl, sym, ◌∙◌, ap, ap₂, subst, arith, ⊎_elim}
 use Rattle.std.specs.declared.alloc.Global.{Global}
+use Rattle.std.proofs.lemmas.Bool.{cases_lt}
 use Rattle.std.proofs.lemmas.List.{take-append-drop}
 use Rattle.ark_math.specs.Field.{FieldOn, IsField, minus}
 use Rattle.ark_math.specs.Linear.{linear_factor}
-use Rattle.ark_math.specs.Univariate.{IsBelow, IsValue, of_list, product, monomial}
+use Rattle.ark_math.specs.Univariate.{IsBelow, IsTrimmed, IsValue, of_list, product, monomial}
 use Rattle.ark_math.proofs.Algebra.Solve.{◌⊗◌, ◌⊖◌, nought, unit}
 use Rattle.ark_math.proofs.Algebra.Ring.{ring1}
 use Rattle.ark_math.proofs.Lists.Lists.{tail}
 use Rattle.ark_math.proofs.Polynomials.Univariate.{monomial-below}
-use Rattle.ark_math.proofs.Polynomials.UnivariateLists.{of_list-below}
+use Rattle.ark_math.proofs.Polynomials.UnivariateLists.{of_list-below, of_list-past, trimmed_length}
 use Rattle.ark_math.proofs.Polynomials.UnivariateProducts.{product_comm, product_assoc, product-below, value-product}
 use Rattle.ark_math.proofs.Polynomials.UnivariateValues.{has_value}
 use Rattle.ark_math.proofs.Callers.Remainders.{linear_root, divided_root}
 use Rattle.ark_math.proofs.Polynomials.LinearFactors.{before, linear-product, nodes-joined}
 use Rattle.ark_math.specs.Nodes.{nodes}
-use Rattle.ark_subproducts.specs.Tree.{HasRoom, IsBlockTreeOver, IsEnd, IsGiven, IsHalved, IsMonic, IsTreeOver, whole, whole_of_blocks}
+use Rattle.ark_subproducts.specs.Tree.{HasRoom, IsBlockTreeOver, IsEnd, Represents, IsHalved, IsMonic, IsTreeOver, whole, whole_of_blocks}
 use Rattle.ark_subproducts.specs.declared.few.FewProducts.{FewProducts}
 use Rattle.ark_subproducts.specs.declared.tree.Leaf.{Leaf}
 use Rattle.ark_subproducts.specs.declared.tree.Leaf.TheVariants.{Plain, Blocks}
@@ -86,6 +87,15 @@ module _ {F : Type 0} (K : FieldOn F) (N : IsField K) where
   pub nodes_monic : (zs : List F) → IsMonic K (length zs) (nodes K zs)
   nodes_monic zs = record { leading = nodes-leading zs; below = nodes-below zs }
 
+  -- a trimmed list of it has one item more
+  pub nodes-length : (zs xs : List F) → IsTrimmed K xs → of_list K xs ≡ nodes K zs → length xs ≡ length zs + 1
+  nodes-length zs xs trimmed is =
+      let most : length xs ≤ length zs + 1 = trimmed_length K xs (length zs + 1) trimmed (subst (IsBelow K (length zs + 1)) (sym is) (nodes-below zs)) in
+      ⊎_elim
+      (λ (l : length zs < length xs). let same : length xs ≡ length zs + 1 = omega (arith, l, most) in same)
+      (λ (m : length xs ≤ length zs). absurd (N.one_not_zero (sym (nodes-leading zs) ∙ sym (ap (λ a. a (length zs)) is) ∙ of_list-past K xs (length zs) m)))
+      (cases_lt (length zs) (length xs))
+
   pub nodes-halves : (zs : List F) (h : ℕ) → product K (nodes K (take h zs)) (nodes K (drop h zs)) ≡ nodes K zs
   nodes-halves zs h = sym (nodes-joined K N (take h zs) (drop h zs)) ∙ ap (nodes K) (take-append-drop h zs)
 
@@ -110,9 +120,9 @@ own_end (Few p) n count end is room = is
 own_end (Halves' p a low v b high w) n count end is room = (omega (arith, is), omega (arith, is, room))
 
 -- with halves it is given a polynomial by values, which may end later
-pub halved_given : {F : Type 0} (K : FieldOn F) (roots : List F) (t : Tree (FewProducts F) (List F) (Vec F Global)) (count : ℕ) (a : ℕ → F) (c : List F) → IsHalved t → AreFirstValues K roots count a c → IsGiven K roots t count a c
-halved_given K roots (Few p) count a c none h = absurd none
-halved_given K roots (Halves' p a low v b high w) count own c some h = h
+pub halved_represents : {F : Type 0} (K : FieldOn F) (roots : List F) (t : Tree (FewProducts F) (List F) (Vec F Global)) (count : ℕ) (a : ℕ → F) (c : List F) → IsHalved t → AreFirstValues K roots count a c → Represents K roots t count a c
+halved_represents K roots (Few p) count a c none h = absurd none
+halved_represents K roots (Halves' p a low v b high w) count own c some h = h
 
 pub halved_room : {F : Type 0} (t : Tree (FewProducts F) (List F) (Vec F Global)) (n count len : ℕ) → IsHalved t → len ≡ count → HasRoom t n count len
 halved_room (Few p) n count len none is = absurd none

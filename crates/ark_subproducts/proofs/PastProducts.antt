@@ -10,9 +10,9 @@ use Rattle.ark_math.proofs.Polynomials.UnivariateLists.{of_list-past}
 use Rattle.ark_math.proofs.Polynomials.UnivariateProducts.{product-below}
 use Rattle.ark_math.specs.Nodes.{nodes}
 use Rattle.ark_math.specs.AtPoints.{HasValues}
-use Rattle.ark_subproducts.specs.Tree.{StandsFor}
+use Rattle.ark_subproducts.specs.Tree.{IsScaledRemainder}
 use Rattle.ark_subproducts.proofs.Nodes.{cofactor, cofactor-below, cofactor-whole, nodes-below}
-use Rattle.ark_subproducts.proofs.StandIns.{stands_at_leaf}
+use Rattle.ark_subproducts.proofs.ScaledRemainders.{remainder_at_leaf}
 
 module _ {F : Type 0} (K : FieldOn F) (N : IsField K) where
   -- a sum over the coefficients of one factor
@@ -31,8 +31,8 @@ module _ {F : Type 0} (K : FieldOn F) (N : IsField K) where
         (λ j l. let e : length points + j ≡ j + length points = omega arith in each j l ∙ ap (product K (nodes K points) s) e)
 
     -- and its values are those of what is stood for
-    pub values_past : (p : ℕ → F) (ys : List F) → of_list K xs ≡ (λ j. product K (nodes K points) s (j + length points)) → HasValues K (length points) (of_list K points) (of_list K ys) (of_list K xs) → StandsFor K (length points) (nodes K points) p s → HasValues K (length points) (of_list K points) (of_list K ys) p
+    pub values_past : (p : ℕ → F) (ys : List F) → of_list K xs ≡ (λ j. product K (nodes K points) s (j + length points)) → HasValues K (length points) (of_list K points) (of_list K ys) (of_list K xs) → IsScaledRemainder K (length points) (nodes K points) p s → HasValues K (length points) (of_list K points) (of_list K ys) p
     values_past p ys is values stands k l =
-        stands_at_leaf K N (length points) (length points) (nodes K points) p s (cofactor K N points k) (of_list K points k) (of_list K ys k) (omega (arith, l)) below
+        remainder_at_leaf K N (length points) (length points) (nodes K points) p s (cofactor K N points k) (of_list K points k) (of_list K ys k) (omega (arith, l)) below
         (cofactor-below K N points k l) (cofactor-whole K N points k l) stands
         (subst (λ a. IsValue K a (of_list K points k) (of_list K ys k)) is (values k l))

@@ -17,7 +17,7 @@ use Rattle.ark_math.proofs.Polynomials.UnivariateProducts.{one-product, product-
 use Rattle.ark_math.proofs.Polynomials.UnivariateValues.{value_is}
 use Rattle.ark_subproducts.proofs.Multiples.{product-scaled}
 use Rattle.ark_subproducts.proofs.Nodes.{nodes-below}
-use Rattle.ark_subproducts.proofs.StandIns.{quotient-item}
+use Rattle.ark_subproducts.proofs.ScaledRemainders.{quotient-item}
 use Rattle.ark_subproducts.specs.Steps.{power_sum}
 use Rattle.ark_math.specs.Nodes.{nodes}
 use Rattle.ark_subproducts.specs.Tree.{weighed}

@@ -1,6 +1,7 @@
 -- Products by blocks: their coefficients from those of a polynomial with the same values at the first elements of a table, and the
 -- sizes that halves of the roots go by.
-use Rattle.std.proofs.Common.{◌≡◌, ℕ, zero, suc, ◌+◌, ◌-◌, ◌*◌, ◌/◌, ◌^◌, ◌<◌, ◌≤◌, List, ◌++◌, length, take, refl, sym, ◌∙◌, ap, ap₂, subst, arith, pow_mono, inl, inr}
+use Rattle.std.proofs.Common.{◌≡◌, ℕ, zero, suc, ◌+◌, ◌-◌, ◌*◌, ◌/◌, ◌^◌, ◌<◌, ◌≤◌, List, ◌++◌, length, take, Option, Some, None, IfSome, Vec, refl, sym, ◌∙◌, ap, ap₂, subst, arith, pow_mono, inl, inr}
+use Rattle.std.specs.declared.alloc.Global.{Global}
 use mathlib.Core.Path.{fun_ext}
 use Rattle.std.proofs.lemmas.Bool.{cases_lt}
 use Rattle.std.proofs.lemmas.List.{get_or_append_left, get_or-take, length-take}
@@ -14,8 +15,10 @@ use Rattle.ark_math.proofs.Polynomials.UnivariateLists.{of_list-past}
 use Rattle.ark_math.proofs.Polynomials.UnivariateLoops.{cut, cut-inside, cut-outside}
 use Rattle.ark_blocks.specs.Blocks.{AreFirstValues, AreReversed, AreValuesFrom, IsPowerOfTwo}
 use Rattle.ark_blocks.proofs.Elements.{pow_suc}
+use Rattle.ark_blocks.proofs.PowersOfTwo.{half_is_power}
 use Rattle.ark_blocks.proofs.Padded.{item_behind, whole_blocks}
 use Rattle.ark_blocks.proofs.Runs.{values_wrapped}
+use Rattle.ark_subproducts.specs.Tree.{IsBegun}
 
 -- twice a power of two below 2 ^ 64 isn't above it
 pub twice_within : (n : ℕ) → IsPowerOfTwo n → n < 2 ^ 64 → n + n ≤ 2 ^ 64
@@ -41,6 +44,12 @@ pub begun_by : {F : Type 0} (K : FieldOn F) (table coeffs values : List F) (coun
     IsPowerOfTwo (length values) × (length values ≤ n) × (length coeffs ≤ length values + length values) × AreFirstValues K table (length values) (of_list K coeffs) values
 begun_by K table coeffs values count n power within few V =
     subst (λ m. IsPowerOfTwo m × (m ≤ n) × (length coeffs ≤ m + m) × AreFirstValues K table m (of_list K coeffs) values) (sym V.len) (power, within, few, V)
+
+-- and so do values at half of n elements of a polynomial with no more than one coefficient more than these, where they are known
+pub begun_from_half : {F : Type 0} (K : FieldOn F) (table coeffs : List F) (known : Option (Vec F Global)) (n : ℕ) (a : ℕ → F) → 1 < n → IsPowerOfTwo n → length coeffs ≤ n / 2 + 1 → of_list K coeffs ≡ a → IfSome known (λ v. AreFirstValues K table (n / 2) a v.items) → IsBegun K table n coeffs known
+begun_from_half K table coeffs None n a many power few is h = omega (arith, many, few)
+begun_from_half K table coeffs (Some v) n a many power few is h =
+    begun_by K table coeffs v.items (n / 2) n (half_is_power n many power) (omega arith) (omega (arith, many, few)) (subst (λ t. AreFirstValues K table (n / 2) t v.items) (sym is) h)
 
 module _ {F : Type 0} (K : FieldOn F) (N : IsField K) where
   -- from what has the values of a polynomial at n elements where x ^ n is one: those from n on are subtracted, and put behind

@@ -1,3 +1,3 @@
--- Products of x - z over points and over halves of them, and what stands for a polynomial over each part.
+-- Subproduct trees: products of x - z over points and over halves of them, and scaled remainders.
 pub mod Steps
 pub mod Tree

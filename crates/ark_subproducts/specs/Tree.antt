@@ -1,9 +1,9 @@
--- The product of x - z over points and over halves of them, and what stands for a polynomial over each part.
+-- Subproduct trees: the product of x - z over points and over halves of them, and the scaled remainders of a polynomial.
 use Rattle.std.specs.Prelude.{◌≡◌, ℕ, suc, ◌+◌, ◌-◌, ◌/◌, ◌<◌, ◌≤◌, List, [], ◌∷◌, length, take, drop, Option, Some, None, Vec}
 use Rattle.std.specs.declared.alloc.Global.{Global}
 use Rattle.ark_math.specs.Field.{FieldOn, natural}
 use Rattle.ark_math.specs.Linear.{linear_factor}
-use Rattle.ark_math.specs.Univariate.{IsBelow, IsValue, added, difference, monomial, nothing, of_list, product, scaled}
+use Rattle.ark_math.specs.Univariate.{IsBelow, IsValue, added, nothing, of_list, product, scaled}
 use Rattle.ark_blocks.specs.Blocks.{AreFirstValues, IsPowerOfTwo, size_of}
 use Rattle.ark_math.specs.Nodes.{nodes}
 use Rattle.ark_subproducts.specs.declared.few.FewProducts.{FewProducts}
@@ -12,13 +12,14 @@ use Rattle.ark_subproducts.specs.declared.tree.Leaf.TheVariants.{Plain, Blocks}
 use Rattle.ark_subproducts.specs.declared.tree.Tree.{Tree}
 use Rattle.ark_subproducts.specs.declared.tree.Tree.TheVariants.{Few, Halves'}
 
--- what is left of m, which is of degree n, without a root, times s has p's value at that root as its coefficient before end
-abbrev pub StandsBefore : {F : Type 0} → FieldOn F → ℕ → ℕ → (ℕ → F) → (ℕ → F) → (ℕ → F) → Type 0
-StandsBefore {F} K end n m p s = (c : ℕ → F) (z : F) → IsBelow K n c → m ≡ product K c (linear_factor K z) → IsValue K p z (product K c s (end - 1))
+-- s is a scaled remainder of p by m, which is of degree n, as far as its coefficients before end tell: what is left of m without a
+-- root, times s, has p's value at that root as its coefficient before end
+abbrev pub IsScaledRemainderBefore : {F : Type 0} → FieldOn F → ℕ → ℕ → (ℕ → F) → (ℕ → F) → (ℕ → F) → Type 0
+IsScaledRemainderBefore {F} K end n m p s = (c : ℕ → F) (z : F) → IsBelow K n c → m ≡ product K c (linear_factor K z) → IsValue K p z (product K c s (end - 1))
 
--- and that is the one before n, where s is below n too
-abbrev pub StandsFor : {F : Type 0} → FieldOn F → ℕ → (ℕ → F) → (ℕ → F) → (ℕ → F) → Type 0
-StandsFor K n m p s = StandsBefore K n n m p s
+-- the scaled remainder below n: the coefficients of (p mod m) / m as a power series in 1 / x, the last one first
+abbrev pub IsScaledRemainder : {F : Type 0} → FieldOn F → ℕ → (ℕ → F) → (ℕ → F) → (ℕ → F) → Type 0
+IsScaledRemainder K n m p s = IsScaledRemainderBefore K n n m p s
 
 -- the sum of w 0, w 1, .., each times the product of x - z for the others of a list
 abbrev pub weighed : {F : Type 0} → FieldOn F → List F → (ℕ → F) → ℕ → F
@@ -42,10 +43,6 @@ pub record AreFewProducts {F : Type 0} (K : FieldOn F) (points : List F) (p : Fe
   pub high : of_list K p.high.items ≡ nodes K (drop (length points / 2) points)
   pub high_count : length p.high.items ≡ length points - length points / 2 + 1
 
--- x ^ n - 1
-abbrev pub power_less_one : {F : Type 0} → FieldOn F → ℕ → ℕ → F
-power_less_one K n = difference K (monomial K n K.one) (monomial K 0 K.one)
-
 -- the values of both halves' products over the first elements of a table, of which there are as many as told
 pub record HaveBlockValues {F : Type 0} (K : FieldOn F) (roots : List F) (count : ℕ) (points v w : List F) : Type 0 where
   pub many : 2 < length points
@@ -67,16 +64,16 @@ abbrev pub whole_of_blocks : {F : Type 0} → Tree (FewProducts F) (List F) (Vec
 whole_of_blocks (Few p) = p.whole
 whole_of_blocks (Halves' p a low v b high w) = p
 
--- a list gives a to such a tree: its coefficients, or where the tree has halves its values over as many elements as told
-abbrev pub IsGiven : {F : Type 0} → FieldOn F → List F → Tree (FewProducts F) (List F) (Vec F Global) → ℕ → (ℕ → F) → List F → Type 0
-IsGiven K roots (Few p) count a c = of_list K c ≡ a
-IsGiven K roots (Halves' p q low v b high w) count a c = AreFirstValues K roots count a c
+-- a list represents a for such a tree: by its coefficients, or where the tree has halves by its values over as many elements as told
+abbrev pub Represents : {F : Type 0} → FieldOn F → List F → Tree (FewProducts F) (List F) (Vec F Global) → ℕ → (ℕ → F) → List F → Type 0
+Represents K roots (Few p) count a c = of_list K c ≡ a
+Represents K roots (Halves' p q low v b high w) count a c = AreFirstValues K roots count a c
 
--- a list gives such a tree a polynomial below n of which this multiple is a
-pub record IsHanded {F : Type 0} (K : FieldOn F) (roots : List F) (tree : Tree (FewProducts F) (List F) (Vec F Global)) (count n : ℕ) (c : List F) (scale : F) (a : ℕ → F) : Type 0 where
+-- a list represents a polynomial below n of which this multiple is a
+pub record RepresentsMultiple {F : Type 0} (K : FieldOn F) (roots : List F) (tree : Tree (FewProducts F) (List F) (Vec F Global)) (count n : ℕ) (c : List F) (scale : F) (a : ℕ → F) : Type 0 where
   pub own : ℕ → F
   pub below : IsBelow K n own
-  pub given : IsGiven K roots tree count own c
+  pub given : Represents K roots tree count own c
   pub multiple : scaled K scale own ≡ a
 
 -- the lengths of such lists, for a below n

@@ -1,21 +1,25 @@
-//! The tree of products over points by transforms over blocks of roots of unity: no list is moved, and values over twice as
-//! many elements are the known ones with as many behind them.
+//! The subproduct tree over a table of roots of unity: no list is moved, and values over twice as many elements are the
+//! known ones with as many behind them.
+//!
+//! Values go down it as down a scaled remainder tree: each half is given the middle product of what the whole has and the
+//! product over the other half, which is the transposed way of summing products up the tree.
 
 ghost use Rattle.std.specs.Prelude.{◌≡◌, ℕ, ◌+◌, ◌-◌, ◌/◌, ◌<◌, ◌≤◌, drop, length, take, IfOk, IfSome, OnOk};
 ghost use Rattle.ark_blocks.specs.Blocks.{AreFirstValues, IsPowerOfTwo, size_of};
 ghost use Rattle.ark_math.specs.Univariate.{IsBelow, added, of_list, product, scaled};
 ghost use Rattle.ark_math.specs.AtPoints.{HasValues};
 ghost use Rattle.ark_math.specs.Nodes.{nodes};
-ghost use Rattle.ark_subproducts.specs.Tree.{HasRoom, IsBlockTreeOver, IsEnd, IsGiven, IsHanded, IsMonic, StandsBefore};
-ghost use Rattle.ark_subproducts.specs.Tree.{StandsFor, power_less_one, weighed, whole_of_blocks};
+ghost use Rattle.ark_subproducts.specs.Tree.{HasRoom, IsBlockTreeOver, IsEnd, Represents, RepresentsMultiple, IsScaledRemainderBefore};
+ghost use Rattle.ark_subproducts.specs.Tree.{IsScaledRemainder, weighed, whole_of_blocks};
 
 use crate::few::{FEW_POINTS, FewProducts, weighed_few, write_few_values};
+use crate::products::{coefficients, extended};
 use crate::tree::Tree;
-use ark_base::{FftField, Field};
 use ark_blocks::BlockRoots;
 use ark_blocks::items::{add_products, multiply_places, place_products};
-use ark_poly::DenseUVPolynomial;
-use ark_poly::univariate::DensePolynomial;
+use ark_traits::FftField;
+use ark_univariate::DenseUVPolynomial;
+use ark_univariate::univariate::DensePolynomial;
 use std::alloc::{AllocError, Global};
 
 /// The product of x - z over points; and of many points the products of both halves, each with its values over the first
@@ -72,7 +76,8 @@ impl<F: FftField> BlockTree<F> {
         }
     }
 
-    /// Writes the values at the points, in their order, of what the polynomial with the given coefficients stands for.
+    /// Writes the values at the points, in their order, of the polynomial whose scaled remainder has these
+    /// coefficients.
     pub fn write_values(
         &self,
         alloc: Global,
@@ -90,12 +95,12 @@ impl<F: FftField> BlockTree<F> {
         requires few { length coeffs.now ≤ length points.now }
         requires len { length values.old ≡ length points.now }
         ensures len { length values.new ≡ length values.old }
-        ensures values { OnOk result ((p : ℕ → F) → StandsFor F.field (length points.now)
+        ensures values { OnOk result ((p : ℕ → F) → IsScaledRemainder F.field (length points.now)
             (nodes F.field points.now) p (of_list F.field coeffs.now) → HasValues F.field (length points.now)
             (of_list F.field points.now) (of_list F.field values.new) p) }
     {
-        let given = given_to(alloc, blocks, self, coeffs, count)?;
-        self.write_given(
+        let given = represented(alloc, blocks, self, coeffs, count)?;
+        self.write_values_from(
             alloc,
             blocks,
             points,
@@ -107,9 +112,9 @@ impl<F: FftField> BlockTree<F> {
         )
     }
 
-    /// The same, where a list gives the tree a polynomial below `end` of which a multiple stands for the other: by
-    /// its last coefficients, as many as there are points.
-    pub fn write_given(
+    /// The same, where a multiple of a polynomial below `end`, which a list represents for the tree, has the scaled
+    /// remainder as its last coefficients, as many as there are points.
+    pub fn write_values_from(
         &self,
         alloc: Global,
         blocks: &BlockRoots<F>,
@@ -130,8 +135,8 @@ impl<F: FftField> BlockTree<F> {
         requires len { length values.old ≡ length points.now }
         ensures len { length values.new ≡ length values.old }
         ensures values { OnOk result ((p s : ℕ → F) → IsBelow F.field end s
-            → IsGiven F.field blocks.now self.now count s given.now
-            → StandsBefore F.field end (length points.now) (nodes F.field points.now) p (scaled F.field scale s)
+            → Represents F.field blocks.now self.now count s given.now
+            → IsScaledRemainderBefore F.field end (length points.now) (nodes F.field points.now) p (scaled F.field scale s)
             → HasValues F.field (length points.now) (of_list F.field points.now) (of_list F.field values.new) p) }
     {
         match self {
@@ -142,7 +147,7 @@ impl<F: FftField> BlockTree<F> {
                 let high_points = &points[half..];
                 let part = count / 2;
                 let (to_low, to_high) = values.split_at_mut(half);
-                let (for_low, by) = handed(
+                let (for_low, by) = middle_product(
                     alloc,
                     blocks,
                     low,
@@ -153,7 +158,7 @@ impl<F: FftField> BlockTree<F> {
                     end,
                     part,
                 )?;
-                low.write_given(
+                low.write_values_from(
                     alloc,
                     blocks,
                     low_points,
@@ -163,7 +168,7 @@ impl<F: FftField> BlockTree<F> {
                     part,
                     low_points.len(),
                 )?;
-                let (for_high, by) = handed(
+                let (for_high, by) = middle_product(
                     alloc,
                     blocks,
                     high,
@@ -174,7 +179,7 @@ impl<F: FftField> BlockTree<F> {
                     end,
                     part,
                 )?;
-                high.write_given(
+                high.write_values_from(
                     alloc,
                     blocks,
                     high_points,
@@ -271,49 +276,16 @@ fn joined<F: FftField>(
     // With room for as many more values.
     let room = count.saturating_add(count);
     let values = place_products(alloc, &low_values, &high_values, room)?;
-    let product = monic_with(alloc, blocks, &values, points.len())?;
+    let left = low.product().coeffs();
+    let right = high.product().coeffs();
+    let coeffs = coefficients(alloc, blocks, &values, left, right)?;
+    let product = DensePolynomial::from_coefficients_vec(coeffs);
     let tree = Tree::Halves(product, low, low_values, high, high_values);
     Ok((Box::new(alloc, tree)?, Some(values)))
 }
 
-// The polynomial of this degree with these values whose leading coefficient is one.
-fn monic_with<F: FftField>(
-    alloc: Global,
-    blocks: &BlockRoots<F>,
-    values: &[F],
-    degree: usize,
-) -> Result<DensePolynomial<F>, AllocError>
-    requires power { IsPowerOfTwo (length values.now) }
-    requires within { length values.now ≤ size_of blocks.now }
-    requires room { degree ≤ length values.now }
-    ensures monic { IfOk result (λ p. (a : ℕ → F)
-        → AreFirstValues F.field blocks.now (length values.now) a values.now
-        → IsMonic F.field degree a → of_list F.field p ≡ a) }
-{
-    // With room for a coefficient more.
-    let mut coeffs = Vec::with_capacity(alloc, values.len().saturating_add(1))?;
-    coeffs.extend_from_slice(values)?;
-    blocks.interpolate(coeffs.as_mut_slice());
-    if values.len() == degree {
-        add_vanishing(&mut coeffs)?;
-    }
-    Ok(DensePolynomial::from_coefficients_vec(coeffs))
-}
-
-// Adds x^n - 1 to a polynomial of n coefficients.
-fn add_vanishing<F: Field>(coeffs: &mut Vec<F>) -> Result<(), AllocError>
-    requires some { 0 < length coeffs.old.items }
-    ensures { OnOk result (of_list F.field coeffs.new.items ≡ added F.field (of_list F.field coeffs.old.items)
-        (power_less_one F.field (length coeffs.old.items))) }
-{
-    let one = F::one();
-    coeffs[0] = coeffs[0] - one;
-    coeffs.push(one)?;
-    Ok(())
-}
-
-// The list that gives this polynomial to the tree.
-fn given_to<F: FftField>(
+// The list that represents this polynomial for the tree.
+fn represented<F: FftField>(
     alloc: Global,
     blocks: &BlockRoots<F>,
     tree: &BlockTree<F>,
@@ -324,7 +296,7 @@ fn given_to<F: FftField>(
     requires within { count ≤ size_of blocks.now }
     requires few { length coeffs.now ≤ count }
     ensures room { IfOk result (λ v. (n : ℕ) → length coeffs.now ≤ n → HasRoom tree.now n count (length v.items)) }
-    ensures given { IfOk result (λ v. IsGiven F.field blocks.now tree.now count (of_list F.field coeffs.now) v.items) }
+    ensures given { IfOk result (λ v. Represents F.field blocks.now tree.now count (of_list F.field coeffs.now) v.items) }
 {
     match tree {
         Tree::Few(_) => Vec::from_slice(alloc, coeffs),
@@ -332,10 +304,11 @@ fn given_to<F: FftField>(
     }
 }
 
-// What gives a tree with values over `count` elements the coefficients from `start` on and below `end` of a product, of which one
-// factor has these values, and the other the given ones, over twice as many: a list, and by what it is to be multiplied so that
-// it is the scale's multiple. Where all is handed on by values it is twice these coefficients, which costs least.
-fn handed<F: FftField>(
+// The middle product of two polynomials, one with these values and the other with the given ones, over twice `count` elements:
+// the coefficients of their product from `start` on and below `end`, as a list that represents a polynomial for a tree, and by
+// what this is to be multiplied so that it is the scale's multiple. Where the tree takes it by values it is twice the middle
+// product, which costs least.
+fn middle_product<F: FftField>(
     alloc: Global,
     blocks: &BlockRoots<F>,
     tree: &BlockTree<F>,
@@ -360,7 +333,7 @@ fn handed<F: FftField>(
         → IsBelow F.field (start + (count + count)) (product F.field a b)
         → IsBelow F.field (end - start) c
         → ((i : ℕ) → start + i < end → c i ≡ product F.field a b (start + i))
-        → IsHanded F.field blocks.now tree.now count (end - start) h.0.items h.1 (scaled F.field scale c)) }
+        → RepresentsMultiple F.field blocks.now tree.now count (end - start) h.0.items h.1 (scaled F.field scale c)) }
 {
     if let Tree::Halves(_, _, _, _, _) = tree {
         if start == count && end - start == count {
@@ -368,12 +341,12 @@ fn handed<F: FftField>(
             return Ok((doubled, scale * blocks.half()));
         }
     }
-    let given = given_part(alloc, blocks, tree, left, right, start, end, count)?;
+    let given = middle_coefficients(alloc, blocks, tree, left, right, start, end, count)?;
     Ok((given, scale))
 }
 
-// The list that gives a tree these coefficients of such a product.
-fn given_part<F: FftField>(
+// The list that represents these coefficients of such a product for a tree.
+fn middle_coefficients<F: FftField>(
     alloc: Global,
     blocks: &BlockRoots<F>,
     tree: &BlockTree<F>,
@@ -397,38 +370,11 @@ fn given_part<F: FftField>(
         → IsBelow F.field (start + (count + count)) (product F.field a b)
         → IsBelow F.field (end - start) c
         → ((i : ℕ) → start + i < end → c i ≡ product F.field a b (start + i))
-        → IsGiven F.field blocks.now tree.now count c v.items) }
+        → Represents F.field blocks.now tree.now count c v.items) }
 {
     let mut coeffs = place_products(alloc, left, right, left.len())?;
     blocks.interpolate(coeffs.as_mut_slice());
-    given_to(alloc, blocks, tree, &coeffs[start..end], count)
-}
-
-// The values over `count` elements of the polynomial with these coefficients; those over half of them may be known.
-fn extended<F: FftField>(
-    alloc: Global,
-    blocks: &BlockRoots<F>,
-    coeffs: &[F],
-    known: Option<Vec<F>>,
-    count: usize,
-) -> Result<Vec<F>, AllocError>
-    requires power { IsPowerOfTwo count }
-    requires many { 1 < count }
-    requires within { count ≤ size_of blocks.now }
-    requires few { length coeffs.now ≤ count }
-    requires known { IfSome known (λ v. AreFirstValues F.field blocks.now (count / 2)
-        (of_list F.field coeffs.now) v.items) }
-    ensures values { IfOk result (λ v. AreFirstValues F.field blocks.now count
-        (of_list F.field coeffs.now) v.items) }
-{
-    match known {
-        Some(half) => {
-            let mut values = half;
-            blocks.double(&mut values, coeffs)?;
-            Ok(values)
-        }
-        None => blocks.values(alloc, coeffs, count),
-    }
+    represented(alloc, blocks, tree, &coeffs[start..end], count)
 }
 
 // From values of four polynomials the sum of the first two's product and the other two's, and its values.

@@ -5,15 +5,15 @@ ghost use Rattle.ark_math.specs.Univariate.{of_list, product, scaled};
 ghost use Rattle.ark_math.specs.AtPoints.{HasValues};
 ghost use Rattle.ark_subproducts.specs.Steps.{power_sum};
 ghost use Rattle.ark_math.specs.Nodes.{nodes};
-ghost use Rattle.ark_subproducts.specs.Tree.{AreFewProducts, StandsFor, weighed};
+ghost use Rattle.ark_subproducts.specs.Tree.{AreFewProducts, IsScaledRemainder, weighed};
 
 use crate::parts::write_part;
-use ark_base::Field;
 use ark_blocks::items::{clear, multiply_places, scale_each, sum_of};
 use ark_blocks::product_of_few;
 use ark_coeffs::dense::{naive_product, zeros};
-use ark_poly::DenseUVPolynomial;
-use ark_poly::univariate::DensePolynomial;
+use ark_traits::Field;
+use ark_univariate::DenseUVPolynomial;
+use ark_univariate::univariate::DensePolynomial;
 use std::alloc::{AllocError, Global};
 
 /// Parts of at most so many points are not halved.
@@ -54,7 +54,8 @@ fn whole_product<F: Field>(
     Ok(DensePolynomial::from_coefficients_vec(coeffs))
 }
 
-/// Writes the values at few points of what this multiple of the given polynomial stands for, a half of the points at a time.
+/// Writes the values at few points of the polynomial whose scaled remainder is this multiple of the given one, a half of the
+/// points at a time.
 pub fn write_few_values<F: Field>(
     alloc: Global,
     products: &FewProducts<F>,
@@ -67,24 +68,24 @@ pub fn write_few_values<F: Field>(
     requires few { length given.now ≤ length points.now }
     requires len { length values.old ≡ length points.now }
     ensures len { length values.new ≡ length values.old }
-    ensures values { OnOk result ((p : ℕ → F) → StandsFor F.field (length points.now) (nodes F.field points.now) p
+    ensures values { OnOk result ((p : ℕ → F) → IsScaledRemainder F.field (length points.now) (nodes F.field points.now) p
         (scaled F.field scale (of_list F.field given.now)) → HasValues F.field (length points.now)
         (of_list F.field points.now) (of_list F.field values.new) p) }
 {
     let half = points.len() / 2;
     let mut room = zeros(alloc, points.len())?;
-    let handed = room.as_mut_slice();
-    hand_to_halves(handed, products, points, given, scale);
-    let (for_low, for_high) = handed.split_at_mut(half);
+    let remainders = room.as_mut_slice();
+    halve_remainder(remainders, products, points, given, scale);
+    let (for_low, for_high) = remainders.split_at_mut(half);
     let (to_low, to_high) = values.split_at_mut(half);
-    write_stood_for(&products.low, &points[..half], for_low, to_low);
-    write_stood_for(&products.high, &points[half..], for_high, to_high);
+    write_values_of_remainder(&products.low, &points[..half], for_low, to_low);
+    write_values_of_remainder(&products.high, &points[half..], for_high, to_high);
     Ok(())
 }
 
-// Puts what stands over the first half of the points, for what the given polynomial's multiple stands for over all, in the
-// items' place, and behind it what does over the others.
-fn hand_to_halves<F: Field>(
+// Puts the scaled remainder over the first half of the points, from the multiple of the given one over all, in the items' place,
+// and behind it that over the others: middle products with the products over the other halves.
+fn halve_remainder<F: Field>(
     items: &mut [F],
     products: &FewProducts<F>,
     points: &[F],
@@ -109,15 +110,20 @@ fn hand_to_halves<F: Field>(
     scale_each(items, scale);
 }
 
-// Writes the values at the points of what the given polynomial stands for: the product times that has them from the points'
-// number on. These coefficients take the given ones' place.
-fn write_stood_for<F: Field>(over_points: &[F], points: &[F], given: &mut [F], values: &mut [F])
+// Writes the values at the points of the polynomial with the given scaled remainder: those of the product times it from the
+// points' number on. These coefficients take the given ones' place.
+fn write_values_of_remainder<F: Field>(
+    over_points: &[F],
+    points: &[F],
+    given: &mut [F],
+    values: &mut [F],
+)
     requires over_points { of_list F.field over_points.now ≡ nodes F.field points.now }
     requires count { length over_points.now ≡ length points.now + 1 }
     requires given { length given.old ≡ length points.now }
     requires len { length values.old ≡ length points.now }
     ensures len { length values.new ≡ length values.old }
-    ensures values { (p : ℕ → F) → StandsFor F.field (length points.now) (nodes F.field points.now) p
+    ensures values { (p : ℕ → F) → IsScaledRemainder F.field (length points.now) (nodes F.field points.now) p
         (of_list F.field given.old) → HasValues F.field (length points.now) (of_list F.field points.now)
         (of_list F.field values.new) p }
 {

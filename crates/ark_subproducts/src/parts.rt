@@ -4,11 +4,11 @@ ghost use Rattle.std.specs.Prelude.{◌≡◌, ℕ, ◌+◌, ◌<◌, ◌≤◌,
 ghost use Rattle.ark_math.specs.Linear.{constant as constant_of};
 ghost use Rattle.ark_math.specs.Univariate.{of_list, product};
 
-use ark_base::{Field, PolyError};
 use ark_blocks::items::clear;
 use ark_coeffs::dense::add_scaled;
-use ark_poly::DenseUVPolynomial;
-use ark_poly::univariate::DensePolynomial;
+use ark_traits::{Field, PolyError};
+use ark_univariate::DenseUVPolynomial;
+use ark_univariate::univariate::DensePolynomial;
 use std::alloc::Global;
 
 /// The polynomial y.

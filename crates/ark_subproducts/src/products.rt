@@ -7,11 +7,11 @@ ghost use Rattle.ark_math.specs.Univariate.{of_list, product};
 ghost use Rattle.ark_subproducts.specs.Tree.{IsBegun};
 
 use crate::quotients::product_of;
-use ark_base::{FftField, Field, PolyError};
 use ark_blocks::items::{multiply_places, subtract};
 use ark_blocks::{BlockRoots, product_of_few};
-use ark_poly::DenseUVPolynomial;
-use ark_poly::univariate::DensePolynomial;
+use ark_traits::{FftField, Field, PolyError};
+use ark_univariate::DenseUVPolynomial;
+use ark_univariate::univariate::DensePolynomial;
 use std::alloc::{AllocError, Global};
 
 // Up to so many points are multiplied in without transforms.
@@ -125,7 +125,7 @@ fn joined<F: FftField>(
 }
 
 // The values at the first `count` elements of the polynomial with these coefficients; the first of them may be known.
-fn extended<F: FftField>(
+pub(crate) fn extended<F: FftField>(
     alloc: Global,
     table: &BlockRoots<F>,
     coeffs: &[F],
@@ -149,7 +149,7 @@ fn extended<F: FftField>(
 
 // The coefficients of the product of two polynomials from its values, of which there may be fewer: where a power of x is one,
 // the coefficients from that power on come back below.
-fn coefficients<F: FftField>(
+pub(crate) fn coefficients<F: FftField>(
     alloc: Global,
     table: &BlockRoots<F>,
     values: &[F],

@@ -4,9 +4,9 @@ ghost use Rattle.std.specs.Prelude.{◌≡◌, ℕ, IfOk, IsOkUnless};
 ghost use Rattle.ark_math.specs.Univariate.{IsQuotient, of_list, product};
 ghost use Rattle.ark_subproducts.specs.Tree.{IsMonic};
 
-use ark_base::{FftField, PolyError};
-use ark_poly::DenseUVPolynomial;
-use ark_poly::univariate::DensePolynomial;
+use ark_traits::{FftField, PolyError};
+use ark_univariate::DenseUVPolynomial;
+use ark_univariate::univariate::DensePolynomial;
 use std::alloc::Global;
 
 /// The product: one coefficient by another where the field has no domain for it.

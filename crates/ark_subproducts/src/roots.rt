@@ -11,10 +11,10 @@ ghost use Rattle.ark_subproducts.specs.Tree.{IsBlockTreeOver};
 use crate::blocks::BlockTree;
 use crate::table::powers_of;
 use crate::values::naive_evaluate_at;
-use ark_base::{FftField, Field, PolyError};
 use ark_blocks::BlockRoots;
-use ark_poly::DenseUVPolynomial;
-use ark_poly::univariate::DensePolynomial;
+use ark_traits::{FftField, Field, PolyError};
+use ark_univariate::DenseUVPolynomial;
+use ark_univariate::univariate::DensePolynomial;
 use std::alloc::Global;
 
 /// The values at points, in their order, of a polynomial with no more coefficients than the table has elements.

@@ -11,11 +11,11 @@ ghost use Rattle.ark_subproducts.specs.Tree.{IsBlockTreeOver, IsHalved};
 
 use crate::blocks::BlockTree;
 use crate::tree::Tree;
-use ark_base::{FftField, Field, batch_inversion};
 use ark_blocks::BlockRoots;
 use ark_blocks::items::{has_zero, multiply_by_gaps, multiply_places, place_products, raise_each};
 use ark_coeffs::dense::zeros;
-use ark_poly::DenseUVPolynomial;
+use ark_traits::{FftField, Field, batch_inversion};
+use ark_univariate::DenseUVPolynomial;
 use std::alloc::{AllocError, Global};
 
 impl<F: FftField> BlockTree<F> {
@@ -53,7 +53,7 @@ impl<F: FftField> BlockTree<F> {
         let quotients = quotients(alloc, known, divisors)?;
         let mut values = zeros(alloc, points.len())?;
         let items = values.as_mut_slice();
-        self.write_past(alloc, blocks, points, quotients, items, count)?;
+        self.write_values_past(alloc, blocks, points, quotients, items, count)?;
         multiply_by_gaps(items, F::one(), powers);
         Ok(Some(values))
     }
@@ -88,7 +88,7 @@ impl<F: FftField> BlockTree<F> {
 
     // Writes at each point the value of what is past the elements' number in the product of x - z over the points times
     // a polynomial with these values at the elements.
-    fn write_past(
+    fn write_values_past(
         &self,
         alloc: Global,
         blocks: &BlockRoots<F>,
@@ -112,7 +112,7 @@ impl<F: FftField> BlockTree<F> {
             (λ j. product F.field (nodes F.field points.now) q (j + size_of blocks.now))) }
     {
         if blocks.size() == count {
-            return self.write_given(
+            return self.write_values_from(
                 alloc,
                 blocks,
                 points,

@@ -10,10 +10,10 @@ use crate::few::{FEW_POINTS, weighed_few};
 use crate::quotients::{product_of, remainder};
 use crate::roots::values_by_tree;
 use crate::values::naive_evaluate_at;
-use ark_base::{FftField, PolyError, Polynomial};
 use ark_blocks::{BlockRoots, product_of_few};
-use ark_poly::DenseUVPolynomial;
-use ark_poly::univariate::DensePolynomial;
+use ark_traits::{FftField, PolyError, Polynomial};
+use ark_univariate::DenseUVPolynomial;
+use ark_univariate::univariate::DensePolynomial;
 use std::alloc::Global;
 
 /// What belongs to all of a list; and where it is long the same of both halves, with more of each.

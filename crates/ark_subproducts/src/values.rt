@@ -4,8 +4,8 @@ ghost use Rattle.std.specs.Prelude.{◌≡◌, length, IfOk, IsOkUnless};
 ghost use Rattle.ark_math.specs.Univariate.{of_list};
 ghost use Rattle.ark_math.specs.AtPoints.{HasValues};
 
-use ark_base::{Field, PolyError, Polynomial};
-use ark_poly::univariate::DensePolynomial;
+use ark_traits::{Field, PolyError, Polynomial};
+use ark_univariate::univariate::DensePolynomial;
 use std::alloc::Global;
 
 /// The values of a polynomial at points, in their order, each for itself.

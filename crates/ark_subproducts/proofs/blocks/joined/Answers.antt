@@ -1,39 +1,42 @@
-use Rattle.std.proofs.Common.{◌≡◌, ◌+◌, ◌/◌, length, take, drop, sym, ap, ap₂, subst, subst₂, ◌∙◌, arith}
+use Rattle.std.proofs.Common.{◌≡◌, ◌+◌, ◌-◌, ◌/◌, ◌<◌, length, take, drop, sym, ap, ap₂, subst, subst₂, ◌∙◌, arith}
 use Rattle.std.proofs.lemmas.List.{length-drop, length-take-le}
 use Rattle.ark_blocks.specs.Blocks.{AreValuesFrom, element_of}
+use Rattle.ark_blocks.proofs.PowersOfTwo.{two_halves}
 use Rattle.ark_blocks.proofs.Runs.{values-product}
-use Rattle.ark_math.specs.Univariate.{IsBelow, of_list}
-use Rattle.ark_math.proofs.Polynomials.UnivariateLists.{trimmed_length}
+use Rattle.ark_math.specs.Univariate.{of_list, product}
 use Rattle.ark_math.specs.Nodes.{nodes}
 use Rattle.ark_subproducts.specs.Tree.{IsBlockTreeOver}
-use Rattle.ark_subproducts.proofs.Nodes.{blocks-whole, nodes-below, nodes-halves, nodes_monic}
+use Rattle.ark_subproducts.proofs.Nodes.{blocks-whole, nodes-halves, nodes-length}
+use Rattle.ark_subproducts.proofs.TableProducts.{begun_from_half}
 use Rattle.ark_subproducts.proofs.blocks.joined.Goals as goal
 
-pub extended-requires-clause-few : goal.extended-requires-clause-few
-extended-requires-clause-few g c =
+pub extended-requires-clause-begun : goal.extended-requires-clause-begun
+extended-requires-clause-begun g c =
     let K = g.F.Field.field in
     let N = g.met.F.Field.field_laws in
     let points = c.args.points.now in
     let half = length points / 2 in
     let front = take half points in
-    let is : of_list K c.coeffs.result.now ≡ nodes K front =
+    let coeffs = c.coeffs.result.now in
+    let is : of_list K coeffs ≡ nodes K front =
     ap (of_list K) (c.coeffs.ensures.same ∙ c.product.ensures)
     ∙ blocks-whole K N c.args.blocks.now (c.args.count / 2) front c.deref.result.now (subst (IsBlockTreeOver K c.args.blocks.now (c.args.count / 2) front) (sym c.deref.ensures) c.requires.low) in
-    let short = trimmed_length K c.coeffs.result.now (length front + 1) c.coeffs.ensures.trimmed (subst (IsBelow K (length front + 1)) (sym is) (nodes-below K N front)) in
-    omega (arith, short, length-take-le half points (omega arith), c.requires.many, c.requires.room)
+    begun_from_half K c.args.blocks.now coeffs c.args.low.1 c.args.count (nodes K front) (omega (arith, c.requires.many, c.requires.room)) c.requires.power
+    (omega (arith, nodes-length K N front coeffs c.coeffs.ensures.trimmed is, length-take-le half points (omega arith), c.requires.room)) is c.requires.low_values
 
-pub extended-requires-2-clause-few : goal.extended-requires-2-clause-few
-extended-requires-2-clause-few g c =
+pub extended-requires-2-clause-begun : goal.extended-requires-2-clause-begun
+extended-requires-2-clause-begun g c =
     let K = g.F.Field.field in
     let N = g.met.F.Field.field_laws in
     let points = c.args.points.now in
     let half = length points / 2 in
     let back = drop half points in
-    let is : of_list K c.coeffs-2.result.now ≡ nodes K back =
+    let coeffs = c.coeffs-2.result.now in
+    let is : of_list K coeffs ≡ nodes K back =
     ap (of_list K) (c.coeffs-2.ensures.same ∙ c.product-2.ensures)
     ∙ blocks-whole K N c.args.blocks.now (c.args.count / 2) back c.deref-2.result.now (subst (IsBlockTreeOver K c.args.blocks.now (c.args.count / 2) back) (sym c.deref-2.ensures) c.requires.high) in
-    let short = trimmed_length K c.coeffs-2.result.now (length back + 1) c.coeffs-2.ensures.trimmed (subst (IsBelow K (length back + 1)) (sym is) (nodes-below K N back)) in
-    omega (arith, short, length-drop half points, c.requires.many, c.requires.room)
+    begun_from_half K c.args.blocks.now coeffs c.args.high.1 c.args.count (nodes K back) (omega (arith, c.requires.many, c.requires.room)) c.requires.power
+    (omega (arith, nodes-length K N back coeffs c.coeffs-2.ensures.trimmed is, length-drop half points, two_halves c.args.count (omega (arith, c.requires.many, c.requires.room)) c.requires.power, c.requires.room)) is c.requires.high_values
 
 pub returns : goal.returns
 returns g c =

@@ -31,10 +31,10 @@ returns g c =
     let U : AreFirstValues K roots size (nodes K points) c.in-Some.divisors.items = rw c.in-Some.is at c.in_ok-divisors.ensures.values in
     let known = c.args.known.now in
     let vs = c.in_ok-quotients.quotients.items in
-    let ys = c.write_past.new.values in
+    let ys = c.write_values_past.new.values in
     let last = c.multiply_by_gaps.new.items in
-    let len : length last ≡ n = c.multiply_by_gaps.ensures.len ∙ c.write_past.ensures.len ∙ ap length (c.as_mut_slice-items.ensures.value ∙ c.in_ok-values.ensures) ∙ length-replicate n K.zero in
-    let back = written_back last _ c.in_ok-values.values.len (omega (arith, c.multiply_by_gaps.ensures.len, c.write_past.ensures.len, c.as_mut_slice-items.ensures.len)) in
+    let len : length last ≡ n = c.multiply_by_gaps.ensures.len ∙ c.write_values_past.ensures.len ∙ ap length (c.as_mut_slice-items.ensures.value ∙ c.in_ok-values.ensures) ∙ length-replicate n K.zero in
+    let back = written_back last _ c.in_ok-values.values.len (omega (arith, c.multiply_by_gaps.ensures.len, c.write_values_past.ensures.len, c.as_mut_slice-items.ensures.len)) in
     let one : c.one.result ≡ K.one = c.one.ensures ∙ g.met.F.Field.one_law in
     record {
       values = λ p short P. record {
@@ -43,7 +43,7 @@ returns g c =
             (values_by_quotients K N roots points known c.in-Some.divisors.items vs ys last c.args.powers.now p rev different two (omega (arith, c.requires.room, c.requires.within)) U
             (c.in_ok-quotients.ensures.len ∙ c.requires.known)
             (λ i l. c.in_ok-quotients.ensures.quotients i (omega (arith, l, c.requires.known)))
-            c.requires.powers c.in_ok-write_past.ensures.values
+            c.requires.powers c.in_ok-write_values_past.ensures.values
             (λ i l. c.multiply_by_gaps.ensures.products i (omega (arith, l, c.requires.powers.len)) ∙ ap (λ t. K.times (of_list K ys i) (minus K t (of_list K c.args.powers.now i))) one)
             short P);
       };

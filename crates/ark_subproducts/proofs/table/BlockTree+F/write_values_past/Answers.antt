@@ -5,19 +5,19 @@ use Rattle.ark_blocks.specs.Blocks.{AreFirstValues, size_of}
 use Rattle.ark_math.specs.Nodes.{nodes}
 use Rattle.ark_math.proofs.Lists.Lists.{written_back}
 use Rattle.ark_math.specs.Univariate.{IsBelow, of_list, product}
-use Rattle.ark_subproducts.specs.Tree.{IsGiven, StandsBefore}
-use Rattle.ark_subproducts.proofs.Multiples.{stands_by_one}
-use Rattle.ark_subproducts.proofs.Nodes.{halved_end, halved_given, halved_room}
-use Rattle.ark_subproducts.proofs.StandIns.{last_stand, past_end}
-use Rattle.ark_subproducts.proofs.table.BlockTree+F.write_past.Goals as goal
+use Rattle.ark_subproducts.specs.Tree.{Represents, IsScaledRemainderBefore}
+use Rattle.ark_subproducts.proofs.Multiples.{remainder_by_one}
+use Rattle.ark_subproducts.proofs.Nodes.{halved_end, halved_represents, halved_room}
+use Rattle.ark_subproducts.proofs.ScaledRemainders.{last_coefficients, past_end}
+use Rattle.ark_subproducts.proofs.table.BlockTree+F.write_values_past.Goals as goal
 
-pub write_given-requires-clause-given : goal.write_given-requires-clause-given
-write_given-requires-clause-given g c =
+pub write_values_from-requires-clause-given : goal.write_values_from-requires-clause-given
+write_values_from-requires-clause-given g c =
     halved_room c.args.self.now (length c.args.points.now) c.args.count (length c.deref.result.now) c.requires.halved
     (ap length c.deref.ensures.value ∙ c.requires.factor ∙ omega (arith, c.if-size-count.true, c.size.ensures.size))
 
-pub write_given-requires-clause-end : goal.write_given-requires-clause-end
-write_given-requires-clause-end g c = halved_end c.args.self.now (length c.args.points.now) c.args.count c.requires.halved c.requires.room
+pub write_values_from-requires-clause-end : goal.write_values_from-requires-clause-end
+write_values_from-requires-clause-end g c = halved_end c.args.self.now (length c.args.points.now) c.args.count c.requires.halved c.requires.room
 
 pub returns-then-size-count-clause-values : goal.returns-then-size-count-clause-values
 returns-then-size-count-clause-values g c =
@@ -29,15 +29,15 @@ returns-then-size-count-clause-values g c =
     let size = size_of roots in
     let m = nodes K points in
     let is : size ≡ c.args.count = omega (arith, c.if-size-count.true, c.size.ensures.size) in
-    on_ok_weaker c.write_given.result
+    on_ok_weaker c.write_values_from.result
     (λ h q below given.
     let past : ℕ → g.row.F.Denot = λ j. product K m q (j + size) in
     h past q (subst (λ k. IsBelow K k q) is below)
-    (subst (IsGiven K roots c.args.self.now c.args.count q) (sym c.deref.ensures.value)
-    (halved_given K roots c.args.self.now c.args.count q c.args.factor.items c.requires.halved (subst (λ k. AreFirstValues K roots k q c.args.factor.items) is given)))
-    (stands_by_one K N c.args.count n m past q c.one.result (c.one.ensures ∙ g.met.F.Field.one_law)
-    (subst (λ k. StandsBefore K k n m past q) is (past_end K N size n size m q (omega (arith, c.requires.not_empty, c.requires.room, is)) below))))
-    c.write_given.ensures.values
+    (subst (Represents K roots c.args.self.now c.args.count q) (sym c.deref.ensures.value)
+    (halved_represents K roots c.args.self.now c.args.count q c.args.factor.items c.requires.halved (subst (λ k. AreFirstValues K roots k q c.args.factor.items) is given)))
+    (remainder_by_one K N c.args.count n m past q c.one.result (c.one.ensures ∙ g.met.F.Field.one_law)
+    (subst (λ k. IsScaledRemainderBefore K k n m past q) is (past_end K N size n size m q (omega (arith, c.requires.not_empty, c.requires.room, is)) below))))
+    c.write_values_from.ensures.values
 
 pub returns-clause-values : goal.returns-clause-values
 returns-clause-values g c =
@@ -66,7 +66,7 @@ returns-clause-values g c =
     c.interpolate.ensures.coefficients q (subst (λ k. IsBelow K k q) (sym len) below)
     (subst₂ (λ k v. AreFirstValues K roots k q v) (sym len) (sym first) given_values) in
     h past
-    (last_stand K N size n m past q (of_list K (take (length coeffs - start) (drop start coeffs))) c.requires.not_empty room
+    (last_coefficients K N size n m past q (of_list K (take (length coeffs - start) (drop start coeffs))) c.requires.not_empty room
     (λ j l.
     let place : size - n + j ≡ start + j = omega (arith, from) in
     ap q place ∙ ap (λ a. a (start + j)) (sym own ∙ ap (of_list K) (sym all)) ∙ sym (ap (λ t. of_list K t j) last ∙ get_or-drop start coeffs j K.zero))

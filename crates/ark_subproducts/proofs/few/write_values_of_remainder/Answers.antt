@@ -3,7 +3,7 @@ use Rattle.ark_math.specs.Univariate.{IsBelow, of_list, product}
 use Rattle.ark_math.proofs.Polynomials.UnivariateLists.{of_list-below}
 use Rattle.ark_math.specs.Nodes.{nodes}
 use Rattle.ark_subproducts.proofs.PastProducts.{past_points, values_past}
-use Rattle.ark_subproducts.proofs.few.write_stood_for.Goals as goal
+use Rattle.ark_subproducts.proofs.few.write_values_of_remainder.Goals as goal
 
 pub returns-clause-values : goal.returns-clause-values
 returns-clause-values g c p stands =

@@ -15,7 +15,7 @@ use Rattle.ark_math.proofs.Polynomials.UnivariateLists.{of_list-past}
 use Rattle.ark_math.proofs.Polynomials.UnivariateProducts.{product_comm, product_assoc, product-below, value-product}
 use Rattle.ark_math.proofs.Polynomials.UnivariateValues.{has_value, one_value, value-added}
 use Rattle.ark_math.proofs.Polynomials.LinearFactors.{linear-product}
-use Rattle.ark_subproducts.specs.Tree.{StandsBefore, StandsFor}
+use Rattle.ark_subproducts.specs.Tree.{IsScaledRemainderBefore, IsScaledRemainder}
 
 module _ {F : Type 0} (K : FieldOn F) (N : IsField K) where
   past_item : (q : ℕ → F) (z : F) (i k : ℕ) → product K q (linear_factor K z) (suc (k + i)) ≡ added K (product K (λ j. q (suc (j + i))) (linear_factor K z)) (constant K (q i)) k
@@ -57,8 +57,8 @@ module _ {F : Type 0} (K : FieldOn F) (N : IsField K) where
       ∙ ap (λ m. sum_below (itself K) m (λ i. K.times (c i) (t (h - 1 - i)))) (sym g)))
 
   -- down to a factor a of m
-  pub stands_for_factor : (end n h : ℕ) (m a b p s t : ℕ → F) → 0 < h → h ≤ end → h ≤ n → IsBelow K (n - h + 1) b → m ≡ product K a b → ((j : ℕ) → j < h → product K b s (end - h + j) ≡ t j) → StandsBefore K end n m p s → StandsFor K h a p t
-  stands_for_factor end n h m a b p s t some inside l finite whole same stands c z below is =
+  pub remainder_of_factor : (end n h : ℕ) (m a b p s t : ℕ → F) → 0 < h → h ≤ end → h ≤ n → IsBelow K (n - h + 1) b → m ≡ product K a b → ((j : ℕ) → j < h → product K b s (end - h + j) ≡ t j) → IsScaledRemainderBefore K end n m p s → IsScaledRemainder K h a p t
+  remainder_of_factor end n h m a b p s t some inside l finite whole same stands c z below is =
       let left : ℕ → F = product K c b in
       let whole_left : m ≡ product K left (linear_factor K z) =
       whole
@@ -71,7 +71,7 @@ module _ {F : Type 0} (K : FieldOn F) (N : IsField K) where
       (stands left z (λ i g. product-below K N h (n - h + 1) c b below finite i (omega arith)) whole_left)
 
   -- for what is past `end` of m times s, s itself stands
-  pub past_end : (end n k : ℕ) (m s : ℕ → F) → 0 < end → IsBelow K k s → StandsBefore K end n m (λ j. product K m s (j + end)) s
+  pub past_end : (end n k : ℕ) (m s : ℕ → F) → 0 < end → IsBelow K k s → IsScaledRemainderBefore K end n m (λ j. product K m s (j + end)) s
   past_end end n k m s some finite c z below is =
       let d : ℕ → F = product K c s in
       let i : ℕ = end - 1 in
@@ -85,12 +85,12 @@ module _ {F : Type 0} (K : FieldOn F) (N : IsField K) where
       subst (λ t. IsValue K t z (d i)) (fun_ext at) (quotient-item d (n + k - 1) z i (product-below K N n k c s below finite))
 
   -- the last n coefficients do so as they are
-  pub last_stand : (end n : ℕ) (m p s t : ℕ → F) → 0 < n → n ≤ end → ((j : ℕ) → j < n → s (end - n + j) ≡ t j) → StandsBefore K end n m p s → StandsFor K n m p t
-  last_stand end n m p s t some room same stands c z below is = subst (IsValue K p z) (item_by_few n end c s t room some below same) (stands c z below is)
+  pub last_coefficients : (end n : ℕ) (m p s t : ℕ → F) → 0 < n → n ≤ end → ((j : ℕ) → j < n → s (end - n + j) ≡ t j) → IsScaledRemainderBefore K end n m p s → IsScaledRemainder K n m p t
+  last_coefficients end n m p s t some room same stands c z below is = subst (IsValue K p z) (item_by_few n end c s t room some below same) (stands c z below is)
 
   -- at a leaf: what is past n of m times s has p's values at the roots
-  pub stands_at_leaf : (n k : ℕ) (m p s c : ℕ → F) (z y : F) → 0 < n → IsBelow K k s → IsBelow K n c → m ≡ product K c (linear_factor K z) → StandsFor K n m p s → IsValue K (λ j. product K m s (j + n)) z y → IsValue K p z y
-  stands_at_leaf n k m p s c z y some finite below is stands given =
+  pub remainder_at_leaf : (n k : ℕ) (m p s c : ℕ → F) (z y : F) → 0 < n → IsBelow K k s → IsBelow K n c → m ≡ product K c (linear_factor K z) → IsScaledRemainder K n m p s → IsValue K (λ j. product K m s (j + n)) z y → IsValue K p z y
+  remainder_at_leaf n k m p s c z y some finite below is stands given =
       subst (IsValue K p z)
       (one_value K N (λ j. product K m s (j + n)) z (product K c s (n - 1)) y (past_end n n k m s some finite c z below is) given)
       (stands c z below is)

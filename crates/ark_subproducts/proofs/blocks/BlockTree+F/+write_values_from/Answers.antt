@@ -5,46 +5,46 @@ use Rattle.ark_blocks.specs.Blocks.{AreValuesFrom, element_of}
 use Rattle.ark_math.specs.Univariate.{IsBelow, product, scaled}
 use Rattle.ark_math.proofs.Polynomials.UnivariateLoops.{cut, cut-inside, cut-outside}
 use Rattle.ark_math.specs.Nodes.{nodes}
-use Rattle.ark_subproducts.specs.Tree.{HasRoom, IsBlockTreeOver, IsGiven, StandsBefore, StandsFor}
+use Rattle.ark_subproducts.specs.Tree.{HasRoom, IsBlockTreeOver, Represents, IsScaledRemainderBefore, IsScaledRemainder}
 use Rattle.ark_subproducts.proofs.Halves.{high_below, low_below, values-halves}
-use Rattle.ark_subproducts.proofs.HandedDown.{handed_high, handed_low}
+use Rattle.ark_subproducts.proofs.MiddleProducts.{middle_high, middle_low}
 use Rattle.ark_subproducts.proofs.Nodes.{own_end}
 use Rattle.ark_blocks.proofs.PowersOfTwo.{half_is_power, two_halves}
-use Rattle.ark_subproducts.proofs.blocks.BlockTree+F.+write_given.Goals as goal
+use Rattle.ark_subproducts.proofs.blocks.BlockTree+F.+write_values_from.Goals as goal
 
-pub handed-requires-clause-power : goal.handed-requires-clause-power
-handed-requires-clause-power g t c =
+pub middle_product-requires-clause-power : goal.middle_product-requires-clause-power
+middle_product-requires-clause-power g t c =
     let tree = rw c.in-Halves.is at c.requires.tree in
     half_is_power c.args.count (omega (arith, tree.1.many, c.requires.room)) c.requires.power
 
-pub handed-requires-clause-left : goal.handed-requires-clause-left
-handed-requires-clause-left g t c =
+pub middle_product-requires-clause-left : goal.middle_product-requires-clause-left
+middle_product-requires-clause-left g t c =
     let tree = rw c.in-Halves.is at c.requires.tree in
     ap length c.deref-in-Halves.ensures.value ∙ tree.1.high.len ∙ sym (two_halves c.args.count (omega (arith, tree.1.many, c.requires.room)) c.requires.power)
 
-pub handed-requires-clause-right : goal.handed-requires-clause-right
-handed-requires-clause-right g t c =
+pub middle_product-requires-clause-right : goal.middle_product-requires-clause-right
+middle_product-requires-clause-right g t c =
     let tree = rw c.in-Halves.is at c.requires.tree in
     let given = rw c.in-Halves.is at c.requires.given in
     given ∙ sym (two_halves c.args.count (omega (arith, tree.1.many, c.requires.room)) c.requires.power)
 
-pub handed-requires-clause-room : goal.handed-requires-clause-room
-handed-requires-clause-room g t c =
+pub middle_product-requires-clause-room : goal.middle_product-requires-clause-room
+middle_product-requires-clause-room g t c =
     let tree = rw c.in-Halves.is at c.requires.tree in
     let last = rw c.in-Halves.is at c.requires.end in
     let twice = two_halves c.args.count (omega (arith, tree.1.many, c.requires.room)) c.requires.power in
     omega (arith, twice, last.1)
 
-pub handed-requires-clause-few : goal.handed-requires-clause-few
-handed-requires-clause-few g t c =
+pub middle_product-requires-clause-few : goal.middle_product-requires-clause-few
+middle_product-requires-clause-few g t c =
     let points = c.args.points.now in
     let half = length points / 2 in
     let tree = rw c.in-Halves.is at c.requires.tree in
     let twice = two_halves c.args.count (omega (arith, tree.1.many, c.requires.room)) c.requires.power in
     omega (arith, twice, c.requires.room, length-take-le half points (omega arith))
 
-pub write_given-requires : goal.write_given-requires
-write_given-requires g t c κs within =
+pub write_values_from-requires : goal.write_values_from-requires
+write_values_from-requires g t c κs within =
     let roots = c.args.blocks.now in
     let points = c.args.points.now in
     let count = c.args.count in
@@ -90,39 +90,39 @@ write_given-requires g t c κs within =
       ),
     )
 
-pub handed-requires-in-Halves-clause-power : goal.handed-requires-in-Halves-clause-power
-handed-requires-in-Halves-clause-power g t c =
+pub middle_product-requires-in-Halves-clause-power : goal.middle_product-requires-in-Halves-clause-power
+middle_product-requires-in-Halves-clause-power g t c =
     let tree = rw c.in-Halves.is at c.requires.tree in
     half_is_power c.args.count (omega (arith, tree.1.many, c.requires.room)) c.requires.power
 
-pub handed-requires-in-Halves-clause-left : goal.handed-requires-in-Halves-clause-left
-handed-requires-in-Halves-clause-left g t c =
+pub middle_product-requires-in-Halves-clause-left : goal.middle_product-requires-in-Halves-clause-left
+middle_product-requires-in-Halves-clause-left g t c =
     let tree = rw c.in-Halves.is at c.requires.tree in
     ap length c.deref-in-Halves-5.ensures.value ∙ tree.1.low.len ∙ sym (two_halves c.args.count (omega (arith, tree.1.many, c.requires.room)) c.requires.power)
 
-pub handed-requires-in-Halves-clause-right : goal.handed-requires-in-Halves-clause-right
-handed-requires-in-Halves-clause-right g t c =
+pub middle_product-requires-in-Halves-clause-right : goal.middle_product-requires-in-Halves-clause-right
+middle_product-requires-in-Halves-clause-right g t c =
     let tree = rw c.in-Halves.is at c.requires.tree in
     let given = rw c.in-Halves.is at c.requires.given in
     given ∙ sym (two_halves c.args.count (omega (arith, tree.1.many, c.requires.room)) c.requires.power)
 
-pub handed-requires-in-Halves-clause-room : goal.handed-requires-in-Halves-clause-room
-handed-requires-in-Halves-clause-room g t c =
+pub middle_product-requires-in-Halves-clause-room : goal.middle_product-requires-in-Halves-clause-room
+middle_product-requires-in-Halves-clause-room g t c =
     let tree = rw c.in-Halves.is at c.requires.tree in
     let last = rw c.in-Halves.is at c.requires.end in
     let twice = two_halves c.args.count (omega (arith, tree.1.many, c.requires.room)) c.requires.power in
     omega (arith, twice, last.1)
 
-pub handed-requires-in-Halves-clause-few : goal.handed-requires-in-Halves-clause-few
-handed-requires-in-Halves-clause-few g t c =
+pub middle_product-requires-in-Halves-clause-few : goal.middle_product-requires-in-Halves-clause-few
+middle_product-requires-in-Halves-clause-few g t c =
     let points = c.args.points.now in
     let half = length points / 2 in
     let tree = rw c.in-Halves.is at c.requires.tree in
     let twice = two_halves c.args.count (omega (arith, tree.1.many, c.requires.room)) c.requires.power in
     omega (arith, twice, c.requires.room, length-take-le (length points - half) (drop half points) (omega (arith, length-drop half points)))
 
-pub write_given-requires-in-Halves : goal.write_given-requires-in-Halves
-write_given-requires-in-Halves g t c κs within =
+pub write_values_from-requires-in-Halves : goal.write_values_from-requires-in-Halves
+write_values_from-requires-in-Halves g t c κs within =
     let roots = c.args.blocks.now in
     let points = c.args.points.now in
     let count = c.args.count in
@@ -180,8 +180,8 @@ returns-in-Few-clause-values g t c =
     on_ok_weaker c.write_few_values.result
     (λ h p s below has stands.
     h p
-    (subst (λ x. StandsFor K (length points) (nodes K points) p (scaled K c.args.scale x)) (sym (subst (λ x. IsGiven K roots x c.args.count s given) c.in-Few.is has))
-    (subst (λ m. StandsBefore K m (length points) (nodes K points) p (scaled K c.args.scale s)) last stands)))
+    (subst (λ x. IsScaledRemainder K (length points) (nodes K points) p (scaled K c.args.scale x)) (sym (subst (λ x. Represents K roots x c.args.count s given) c.in-Few.is has))
+    (subst (λ m. IsScaledRemainderBefore K m (length points) (nodes K points) p (scaled K c.args.scale s)) last stands)))
     c.write_few_values.ensures.values
 
 pub returns-in_ok-for_high-in-Halves-clause-values : goal.returns-in_ok-for_high-in-Halves-clause-values
@@ -211,18 +211,18 @@ returns-in_ok-for_high-in-Halves-clause-values g t c =
     let high_points = take (n - half) (drop half points) in
     let upper : high_points ≡ drop half points = take_all (n - half) (drop half points) (omega (arith, back)) in
     let rest : length high_points ≡ n - half = ap length upper ∙ back in
-    let new = c.write_given-in-Halves.new.values in
+    let new = c.write_values_from-in-Halves.new.values in
     let room : n ≤ part + part = omega (arith, whole, c.requires.room) in
     let high_inside : n - half ≤ end = omega (arith, last.0) in
     let low_inside : half ≤ end = omega (arith, last.0) in
-    on_ok_weaker c.write_given-in-Halves.result
+    on_ok_weaker c.write_values_from-in-Halves.result
     (λ h p s below has stands.
-    let S : AreValuesFrom K x 0 (part + part) s given = subst (λ m. AreValuesFrom K x 0 m s given) whole (subst (λ x. IsGiven K roots x count s given) c.in-Halves.is has) in
+    let S : AreValuesFrom K x 0 (part + part) s given = subst (λ m. AreValuesFrom K x 0 m s given) whole (subst (λ x. Represents K roots x count s given) c.in-Halves.is has) in
     let of_low : ℕ → g.row.F.Denot = λ j. product K backs s (end - half + j) in
     let of_high : ℕ → g.row.F.Denot = λ j. product K fronts s (end - (n - half) + j) in
-    values-halves K N points half less c.write_given.new.values new p
-    (omega (arith, c.in_ok-write_given-in-Halves.ensures.len, c.split_at_mut-to_low.ensures.front_len))
-    (handed_low K N roots points half less part end last.0 c.deref.result.now c.in_ok-for_low-in-Halves.for_low.items c.in_ok-for_low-in-Halves.by scale p s c.write_given.new.values some
+    values-halves K N points half less c.write_values_from.new.values new p
+    (omega (arith, c.in_ok-write_values_from-in-Halves.ensures.len, c.split_at_mut-to_low.ensures.front_len))
+    (middle_low K N roots points half less part end last.0 c.deref.result.now c.in_ok-for_low-in-Halves.for_low.items c.in_ok-for_low-in-Halves.by scale p s c.write_values_from.new.values some
     (c.in_ok-for_low-in-Halves.ensures.given backs s (cut K half of_low)
     (subst₂ (λ m v. AreValuesFrom K x 0 m backs v) whole (sym c.deref-in-Halves.ensures.value) values.high)
     S
@@ -231,9 +231,9 @@ returns-in_ok-for_high-in-Halves-clause-values g t c =
     (λ i l.
     let place : end - half + i ≡ end - length (take half points) + i = omega (arith, front) in
     cut-inside K half of_low i (omega (arith, l, last.0, front)) ∙ ap (product K backs s) place))
-    (λ t short given. c.in_ok-write_given-in-Halves.ensures.values p t short (subst₂ (λ x v. IsGiven K roots x part t v) (c.deref.ensures ∙ sym c.deref-in-Halves-2.ensures) (sym c.deref-in-Halves-3.ensures.value) given))
+    (λ t short given. c.in_ok-write_values_from-in-Halves.ensures.values p t short (subst₂ (λ x v. Represents K roots x part t v) (c.deref.ensures ∙ sym c.deref-in-Halves-2.ensures) (sym c.deref-in-Halves-3.ensures.value) given))
     stands)
-    (handed_high K N roots points half less part end last.0 c.deref-in-Halves-4.result.now c.in_ok-for_high-in-Halves.for_high.items c.in_ok-for_high-in-Halves.by scale p s new high_points upper
+    (middle_high K N roots points half less part end last.0 c.deref-in-Halves-4.result.now c.in_ok-for_high-in-Halves.for_high.items c.in_ok-for_high-in-Halves.by scale p s new high_points upper
     (c.in_ok-for_high-in-Halves.ensures.given fronts s (cut K (n - half) of_high)
     (subst₂ (λ m v. AreValuesFrom K x 0 m fronts v) whole (sym c.deref-in-Halves-5.ensures.value) values.low)
     S
@@ -242,6 +242,6 @@ returns-in_ok-for_high-in-Halves-clause-values g t c =
     (λ i l.
     let place : end - (n - half) + i ≡ end - length high_points + i = omega (arith, rest) in
     cut-inside K (n - half) of_high i (omega (arith, l, last.0, rest)) ∙ ap (product K fronts s) place))
-    (λ t short given. h p t short (subst₂ (λ x v. IsGiven K roots x part t v) (c.deref-in-Halves-4.ensures ∙ sym c.deref-in-Halves-6.ensures) (sym c.deref-in-Halves-7.ensures.value) given))
+    (λ t short given. h p t short (subst₂ (λ x v. Represents K roots x part t v) (c.deref-in-Halves-4.ensures ∙ sym c.deref-in-Halves-6.ensures) (sym c.deref-in-Halves-7.ensures.value) given))
     stands))
-    c.write_given-in-Halves.ensures.values
+    c.write_values_from-in-Halves.ensures.values

@@ -2,7 +2,7 @@ use Rattle.std.proofs.Common.{◌≡◌, ◌+◌, ◌-◌, ◌/◌, length, drop
 use Rattle.std.proofs.lemmas.List.{get_or-append_right, get_or_append_left, length-append}
 use Rattle.ark_math.specs.Univariate.{of_list, product}
 use Rattle.ark_math.specs.Nodes.{nodes}
-use Rattle.ark_subproducts.proofs.few.hand_to_halves.Goals as goal
+use Rattle.ark_subproducts.proofs.few.halve_remainder.Goals as goal
 
 pub returns-clause-low : goal.returns-clause-low
 returns-clause-low g c j l =

@@ -1,9 +1,9 @@
 use Rattle.std.proofs.Common.{◌≡◌, ℕ, ◌+◌, ◌-◌, ◌<◌, refl, sym, ap, ap₂, subst, ◌∙◌, arith}
 use Rattle.ark_math.specs.Univariate.{IsBelow, added, product, scaled}
 use Rattle.ark_math.proofs.Polynomials.Univariate.{added-below}
-use Rattle.ark_subproducts.specs.Tree.{IsGiven}
+use Rattle.ark_subproducts.specs.Tree.{Represents}
 use Rattle.ark_subproducts.proofs.Multiples.{scaled_by_half}
-use Rattle.ark_subproducts.proofs.blocks.handed.Goals as goal
+use Rattle.ark_subproducts.proofs.blocks.middle_product.Goals as goal
 
 pub returns-then-end-start-clause-given : goal.returns-then-end-start-clause-given
 returns-then-end-start-clause-given g c =
@@ -19,7 +19,7 @@ returns-then-end-start-clause-given g c =
     record {
       own = added K t t;
       below = added-below K N (c.args.end - c.args.start) t t below below;
-      given = subst (λ tree. IsGiven K roots tree count (added K t t) c.in_ok-doubled.doubled.items) (sym c.in-Halves.is)
+      given = subst (λ tree. Represents K roots tree count (added K t t) c.in_ok-doubled.doubled.items) (sym c.in-Halves.is)
           (c.in_ok-doubled.ensures.values a b (added K t t) A B
           (subst (λ n. IsBelow K (n + (count + count)) (product K a b)) start short)
           (subst (λ n. IsBelow K n (added K t t)) rest (added-below K N (c.args.end - c.args.start) t t below below))
