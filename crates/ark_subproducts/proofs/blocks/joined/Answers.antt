@@ -38,21 +38,103 @@ extended-requires-2-clause-begun g c =
     begun_from_half K c.args.blocks.now coeffs c.args.high.1 c.args.count (nodes K back) (omega (arith, c.requires.many, c.requires.room)) c.requires.power
     (omega (arith, nodes-length K N back coeffs c.coeffs-2.ensures.trimmed is, length-drop half points, two_halves c.args.count (omega (arith, c.requires.many, c.requires.room)) c.requires.power, c.requires.room)) is c.requires.high_values
 
-pub returns : goal.returns
-returns g c =
+pub coefficients-requires-clause-left : goal.coefficients-requires-clause-left
+coefficients-requires-clause-left g c =
     let K = g.F.Field.field in
     let N = g.met.F.Field.field_laws in
-    let roots = c.args.blocks.now in
-    let x = element_of K roots in
     let points = c.args.points.now in
-    let count = c.args.count in
-    let part = count / 2 in
     let half = length points / 2 in
+    let roots = c.args.blocks.now in
+    let part = c.args.count / 2 in
     let front = take half points in
     let back = drop half points in
+    let left : of_list K c.coeffs-left.result.now ≡ nodes K front =
+    ap (of_list K) (c.coeffs-left.ensures.same ∙ c.product-3.ensures)
+    ∙ blocks-whole K N roots part front c.deref-5.result.now (subst (IsBlockTreeOver K roots part front) (sym c.deref-5.ensures) c.requires.low) in
+    let right : of_list K c.coeffs-right.result.now ≡ nodes K back =
+    ap (of_list K) (c.coeffs-right.ensures.same ∙ c.product-4.ensures)
+    ∙ blocks-whole K N roots part back c.deref-6.result.now (subst (IsBlockTreeOver K roots part back) (sym c.deref-6.ensures) c.requires.high) in
+    omega (arith, nodes-length K N front c.coeffs-left.result.now c.coeffs-left.ensures.trimmed left)
+
+pub coefficients-requires-clause-right : goal.coefficients-requires-clause-right
+coefficients-requires-clause-right g c =
+    let K = g.F.Field.field in
+    let N = g.met.F.Field.field_laws in
+    let points = c.args.points.now in
+    let half = length points / 2 in
+    let roots = c.args.blocks.now in
+    let part = c.args.count / 2 in
+    let front = take half points in
+    let back = drop half points in
+    let left : of_list K c.coeffs-left.result.now ≡ nodes K front =
+    ap (of_list K) (c.coeffs-left.ensures.same ∙ c.product-3.ensures)
+    ∙ blocks-whole K N roots part front c.deref-5.result.now (subst (IsBlockTreeOver K roots part front) (sym c.deref-5.ensures) c.requires.low) in
+    let right : of_list K c.coeffs-right.result.now ≡ nodes K back =
+    ap (of_list K) (c.coeffs-right.ensures.same ∙ c.product-4.ensures)
+    ∙ blocks-whole K N roots part back c.deref-6.result.now (subst (IsBlockTreeOver K roots part back) (sym c.deref-6.ensures) c.requires.high) in
+    omega (arith, nodes-length K N back c.coeffs-right.result.now c.coeffs-right.ensures.trimmed right)
+
+pub coefficients-requires-clause-few : goal.coefficients-requires-clause-few
+coefficients-requires-clause-few g c =
+    let K = g.F.Field.field in
+    let N = g.met.F.Field.field_laws in
+    let points = c.args.points.now in
+    let half = length points / 2 in
+    let roots = c.args.blocks.now in
+    let part = c.args.count / 2 in
+    let front = take half points in
+    let back = drop half points in
+    let left : of_list K c.coeffs-left.result.now ≡ nodes K front =
+    ap (of_list K) (c.coeffs-left.ensures.same ∙ c.product-3.ensures)
+    ∙ blocks-whole K N roots part front c.deref-5.result.now (subst (IsBlockTreeOver K roots part front) (sym c.deref-5.ensures) c.requires.low) in
+    let right : of_list K c.coeffs-right.result.now ≡ nodes K back =
+    ap (of_list K) (c.coeffs-right.ensures.same ∙ c.product-4.ensures)
+    ∙ blocks-whole K N roots part back c.deref-6.result.now (subst (IsBlockTreeOver K roots part back) (sym c.deref-6.ensures) c.requires.high) in
+    let values = ap length c.deref-7.ensures.value ∙ c.in_ok-values.ensures.len ∙ ap length c.deref-3.ensures.value ∙ c.in_ok-low_values.ensures.values.len in
+    omega (arith, nodes-length K N back c.coeffs-right.result.now c.coeffs-right.ensures.trimmed right, values, length-drop half points, c.requires.many, c.requires.room)
+
+pub coefficients-requires-clause-room : goal.coefficients-requires-clause-room
+coefficients-requires-clause-room g c =
+    let K = g.F.Field.field in
+    let N = g.met.F.Field.field_laws in
+    let points = c.args.points.now in
+    let half = length points / 2 in
+    let roots = c.args.blocks.now in
+    let part = c.args.count / 2 in
+    let front = take half points in
+    let back = drop half points in
+    let left : of_list K c.coeffs-left.result.now ≡ nodes K front =
+    ap (of_list K) (c.coeffs-left.ensures.same ∙ c.product-3.ensures)
+    ∙ blocks-whole K N roots part front c.deref-5.result.now (subst (IsBlockTreeOver K roots part front) (sym c.deref-5.ensures) c.requires.low) in
+    let right : of_list K c.coeffs-right.result.now ≡ nodes K back =
+    ap (of_list K) (c.coeffs-right.ensures.same ∙ c.product-4.ensures)
+    ∙ blocks-whole K N roots part back c.deref-6.result.now (subst (IsBlockTreeOver K roots part back) (sym c.deref-6.ensures) c.requires.high) in
+    let values = ap length c.deref-7.ensures.value ∙ c.in_ok-values.ensures.len ∙ ap length c.deref-3.ensures.value ∙ c.in_ok-low_values.ensures.values.len in
+    let low = nodes-length K N front c.coeffs-left.result.now c.coeffs-left.ensures.trimmed left in
+    let high = nodes-length K N back c.coeffs-right.result.now c.coeffs-right.ensures.trimmed right in
+    omega (arith, low, high, values, length-take-le half points (omega arith), length-drop half points, c.requires.many, c.requires.room)
+
+pub returns : goal.returns
+returns g c =
+    let x = element_of g.F.Field.field c.args.blocks.now in
+    let count = c.args.count in
     let low = c.in_ok-low_values.low_values.items in
     let high = c.in_ok-high_values.high_values.items in
     let all = c.in_ok-values.values.items in
+    let K = g.F.Field.field in
+    let N = g.met.F.Field.field_laws in
+    let points = c.args.points.now in
+    let half = length points / 2 in
+    let roots = c.args.blocks.now in
+    let part = c.args.count / 2 in
+    let front = take half points in
+    let back = drop half points in
+    let left : of_list K c.coeffs-left.result.now ≡ nodes K front =
+    ap (of_list K) (c.coeffs-left.ensures.same ∙ c.product-3.ensures)
+    ∙ blocks-whole K N roots part front c.deref-5.result.now (subst (IsBlockTreeOver K roots part front) (sym c.deref-5.ensures) c.requires.low) in
+    let right : of_list K c.coeffs-right.result.now ≡ nodes K back =
+    ap (of_list K) (c.coeffs-right.ensures.same ∙ c.product-4.ensures)
+    ∙ blocks-whole K N roots part back c.deref-6.result.now (subst (IsBlockTreeOver K roots part back) (sym c.deref-6.ensures) c.requires.high) in
     let low_is : of_list K c.coeffs.result.now ≡ nodes K front =
     ap (of_list K) (c.coeffs.ensures.same ∙ c.product.ensures)
     ∙ blocks-whole K N roots part front c.deref.result.now (subst (IsBlockTreeOver K roots part front) (sym c.deref.ensures) c.requires.low) in
@@ -68,12 +150,12 @@ returns g c =
     (λ i l.
     c.in_ok-values.ensures.products i (omega (arith, l, ap length c.deref-3.ensures.value, V.len))
     ∙ ap₂ (λ s t. K.times (of_list K s i) (of_list K t i)) c.deref-3.ensures.value c.deref-4.ensures.value)) in
-    let same = c.deref-5.ensures.value in
+    let factors : product K (of_list K c.coeffs-left.result.now) (of_list K c.coeffs-right.result.now) ≡ nodes K points = ap₂ (product K) left right ∙ nodes-halves K N points half in
+    let own : AreValuesFrom K x 0 (length c.deref-7.result.now) (product K (of_list K c.coeffs-left.result.now) (of_list K c.coeffs-right.result.now)) c.deref-7.result.now =
+    subst₂ (λ p v. AreValuesFrom K x 0 (length v) p v) (sym factors) (sym c.deref-7.ensures.value) (subst (λ m. AreValuesFrom K x 0 m (nodes K points) all) (sym len) whole) in
     record {
       tree = subst (IsBlockTreeOver K roots count points) (sym c.in_ok-new.ensures.ok) (
-        c.in_ok-product.ensures.monic (nodes K points)
-            (subst₂ (λ n v. AreValuesFrom K x 0 n (nodes K points) v) (sym (ap length same ∙ len)) (sym same) whole)
-            (nodes_monic K N points),
+        c.from_coefficients_vec-product.ensures.coefficients ∙ c.in_ok-coeffs.ensures.product own ∙ factors,
         record { many = c.requires.many; low = V; high = W },
         c.requires.low,
         c.requires.high,

@@ -18,8 +18,8 @@ extended-requires-clause-begun g c =
     subst (λ s. IsBegun g.F.Field.field c.args.table.now count s c.in_ok-coeffs.known) (sym c.deref.ensures.value)
     (c.in_ok-coeffs.ensures.begun count c.requires.many (c.count_for.ensures.least count c.requires.power c.requires.few))
 
-pub returns-clause-values : goal.returns-clause-values
-returns-clause-values g c =
+pub returns : goal.returns
+returns g c =
     let K = g.F.Field.field in
     let is = ap (of_list K) c.deref.ensures.value ∙ c.in_ok-coeffs.ensures.product in
-    IfOk_more c.extended.result (λ v V. subst (λ a. AreFirstValues K c.args.table.now c.args.count a v.items) is V) c.extended.ensures.values
+    record { values = IfOk_more c.extended.result (λ v V. subst (λ a. AreFirstValues K c.args.table.now c.args.count a v.items) is V) c.extended.ensures.values }

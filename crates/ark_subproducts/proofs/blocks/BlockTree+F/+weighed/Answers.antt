@@ -1,13 +1,40 @@
-use Rattle.std.proofs.Common.{rules, ◌≡◌, ◌-◌, ◌/◌, ◌<◌, length, take, drop, sym, ap, subst, subst₂, ◌∙◌, arith, IfSome}
+use Rattle.std.proofs.Common.{rules, ◌≡◌, ◌-◌, ◌/◌, ◌<◌, length, take, drop, refl, sym, ap, subst, subst₂, ◌∙◌, arith, IfSome}
 use Rattle.std.proofs.lemmas.List.{length-drop, length-take-le, take_all}
 use Rattle.std.proofs.lemmas.Result.{IfOk-weaker}
-use Rattle.ark_blocks.specs.Blocks.{AreValuesFrom, element_of}
+use Rattle.ark_blocks.specs.Blocks.{AreFirstValues, AreValuesFrom, element_of}
 use Rattle.ark_math.specs.Univariate.{of_list}
 use Rattle.ark_math.specs.Nodes.{nodes}
 use Rattle.ark_subproducts.specs.Tree.{IsBlockTreeOver}
 use Rattle.ark_subproducts.proofs.BlockWeighed.{weighed_by_halves}
 use Rattle.ark_blocks.proofs.PowersOfTwo.{half_is_power, two_halves}
+use Rattle.ark_subproducts.proofs.TableProducts.{begun_from_half}
 use Rattle.ark_subproducts.proofs.blocks.BlockTree+F.+weighed.Goals as goal
+
+pub extended-requires-clause-begun : goal.extended-requires-clause-begun
+extended-requires-clause-begun g t c =
+    let K = g.F.Field.field in
+    let roots = c.args.blocks.now in
+    let count = c.args.count in
+    let tree = rw c.in-Halves.is at c.requires.tree in
+    let many : 1 < count = omega (arith, tree.1.many, c.requires.room) in
+    let sum = c.in_ok-low_sum-in-Halves in
+    let coeffs = c.deref-in-Halves.result.now in
+    let same = c.deref-in-Halves.ensures.value in
+    begun_from_half K roots coeffs sum.low_known count (of_list K coeffs) many c.requires.power (omega (arith, ap length same, sum.ensures.few)) refl
+    (subst (λ s. IfSome sum.low_known (λ v. AreFirstValues K roots (count / 2) (of_list K s) v.items)) (sym same) sum.ensures.values)
+
+pub extended-requires-in-Halves-clause-begun : goal.extended-requires-in-Halves-clause-begun
+extended-requires-in-Halves-clause-begun g t c =
+    let K = g.F.Field.field in
+    let roots = c.args.blocks.now in
+    let count = c.args.count in
+    let tree = rw c.in-Halves.is at c.requires.tree in
+    let many : 1 < count = omega (arith, tree.1.many, c.requires.room) in
+    let sum = c.in_ok-high_sum-in-Halves in
+    let coeffs = c.deref-in-Halves-3.result.now in
+    let same = c.deref-in-Halves-3.ensures.value in
+    begun_from_half K roots coeffs sum.high_known count (of_list K coeffs) many c.requires.power (omega (arith, ap length same, sum.ensures.few)) refl
+    (subst (λ s. IfSome sum.high_known (λ v. AreFirstValues K roots (count / 2) (of_list K s) v.items)) (sym same) sum.ensures.values)
 
 pub weighed-requires : goal.weighed-requires
 weighed-requires g t c κs within =
