@@ -1,6 +1,6 @@
 //! Polynomials at many points of a caller's own, and shares of secrets.
 
-use crate::batches::{Benchmark, Counted, Number, mixed, report};
+use crate::batches::{Benchmark, Counted, Number, Reporter, mixed};
 use crate::draws::Draws;
 use ark_base::{Field, PolyError, Polynomial};
 use ark_points::{evaluate_at, from_points};
@@ -96,12 +96,11 @@ impl<F: Field + Number> Benchmark for Shares<F> {
 }
 
 /// Values at as many points as a polynomial has coefficients, and the polynomial through as many, under these names.
-pub fn report_at_points<F: Counted>(
-    rt: &(impl Print + Clock),
-    alloc: Global,
-    timed: bool,
+pub fn report_at_points<F: Counted, R: Print + Clock>(
+    reporter: &Reporter<'_, R>,
     names: [&'static str; 2],
 ) -> anyhow::Result<()> {
+    let alloc = reporter.alloc;
     let [at, through] = names;
     let mut draws = Draws::new();
     let len = 1 << 12;
@@ -109,22 +108,20 @@ pub fn report_at_points<F: Counted>(
         polynomial: draws.dense(alloc, len)?,
         points: draws.list(alloc, len)?,
     };
-    report(rt, alloc, timed, at, len, &mut values)?;
+    reporter.report(at, len, &mut values)?;
     let mut points = Vec::with_capacity(alloc, len)?;
     for i in 0..len {
         points.push((F::from(i as u64), draws.element()))?;
     }
     let mut polynomial = ThroughPoints::<F> { points };
-    report(rt, alloc, timed, through, len, &mut polynomial)
+    reporter.report(through, len, &mut polynomial)
 }
 
 /// Shares of secrets at five points.
-pub fn report_shares<F: Counted>(
-    rt: &(impl Print + Clock),
-    alloc: Global,
-    timed: bool,
+pub fn report_shares<F: Counted, R: Print + Clock>(
+    reporter: &Reporter<'_, R>,
 ) -> anyhow::Result<()> {
-    let mut points = Vec::new(alloc);
+    let mut points = Vec::new(reporter.alloc);
     for i in 1..=5 {
         points.push(F::from(i))?;
     }
@@ -134,5 +131,5 @@ pub fn report_shares<F: Counted>(
         sum: F::zero(),
     };
     let name = "share_3_of_5";
-    report(rt, alloc, timed, name, SECRETS as usize, &mut shares)
+    reporter.report(name, SECRETS as usize, &mut shares)
 }

@@ -59,51 +59,54 @@ pub fn mixed<F: Number>(values: &[F]) -> u64 {
     sum
 }
 
-/// Prints a benchmark's line: its name, its size, and its checksum after one call or, timed, the nanoseconds of a call.
-pub fn report<B: Benchmark>(
-    rt: &(impl Print + Clock),
-    alloc: Global,
-    timed: bool,
-    name: &str,
-    size: usize,
-    benchmark: &mut B,
-) -> anyhow::Result<()> {
-    if timed {
-        let nanos = least(rt, alloc, benchmark)?;
-        println!(rt; "# checksum {}", benchmark.checksum())?;
-        println!(rt; "{name}\t{size}\t{nanos}")?;
-    } else {
-        benchmark.call(alloc)?;
-        println!(rt; "{name}\t{size}\t{}", benchmark.checksum())?;
-    }
-    Ok(())
+/// Where the lines go, and whether benchmarks are timed or made once.
+#[derive(Drop)]
+pub struct Reporter<'a, R> {
+    pub rt: &'a R,
+    pub alloc: Global,
+    pub timed: bool,
 }
 
 const BATCHES: u32 = 30;
 
 const BATCH_NANOS: u64 = 20_000_000;
 
-/// The nanoseconds of a call in the quickest batch.
-fn least<B: Benchmark>(rt: &impl Clock, alloc: Global, benchmark: &mut B) -> anyhow::Result<u64> {
-    let once = batch(rt, alloc, benchmark, 1)?;
-    let calls = (BATCH_NANOS / once.max(1)).clamp(1, 1_000_000);
-    let mut least = once;
-    for _ in 0..BATCHES {
-        least = least.min(batch(rt, alloc, benchmark, calls)? / calls);
+impl<'a, R: Print + Clock> Reporter<'a, R> {
+    /// Prints a benchmark's line: its name, its size, and its checksum after one call or, timed, the nanoseconds of a call.
+    pub fn report<B: Benchmark>(
+        &self,
+        name: &str,
+        size: usize,
+        benchmark: &mut B,
+    ) -> anyhow::Result<()> {
+        if self.timed {
+            let nanos = self.least(benchmark)?;
+            println!(self.rt; "# checksum {}", benchmark.checksum())?;
+            println!(self.rt; "{name}\t{size}\t{nanos}")?;
+        } else {
+            benchmark.call(self.alloc)?;
+            println!(self.rt; "{name}\t{size}\t{}", benchmark.checksum())?;
+        }
+        Ok(())
     }
-    Ok(least)
-}
 
-/// The nanoseconds of some calls.
-fn batch<B: Benchmark>(
-    rt: &impl Clock,
-    alloc: Global,
-    benchmark: &mut B,
-    calls: u64,
-) -> anyhow::Result<u64> {
-    let start = Instant::now(rt)?;
-    for _ in 0..calls {
-        benchmark.call(alloc)?;
+    /// The nanoseconds of a call in the quickest batch.
+    fn least<B: Benchmark>(&self, benchmark: &mut B) -> anyhow::Result<u64> {
+        let once = self.batch(benchmark, 1)?;
+        let calls = (BATCH_NANOS / once.max(1)).clamp(1, 1_000_000);
+        let mut least = once;
+        for _ in 0..BATCHES {
+            least = least.min(self.batch(benchmark, calls)? / calls);
+        }
+        Ok(least)
     }
-    Ok(u64::try_from(start.elapsed(rt)?.as_nanos()).unwrap_or(u64::MAX))
+
+    /// The nanoseconds of some calls.
+    fn batch<B: Benchmark>(&self, benchmark: &mut B, calls: u64) -> anyhow::Result<u64> {
+        let start = Instant::now(self.rt)?;
+        for _ in 0..calls {
+            benchmark.call(self.alloc)?;
+        }
+        Ok(u64::try_from(start.elapsed(self.rt)?.as_nanos()).unwrap_or(u64::MAX))
+    }
 }

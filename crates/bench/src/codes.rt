@@ -1,6 +1,6 @@
 //! Calls of erasure codes, and transforms of rows.
 
-use crate::batches::{Benchmark, Counted, Number, mixed, report};
+use crate::batches::{Benchmark, Counted, Number, Reporter, mixed};
 use crate::draws::Draws;
 use ark_base::{DomainCoeff, F65537, FftField, PolyError, Zero};
 use ark_poly::{EvaluationDomain, Radix2EvaluationDomain};
@@ -77,37 +77,35 @@ impl Benchmark for RowsInPlace {
 }
 
 /// Codes of half as many items as places, over elements and over pairs of them; and transforms of rows of eight.
-pub fn report_codes<F: Counted>(
-    rt: &(impl Print + Clock),
-    alloc: Global,
-    timed: bool,
+pub fn report_codes<F: Counted, R: Print + Clock>(
+    reporter: &Reporter<'_, R>,
 ) -> anyhow::Result<()> {
+    let alloc = reporter.alloc;
     let mut draws = Draws::new();
     for n in [1 << 12, 1 << 16] {
         let message = draws.list::<F>(alloc, n / 2)?;
-        report_code(rt, alloc, timed, "", n, message)?;
+        report_code(reporter, "", n, message)?;
         let pairs = draws.pairs::<F>(alloc, n / 2)?;
-        report_code(rt, alloc, timed, "_of_pairs", n, pairs)?;
+        report_code(reporter, "_of_pairs", n, pairs)?;
     }
-    report_rows(rt, alloc, timed, &mut draws)
+    report_rows(reporter, &mut draws)
 }
 
 // A message's codeword, and the codeword with a quarter and with half of its places erased, which are drawn.
-fn report_code<F: Counted, T: DomainCoeff<F> + Number>(
-    rt: &(impl Print + Clock),
-    alloc: Global,
-    timed: bool,
+fn report_code<F: Counted, T: DomainCoeff<F> + Number, R: Print + Clock>(
+    reporter: &Reporter<'_, R>,
     of: &str,
     n: usize,
     message: Vec<T>,
 ) -> anyhow::Result<()> {
+    let alloc = reporter.alloc;
     let Some(code) = Code::<F>::new(n / 2, n) else {
         return Ok(());
     };
     let codeword = code.encode(alloc, &message)?;
     for (part, count) in [("quarter", n / 4), ("half", n / 2)] {
         let name = format!(in alloc; "code_restore_{part}{of}")?;
-        report_restoring(rt, alloc, timed, &name, n, count, &codeword)?;
+        report_restoring(reporter, &name, n, count, &codeword)?;
     }
     let name = format!(in alloc; "code_encode{of}")?;
     let mut encoding = Encoding {
@@ -115,19 +113,18 @@ fn report_code<F: Counted, T: DomainCoeff<F> + Number>(
         message,
         codeword,
     };
-    report(rt, alloc, timed, &name, n, &mut encoding)
+    reporter.report(&name, n, &mut encoding)
 }
 
 // So many places are erased. Which ones is drawn, and the same for all codewords of one length.
-fn report_restoring<F: Counted, T: DomainCoeff<F> + Number>(
-    rt: &(impl Print + Clock),
-    alloc: Global,
-    timed: bool,
+fn report_restoring<F: Counted, T: DomainCoeff<F> + Number, R: Print + Clock>(
+    reporter: &Reporter<'_, R>,
     name: &str,
     n: usize,
     count: usize,
     codeword: &[T],
 ) -> anyhow::Result<()> {
+    let alloc = reporter.alloc;
     let Some(code) = Code::<F>::new(n / 2, n) else {
         return Ok(());
     };
@@ -137,7 +134,7 @@ fn report_restoring<F: Counted, T: DomainCoeff<F> + Number>(
         word: with_erased(alloc, codeword, &erased)?,
         codeword: Vec::new(alloc),
     };
-    report(rt, alloc, timed, name, n, &mut restoring)
+    reporter.report(name, n, &mut restoring)
 }
 
 // The values at all places but those that are erased.
@@ -153,16 +150,14 @@ fn with_erased<T: Copy>(
     Ok(word)
 }
 
-fn report_rows(
-    rt: &(impl Print + Clock),
-    alloc: Global,
-    timed: bool,
+fn report_rows<R: Print + Clock>(
+    reporter: &Reporter<'_, R>,
     draws: &mut Draws,
 ) -> anyhow::Result<()> {
     let Some(domain) = Radix2EvaluationDomain::<F65537>::new(1 << 12) else {
         return Ok(());
     };
-    let mut rows = Vec::with_capacity(alloc, domain.size())?;
+    let mut rows = Vec::with_capacity(reporter.alloc, domain.size())?;
     for _ in 0..domain.size() {
         let mut row = Row::<F65537, 8>::zero();
         for lane in 0..8 {
@@ -172,5 +167,5 @@ fn report_rows(
     }
     let mut transforms = RowsInPlace { domain, rows };
     let name = "rows_of_8_fft_in_place";
-    report(rt, alloc, timed, name, 1 << 12, &mut transforms)
+    reporter.report(name, 1 << 12, &mut transforms)
 }

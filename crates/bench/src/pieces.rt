@@ -3,7 +3,7 @@
 ghost use Rattle.std.specs.Prelude.{◌≡◌, ℕ, ◌*◌, ◌<◌, ◌≤◌, ◌^◌, length, get_or, IfOk};
 ghost use Rattle.shards_format.specs.Files.{AreApart};
 
-use crate::batches::{Benchmark, mixed, report};
+use crate::batches::{Benchmark, Reporter, mixed};
 use crate::draws::Draws;
 use ark_base::PolyError;
 use sha2::{Digest, Sha256};
@@ -246,30 +246,27 @@ impl Benchmark for Hashing {
 }
 
 /// A file's digest; its pieces, and the file from as few of them as give it; and the last two without digests.
-pub fn report_pieces<C: StripeCode>(
-    rt: &(impl Print + Clock),
-    alloc: Global,
-    timed: bool,
+pub fn report_pieces<C: StripeCode, R: Print + Clock>(
+    reporter: &Reporter<'_, R>,
 ) -> anyhow::Result<()> {
     let mut hashing = Hashing {
-        file: Draws::new().bytes(alloc, FILE)?,
+        file: Draws::new().bytes(reporter.alloc, FILE)?,
         digest: [0; 32],
     };
-    report(rt, alloc, timed, "digest", FILE, &mut hashing)?;
+    reporter.report("digest", FILE, &mut hashing)?;
     for (k, n) in [(7, 10), (64, 128), (128, 256)] {
-        report_pieces_of::<C>(rt, alloc, timed, k, n)?;
-        report_bodies_of::<C>(rt, alloc, timed, k, n)?;
+        report_pieces_of::<C, R>(reporter, k, n)?;
+        report_bodies_of::<C, R>(reporter, k, n)?;
     }
     Ok(())
 }
 
-fn report_pieces_of<C: StripeCode>(
-    rt: &(impl Print + Clock),
-    alloc: Global,
-    timed: bool,
+fn report_pieces_of<C: StripeCode, R: Print + Clock>(
+    reporter: &Reporter<'_, R>,
     k: usize,
     n: usize,
 ) -> anyhow::Result<()> {
+    let alloc = reporter.alloc;
     let Some(code) = C::new(k, n) else {
         return Ok(());
     };
@@ -279,7 +276,7 @@ fn report_pieces_of<C: StripeCode>(
         pieces: Vec::new(alloc),
     };
     let name = format!(in alloc; "split_{k}_of_{n}")?;
-    report(rt, alloc, timed, &name, FILE, &mut splitting)?;
+    reporter.report(&name, FILE, &mut splitting)?;
     let Splitting { code, pieces, .. } = splitting;
     let mut joining = Joining {
         code,
@@ -288,16 +285,15 @@ fn report_pieces_of<C: StripeCode>(
         file: Vec::new(alloc),
     };
     let name = format!(in alloc; "join_{k}_of_{n}")?;
-    report(rt, alloc, timed, &name, FILE, &mut joining)
+    reporter.report(&name, FILE, &mut joining)
 }
 
-fn report_bodies_of<C: StripeCode>(
-    rt: &(impl Print + Clock),
-    alloc: Global,
-    timed: bool,
+fn report_bodies_of<C: StripeCode, R: Print + Clock>(
+    reporter: &Reporter<'_, R>,
     k: usize,
     n: usize,
 ) -> anyhow::Result<()> {
+    let alloc = reporter.alloc;
     let Some(code) = C::new(k, n) else {
         return Ok(());
     };
@@ -307,7 +303,7 @@ fn report_bodies_of<C: StripeCode>(
         bodies: Vec::new(alloc),
     };
     let name = format!(in alloc; "split_{k}_of_{n}_without_digests")?;
-    report(rt, alloc, timed, &name, FILE, &mut splitting)?;
+    reporter.report(&name, FILE, &mut splitting)?;
     let SplittingBodies { code, bodies, .. } = splitting;
     let mut joining = JoiningBodies {
         code,
@@ -315,5 +311,5 @@ fn report_bodies_of<C: StripeCode>(
         file: Vec::new(alloc),
     };
     let name = format!(in alloc; "join_{k}_of_{n}_without_digests")?;
-    report(rt, alloc, timed, &name, FILE, &mut joining)
+    reporter.report(&name, FILE, &mut joining)
 }
