@@ -72,7 +72,8 @@ const BATCHES: u32 = 30;
 const BATCH_NANOS: u64 = 20_000_000;
 
 impl<'a, R: Print + Clock> Reporter<'a, R> {
-    /// Prints a benchmark's line: its name, its size, and its checksum after one call or, timed, the nanoseconds of a call.
+    /// Prints a benchmark's line: its name, its size, and its checksum after one call or, timed, the nanoseconds of a
+    /// call.
     pub fn report<B: Benchmark>(
         &self,
         name: &str,

@@ -55,8 +55,8 @@ fn main(rt: HostRuntime) -> anyhow::Result<()> {
     report_all::<F65537, F433, BabyBear, KoalaBear, Goldilocks, FileCode, HostRuntime>(&reporter)
 }
 
-// Everything, over a field with 2^16 units, one with mixed domains, and three with large domains; and the pieces of files by
-// a code.
+// Everything, over a field with 2^16 units, one with mixed domains, and three with large domains; and the pieces of
+// files by a code.
 fn report_all<
     F: Counted,
     M: Counted,

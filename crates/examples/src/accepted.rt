@@ -8,9 +8,10 @@ use ark_base::Field;
 use ark_sum_check::{Round, SumCheckError, Verdict, true_or_one_of_few, verify};
 use std::alloc::Global;
 
-/// Whether rounds are accepted of a claim on the sum over the cube of a product of at most `degree` factors, with this value
-/// as the last claim: that of the product at the challenges, as openings of the factors give it. Then the claim is the sum,
-/// or at one of the rounds the challenge is one of at most `degree` elements, which are settled before it is drawn.
+/// Whether rounds are accepted of a claim on the sum over the cube of a product of at most `degree` factors, with
+/// this value as the last claim: that of the product at the challenges, as openings of the factors give it. Then the
+/// claim is the sum, or at one of the rounds the challenge is one of at most `degree` elements, which are settled
+/// before it is drawn.
 pub fn is_accepted<F: Field>(
     alloc: Global,
     degree: usize,

@@ -1,8 +1,8 @@
 //! Small callers, as a user of the crates writes them: a transform and back, values on a coset, an interpolation, the
-//! convolution of two lists, a combination of two polynomials, openings, exact costs, the first round of a sum-check, what
-//! chooses a value of a table, values that are lost and restored, a wrong one that is refused, a polynomial in a file, one
-//! error for a program, the values of a sparse polynomial, fields and a module of one's own, secrets in shares, and whole
-//! sum-checks. The program prints what each gives.
+//! convolution of two lists, a combination of two polynomials, openings, exact costs, the first round of a sum-check,
+//! what chooses a value of a table, values that are lost and restored, a wrong one that is refused, a polynomial in a
+//! file, one error for a program, the values of a sparse polynomial, fields and a module of one's own, secrets in
+//! shares, and whole sum-checks. The program prints what each gives.
 #![tactic(auto)]
 
 mod accepted;

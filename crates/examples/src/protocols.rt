@@ -1,7 +1,7 @@
-//! What the program prints of protocols: an opening at a point; a secret that any three of five shares give back; the sum
-//! of two secrets from the sums of their shares; and a sum-check, from a claim on a sum over the cube to a claim on one
-//! value: what the verifier says of a true claim and of a false one, of an extension of forty variables that is zero at all
-//! corners but three, and whether it accepts one prover's rounds of either claim.
+//! What the program prints of protocols: an opening at a point; a secret that any three of five shares give back; the
+//! sum of two secrets from the sums of their shares; and a sum-check, from a claim on a sum over the cube to a claim
+//! on one value: what the verifier says of a true claim and of a false one, of an extension of forty variables that
+//! is zero at all corners but three, and whether it accepts one prover's rounds of either claim.
 
 ghost use Rattle.std.specs.Prelude.{◌≡◌, length, IfOk};
 ghost use Rattle.ark_sum_check.specs.Provers.{variables_of};

@@ -14,8 +14,8 @@ pub struct SharedSecret<'a, F> {
     pub coeffs: &'a [F],
 }
 
-/// The sum of two secrets, each shared by coefficients of its own, from the sums of their shares alone: who holds a share
-/// of each adds the two, and neither secret is given back.
+/// The sum of two secrets, each shared by coefficients of its own, from the sums of their shares alone: who holds a
+/// share of each adds the two, and neither secret is given back.
 pub fn sum_from_shares<F: Field>(
     alloc: Global,
     left: SharedSecret<'_, F>,

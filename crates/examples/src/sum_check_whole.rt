@@ -10,8 +10,9 @@ use ark_sum_check::{
 };
 use std::alloc::Global;
 
-/// What a verifier says of a claim on the sum of the prover's product over the cube, when the prover follows the rounds.
-/// A true claim is accepted, and the last claim is the product's value at as many challenges as there are variables.
+/// What a verifier says of a claim on the sum of the prover's product over the cube, when the prover follows the
+/// rounds. A true claim is accepted, and the last claim is the product's value at as many challenges as there are
+/// variables.
 pub fn sum_check_whole<F: Field, C: Challenger<F>>(
     alloc: Global,
     prover: Prover<F>,

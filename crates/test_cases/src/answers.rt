@@ -38,17 +38,17 @@ pub fn over_field<T: FieldAnswers>(alloc: Global, words: &[String]) -> Answer {
     }
 }
 
-/// The answer over a prime field. What names a field that is none of its parameters is dear to check, so that this is said
-/// once for all moduli.
+/// The answer over a prime field. What names a field that is none of its parameters is dear to check, so that this is
+/// said once for all moduli.
 fn over_prime<T: FieldAnswers, M: PrimeModulus>(alloc: Global, words: &[String]) -> Answer {
     T::answer_over::<PrimeField<M>>(alloc, words)
 }
 
 /// Answers the line that is the program's argument, or else each line of the input.
 ///
-/// Of a line alone the answer is made between the lines `call` and `called`, so that what refuses memory knows where to
-/// begin and to end, and made again where memory was refused. The status is then 0 for an answer at once, 1 for one at the
-/// second time, 2 where there is none, and 4 where an answer could not be written.
+/// Of a line alone the answer is made between the lines `call` and `called`, so that what refuses memory knows where
+/// to begin and to end, and made again where memory was refused. The status is then 0 for an answer at once, 1 for
+/// one at the second time, 2 where there is none, and 4 where an answer could not be written.
 pub fn answer_lines<T: Answers, R: Input + Print + AllocGlobal + Env>(rt: &R) -> ExitCode {
     match argument(rt) {
         Ok(Some(line)) => ExitCode::from(answered_alone::<T, R>(rt, line.as_str())),

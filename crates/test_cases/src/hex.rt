@@ -3,7 +3,8 @@
 use crate::answers::Answer;
 use std::alloc::{AllocError, Global};
 
-/// The bytes that the word spells; what is no digit counts as zero. A byte and a star and a number stand for so many of it.
+/// The bytes that the word spells; what is no digit counts as zero. A byte and a star and a number stand for so many
+/// of it.
 pub fn bytes_of(alloc: Global, word: &str) -> Result<Vec<u8>, AllocError> {
     let mut bytes = Vec::new(alloc);
     if word.is_empty() {

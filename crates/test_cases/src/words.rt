@@ -61,8 +61,8 @@ fn term<F: Numbered>(word: &str) -> (usize, F) {
     (size(degree), element(coefficient))
 }
 
-/// The number of variables of a table, and its entries. The word has the number, a stroke and the entries as terms, or all
-/// values between commas.
+/// The number of variables of a table, and its entries. The word has the number, a stroke and the entries as terms,
+/// or all values between commas.
 pub fn table_of<F: Numbered>(
     alloc: Global,
     word: &str,

@@ -1,9 +1,10 @@
 //! Cases of bytes, of each type that is written and read: what reading says of them, and what writing gives back.
 //!
-//! The words are a type, modes, and bytes in hex. After one mode the answer has the spellings of the value that was read, the
-//! full one and the short one; after two modes with `>` between them it has what `recompress` writes. Or it has the refusal.
-//! How many bytes are left stands at the end. After two modes with `<` between them it has the bytes there and back. In
-//! place of modes `changed` and `drawn` count how readings end where the bytes are changed and cut, and of drawn bytes.
+//! The words are a type, modes, and bytes in hex. After one mode the answer has the spellings of the value that was
+//! read, the full one and the short one; after two modes with `>` between them it has what `recompress` writes. Or it
+//! has the refusal. How many bytes are left stands at the end. After two modes with `<` between them it has the bytes
+//! there and back. In place of modes `changed` and `drawn` count how readings end where the bytes are changed and
+//! cut, and of drawn bytes.
 
 use crate::reading::answer_of;
 use ark_base::FftField;

@@ -1,5 +1,5 @@
-//! Cases of one field's codes, whose values are elements: an operation, the greatest number of a message's items and the least
-//! number of places, and then its arguments. In a word `_` is an erased place.
+//! Cases of one field's codes, whose values are elements: an operation, the greatest number of a message's items and
+//! the least number of places, and then its arguments. In a word `_` is an erased place.
 
 use crate::drawn_words::answer_of_drawn;
 use crate::pairs::{encoded_pairs, restored_pairs};

@@ -4,8 +4,8 @@ use ark_base::{CanonicalDeserialize, CanonicalSerialize, Compress, IoSink, Seria
 use std::alloc::Global;
 use test_cases::answers::Answer;
 
-/// How many readings ended in each way, and the sum over all of them of the reading's number times the number of its end:
-/// 1 where a value is read, 2 for `InvalidData` and 3 for `IoError`.
+/// How many readings ended in each way, and the sum over all of them of the reading's number times the number of its
+/// end: 1 where a value is read, 2 for `InvalidData` and 3 for `IoError`.
 #[derive(Clone, Copy)]
 struct Tally {
     read: u64,

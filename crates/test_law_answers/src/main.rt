@@ -1,9 +1,9 @@
 //! Answers cases of laws, by what calls together give; of values at points; of bytes that are read and written; and of
 //! erasure codes.
 //!
-//! The first word is a field's order. The second is `bytes`, `code`, `points` or what a law is about, and its module says
-//! which words follow; or it is `large`, for bytes of an element of one of three large fields, or `lanes`, for elements side
-//! by side over one field.
+//! The first word is a field's order. The second is `bytes`, `code`, `points` or what a law is about, and its module
+//! says which words follow; or it is `large`, for bytes of an element of one of three large fields, or `lanes`, for
+//! elements side by side over one field.
 #![tactic(auto)]
 
 mod bytes;

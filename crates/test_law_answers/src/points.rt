@@ -1,5 +1,5 @@
-//! Cases of values at points of a caller's own: a call and its arguments, polynomials by their coefficients. In place of
-//! the numbers of a list may stand the first and the end of a run, with a `~` between them.
+//! Cases of values at points of a caller's own: a call and its arguments, polynomials by their coefficients. In place
+//! of the numbers of a list may stand the first and the end of a run, with a `~` between them.
 
 use ark_base::PolyError;
 use ark_points::{

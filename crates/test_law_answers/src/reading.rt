@@ -41,9 +41,9 @@ fn there_and_back<T: CanonicalSerialize + CanonicalDeserialize>(
     }
 }
 
-/// What reading the bytes says and writing gives back, and how many bytes are left. From the slice itself and byte by byte
-/// the same comes, and each beginning of the bytes that were taken is refused with `IoError`, whether the source ends or fails
-/// there; else the answer says so.
+/// What reading the bytes says and writing gives back, and how many bytes are left. From the slice itself and byte by
+/// byte the same comes, and each beginning of the bytes that were taken is refused with `IoError`, whether the source
+/// ends or fails there; else the answer says so.
 fn answer_in_modes<T: CanonicalSerialize + CanonicalDeserialize>(
     alloc: Global,
     bytes: &[u8],

@@ -142,8 +142,8 @@ pub fn product_of_all_terms<F: Field>(alloc: Global) -> Result<bool, PolyError> 
     Ok(product(alloc, &a, &b)? == polynomial(alloc, 4, answer)?)
 }
 
-// Whether a draw has a constant and the first d powers of each variable alone, takes a word for each coefficient, and is
-// not the next one. None of the coefficients is zero over the large field with this seed.
+// Whether a draw has a constant and the first d powers of each variable alone, takes a word for each coefficient, and
+// is not the next one. None of the coefficients is zero over the large field with this seed.
 fn has_shape<F: Field, T: Term>(alloc: Global, d: usize, num_vars: usize) -> bool {
     let mut rng = Counting::new(Pcg64::new(32, 1));
     let Ok(p) = SparsePolynomial::<F, T>::rand(alloc, d, num_vars, &mut rng) else {

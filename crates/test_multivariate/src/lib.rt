@@ -1,5 +1,5 @@
-//! Tests of terms, of polynomials in several variables and of multilinear extensions. What listed ones give stands in the
-//! cases of `test_multivariate_answers`.
+//! Tests of terms, of polynomials in several variables and of multilinear extensions. What listed ones give stands in
+//! the cases of `test_multivariate_answers`.
 #![tactic(auto)]
 
 #[cfg(test)]

@@ -1,5 +1,5 @@
-//! Cases of polynomials in several variables: the number of variables, a stroke and terms with commas between them, each a
-//! coefficient, a colon and powers.
+//! Cases of polynomials in several variables: the number of variables, a stroke and terms with commas between them,
+//! each a coefficient, a colon and powers.
 
 use crate::terms::{push_term, term_of};
 use ark_base::{Field, PolyError, Polynomial};

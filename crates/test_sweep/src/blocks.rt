@@ -85,7 +85,8 @@ impl<F: Numbered> Call for OfBlocks<F> {
 }
 
 impl<F: Numbered> OfBlocks<F> {
-    /// Makes a call with values at the elements of the smaller table, of which the other one has twice as many at least.
+    /// Makes a call with values at the elements of the smaller table, of which the other one has twice as many at
+    /// least.
     fn from_values(&mut self, alloc: Global, name: &str) -> Result<Answered<F>, PolyError> {
         let len = self.smaller.size();
         if self.values.len() != len || len > self.table.size() / 2 || self.coeffs.len() > len {

@@ -1,10 +1,10 @@
 //! Makes calls that answer a `Result`, and tells how each ends where memory is refused.
 //!
-//! A line names a call and what it is given: words between tabs, a field's order, a form, the call, and values by their
-//! names. Without an argument each line of the input is answered by what its call gives. With a line as the argument that
-//! call alone is made, between the lines `call` and `called` on standard output, so that what refuses memory knows where
-//! the call begins and ends; after a refusal of memory it is made again, from what it left of what it was given. The
-//! status then tells how it ended.
+//! A line names a call and what it is given: words between tabs, a field's order, a form, the call, and values by
+//! their names. Without an argument each line of the input is answered by what its call gives. With a line as the
+//! argument that call alone is made, between the lines `call` and `called` on standard output, so that what refuses
+//! memory knows where the call begins and ends; after a refusal of memory it is made again, from what it left of what
+//! it was given. The status then tells how it ended.
 #![tactic(auto)]
 
 mod blocks;

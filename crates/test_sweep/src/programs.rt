@@ -11,8 +11,8 @@ use test_cases::words::{number, told, words_of};
 /// The line of refused memory.
 const REFUSED: &[u8] = b"error 1: Memory\n";
 
-/// The words of a command, rows and a field's order for the check, room for what is written, and a text that was cut short
-/// by a refusal of memory.
+/// The words of a command, rows and a field's order for the check, room for what is written, and a text that was cut
+/// short by a refusal of memory.
 #[derive(Drop)]
 pub struct OfProgram {
     words: Vec<String>,

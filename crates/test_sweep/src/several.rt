@@ -1,5 +1,5 @@
-//! Calls of terms, of polynomials in several variables and of multilinear extensions that change what they are given, or
-//! that no case makes.
+//! Calls of terms, of polynomials in several variables and of multilinear extensions that change what they are given,
+//! or that no case makes.
 
 use crate::given::{element_named, named, pairs_of, size_named};
 use crate::kinds::{Kind, push_term};

@@ -1,4 +1,5 @@
-//! Calls of polynomials in one variable and of values over a domain that change what they are given, or that no case makes.
+//! Calls of polynomials in one variable and of values over a domain that change what they are given, or that no case
+//! makes.
 
 use crate::given::{domain_named, named, size_named};
 use crate::kinds::{Kind, both_named};
@@ -222,7 +223,8 @@ fn sparse_of<F: FftField>(
     Ok(Answered::Sparse(made?))
 }
 
-/// Makes a call that changes the first values, where they are over one domain, and tells whether there is one of this name.
+/// Makes a call that changes the first values, where they are over one domain, and tells whether there is one of this
+/// name.
 fn is_changed<F: FftField, D: EvaluationDomain<F>>(
     alloc: Global,
     name: &str,

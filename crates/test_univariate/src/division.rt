@@ -130,8 +130,8 @@ const LONG: [(usize, usize); 12] = [
     (700, 3000),
 ];
 
-/// Long ones, by their products in a large field. No product of these has a domain over the small field, and over that of
-/// 433 elements the last products alone have none.
+/// Long ones, by their products in a large field. No product of these has a domain over the small field, and over
+/// that of 433 elements the last products alone have none.
 pub fn long_ones<F: FftField>(alloc: Global) -> bool {
     let mut rng = Pcg64::new(19, 23);
     let mut right = true;

@@ -1,5 +1,5 @@
-//! Tests of domains, of polynomials in one variable, of their values over a domain, and of what domains give at points. What
-//! listed polynomials give stands in the cases of `test_univariate_answers` and `test_law_answers`.
+//! Tests of domains, of polynomials in one variable, of their values over a domain, and of what domains give at
+//! points. What listed polynomials give stands in the cases of `test_univariate_answers` and `test_law_answers`.
 #![tactic(auto)]
 
 #[cfg(test)]

@@ -128,8 +128,8 @@ fn is_order(order: Option<Vec<usize>>, len: usize, size: usize, step: usize) -> 
     right
 }
 
-// Whether the order for subdomains of this size, and the filter of each coset of this size, are so. Of a large domain the
-// first two cosets and the last one are tried.
+// Whether the order for subdomains of this size, and the filter of each coset of this size, are so. Of a large domain
+// the first two cosets and the last one are tried.
 fn has_parts<F: FftField, D: EvaluationDomain<F>>(
     alloc: Global,
     domain: &D,
@@ -146,8 +146,8 @@ fn has_parts<F: FftField, D: EvaluationDomain<F>>(
     right
 }
 
-// All that is asked of a coset: the weights at an element, at zero and at a point outside, the vanishing polynomial, and
-// filters and orders for each part of these sizes.
+// All that is asked of a coset: the weights at an element, at zero and at a point outside, the vanishing polynomial,
+// and filters and orders for each part of these sizes.
 fn holds_of<F: FftField, D: EvaluationDomain<F>>(
     alloc: Global,
     domain: &D,

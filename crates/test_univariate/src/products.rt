@@ -19,8 +19,8 @@ fn is_naive<F: FftField>(alloc: Global, p: &DensePolynomial<F>, q: &DensePolynom
     }
 }
 
-// Whether that is so of a drawn one of at most so many coefficients and others up to 70, and the law on degrees gives the
-// sum of the degrees.
+// Whether that is so of a drawn one of at most so many coefficients and others up to 70, and the law on degrees gives
+// the sum of the degrees.
 fn are_naive<F: FftField>(alloc: Global, rng: &mut Pcg64, len: usize) -> bool {
     let Some(p) = some::<F>(alloc, rng, len) else {
         return false;

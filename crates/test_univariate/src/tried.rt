@@ -86,8 +86,8 @@ fn products_and_quotients(rt: HostRuntime) -> Result<(), Fail> {
 enum OverDomain<'a> {
     /// What domains of these sizes give at points of a field of so many elements.
     Points(u64, &'a [usize]),
-    /// Polynomials of these lengths over cosets of these sizes and with these offsets: the domains have less room than the
-    /// polynomials need, or more.
+    /// Polynomials of these lengths over cosets of these sizes and with these offsets: the domains have less room
+    /// than the polynomials need, or more.
     Values(&'a [(usize, u64)], &'a [usize]),
     /// Terms of degrees up to `usize::MAX` over such cosets.
     HighTerms(&'a [(usize, u64)]),

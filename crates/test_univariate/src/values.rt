@@ -23,8 +23,8 @@ fn are_at_elements<F: FftField, D: EvaluationDomain<F>, P: Form<F>>(
     right
 }
 
-// Whether the polynomial through the values is the remainder by the vanishing polynomial, and with weights they give its
-// value at the point.
+// Whether the polynomial through the values is the remainder by the vanishing polynomial, and with weights they give
+// its value at the point.
 fn are_interpolated<F: FftField, D: EvaluationDomain<F>>(
     alloc: Global,
     values: &Evaluations<F, D>,

@@ -1,5 +1,5 @@
-//! Cases of polynomials that are held or lent in either form: the word begins with `s` where it is sparse, and else with
-//! `d`.
+//! Cases of polynomials that are held or lent in either form: the word begins with `s` where it is sparse, and else
+//! with `d`.
 
 use crate::polynomials::{Dense, Sparse, shown_dense, shown_division, shown_sparse};
 use ark_base::{Field, PolyError};

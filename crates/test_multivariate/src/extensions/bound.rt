@@ -20,8 +20,8 @@ fn left<F: Field, E: MultilinearExtension<F>>(alloc: Global, p: &E, first: &[F])
     left.to_evaluations(alloc).ok()
 }
 
-// Whether every part of a drawn point leaves what binding it one at a time leaves of the table, and the value is what is
-// left of all.
+// Whether every part of a drawn point leaves what binding it one at a time leaves of the table, and the value is what
+// is left of all.
 fn binds<F: Field, E: MultilinearExtension<F>>(
     alloc: Global,
     rng: &mut Pcg64,

@@ -1,4 +1,5 @@
-//! Tests of multilinear extensions. What they give for listed tables stands in the cases of `test_multivariate_answers` and `test_law_answers`.
+//! Tests of multilinear extensions. What they give for listed tables stands in the cases of
+//! `test_multivariate_answers` and `test_law_answers`.
 
 mod bound;
 mod drawn;

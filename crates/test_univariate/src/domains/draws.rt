@@ -34,8 +34,8 @@ fn gives<F: FftField, D: EvaluationDomain<F>>(
     domain.sample_element_outside_domain(&mut rng, tries) == sample && rng.draws == draws as u64
 }
 
-/// Whether, outside the subgroup of this size and with several seeds, the first draw that is outside comes, at the last try
-/// too, no draw is taken after it, and one try too few gives none.
+/// Whether, outside the subgroup of this size and with several seeds, the first draw that is outside comes, at the
+/// last try too, no draw is taken after it, and one try too few gives none.
 pub fn samples<F: FftField, D: EvaluationDomain<F>>(size: usize) -> bool {
     let Ok(domain) = coset::<F, D>(size, 1) else {
         return false;

@@ -37,7 +37,8 @@ fn has_at_most<F: Numbered>(most: usize, answers: Result<Vec<Traced<F>>, PolyErr
     }
 }
 
-/// Whether that is so, over cosets of this size, of the values of so many items and of the coefficients of as many values.
+/// Whether that is so, over cosets of this size, of the values of so many items and of the coefficients of as many
+/// values.
 pub fn are_few<F: Numbered, D: EvaluationDomain<F>>(
     alloc: Global,
     size: usize,
@@ -61,8 +62,8 @@ pub fn are_few<F: Numbered, D: EvaluationDomain<F>>(
     right
 }
 
-/// Whether plain sums over as many elements give the transform's values by more products than a set can hold: so many do
-/// not go unseen.
+/// Whether plain sums over as many elements give the transform's values by more products than a set can hold: so many
+/// do not go unseen.
 pub fn plain_sums_are_seen<F: Numbered, D: EvaluationDomain<F>>(
     alloc: Global,
     size: usize,
