@@ -1,10 +1,11 @@
 //! Small callers, as a user of the crates writes them: a transform and back, values on a coset, an interpolation, the
-//! convolution of two lists, a combination of two polynomials, an opening, exact costs, the first round of a sum-check,
-//! what chooses a value of a table, values that are lost and restored, a wrong one that is refused, a polynomial in a file,
-//! one error for a program, the values of a sparse polynomial, fields and a module of one's own. The program prints what
-//! each gives.
+//! convolution of two lists, a combination of two polynomials, openings, exact costs, the first round of a sum-check,
+//! what chooses a value of a table, values that are lost and restored, a wrong one that is refused, a polynomial in a
+//! file, one error for a program, the values of a sparse polynomial, fields and a module of one's own, secrets in
+//! shares, and whole sum-checks. The program prints what each gives.
 #![tactic(auto)]
 
+mod accepted;
 mod combination;
 mod convolution;
 mod coset;
@@ -15,11 +16,16 @@ mod holders;
 mod interpolation;
 mod large_field;
 mod module;
+mod one_pass_opening;
 mod opening;
+mod protocols;
 mod saving;
 mod selector;
+mod shared_sum;
+mod sharing;
 mod sparse;
 mod sum_check;
+mod sum_check_whole;
 mod there_and_back;
 
 use ark_base::{F433, F65537, FftField, Field, PolyError, PrimeField, PrimeModulus, Work};
@@ -39,6 +45,7 @@ use interpolation::interpolated_value;
 use large_field::{F18446742974197923841, size_for_a_hundred_million};
 use module::{Point, points_of_curve};
 use opening::opening;
+use protocols::print_protocols;
 use rs_code::{Code, RsError};
 use saving::{load, save, saved_and_loaded};
 use selector::selector;
@@ -99,7 +106,8 @@ fn main(rt: HostRuntime) -> anyhow::Result<()> {
         x: F433::from(x),
         y: F433::from(y),
     });
-    print_points(&rt, &curve(alloc, &coeffs)?)
+    print_points(&rt, &curve(alloc, &coeffs)?)?;
+    print_protocols(&rt, alloc)
 }
 
 /// The values over the coset with this offset, for values over the domain with as many elements.

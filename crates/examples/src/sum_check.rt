@@ -29,9 +29,9 @@ pub fn first_round<F: Field, E: MultilinearExtension<F>>(
     ))
 }
 
-/// What is claimed of the next round, where the prover sent these two numbers and the verifier has drawn `x`: the value at
-/// `x` of the line through them. Of an honest prover's numbers it is the sum over the other variables where the first one
-/// is `x`.
+/// What is claimed of the next round, where the prover sent these two numbers and the verifier has drawn `x`: the
+/// value at `x` of the line through them. Of an honest prover's numbers it is the sum over the other variables where
+/// the first one is `x`.
 pub fn next_claim<F: Field>(low: F, high: F, x: F) -> F
     ensures line { result ≡ F.field.plus low (F.field.times x (minus F.field high low)) }
     ensures honest { (t : Table F) → low ≡ sum_of_others F.field t F.field.zero

@@ -1,5 +1,0 @@
-use Rattle.ark_test_types.specs.FourLaws.{four_natural}
-use Rattle.ark_test_types.proofs.four.FourFromU64.from.Goals as goal
-
-pub returns : goal.returns
-returns c = four_natural c.args.value

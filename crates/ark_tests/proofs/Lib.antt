@@ -1,2 +1,0 @@
--- What transforms cost, from the definition.
-mod Rows

@@ -1,0 +1,181 @@
+//! What the program prints of protocols: an opening at a point; a secret that any three of five shares give back; the
+//! sum of two secrets from the sums of their shares; and a sum-check, from a claim on a sum over the cube to a claim
+//! on one value: what the verifier says of a true claim and of a false one, of an extension of forty variables that
+//! is zero at all corners but three, and whether it accepts one prover's rounds of either claim.
+
+ghost use Rattle.std.specs.Prelude.{◌≡◌, length, IfOk};
+ghost use Rattle.ark_sum_check.specs.Provers.{variables_of};
+
+use crate::accepted::is_accepted;
+use crate::one_pass_opening::one_pass_opening;
+use crate::shared_sum::{SharedSecret, sum_from_shares};
+use crate::sharing::shared_and_given_back;
+use crate::sum_check_whole::{sum_check_of_entries, sum_check_whole};
+use ark_base::{F65537, Field, PolyError, PrimeField, PrimeModulus};
+use ark_poly::{DenseMultilinearExtension, DenseUVPolynomial, Polynomial};
+use ark_sharing::{SharingError, share};
+use ark_sum_check::{Challenger, Prover, Round, SparseProver, SumCheckError, Verdict, prove};
+use rand::rngs::StdRng;
+use rand::{CryptoRng, SeedableRng};
+use std::alloc::Global;
+use std::io::Print;
+
+/// Prints what each gives.
+pub fn print_protocols(rt: &impl Print, alloc: Global) -> anyhow::Result<()> {
+    print_opening(rt, alloc)?;
+    print_secret(rt, alloc)?;
+    print_sum_checks(rt, alloc)?;
+    print_answers(rt, alloc)
+}
+
+fn print_opening(rt: &impl Print, alloc: Global) -> anyhow::Result<()> {
+    let coeffs = [1, 2, 3, 4].map(F65537::from);
+    let (value, quotient) = one_pass_opening(alloc, &coeffs, F65537::from(5))?;
+    let quotient: Vec<u64> = quotient
+        .coeffs()
+        .iter()
+        .map(|coefficient| coefficient.value())
+        .collect(alloc)?;
+    println!(rt; "the value at 5: {}", value.value())?;
+    println!(rt; "the quotient by x - 5: {quotient:?}")?;
+    Ok(())
+}
+
+fn print_secret(rt: &impl Print, alloc: Global) -> anyhow::Result<()> {
+    // A seed from the system, as of `rand::make_rng`, takes the place of this one, whose draws anyone can repeat.
+    let mut rng = StdRng::seed_from_u64(5);
+    let points = [1, 2, 3, 4, 5].map(F65537::from);
+    let secret = shared_and_given_back(alloc, F65537::from(1234), 3, &points, &mut rng)?;
+    println!(rt; "the secret from three of five shares: {}", secret.value())?;
+    let differs = differs_when_drawn_again(alloc, F65537::from(1234), &points, &mut rng)?;
+    println!(rt; "drawn again, the first share is another: {differs}")?;
+    let left = SharedSecret {
+        secret: F65537::from(1234),
+        coeffs: &[7, 8].map(F65537::from),
+    };
+    let right = SharedSecret {
+        secret: F65537::from(4321),
+        coeffs: &[9, 10].map(F65537::from),
+    };
+    let sum = sum_from_shares(alloc, left, right, &points)?;
+    println!(rt;
+        "the sum of two secrets from the sums of their shares: {}",
+        sum.value()
+    )?;
+    Ok(())
+}
+
+fn print_sum_checks(rt: &impl Print, alloc: Global) -> anyhow::Result<()> {
+    let left = [1, 2, 3, 4].map(F65537::from);
+    let right = [5, 6, 7, 8].map(F65537::from);
+    for claim in [70, 71] {
+        let mut drawn = Drawn {
+            left: vec![in alloc; F65537::from(20), F65537::from(10)]?,
+        };
+        let prover = two_factors(alloc, &left, &right)?;
+        let verdict = sum_check_whole(alloc, prover, F65537::from(claim), &mut drawn)?;
+        print_verdict(rt, claim, verdict)?;
+    }
+    let mut drawn = Drawn {
+        left: vec![in alloc; F65537::from(2); 40]?,
+    };
+    let prover = three_entries(alloc)?;
+    let verdict = sum_check_of_entries(alloc, prover, F65537::from(23), &mut drawn)?;
+    print_verdict(rt, 23, verdict)
+}
+
+/// The same rounds of a true claim and of a false one, with the product's value at the challenges.
+fn print_answers(rt: &impl Print, alloc: Global) -> anyhow::Result<()> {
+    let left = [1, 2, 3, 4].map(F65537::from);
+    let right = [5, 6, 7, 8].map(F65537::from);
+    let mut drawn = Drawn {
+        left: vec![in alloc; F65537::from(20), F65537::from(10)]?,
+    };
+    let rounds = prove(alloc, two_factors(alloc, &left, &right)?, &mut drawn)?;
+    let value = value_at(alloc, &left, &rounds)? * value_at(alloc, &right, &rounds)?;
+    for claim in [70, 71] {
+        let accepted = is_accepted(alloc, 2, F65537::from(claim), &rounds, value)?;
+        println!(rt; "sum {claim} with this value: {accepted}")?;
+    }
+    Ok(())
+}
+
+/// The value of a factor of two variables at the challenges.
+fn value_at<F: Field>(alloc: Global, table: &[F; 4], rounds: &[Round<F>]) -> Result<F, PolyError>
+    requires { length rounds.now ≡ 2 }
+{
+    let challenges: Vec<F> = rounds.iter().map(|round| round.challenge).collect(alloc)?;
+    let extension = DenseMultilinearExtension::from_evaluations_vec(
+        2,
+        Vec::from_slice(alloc, table)?,
+    );
+    extension.evaluate(alloc, &challenges)
+}
+
+/// Whether two sharings of one secret give the first point different shares, as drawn coefficients do.
+fn differs_when_drawn_again<F: Field, R: CryptoRng>(
+    alloc: Global,
+    secret: F,
+    points: &[F],
+    rng: &mut R,
+) -> Result<bool, SharingError> {
+    let first = share(alloc, secret, 3, points, rng)?;
+    let second = share(alloc, secret, 3, points, rng)?;
+    match (first.first(), second.first()) {
+        (Some(one), Some(other)) => Ok(one.1 != other.1),
+        _ => Ok(false),
+    }
+}
+
+/// Challenges that were drawn before, the next one last; zero once they are spent.
+#[derive(Drop)]
+struct Drawn<F> {
+    left: Vec<F>,
+}
+
+impl<F: Field> Challenger<F> for Drawn<F> {
+    fn challenge(&mut self, _values: &[F]) -> F {
+        match self.left.pop() {
+            Some(challenge) => challenge,
+            None => F::zero(),
+        }
+    }
+}
+
+/// The prover of two factors of two variables.
+fn two_factors<F: Field>(
+    alloc: Global,
+    left: &[F; 4],
+    right: &[F; 4],
+) -> Result<Prover<F>, SumCheckError>
+    ensures { IfOk result (λ prover. variables_of prover ≡ 2) }
+{
+    let mut tables = Vec::with_capacity(alloc, 2)?;
+    tables.push(Vec::from_slice(alloc, left)?)?;
+    tables.push(Vec::from_slice(alloc, right)?)?;
+    Ok(Prover::new(2, tables))
+}
+
+/// The prover of a factor of forty variables by its three entries.
+fn three_entries<F: Field>(alloc: Global) -> Result<SparseProver<F>, SumCheckError> {
+    let mut entries = Vec::with_capacity(alloc, 3)?;
+    entries.push((0, F::from(5)))?;
+    entries.push((3, F::from(7)))?;
+    entries.push((0x80_0000_0001, F::from(11)))?;
+    Ok(SparseProver::new(40, entries))
+}
+
+fn print_verdict<M: PrimeModulus>(
+    rt: &impl Print,
+    claim: u64,
+    verdict: Verdict<PrimeField<M>>,
+) -> anyhow::Result<()> {
+    match verdict {
+        Verdict::Accepted(last) => println!(rt;
+            "sum {claim}: the product's value is {}",
+            last.value()
+        )?,
+        Verdict::Refused(round) => println!(rt; "sum {claim}: round {round} is refused")?,
+    }
+    Ok(())
+}

@@ -1,0 +1,84 @@
+//! Answers cases of laws, by what calls together give; of values at points; of bytes that are read and written; and of
+//! erasure codes.
+//!
+//! The first word is a field's order. The second is `bytes`, `code`, `points` or what a law is about, and its module
+//! says which words follow; or it is `large`, for bytes of an element of one of three large fields, or `lanes`, for
+//! elements side by side over one field.
+#![tactic(auto)]
+
+mod bytes;
+mod codes;
+mod drawn_words;
+mod extensions;
+mod forms;
+mod hostile;
+mod lanes;
+mod pairs;
+mod points;
+mod reading;
+mod univariate;
+
+use crate::reading::answer_of;
+use ark_base::{BabyBearModulus, GoldilocksModulus, KoalaBearModulus, PrimeField, PrimeModulus};
+use std::alloc::Global;
+use std::process::ExitCode;
+use test_cases::answers::{Answer, Answers, FieldAnswers, answer_lines, over_field};
+use test_cases::hex::bytes_of;
+use test_cases::words::no_case;
+use test_types::numbered::Numbered;
+
+struct LawAnswers;
+
+impl Answers for LawAnswers {
+    fn answer(alloc: Global, words: &[String]) -> Answer {
+        let [field, subject, rest @ ..] = words else {
+            return no_case(alloc);
+        };
+        match subject.as_str() {
+            "large" => of_large(alloc, field.as_str(), rest),
+            "lanes" => lanes::answer(alloc, rest),
+            _ => over_field::<LawAnswers>(alloc, words),
+        }
+    }
+}
+
+/// The answer on bytes of an element of a large field, whose order is the first word: modes, and bytes in hex.
+fn of_large(alloc: Global, field: &str, words: &[String]) -> Answer {
+    match field {
+        "2013265921" => of_element::<BabyBearModulus>(alloc, words),
+        "2130706433" => of_element::<KoalaBearModulus>(alloc, words),
+        "18446744069414584321" => of_element::<GoldilocksModulus>(alloc, words),
+        _ => no_case(alloc),
+    }
+}
+
+fn of_element<M: PrimeModulus>(alloc: Global, words: &[String]) -> Answer {
+    let [modes, word] = words else {
+        return no_case(alloc);
+    };
+    let bytes = bytes_of(alloc, word.as_str())?;
+    answer_of::<PrimeField<M>>(alloc, &bytes, modes.as_str())
+}
+
+impl FieldAnswers for LawAnswers {
+    fn answer_over<F: Numbered>(alloc: Global, words: &[String]) -> Answer {
+        let [subject, words @ ..] = words else {
+            return no_case(alloc);
+        };
+        match subject.as_str() {
+            "bytes" => bytes::answer::<F>(alloc, words),
+            "code" => codes::answer::<F>(alloc, words),
+            "dense" => univariate::answer_of_dense::<F>(alloc, words),
+            "values" => univariate::answer_of_values::<F>(alloc, words),
+            "forms" => forms::answer::<F>(alloc, words),
+            "points" => points::answer::<F>(alloc, words),
+            "dense_extension" => extensions::answer_by_values::<F>(alloc, words),
+            "sparse_extension" => extensions::answer_by_entries::<F>(alloc, words),
+            _ => no_case(alloc),
+        }
+    }
+}
+
+fn main(rt: HostRuntime) -> ExitCode {
+    answer_lines::<LawAnswers, HostRuntime>(&rt)
+}

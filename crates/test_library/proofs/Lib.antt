@@ -1,0 +1,2 @@
+-- What transforms cost, from the definition.
+mod Costs
