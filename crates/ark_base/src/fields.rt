@@ -154,10 +154,12 @@ impl PrimeModulus for GoldilocksModulus {
     ghost together = { ((λ h. h), (λ h. h)) };
 }
 
-/// The field of 2^31 - 2^27 + 1 elements, with domains of up to 2^27: used by RISC Zero's proof system and Plonky3.
+/// The field of 2^31 - 2^27 + 1 elements, with domains of up to 2^27: used by RISC Zero's proof system and
+/// Plonky3.
 pub type BabyBear = PrimeField<BabyBearModulus>;
 
-/// The field of 2^31 - 2^24 + 1 elements, with domains of up to 2^24, whose cubing is one to one: used by Plonky3.
+/// The field of 2^31 - 2^24 + 1 elements, with domains of up to 2^24, whose cubing is one to one: used by
+/// Plonky3.
 pub type KoalaBear = PrimeField<KoalaBearModulus>;
 
 /// The field of 2^64 - 2^32 + 1 elements, with domains of up to 2^32: used by Plonky2.

@@ -1,4 +1,5 @@
-//! What prime fields tell, stated as the contract of a function that callers may cite: it promises nothing but its contract.
+//! What prime fields tell, stated as the contract of a function that callers may cite: it promises nothing
+//! but its contract.
 
 ghost use Rattle.std.specs.Prelude.{◌≢◌, ℕ, ◌<◌};
 ghost use Rattle.ark_math.specs.Field.{natural};

@@ -19,8 +19,8 @@ use std::default::Default;
 use std::marker::PhantomData;
 use std::ops::{Add, AddAssign, Mul, MulAssign, Neg, Sub, SubAssign};
 
-/// A prime below 2^64 and its constants. A field is added by one impl with two facts: `modulus` is a few computed
-/// checks, and `together` the same line for every field.
+/// A prime below 2^64 and its constants. A field is added by one impl with two facts: `modulus` is a few
+/// computed checks, and `together` the same line for every field.
 pub trait PrimeModulus {
     ghost MODULUS: { ℕ };
 
@@ -108,15 +108,15 @@ impl<M: PrimeModulus> PrimeField<M> {
         }
     }
 
-    /// Whether the prime is one more than a power of two, and of half a word: products are then reduced without a
-    /// division.
+    // Whether the prime is one more than a power of two, and of half a word: products are then reduced
+    // without a division.
     fn is_fermat() -> bool
         ensures small { result ≡ true → M.MODULUS ≤ 2 ^ 32 }
     {
         M::MODULUS <= 1 << 32 && (M::MODULUS - 1).is_power_of_two()
     }
 
-    /// Whether the prime has 31 bits, so that products are reduced by two further products.
+    // Whether the prime has 31 bits, so that products are reduced by two further products.
     fn has_31_bits() -> bool
         ensures above { result ≡ true → 2 ^ 30 < M.MODULUS }
         ensures below { result ≡ true → M.MODULUS < 2 ^ 31 }
@@ -124,15 +124,15 @@ impl<M: PrimeModulus> PrimeField<M> {
         1 << 30 < M::MODULUS && M::MODULUS < 1 << 31
     }
 
-    /// Whether the prime is 2^64 - 2^32 + 1.
+    // Whether the prime is 2^64 - 2^32 + 1.
     fn is_goldilocks() -> bool
         ensures { result ≡ true → M.MODULUS ≡ 18446744069414584321 }
     {
         M::MODULUS == 18446744069414584321
     }
 
-    /// The residue of a product of two numbers below a prime of half a word. A Fermat prime's predecessor is minus
-    /// one, and quotient and rest by it are bits; modulo a small prime half the bits are enough.
+    // The residue of a product of two numbers below a prime of half a word. A Fermat prime's predecessor is
+    // minus one, and quotient and rest by it are bits; modulo a small prime half the bits are enough.
     fn reduce_product(value: u64) -> Self
         requires half_word { M.MODULUS ≤ 2 ^ 32 }
         requires product { value ≤ (M.MODULUS - 1) * (M.MODULUS - 1) }
@@ -155,7 +155,7 @@ impl<M: PrimeModulus> PrimeField<M> {
         }
     }
 
-    /// The residue modulo a prime of 31 bits.
+    // The residue modulo a prime of 31 bits.
     fn reduce_by_products(value: u64) -> Self
         requires above { 2 ^ 30 < M.MODULUS }
         requires below { M.MODULUS < 2 ^ 31 }
@@ -168,8 +168,9 @@ impl<M: PrimeModulus> PrimeField<M> {
         PrimeField::reduce_once(less)
     }
 
-    /// The quotient by a prime of 31 bits, or one or two less: that of the value's upper bits, by a product in place of
-    /// a division. Both factors have 32 bits, for which there are instructions on several items at a time.
+    // The quotient by a prime of 31 bits, or one or two less, as in Barrett reduction: that of the value's
+    // upper bits, by a product in place of a division. Both factors have 32 bits, for which there are
+    // instructions on several items at a time.
     fn near_quotient(value: u64) -> u64
         requires above { 2 ^ 30 < M.MODULUS }
         requires fits { value < 2 ^ 62 }
@@ -181,7 +182,7 @@ impl<M: PrimeModulus> PrimeField<M> {
         (value >> 30) as u32 as u64 * factor as u32 as u64 >> 32
     }
 
-    /// A number below thrice the prime, less the prime where it isn't below it.
+    // A number below thrice the prime, less the prime where it isn't below it.
     fn less_once(value: u64) -> u64
         requires thrice { value < 3 * M.MODULUS }
         ensures same { result % M.MODULUS ≡ value % M.MODULUS }
@@ -194,7 +195,7 @@ impl<M: PrimeModulus> PrimeField<M> {
         }
     }
 
-    /// The residue of a product of two numbers below a prime of more than half a word.
+    // The residue of a product of two numbers below a prime of more than half a word.
     fn reduce_wide(value: u128) -> Self
         requires { value ≤ (M.MODULUS - 1) * (M.MODULUS - 1) }
         ensures { result.value ≡ value % M.MODULUS }
@@ -209,8 +210,9 @@ impl<M: PrimeModulus> PrimeField<M> {
         }
     }
 
-    /// The residue of `low + 2^64 * high` modulo 2^64 - 2^32 + 1, of which 2^64 leaves 2^32 - 1, and 2^96 minus one.
-    /// `more` is below the prime, and `low + more` below twice the prime, so that one comparison is enough.
+    // The residue of `low + 2^64 * high` modulo 2^64 - 2^32 + 1, of which 2^64 leaves 2^32 - 1, and 2^96
+    // minus one. `more` is below the prime, and `low + more` below twice the prime, so that one comparison is
+    // enough.
     fn reduce_goldilocks(low: u64, high: u64) -> Self
         requires { M.MODULUS ≡ 18446744069414584321 }
         ensures { result.value ≡ (low + 2 ^ 64 * high) % M.MODULUS }
@@ -231,7 +233,7 @@ impl<M: PrimeModulus> PrimeField<M> {
         }
     }
 
-    /// The residue of a word less half a word, modulo 2^64 - 2^32 + 1.
+    // The residue of a word less half a word, modulo 2^64 - 2^32 + 1.
     fn rest_of_difference(low: u64, top: u64) -> u64
         requires goldilocks { M.MODULUS ≡ 18446744069414584321 }
         requires half_word { top < 2 ^ 32 }
@@ -246,7 +248,7 @@ impl<M: PrimeModulus> PrimeField<M> {
         PrimeField::<M>::difference(low, top).value
     }
 
-    /// The residue of a number below twice the modulus, without a division.
+    // The residue of a number below twice the modulus, without a division.
     fn reduce_once(value: u64) -> Self
         requires { value < 2 * M.MODULUS }
         ensures { result.value ≡ value % M.MODULUS }
@@ -261,8 +263,9 @@ impl<M: PrimeModulus> PrimeField<M> {
         }
     }
 
-    /// Whether a number below thrice the modulus is below the modulus. Where products need no division, loops are
-    /// compiled to take two items at a time, and the sign of a difference is what those instructions compare.
+    // Whether a number below thrice the modulus is below the modulus. Where products need no division, loops
+    // are compiled to take two items at a time, and the sign of a difference is what those instructions
+    // compare.
     fn is_below(value: u64) -> bool
         requires { value < 3 * M.MODULUS }
         ensures below { result ≡ true → value < M.MODULUS }
@@ -275,7 +278,7 @@ impl<M: PrimeModulus> PrimeField<M> {
         }
     }
 
-    /// The residue of a difference, of numbers that may have a whole word: no sum passes the modulus.
+    // The residue of a difference, of numbers that may have a whole word: no sum passes the modulus.
     fn difference(left: u64, right: u64) -> Self
         requires left { left < M.MODULUS }
         requires right { right ≤ M.MODULUS }
@@ -473,7 +476,8 @@ impl<M: PrimeModulus> Field for PrimeField<M> {
         Some(last_factor)
     }
 
-    /// A number below the prime, by Canon's method of words of 64 bits. No clause speaks of probabilities.
+    /// A number below the prime: the one that Canon's method makes of the generator's next words of 64 bits,
+    /// as `draws` says. No clause speaks of probabilities.
     fn rand<R: Rng>(rng: &mut R) -> Self {
         PrimeField {
             value: rng.random_range(0..M::MODULUS),
@@ -733,7 +737,7 @@ impl PrimeModulus for Modulus433 {
     ghost together = { ((λ h. h), (λ h. h)) };
 }
 
-/// The prime 65537, which is one more than 2^16.
+/// The prime 65537, which is one more than 2^16: a Fermat prime.
 pub struct Modulus65537;
 
 impl PrimeModulus for Modulus65537 {

@@ -1,9 +1,8 @@
 -- What several reads take together.
-use Rattle.std.proofs.Common.{◌≡◌, ℕ, ◌^◌, ◌<◌, List, [], ◌∷◌, ◌++◌, length, Result, Ok, Err, inl, inr, refl, sym, ap, ◌∙◌, append_assoc, append-nil, arith, subst}
+use Rattle.std.proofs.Common.{◌≡◌, ℕ, ◌^◌, ◌<◌, List, [], ◌∷◌, ◌++◌, length, Result, Ok, Err, inl, inr, refl, sym, ap, ◌∙◌, append_assoc, arith, subst}
 use Rattle.std.specs.Io.KnownBytes.{Consumes}
 use Rattle.std.proofs.KnownBytes.{Consumes-nil, Consumes-trans}
 use Rattle.ark_math.specs.Format.{Format, IsFormat, IsOneToOne, ◌⊗◌, number, little_endian, word, items, HaveSpellings, list, lawful, stored, either}
-use Rattle.ark_bytes.proofs.Writing.{HaveSpellings-push, items-push}
 use Rattle.ark_math.proofs.Formats.Ends.{spelled}
 use Rattle.ark_math.proofs.Formats.Unfinished.{unfinished_fields, unfinished_number, unfinished_length, unfinished_item, unfinished_first, unfinished_second, unfinished_tag, unfinished_left, unfinished_right}
 use Rattle.ark_bytes.specs.declared.error.SerializationError.{SerializationError}
@@ -80,9 +79,6 @@ refused_number a b width bytes IoError size f = record {
 refused_number a b width bytes InvalidData size f = absurd f
 refused_number a b width bytes Memory size f = f
 
-pub same_width : (a b : SourceState) (width other n : ℕ) → width ≡ other → TakesSpelling (number width) a b n → TakesSpelling (number other) a b n
-same_width a b width other n e t = subst (λ w. TakesSpelling (number w) a b n) e t
-
 pub same_number : (a b : SourceState) (width m n : ℕ) → m ≡ n → TakesSpelling (number width) a b m → TakesSpelling (number width) a b n
 same_number a b width m n e t = subst (TakesSpelling (number width) a b) e t
 
@@ -94,23 +90,6 @@ module _ {X : Type 0} (item : Format X) (I : IsFormat item) where
     pub counts : count < 256 ^ 8
     pub have : HaveSpellings item xs
     pub takes : Takes a b (word.spelling count ++ items item xs)
-
-  pub none_taken : (a b : SourceState) (count : ℕ) → TakesSpelling word a b count → TakesItems a b count []
-  none_taken a b count t = record { counts = t.has; have = tt; takes = subst (Takes a b) (sym (append-nil (word.spelling count))) t.takes }
-
-  pub one_more_taken : (a b c : SourceState) (count : ℕ) (xs ys : List X) (v : X) → ys ≡ xs ++ v ∷ [] → TakesItems a b count xs → TakesSpelling item b c v → TakesItems a c count ys
-  one_more_taken a b c count xs ys v e p q =
-      subst (TakesItems a c count) (sym e)
-      (record {
-        counts = p.counts;
-        have = HaveSpellings-push item xs v p.have q.has;
-        takes = subst (Takes a c) (sym (items-push item count xs v)) (Takes-trans a b c (word.spelling count ++ items item xs) (item.spelling v) p.takes q.takes);
-      })
-
-  pub all_taken : (a b : SourceState) (count : ℕ) (xs : List X) → length xs ≡ count → TakesItems a b count xs → TakesSpelling (list item) a b xs
-  all_taken a b count xs same p =
-      let q = subst (λ n. TakesItems a b n xs) (sym same) p in
-      record { has = (q.counts, q.have); takes = q.takes }
 
   pub refused_length : (M : Type 0) (a b : SourceState) (e : SerializationError) → Refuses word ⊥ a b e → Refuses (list item) M a b e
   refused_length M a b IoError r = record {

@@ -1,8 +1,7 @@
 -- What several writes append together.
-use Rattle.std.proofs.Common.{◌≡◌, ℕ, ◌+◌, ◌^◌, ◌<◌, length, List, [], ◌∷◌, ◌++◌, append_assoc, append-nil, length-append, inl, inr, Result, Ok, Err, refl, sym, ap, ◌∙◌, subst}
+use Rattle.std.proofs.Common.{◌≡◌, ℕ, ◌+◌, length, List, [], ◌∷◌, ◌++◌, append_assoc, append-nil, length-append, inl, inr, Result, Ok, Err, refl, sym, ap, ◌∙◌, subst}
 use Rattle.std.proofs.KnownBytes.{Appends-trans}
 use Rattle.ark_math.specs.Format.{Format, ◌⊗◌, word, number, items, HaveSpellings, list, lawful, either}
-use Rattle.ark_math.proofs.Formats.Ends.{length-little_endian}
 use Rattle.ark_bytes.specs.Writing.{SinkState, Puts, PutsSpelling, Stops, Writes}
 use Rattle.ark_bytes.proofs.Transfer.{AppendsBeginning-more, AppendsBeginning-after}
 use Rattle.ark_bytes.specs.declared.error.SerializationError.{SerializationError}
@@ -14,7 +13,7 @@ stops_before a b x y IoError f = record { appends = AppendsBeginning-more a.cont
 stops_before a b x y InvalidData f = f
 stops_before a b x y Memory f = f
 
-pub stops_after : (a b c : SinkState) (x y : List ℕ) (e : SerializationError) → Puts a b x → Stops y b c e → Stops (x ++ y) a c e
+stops_after : (a b c : SinkState) (x y : List ℕ) (e : SerializationError) → Puts a b x → Stops y b c e → Stops (x ++ y) a c e
 stops_after a b c x y IoError s f = record {
   appends = AppendsBeginning-after a.contents b.contents c.contents x y s.appends f.appends;
   failures = f.failures ∙ ap (λ n. n + 1) s.failures;
@@ -22,7 +21,7 @@ stops_after a b c x y IoError s f = record {
 stops_after a b c x y InvalidData s f = f
 stops_after a b c x y Memory s f = f
 
-pub Puts-trans : (a b c : SinkState) (x y : List ℕ) → Puts a b x → Puts b c y → Puts a c (x ++ y)
+Puts-trans : (a b c : SinkState) (x y : List ℕ) → Puts a b x → Puts b c y → Puts a c (x ++ y)
 Puts-trans a b c x y s t = record {
   appends = Appends-trans a.contents b.contents c.contents x y s.appends t.appends;
   failures = t.failures ∙ s.failures;
@@ -57,17 +56,6 @@ module _ {X : Type 0} (item : Format X) where
     pub have : HaveSpellings item xs
     pub puts : Puts a b (word.spelling count ++ items item xs)
 
-  pub no_items_yet : (a b : SinkState) (count : ℕ) → PutsSpelling word a b count → PutsItems a b count []
-  no_items_yet a b count p = record { have = tt; puts = subst (Puts a b) (sym (append-nil (word.spelling count))) p.puts }
-
-  pub one_more_item : (a b c : SinkState) (count : ℕ) (xs ys : List X) (v : X) → ys ≡ xs ++ v ∷ [] → PutsItems a b count xs → PutsSpelling item b c v → PutsItems a c count ys
-  one_more_item a b c count xs ys v e p q =
-      subst (PutsItems a c count) (sym e)
-      (record {
-        have = HaveSpellings-push xs v p.have q.has;
-        puts = subst (Puts a c) (sym (items-push count xs v)) (Puts-trans a b c (word.spelling count ++ items item xs) (item.spelling v) p.puts q.puts);
-      })
-
   pub stops_at_item : (a b c : SinkState) (all front rest : List X) (v : X) (e : SerializationError) → all ≡ front ++ (v ∷ rest) → PutsItems a b (length all) front → Stops (item.spelling v) b c e
       → Stops ((list item).spelling all) a c e
   stops_at_item a b c all front rest v e is p s =
@@ -77,11 +65,6 @@ module _ {X : Type 0} (item : Format X) where
       subst (λ l. Stops l a c e) same
       (stops_after a b c (w ++ items item front) (item.spelling v ++ items item rest) e p.puts (stops_before b c (item.spelling v) (items item rest) e s))
 
-  pub all_items : (a b : SinkState) (xs ys : List X) → length xs < 256 ^ 8 → ys ≡ xs → PutsItems a b (length xs) ys → PutsSpelling (list item) a b xs
-  all_items a b xs ys counts e p =
-      let q = subst (PutsItems a b (length xs)) e p in
-      record { has = (counts, q.have); puts = q.puts }
-
 -- ---- sizes
 
 module _ {X : Type 0} (item : Format X) where
@@ -89,12 +72,6 @@ module _ {X : Type 0} (item : Format X) where
   length_items all front rest v e =
       ap (λ l. length (items item l)) e ∙ ap length (items-append item front (v ∷ rest)) ∙ length-append (items item front) (item.spelling v ++ items item rest)
       ∙ ap (λ n. length (items item front) + n) (length-append (item.spelling v) (items item rest))
-
-  pub length_items-push : (xs : List X) (v : X) → length (items item (xs ++ v ∷ [])) ≡ length (items item xs) + length (item.spelling v)
-  length_items-push xs v = ap length (items-append item xs (v ∷ [])) ∙ length-append (items item xs) (item.spelling v ++ []) ∙ ap (λ l. length (items item xs) + length l) (append-nil (item.spelling v))
-
-  pub length_list : (xs : List X) → length ((list item).spelling xs) ≡ 8 + length (items item xs)
-  length_list xs = length-append (word.spelling (length xs)) (items item xs) ∙ ap (λ n. n + length (items item xs)) (length-little_endian 8 (length xs))
 
 -- ---- values spelled as their fields, and one of two
 

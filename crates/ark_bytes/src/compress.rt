@@ -19,8 +19,8 @@ pub enum Compress {
     No,
 }
 
-/// Reads a value that is spelled in the mode `from`, and writes its spelling in the mode `to`. After a refusal of reading
-/// nothing was written, and after one of writing a beginning of that spelling.
+/// Reads a value that is spelled in the mode `from`, and writes its spelling in the mode `to`. After a
+/// refusal of reading nothing was written, and after one of writing a beginning of that spelling.
 pub fn recompress<T: CanonicalSerialize + CanonicalDeserialize, R: Source, W: Sink>(
     alloc: Global,
     reader: &mut R,

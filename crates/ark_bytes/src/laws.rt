@@ -28,8 +28,8 @@ fn bytes_of<T: CanonicalSerialize>(
     }
 }
 
-/// A value that is written, and read back from just these bytes, has the same spelling, and so is the same one, as far as
-/// its type's spellings tell. `Memory` is the only error.
+/// A value that is written, and read back from just these bytes, has the same spelling, and so is the same
+/// one, as far as its type's spellings tell. `Memory` is the only error.
 pub fn written_then_read<T: CanonicalSerialize + CanonicalDeserialize>(
     alloc: Global,
     value: &T,
@@ -44,9 +44,10 @@ pub fn written_then_read<T: CanonicalSerialize + CanonicalDeserialize>(
     T::deserialize_with_mode(alloc, &mut source, mode)
 }
 
-/// What `recompress` gives there and back, of bytes that begin with a value's spelling in the mode `from`: the same value's
-/// spelling in the mode `to`, and from it just the bytes with which these begin. `Memory` is the only error then; other
-/// bytes are refused.
+/// A round trip of a value between two modes. The bytes begin with its spelling in the mode `from`: the first
+/// list is its spelling in the mode `to`, and the second what comes back from that one, in the mode `from`
+/// again, which is just what the bytes begin with. `Memory` is the only error then; bytes that begin with no
+/// spelling are refused.
 pub fn recompressed_and_back<T: CanonicalSerialize + CanonicalDeserialize>(
     alloc: Global,
     bytes: &[u8],

@@ -1,5 +1,5 @@
-//! Where calls read and write bytes, and how values are spelled in them: sinks and sources, the traits of types that are
-//! written and read, numbers, pairs, lists and one of two.
+//! Where calls read and write bytes, and how values are spelled in them: sinks and sources, the traits of
+//! types that are written and read, numbers, pairs, lists and one of two.
 #![tactic(auto)]
 
 mod compress;

@@ -12,7 +12,7 @@ use crate::source::Source;
 use crate::traits::{CanonicalDeserialize, CanonicalSerialize, Spelled, Valid};
 use std::alloc::Global;
 
-/// The number that these bytes spell.
+// The number that these bytes spell.
 fn number_of(bytes: &[u8]) -> u64
     requires { length bytes.now ≤ 8 }
     ensures spelled { little_endian (length bytes.now) result ≡ bytes.now }
@@ -27,8 +27,8 @@ fn number_of(bytes: &[u8]) -> u64
     value
 }
 
-/// Reads a number of so many bytes. `IoError` comes where the reader ends or fails before the last one, and is the only
-/// error.
+/// Reads a number of so many bytes. `IoError` comes where the reader ends or fails before the last one, and
+/// is the only error.
 pub fn read_number<R: Source>(reader: &mut R, width: usize) -> Result<u64, SerializationError>
     requires { width ≤ 8 }
     ensures { Reads (number width) ⊥ (source_state R.remaining R.failures reader.old)

@@ -17,8 +17,8 @@ pub trait Source {
     // How many calls of `take` answered `Failed` so far, for contracts alone.
     ghost failures: { Self → ℕ };
 
-    /// Puts the next bytes into the buffer and tells how many these are, 0 only at the end or for an empty buffer.
-    /// `Failed` takes none.
+    /// Puts the next bytes into the buffer and tells how many these are, 0 only at the end or for an empty
+    /// buffer. `Failed` takes none.
     fn take(&mut self, buffer: &mut [u8]) -> Result<usize, Failed>
         ensures bound { IfOk result (λ n. n ≤ length buffer.new) }
         ensures bytes { ReadConsumes (remaining self.old) (remaining self.new) result buffer.new }

@@ -13,8 +13,8 @@ use std::alloc::Global;
 
 /// A type whose values are spelled in bytes, in each mode.
 ///
-/// In a mode no value's spelling begins another's, and a spelling tells what the type shows of its value: the value
-/// itself, but for a type that says less.
+/// In a mode no value's spelling begins another's, and a spelling tells what the type shows of its value: the
+/// value itself, but for a type that says less.
 pub trait Spelled {
     ghost use Rattle.ark_bytes.specs.declared.compress.Compress.{Compress};
 
@@ -31,13 +31,14 @@ pub trait Spelled {
     ghost tells: { (mode : Compress) → Tells shown (format mode) };
 }
 
-/// A type whose values are written. Both modes tell the same: values that are spelled alike in one are so in the other.
+/// A type whose values are written. Both modes tell the same: values that are spelled alike in one are so in
+/// the other.
 pub trait CanonicalSerialize: Spelled {
     ghost use Rattle.ark_math.specs.Format.{KeepsAlike};
     ghost use Rattle.ark_bytes.specs.declared.compress.Compress.{Compress};
 
-    /// Appends the value's spelling in the mode. `IoError` comes only where the writer failed in this call, and then a
-    /// beginning of the spelling was appended; it is the only error. No memory is taken.
+    /// Appends the value's spelling in the mode. `IoError` comes only where the writer failed in this call,
+    /// and then a beginning of the spelling was appended; it is the only error. No memory is taken.
     fn serialize_with_mode<W: Sink>(
         &self,
         writer: &mut W,
@@ -85,10 +86,10 @@ pub trait CanonicalDeserialize: Spelled + Valid + Drop {
     // Whether reading takes memory, and so may answer `Memory`.
     ghost takes_memory: { Type 0 };
 
-    /// Reads a value that is spelled in the mode. `Ok` took exactly a spelling of the value. `InvalidData`: the bytes
-    /// that were taken begin no spelling. `IoError`: the reader ended or failed before that was seen. `Memory` comes
-    /// where a growth was refused, and only of types whose reading takes memory; nothing is reserved by a length that was
-    /// read.
+    /// Reads a value that is spelled in the mode. `Ok` took exactly a spelling of the value. `InvalidData`:
+    /// the bytes that were taken begin no spelling. `IoError`: the reader ended or failed before that was
+    /// seen. `Memory` comes where a growth was refused, and only of types whose reading takes memory; nothing
+    /// is reserved by a length that was read.
     fn deserialize_with_mode<R: Source>(
         alloc: Global,
         reader: &mut R,

@@ -97,8 +97,8 @@ pub fn multiply_each<F: Field>(items: &mut [F], other: &[F])
     }
 }
 
-/// Divides each item by the one at its place, by one batch inversion: zero where the divisor is. After an error the items
-/// are as they were.
+/// Divides each item by the one at its place, by one batch inversion: zero where the divisor is. After an
+/// error the items are as they were.
 pub fn divide_each<F: Field>(alloc: Global, items: &mut [F], other: &[F]) -> Result<(), PolyError>
     requires { length other.now ≡ length items.old }
     ensures quotients { OnOk result ((i : ℕ) → i < length items.old
@@ -139,8 +139,8 @@ pub fn add_product<F: Field>(coeffs: &mut [F], left: &[F], right: &[F])
     }
 }
 
-/// The value at a point, by steps of four coefficients: of a step's products one alone waits for the step before it. As
-/// many products as coefficients, and three for powers of the point.
+/// The value at a point, by Horner's method in steps of four coefficients: of a step's products one alone
+/// waits for the step before it. As many products as coefficients, and three for powers of the point.
 pub fn value_at<F: Field>(coeffs: &[F], point: F) -> F
     ensures { IsValue F.field (of_list F.field coeffs.now) point result }
 {
@@ -161,8 +161,8 @@ pub fn value_at<F: Field>(coeffs: &[F], point: F) -> F
     value
 }
 
-/// The product, by all products of two coefficients; empty where a factor is. `Overflow` exactly where neither factor is
-/// empty and the product's length is past `usize::MAX`.
+/// The product, by all products of two coefficients; empty where a factor is. `Overflow` exactly where
+/// neither factor is empty and the product's length is past `usize::MAX`.
 pub fn naive_product<F: Field>(alloc: Global, left: &[F], right: &[F]) -> Result<Vec<F>, PolyError>
     ensures product { IfOk result (λ c. of_list F.field c.items
         ≡ product F.field (of_list F.field left.now) (of_list F.field right.now)) }
@@ -215,8 +215,8 @@ pub fn extended<F: Field>(alloc: Global, coeffs: &[F], len: usize) -> Result<Vec
     Ok(copy)
 }
 
-/// The product with `x^n - constant`: the coefficients moved up by `n` places, less the constant times themselves. It
-/// takes one product for each coefficient, and memory for the answer alone.
+/// The product with `x^n - constant`: the coefficients moved up by `n` places, less the constant times
+/// themselves. It takes one product for each coefficient, and memory for the answer alone.
 pub fn multiplied_by_binomial<F: Field>(
     alloc: Global,
     coeffs: &[F],
@@ -254,8 +254,8 @@ pub fn trim<F: Field>(coeffs: &mut Vec<F>)
     coeffs.truncate(trimmed_len(coeffs));
 }
 
-/// Divides by `x^n - constant` in place: the first `n` items are then the remainder's, and those from `n` on the
-/// quotient's. Each item from `n` on is carried down by `n` places, times the constant.
+/// Divides by `x^n - constant` in place: the first `n` items are then the remainder's, and those from `n` on
+/// the quotient's. Each item from `n` on is carried down by `n` places, times the constant.
 pub fn divide_by_binomial<F: Field>(coeffs: &mut [F], n: usize, constant: F)
     requires { 0 < n }
     ensures { of_list F.field coeffs.old ≡ added F.field
@@ -269,8 +269,8 @@ pub fn divide_by_binomial<F: Field>(coeffs: &mut [F], n: usize, constant: F)
     }
 }
 
-/// The remainder by `x^n - constant` in place of the coefficients, at most `n` items. It takes one product for each
-/// coefficient from `n` on.
+/// The remainder by `x^n - constant` in place of the coefficients, at most `n` items. It takes one product
+/// for each coefficient from `n` on.
 pub fn reduce_by_binomial<F: Field>(coeffs: &mut Vec<F>, n: usize, constant: F)
     requires { 0 < n }
     ensures division { (q : List F) × (of_list F.field coeffs.old.items ≡ added F.field
@@ -283,8 +283,8 @@ pub fn reduce_by_binomial<F: Field>(coeffs: &mut Vec<F>, n: usize, constant: F)
     coeffs.truncate(n);
 }
 
-/// Quotient and remainder by `x^n - constant`, each in a list of its own, of which the remainder's has at most `n`
-/// items. It takes one product for each coefficient from `n` on.
+/// Quotient and remainder by `x^n - constant`, each in a list of its own, of which the remainder's has at
+/// most `n` items. It takes one product for each coefficient from `n` on.
 pub fn divided_by_binomial<F: Field>(
     alloc: Global,
     coeffs: &[F],

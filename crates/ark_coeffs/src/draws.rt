@@ -21,7 +21,7 @@ pub fn push_drawn<F: Field, R: Rng>(
     Ok(())
 }
 
-/// The first of at most `tries` draws that isn't zero.
+// The first of at most `tries` draws that isn't zero.
 fn drawn_nonzero<F: Field, R: Rng>(rng: &mut R, tries: usize) -> Option<F>
     ensures nonzero { IfSome result (λ x. x ≢ F.field.zero) }
     ensures spent { tries ≡ 0 → IsNone result }
@@ -35,8 +35,9 @@ fn drawn_nonzero<F: Field, R: Rng>(rng: &mut R, tries: usize) -> Option<F>
     None
 }
 
-/// Coefficients of a polynomial of this degree: the lower ones as they are drawn, then the first of at most `tries`
-/// draws for the leading one that isn't zero, and `None` where these are spent. Memory is taken once, before any draw.
+/// Coefficients of a polynomial of this degree: the lower ones as they are drawn, then the first of at most
+/// `tries` draws for the leading one that isn't zero, and `None` where these are spent. Memory is taken once,
+/// before any draw.
 pub fn drawn<F: Field, R: Rng>(
     alloc: Global,
     degree: usize,

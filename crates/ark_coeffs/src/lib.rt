@@ -1,5 +1,5 @@
-//! Sums, differences, multiples and values of the lists behind the forms of polynomials: of coefficients, and of terms;
-//! and rows of powers.
+//! Sums, differences, multiples and values of the lists behind the forms of polynomials: of coefficients, and
+//! of terms; and rows of powers.
 #![tactic(auto)]
 
 pub mod dense;

@@ -9,8 +9,8 @@ use crate::dense::zeros;
 use ark_traits::{Field, PolyError, batch_inversion};
 use std::alloc::{AllocError, Global};
 
-/// One where the element `offset * root^i` is `tau`, and zero elsewhere, for the `i` below `size`. Two rows of elements
-/// take turns, so that no product waits for the last.
+/// One where the element `offset * root^i` is `tau`, and zero elsewhere, for the `i` below `size`. Two rows
+/// of elements take turns, so that no product waits for the last.
 pub fn indicator<F: Field>(
     alloc: Global,
     size: usize,
@@ -37,8 +37,8 @@ pub fn indicator<F: Field>(
     Ok(items)
 }
 
-/// The items `first * ratio^i - constant` for the `i` below `size`. Two rows of powers take turns, so that no product
-/// waits for the last.
+/// The items `first * ratio^i - constant` for the `i` below `size`. Two rows of powers take turns, so that no
+/// product waits for the last.
 pub fn geometric_row_less<F: Field>(
     alloc: Global,
     size: usize,
@@ -63,7 +63,8 @@ pub fn geometric_row_less<F: Field>(
     Ok(items)
 }
 
-/// The inverses of `first * ratio^i - constant` for the `i` below `size`, by one batch inversion: zero where that is.
+/// The inverses of `first * ratio^i - constant` for the `i` below `size`, by one batch inversion: zero where
+/// that is.
 pub fn inverted_row_less<F: Field>(
     alloc: Global,
     size: usize,

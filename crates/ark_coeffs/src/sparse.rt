@@ -57,7 +57,7 @@ pub fn merged_terms<F: Field>(
     Ok(merged)
 }
 
-/// The least degree of the terms of two lists; `None` where both are empty.
+// The least degree of the terms of two lists; `None` where both are empty.
 fn least_degree<F: Field>(left: &[(usize, F)], right: &[(usize, F)]) -> Option<usize>
     requires left { IsSparse F.field left.now }
     requires right { IsSparse F.field right.now }
@@ -75,7 +75,7 @@ fn least_degree<F: Field>(left: &[(usize, F)], right: &[(usize, F)]) -> Option<u
     }
 }
 
-/// The coefficient at a degree that no term is below, and the terms of higher degrees.
+// The coefficient at a degree that no term is below, and the terms of higher degrees.
 fn split_at_degree<F: Field>(terms: &[(usize, F)], degree: usize) -> (F, &[(usize, F)])
     requires sparse { IsSparse F.field terms.now }
     requires lowest { All (λ t. degree ≤ t.0) terms.now }
@@ -91,7 +91,8 @@ fn split_at_degree<F: Field>(terms: &[(usize, F)], degree: usize) -> (F, &[(usiz
     }
 }
 
-/// The sum of terms and a multiple of others, without zeros. One pass over both lists, and room for both at once.
+/// The sum of terms and a multiple of others, without zeros. One pass over both lists, and room for both at
+/// once.
 pub fn sum_with_multiple<F: Field>(
     alloc: Global,
     left: &[(usize, F)],
@@ -118,8 +119,8 @@ pub fn sum_with_multiple<F: Field>(
     Ok(sum)
 }
 
-/// The sum of terms and others times a factor, without zeros. The factors one and minus one take no product. One pass
-/// over both lists, and room for both at once.
+/// The sum of terms and others times a factor, without zeros. The factors one and minus one take no product.
+/// One pass over both lists, and room for both at once.
 pub fn sum_of_terms<F: Field>(
     alloc: Global,
     left: &[(usize, F)],

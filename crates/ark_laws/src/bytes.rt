@@ -1,4 +1,5 @@
-//! Laws of values that are written and read back, for code that is generic over domains and forms of polynomials.
+//! Laws of values that are written and read back, for code that is generic over domains and forms of
+//! polynomials.
 
 ghost use Rattle.std.specs.Prelude.{◌≡◌, IfOk, IsOkUnless};
 

@@ -1,5 +1,6 @@
-//! Laws of calls together, stated as contracts of functions that callers may cite. Nothing but the contract is promised:
-//! a body need not make the calls that the law is about. All are proved from what the crates below promise to any caller.
+//! Laws of calls together, stated as contracts of functions that callers may cite. Nothing but the contract
+//! is promised: a body need not make the calls that the law is about. All are proved from what the crates
+//! below promise to any caller.
 #![tactic(auto)]
 
 mod bytes;

@@ -14,8 +14,8 @@ use ark_traits::{Field, PolyError};
 use std::alloc::Global;
 use std::cmp::Ordering;
 
-/// The order of terms is the graded one: the greater total degree is above, and of equal totals that with the greater
-/// power of the least variable where two differ. No two terms but equal ones tie.
+/// The order of terms is the graded one: the greater total degree is above, and of equal totals that with the
+/// greater power of the least variable where two differ. No two terms but equal ones tie.
 pub fn graded_order(s: &SparseTerm, t: &SparseTerm) -> Ordering
     ensures greater { (result ≡ Ordering.Greater) ↔ IsAbove s.now t.now }
     ensures less { (result ≡ Ordering.Less) ↔ IsAbove t.now s.now }
@@ -67,8 +67,8 @@ fn bit_of<F: Field>(index: usize, variable: usize) -> F
     }
 }
 
-/// The value of a multilinear extension at a point, which is that of every polynomial of terms with no power above one
-/// that has the table's values at the corners; and there is one such polynomial, and no second one.
+/// The value of a multilinear extension at a point, which is that of every polynomial of terms with no power
+/// above one that has the table's values at the corners; and there is one such polynomial, and no second one.
 ///
 /// It takes as long as `evaluate`, and as much memory.
 pub fn only_multilinear<F: Field, E: MultilinearExtension<F>>(
@@ -88,8 +88,8 @@ pub fn only_multilinear<F: Field, E: MultilinearExtension<F>>(
     poly.evaluate(alloc, point)
 }
 
-/// The value of a multilinear extension at `first` followed by `others`, at once and with the first variables bound
-/// before the others: they are equal.
+/// The value of a multilinear extension at `first` followed by `others`, at once and with the first variables
+/// bound before the others: they are equal.
 ///
 /// It takes as long as `evaluate` and `fix_variables`, and memory for a point beside what these take.
 pub fn values_with_bound_variables<F: Field, E: MultilinearExtension<F>>(
@@ -112,8 +112,8 @@ pub fn values_with_bound_variables<F: Field, E: MultilinearExtension<F>>(
     Ok((poly.evaluate(alloc, &whole)?, rest.evaluate(alloc, others)?))
 }
 
-/// The value of a multilinear extension at a point with the `k` items from `a` on and the `k` from `b` on exchanged, and
-/// that at the point of the extension with these variables exchanged: they are equal.
+/// The value of a multilinear extension at a point with the `k` items from `a` on and the `k` from `b` on
+/// exchanged, and that at the point of the extension with these variables exchanged: they are equal.
 ///
 /// It takes as long as twice `evaluate` and `relabel`, and memory for a point beside what these take.
 pub fn values_with_exchanged_variables<F: Field, E: MultilinearExtension<F>>(

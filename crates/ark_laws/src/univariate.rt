@@ -18,15 +18,16 @@ use ark_univariate::univariate::{DenseOrSparsePolynomial, DensePolynomial, Spars
 use ark_univariate::{DenseUVPolynomial, EvaluationDomain, Evaluations};
 use std::alloc::Global;
 
-/// A law: of every dense polynomial the list is trimmed, as its type promises; so no other list of one denotes the same.
+/// A law: of every dense polynomial the list is trimmed, as its type promises; so no other list of one
+/// denotes the same.
 pub fn always_trimmed<F: Field>(polynomial: &DensePolynomial<F>)
     ensures { IsTrimmed F.field polynomial.now }
 {
     polynomial.coeffs();
 }
 
-/// A law: of every sparse polynomial the degrees rise and no coefficient is zero, as its type promises; so no other list
-/// of one denotes the same.
+/// A law: of every sparse polynomial the degrees rise and no coefficient is zero, as its type promises; so no
+/// other list of one denotes the same.
 pub fn always_sparse<F: Field>(polynomial: &SparsePolynomial<F>)
     ensures { IsSparse F.field polynomial.now }
 {
@@ -38,8 +39,8 @@ pub fn value_of_linear_factor<F: Field>(root: F, point: F)
     ensures { IsValue F.field (linear_factor F.field root) point (minus F.field point root) }
 {}
 
-/// The product by `mul` and the one by `naive_mul`: they have the same coefficients, and are equal by `==`. An
-/// error is that of one of them.
+/// The product by `mul` and the one by `naive_mul`: they have the same coefficients, and are equal by `==`.
+/// An error is that of one of them.
 ///
 /// It takes as long as both.
 pub fn both_products<F: FftField>(
@@ -141,8 +142,8 @@ pub fn sparse_and_back<F: Field>(
     Ok(back)
 }
 
-/// The values at a point of one polynomial in dense and in sparse form: they are equal. Takes no memory, and is always
-/// `Ok`.
+/// The values at a point of one polynomial in dense and in sparse form: they are equal. Takes no memory, and
+/// is always `Ok`.
 ///
 /// It takes as long as both.
 pub fn values_of_both_forms<F: Field>(
@@ -162,7 +163,8 @@ pub fn values_of_both_forms<F: Field>(
     ))
 }
 
-/// The values over a domain of one polynomial in dense form, in sparse form and in either form: they are equal.
+/// The values over a domain of one polynomial in dense form, in sparse form and in either form: they are
+/// equal.
 ///
 /// It takes a transform for each.
 pub fn values_of_all_forms<F: FftField, D: EvaluationDomain<F>>(
@@ -190,8 +192,8 @@ pub fn values_of_all_forms<F: FftField, D: EvaluationDomain<F>>(
 /// What a division answers: quotient and remainder, and `None` where there are none.
 pub type Division<F> = Option<(DensePolynomial<F>, DensePolynomial<F>)>;
 
-/// The division of one polynomial by another, and the division with both in other forms: the answers are equal. So what
-/// is denoted alone decides quotient and remainder, and whether there are any.
+/// The division of one polynomial by another, and the division with both in other forms: the answers are
+/// equal. So what is denoted alone decides quotient and remainder, and whether there are any.
 ///
 /// It takes as long as both.
 pub fn divisions_of_all_forms<F: Field>(
@@ -227,8 +229,9 @@ fn see_trimmed<F: Field>(answer: &Division<F>)
     }
 }
 
-/// Quotient and remainder by x - z, and the value at the point z. This is the remainder theorem: the remainder is the
-/// value, and there is no other polynomial whose product with x - z is the given one less the value.
+/// Quotient and remainder by x - z, and the value at the point z. This is the remainder theorem: the
+/// remainder is the value, and there is no other polynomial whose product with x - z is the given one less
+/// the value.
 ///
 /// It takes one pass over the coefficients for either, and memory for a copy of them and for the quotient.
 pub fn division_at_point<F: Field>(
@@ -251,11 +254,11 @@ pub fn division_at_point<F: Field>(
     Ok((quotient, remainder, value))
 }
 
-/// The quotient by x - z where the point z is a root, and `None` where it isn't. This is the factor theorem: a polynomial
-/// is a multiple of x - z exactly where its value at z is zero.
+/// The quotient by x - z where the point z is a root, and `None` where it isn't. This is the factor theorem:
+/// a polynomial is a multiple of x - z exactly where its value at z is zero.
 ///
-/// It takes one pass over the coefficients for the value and one for the quotient, and memory for a copy of them and for
-/// the quotient.
+/// It takes one pass over the coefficients for the value and one for the quotient, and memory for a copy of
+/// them and for the quotient.
 pub fn without_root<F: Field>(
     alloc: Global,
     polynomial: &DensePolynomial<F>,

@@ -10,7 +10,7 @@ use rand::Rng;
 use std::alloc::Global;
 use std::collections::HashSet;
 
-/// The first of at most `tries` drawn indices that isn't taken.
+// The first of at most `tries` drawn indices that isn't taken.
 fn new_index<R: Rng>(
     taken: &HashSet<usize>,
     num_vars: usize,
@@ -30,8 +30,8 @@ fn new_index<R: Rng>(
     None
 }
 
-/// Drawn values at so many drawn indices below `2^num_vars`, without zeros, by rising indices. For each index at most
-/// `tries` are drawn until one is new; `None` where these are spent.
+/// Drawn values at so many drawn indices below `2^num_vars`, without zeros, by rising indices. For each index
+/// at most `tries` are drawn until one is new; `None` where these are spent.
 pub fn drawn_entries<F: Field, R: Rng>(
     alloc: Global,
     num_vars: usize,

@@ -1,4 +1,5 @@
-//! Lists behind the polynomials of several variables: the powers of a term, tables, and the entries of tables.
+//! Lists behind the polynomials of several variables: the powers of a term, tables, and the entries of
+//! tables.
 #![tactic(auto)]
 
 pub mod draws;

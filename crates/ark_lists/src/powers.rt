@@ -26,7 +26,7 @@ pub fn total_power(pairs: &[(usize, usize)]) -> usize
     total
 }
 
-/// Whether a word can tell the sum of all powers.
+// Whether a word can tell the sum of all powers.
 fn total_fits(pairs: &[(usize, usize)]) -> bool
     ensures { IsTrue result ↔ (total_degree pairs.now < 2 ^ 64) }
 {
@@ -40,14 +40,15 @@ fn total_fits(pairs: &[(usize, usize)]) -> bool
     true
 }
 
-/// Whether no power is 0.
+// Whether no power is 0.
 fn has_no_zero(pairs: &[(usize, usize)]) -> bool
     ensures { IsTrue result ↔ All (λ p. 0 < p.1) pairs.now }
 {
     pairs.iter().all(|pair| pair.1 > 0)
 }
 
-/// Whether these are the pairs of a term: variables strictly rising, no power 0, and a sum that a word can tell.
+/// Whether these are the pairs of a term: variables strictly rising, no power 0, and a sum that a word can
+/// tell.
 pub fn is_term(pairs: &[(usize, usize)]) -> bool
     ensures { IsTrue result ↔ IsTerm pairs.now }
 {
@@ -61,7 +62,7 @@ pub fn is_within(pairs: &[(usize, usize)], num_vars: usize) -> bool
     pairs.iter().all(|pair| pair.0 < num_vars)
 }
 
-/// Adds the power of a variable above the others, unless it's 0.
+// Adds the power of a variable above the others, unless it's 0.
 fn push_power(
     powers: &mut Vec<(usize, usize)>,
     variable: usize,
@@ -83,7 +84,7 @@ fn push_power(
     Ok(())
 }
 
-/// The powers of each variable summed up, without powers of 0, of pairs whose variables don't fall.
+// The powers of each variable summed up, without powers of 0, of pairs whose variables don't fall.
 fn gathered_powers(
     alloc: Global,
     powers: &[(usize, usize)],
@@ -109,9 +110,9 @@ fn gathered_powers(
     Ok(gathered)
 }
 
-/// The one list of the product of these powers, given in any order: the powers of each variable summed up, without
-/// powers of 0, by rising variables. `Overflow` exactly where the sum of all powers is past `usize::MAX`, judged before
-/// memory is asked for.
+/// The one list of the product of these powers, given in any order: the powers of each variable summed up,
+/// without powers of 0, by rising variables. `Overflow` exactly where the sum of all powers is past
+/// `usize::MAX`, judged before memory is asked for.
 pub fn collected_powers(
     alloc: Global,
     powers: Vec<(usize, usize)>,
@@ -129,8 +130,8 @@ pub fn collected_powers(
     gathered_powers(alloc, &powers)
 }
 
-/// The lexicographic order of terms, by the first pairs that differ: the lower variable is greater, and of one variable
-/// the greater power is.
+/// The lexicographic order of terms, by the first pairs that differ: the lower variable is greater, and of
+/// one variable the greater power is.
 pub fn compared_pairs(s: &[(usize, usize)], t: &[(usize, usize)]) -> Ordering
     ensures { result ≡ slice_cmp pair_cmp s.now t.now }
 {
@@ -143,8 +144,8 @@ pub fn compared_pairs(s: &[(usize, usize)], t: &[(usize, usize)]) -> Ordering
     s.len().cmp(&t.len())
 }
 
-/// The graded order of terms: by total degree, and of equal totals by the first pairs that differ, of which the one
-/// with the lower variable is greater, or else that with the greater power.
+/// The graded order of terms: by total degree, and of equal totals by the first pairs that differ, of which
+/// the one with the lower variable is greater, or else that with the greater power.
 pub fn compared_powers(s: &[(usize, usize)], t: &[(usize, usize)]) -> Ordering
     requires left { total_degree s.now < 2 ^ 64 }
     requires right { total_degree t.now < 2 ^ 64 }
@@ -156,7 +157,7 @@ pub fn compared_powers(s: &[(usize, usize)], t: &[(usize, usize)]) -> Ordering
     }
 }
 
-/// The power, by squaring from the highest bit down, so that powers of 0 and 1 take no product.
+// The power, by squaring from the highest bit down, so that powers of 0 and 1 take no product.
 fn small_power<F: Field>(base: F, exponent: usize) -> F
     ensures { result ≡ raised F.field base exponent }
 {

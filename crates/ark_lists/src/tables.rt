@@ -8,8 +8,8 @@ ghost use Rattle.ark_math.specs.Univariate.{added, difference, of_list, scaled};
 use ark_traits::Field;
 use std::alloc::{AllocError, Global};
 
-/// Writes what is left of a table when its first variable is bound to `x` over a buffer of half the length: one product
-/// for each pair of values.
+// Writes what is left of a table when its first variable is bound to `x` over a buffer of half the length:
+// one product for each pair of values.
 fn bind_pairs<F: Field>(half: &mut [F], table: &[F], x: F)
     requires { length table.now ≡ 2 * length half.old }
     ensures { of_list F.field half.new ≡ fixed F.field (of_list F.field table.now) (x ∷ []) }
@@ -21,7 +21,7 @@ fn bind_pairs<F: Field>(half: &mut [F], table: &[F], x: F)
     }
 }
 
-/// What is left of a table when its first variable is bound to `x`, in a list of its own.
+// What is left of a table when its first variable is bound to `x`, in a list of its own.
 fn bound_table<F: Field>(alloc: Global, table: &[F], x: F) -> Result<Vec<F>, AllocError>
     requires { length table.now ≡ 2 * (length table.now / 2) }
     ensures values { IfOk result (λ t. of_list F.field t.items
@@ -35,7 +35,7 @@ fn bound_table<F: Field>(alloc: Global, table: &[F], x: F) -> Result<Vec<F>, All
     Ok(half)
 }
 
-/// Writes what is left of a table when its first variable is bound to `x` over its lower half.
+// Writes what is left of a table when its first variable is bound to `x` over its lower half.
 fn bind_in_place<F: Field>(table: &mut [F], x: F)
     ensures { (i : ℕ) → i < length table.old / 2 → of_list F.field table.new i
         ≡ fixed F.field (of_list F.field table.old) (x ∷ []) i }
@@ -47,7 +47,7 @@ fn bind_in_place<F: Field>(table: &mut [F], x: F)
     }
 }
 
-/// Binds the first variable of a table to `x`, which halves it.
+// Binds the first variable of a table to `x`, which halves it.
 fn bind_first<F: Field>(table: &mut Vec<F>, x: F)
     requires { length table.old.items ≡ 2 * (length table.old.items / 2) }
     ensures values { of_list F.field table.new.items
@@ -58,10 +58,10 @@ fn bind_first<F: Field>(table: &mut Vec<F>, x: F)
     table.truncate(table.len() / 2);
 }
 
-/// What is left of a table when its first variables are bound to the point's items, in a list of its own with room for
-/// no more. Each variable halves the table, and takes one product for each pair of values. The first is bound on the way
-/// into a new list, which takes half the memory of the table, the last one on the way into the list that is given, and
-/// those between in place. Of a point without items it is a copy.
+/// What is left of a table when its first variables are bound to the point's items, in a list of its own with
+/// room for no more. Each variable halves the table, and takes one product for each pair of values. The first
+/// is bound on the way into a new list, which takes half the memory of the table, the last one on the way
+/// into the list that is given, and those between in place. Of a point without items it is a copy.
 pub fn fixed_table<F: Field>(alloc: Global, table: &[F], point: &[F]) -> Result<Vec<F>, AllocError>
     requires { (n : ℕ) × (n * 2 ^ length point.now ≡ length table.now) }
     ensures values { IfOk result (λ t. of_list F.field t.items
@@ -81,7 +81,7 @@ pub fn fixed_table<F: Field>(alloc: Global, table: &[F], point: &[F]) -> Result<
     bound_table(alloc, &left, *last)
 }
 
-/// Binds the last variable of a table in two halves to `x`: what is left is written over the lower one.
+// Binds the last variable of a table in two halves to `x`: what is left is written over the lower one.
 fn bind_halves<F: Field>(low: &mut [F], high: &[F], x: F)
     requires { length high.now ≡ length low.old }
     ensures { of_list F.field low.new ≡ added F.field (of_list F.field low.old)
@@ -93,7 +93,7 @@ fn bind_halves<F: Field>(low: &mut [F], high: &[F], x: F)
     }
 }
 
-/// Binds the last variable of a table to `x`, which halves it.
+// Binds the last variable of a table to `x`, which halves it.
 fn bind_last<F: Field>(table: &mut Vec<F>, x: F)
     requires { length table.old.items ≡ 2 * (length table.old.items / 2) }
     ensures values { (p : List F) → length table.old.items ≡ 2 * 2 ^ length p
@@ -107,8 +107,8 @@ fn bind_last<F: Field>(table: &mut Vec<F>, x: F)
     table.truncate(half);
 }
 
-/// The value at a point of a table's extension: all its variables are bound, the last one first, since then the values
-/// of a pair lie in two rows. The first one to be bound is bound over a copy of the lower half.
+/// The value at a point of a table's extension: all its variables are bound, the last one first, since then
+/// the values of a pair lie in two rows. The first one to be bound is bound over a copy of the lower half.
 pub fn value_of_table<F: Field>(alloc: Global, table: &[F], point: &[F]) -> Result<F, AllocError>
     requires { length table.now ≡ 2 ^ length point.now }
     ensures { IfOk result (λ y. y ≡ extension F.field (of_list F.field table.now) point.now) }
@@ -138,8 +138,8 @@ pub fn exchanged_bits(index: usize, a: usize, b: usize, k: usize) -> usize
     index - ((first << a) + (second << b)) + ((second << a) + (first << b))
 }
 
-/// Exchanges the `k` variables from `a` on with the `k` from `b` on: the values at each two indices that change places
-/// are swapped once.
+/// Exchanges the `k` variables from `a` on with the `k` from `b` on: the values at each two indices that
+/// change places are swapped once.
 pub fn relabel_table<F: Field>(table: &mut [F], a: usize, b: usize, k: usize)
     requires { (m : ℕ) × (m < 64) × (length table.old ≡ 2 ^ m) × AreWindows m a b k }
     ensures { (x : List F) → length table.old ≡ 2 ^ length x → AreWindows (length x) a b k

@@ -1,5 +1,5 @@
-//! Tables by their entries, which are pairs of index and value: what is left when the first variables are bound, a few
-//! at a time.
+//! Tables by their entries, which are pairs of index and value: what is left when the first variables are
+//! bound, a few at a time.
 
 ghost use Rattle.std.specs.Prelude.{◌≡◌, ◌⊎◌, ◌↔◌, ℕ, ◌+◌, ◌*◌, ◌<◌, ◌≤◌, ◌^◌, List, length, map};
 ghost use Rattle.std.specs.Prelude.{All, IfOk, OnOk, IsOkUnless, IsTrue};
@@ -17,7 +17,7 @@ use ark_traits::{Field, PolyError, log2};
 use std::alloc::Global;
 use std::collections::HashMap;
 
-/// Doubles weights for one item more: each less its product with the item, then these products.
+// Doubles weights for one item more: each less its product with the item, then these products.
 fn double_weights<F: Field>(weights: &mut Vec<F>, item: F) -> Result<(), PolyError>
     ensures length { OnOk result (length weights.new.items ≡ 2 * length weights.old.items) }
     ensures low { OnOk result ((b : ℕ) → b < length weights.old.items → of_list F.field weights.new.items b
@@ -36,7 +36,8 @@ fn double_weights<F: Field>(weights: &mut Vec<F>, item: F) -> Result<(), PolyErr
     Ok(())
 }
 
-/// How much the value at each corner counts at a point: one product for each corner but the first.
+/// How much the value at each corner counts at a point, which is the Kronecker product of `1 - x` and `x` for
+/// each item `x`: one product for each corner but the first.
 pub fn weights<F: Field>(alloc: Global, point: &[F]) -> Result<Vec<F>, PolyError>
     requires { length point.now < 64 }
     ensures length { IfOk result (λ w. length w.items ≡ 2 ^ length point.now) }
@@ -52,7 +53,7 @@ pub fn weights<F: Field>(alloc: Global, point: &[F]) -> Result<Vec<F>, PolyError
     Ok(weights)
 }
 
-/// Adds to the value at an index.
+// Adds to the value at an index.
 fn add_at<F: Field>(table: &mut HashMap<usize, F>, index: usize, value: F) -> Result<(), PolyError>
     ensures sum { OnOk result (held F.field table.new
         ≡ added F.field (held F.field table.old) (monomial F.field index value)) }
@@ -62,7 +63,7 @@ fn add_at<F: Field>(table: &mut HashMap<usize, F>, index: usize, value: F) -> Re
     Ok(())
 }
 
-/// The entries of a map that aren't zero, by rising indices.
+// The entries of a map that aren't zero, by rising indices.
 fn sorted_entries<F: Field>(
     alloc: Global,
     table: HashMap<usize, F>,
@@ -78,7 +79,8 @@ fn sorted_entries<F: Field>(
     gathered_terms(alloc, entries)
 }
 
-/// What is left when as many variables as the point has items are bound at once: by rising indices, without zeros.
+/// What is left when as many variables as the point has items are bound at once: by rising indices, without
+/// zeros.
 pub fn bind_window<F: Field>(
     alloc: Global,
     entries: &[(usize, F)],
@@ -109,9 +111,9 @@ pub fn bind_window<F: Field>(
     sorted_entries(alloc, table)
 }
 
-/// What is left when the first variables are bound to the point, in windows of w variables, of which the last may have
-/// fewer: w is the binary logarithm of the number of entries, rounded up, and at least 1. So a window has fewer than
-/// twice as many weights as there are entries, or two.
+/// What is left when the first variables are bound to the point, in windows of w variables, of which the last
+/// may have fewer: w is the binary logarithm of the number of entries, rounded up, and at least 1. So a
+/// window has fewer than twice as many weights as there are entries, or two.
 pub fn bind_variables<F: Field>(
     alloc: Global,
     entries: &[(usize, F)],
@@ -135,7 +137,7 @@ pub fn bind_variables<F: Field>(
     Ok(bound)
 }
 
-/// The entries with the bits of each index exchanged, in the order in which they come.
+// The entries with the bits of each index exchanged, in the order in which they come.
 fn exchanged_entries<F: Field>(
     alloc: Global,
     entries: &[(usize, F)],
@@ -182,8 +184,8 @@ pub fn relabel_entries<F: Field>(
     gathered_terms(alloc, exchanged_entries(alloc, entries, a, b, k)?)
 }
 
-/// What stands in a table of zeros after these pairs of index and value are written in order, so that the last pair of
-/// an index wins: by rising indices, without zeros.
+/// What stands in a table of zeros after these pairs of index and value are written in order, so that the
+/// last pair of an index wins: by rising indices, without zeros.
 pub fn written_entries<F: Field>(
     alloc: Global,
     pairs: &[(usize, F)],
@@ -232,7 +234,7 @@ pub fn values_of_entries<F: Field>(
     Ok(values)
 }
 
-/// Whether all indices are below the length of a table.
+// Whether all indices are below the length of a table.
 fn are_below<F>(entries: &[(usize, F)], len: usize) -> bool
     ensures { IsTrue result ↔ All (λ e. e.0 < len) entries.now }
 {

@@ -14,11 +14,11 @@ use ark_traits::{Field, PolyError, Polynomial};
 use rand::Rng;
 use std::alloc::Global;
 
-/// A polynomial in several variables that keeps its terms and a number of variables, all of whose variables are below
-/// this number.
+/// A polynomial in several variables that keeps its terms and a number of variables, all of whose variables
+/// are below this number.
 ///
-/// A point fits where it has at least as many items, and then evaluation never fails; every two of them can be added.
-/// Two are equal where their terms are, whatever the numbers of variables.
+/// A point fits where it has at least as many items, and then evaluation never fails; every two of them can
+/// be added. Two are equal where their terms are, whatever the numbers of variables.
 pub trait DenseMVPolynomial<F: Field>: Polynomial<F, Point = Vec<F>> {
     ghost use Rattle.std.proofs.Common.{subst};
     ghost use Rattle.ark_math.proofs.Callers.Forms.{embedding_shows};
@@ -64,8 +64,8 @@ pub trait DenseMVPolynomial<F: Field>: Polynomial<F, Point = Vec<F>> {
     fn num_vars(&self) -> usize
         ensures { result ≡ Self.variables self.now };
 
-    /// A constant and, for each variable, the powers from 1 to `d`, with drawn coefficients; those that are drawn as
-    /// zero don't stand in it.
+    /// A constant and, for each variable, the powers from 1 to `d`, with drawn coefficients; those that are
+    /// drawn as zero don't stand in it.
     fn rand<R: Rng>(
         alloc: Global,
         d: usize,

@@ -18,10 +18,10 @@ module _ {F : Type 0} (K : FieldOn F) where
   pub backwards-inside : (m : ℕ) (a : ℕ → F) (i : ℕ) → i ≤ m → backwards K m a i ≡ a (m - i)
   backwards-inside m a i l = cut-inside K (m + 1) (λ i. a (m - i)) i (omega arith)
 
-  pub backwards-outside : (m : ℕ) (a : ℕ → F) (i : ℕ) → m < i → backwards K m a i ≡ K.zero
+  backwards-outside : (m : ℕ) (a : ℕ → F) (i : ℕ) → m < i → backwards K m a i ≡ K.zero
   backwards-outside m a i l = cut-outside K (m + 1) (λ i. a (m - i)) i (omega arith)
 
-  pub backwards-below : (m : ℕ) (a : ℕ → F) → IsBelow K (m + 1) (backwards K m a)
+  backwards-below : (m : ℕ) (a : ℕ → F) → IsBelow K (m + 1) (backwards K m a)
   backwards-below m a i l = backwards-outside m a i (omega arith)
 
   backwards-nothing : (m : ℕ) → backwards K m (nothing K) ≡ nothing K
@@ -29,7 +29,7 @@ module _ {F : Type 0} (K : FieldOn F) where
       (λ i l. backwards-inside m (nothing K) i (omega arith))
 
   -- twice reversed is as it was
-  pub backwards-backwards : (m : ℕ) (a : ℕ → F) → backwards K m (backwards K m a) ≡ cut K (m + 1) a
+  backwards-backwards : (m : ℕ) (a : ℕ → F) → backwards K m (backwards K m a) ≡ cut K (m + 1) a
   backwards-backwards m a = same_below K (m + 1) (backwards K m (backwards K m a)) (cut K (m + 1) a) (backwards-below m (backwards K m a)) (λ i l. cut-outside K (m + 1) a i l)
       (λ i l.
       let e : m - (m - i) ≡ i = omega arith in
@@ -100,11 +100,11 @@ module _ {F : Type 0} (K : FieldOn F) (N : IsField K) where
       ∙ ap (λ t. product K t (backwards K n b)) (sym (ap (backwards K m) parts ∙ backwards-added m (cut K k a) x))
 
   -- a reversed product is the product of the reversed
-  pub backwards-product : (m n : ℕ) (a b : ℕ → F) → IsBelow K (m + 1) a → IsBelow K (n + 1) b → backwards K (m + n) (product K a b) ≡ product K (backwards K m a) (backwards K n b)
+  backwards-product : (m n : ℕ) (a b : ℕ → F) → IsBelow K (m + 1) a → IsBelow K (n + 1) b → backwards K (m + n) (product K a b) ≡ product K (backwards K m a) (backwards K n b)
   backwards-product m n a b f g = subst (λ t. backwards K (m + n) (product K t b) ≡ product K (backwards K m t) (backwards K n b)) (cut-all K (m + 1) a f) (backwards-cut m n (m + 1) a b (omega arith) g)
 
   -- the quotient of a by d has, in the reversed order, the first coefficients of a's reversed ones times an inverse of d's
-  pub backwards_quotient : (n k : ℕ) (a d g s : ℕ → F) → d n ≢ K.zero → IsBelow K (n + 1) d → IsBelow K (k + n + 1) a → AgreeBelow (k + 1) (product K (backwards K n d) g) (unity K) → AgreeBelow (k + 1) s (product K (backwards K (k + n) a) g) → IsQuotient K a d (backwards K k s) (difference K a (product K (backwards K k s) d))
+  backwards_quotient : (n k : ℕ) (a d g s : ℕ → F) → d n ≢ K.zero → IsBelow K (n + 1) d → IsBelow K (k + n + 1) a → AgreeBelow (k + 1) (product K (backwards K n d) g) (unity K) → AgreeBelow (k + 1) s (product K (backwards K (k + n) a) g) → IsQuotient K a d (backwards K k s) (difference K a (product K (backwards K k s) d))
   backwards_quotient n k a d g s ne f h inverse times =
       let q = backwards K k s in
       let p = product K q d in

@@ -23,7 +23,7 @@ module _ {F : Type 0} (K : FieldOn F) where
 
 module _ {F : Type 0} (K : FieldOn F) (N : IsField K) where
   -- where the first coefficients are zero, more of the product's are
-  pub agree-nothing : (m n : ℕ) (a b : ℕ → F) → AgreeBelow m a (nothing K) → AgreeBelow n b (nothing K) → AgreeBelow (m + n) (product K a b) (nothing K)
+  agree-nothing : (m n : ℕ) (a b : ℕ → F) → AgreeBelow m a (nothing K) → AgreeBelow n b (nothing K) → AgreeBelow (m + n) (product K a b) (nothing K)
   agree-nothing m n a b f g k l =
       let L = itself_is_module K N in
       sum_below-zero L (suc k) (λ i. K.times (a i) (b (k - i)))
@@ -33,7 +33,7 @@ module _ {F : Type 0} (K : FieldOn F) (N : IsField K) where
       (cases_lt i m))
 
   -- (1 + s) * (1 - s) = 1 - s * s
-  pub newton_square : (f g s : ℕ → F) → product K f g ≡ added K (unity K) s → product K f (difference K g (product K g s)) ≡ difference K (unity K) (product K s s)
+  newton_square : (f g s : ℕ → F) → product K f g ≡ added K (unity K) s → product K f (difference K g (product K g s)) ≡ difference K (unity K) (product K s s)
   newton_square f g s e =
       product-difference K N f g (product K g s)
       ∙ ap (difference K (product K f g)) (sym (product_assoc K N f g s))
@@ -42,14 +42,14 @@ module _ {F : Type 0} (K : FieldOn F) (N : IsField K) where
       ∙ module0_3 N (coefficients_are_module K N) (λ u s t. ((u ⊞ s) ⊟ (s ⊞ t), u ⊟ t)) refl (unity K) s (product K s s)
 
   -- Newton's step: what agrees with one below k does so below twice that
-  pub newton : (k : ℕ) (f g s : ℕ → F) → product K f g ≡ added K (unity K) s → AgreeBelow k s (nothing K) → AgreeBelow (k + k) (product K f (difference K g (product K g s))) (unity K)
+  newton : (k : ℕ) (f g s : ℕ → F) → product K f g ≡ added K (unity K) s → AgreeBelow k s (nothing K) → AgreeBelow (k + k) (product K f (difference K g (product K g s))) (unity K)
   newton k f g s e z i l =
       ap (λ t. t i) (newton_square f g s e)
       ∙ ap (minus K (unity K i)) (agree-nothing k k s s z z i l)
       ∙ ring1 K N (λ x. (x ⊖ nought, x)) refl (unity K i)
 
   -- what is one below k, and the rest of it
-  pub one_and_past : (k : ℕ) (a : ℕ → F) → 0 < k → AgreeBelow k a (unity K) → a ≡ added K (unity K) (product K (monomial K k K.one) (past k a))
+  one_and_past : (k : ℕ) (a : ℕ → F) → 0 < k → AgreeBelow k a (unity K) → a ≡ added K (unity K) (product K (monomial K k K.one) (past k a))
   one_and_past k a pos h = fun_ext (λ i. ⊎_elim
       (λ (l : i < k).
       h i l ∙ sym (N.plus_zero (unity K i)) ∙ ap (K.plus (unity K i)) (sym (monomial-product_before K N k K.one (past k a) i l)))
@@ -63,7 +63,7 @@ module _ {F : Type 0} (K : FieldOn F) (N : IsField K) where
 
   -- the step by parts: the first k coefficients stay, and n - k more are those of - g * h, where h are those of f * g
   -- from k on
-  pub newton_parts : (k n : ℕ) (f g h t w : ℕ → F) → 0 < k → k ≤ n → n ≤ k + k → IsBelow K k g → AgreeBelow k (product K f g) (unity K) → AgreeBelow (n - k) h (past k (product K f g)) → AgreeBelow (n - k) t (product K g h) → AgreeBelow k w g → AgreeBelow (n - k) (past k w) (λ i. K.negated (t i)) → AgreeBelow n (product K f w) (unity K)
+  newton_parts : (k n : ℕ) (f g h t w : ℕ → F) → 0 < k → k ≤ n → n ≤ k + k → IsBelow K k g → AgreeBelow k (product K f g) (unity K) → AgreeBelow (n - k) h (past k (product K f g)) → AgreeBelow (n - k) t (product K g h) → AgreeBelow k w g → AgreeBelow (n - k) (past k w) (λ i. K.negated (t i)) → AgreeBelow n (product K f w) (unity K)
   newton_parts k n f g h t w pos more most below inverse high times kept rest =
       let fg = product K f g in
       let rise = monomial K k K.one in

@@ -25,8 +25,8 @@ pub fn terms_of<F: Field>(alloc: Global, coeffs: &[F]) -> Result<Vec<(usize, F)>
     Ok(terms)
 }
 
-/// How many coefficients the terms have up to their degree: none where there is no term. `None` exactly where the
-/// degree is `usize::MAX`.
+// How many coefficients the terms have up to their degree: none where there is no term. `None` exactly where
+// the degree is `usize::MAX`.
 fn len_for<F: Field>(terms: &[(usize, F)]) -> Option<usize>
     requires { IsSparse F.field terms.now }
     ensures room { IfSome result (λ n. All (λ t. t.0 < n) terms.now) }
@@ -49,7 +49,7 @@ pub enum Sign {
     Minus,
 }
 
-/// The sum with a value, or the difference.
+// The sum with a value, or the difference.
 fn add_signed<F: Field>(sum: F, sign: Sign, value: F) -> F
     ensures { result ≡ F.field.plus sum (signed F.field sign value) }
 {
@@ -59,7 +59,7 @@ fn add_signed<F: Field>(sum: F, sign: Sign, value: F) -> F
     }
 }
 
-/// Adds each term to the coefficient of its degree, or subtracts it.
+// Adds each term to the coefficient of its degree, or subtracts it.
 fn add_terms<F: Field>(coeffs: &mut [F], sign: Sign, terms: &[(usize, F)])
     requires { All (λ t. t.0 < length coeffs.old) terms.now }
     ensures { of_list F.field coeffs.new ≡ added F.field (of_list F.field coeffs.old)
@@ -71,8 +71,8 @@ fn add_terms<F: Field>(coeffs: &mut [F], sign: Sign, terms: &[(usize, F)])
     }
 }
 
-/// The coefficients up to the degree of the terms, the lowest first: none where there is no term. `Overflow` exactly
-/// where the degree is `usize::MAX`, judged first. Takes memory for the answer alone.
+/// The coefficients up to the degree of the terms, the lowest first: none where there is no term. `Overflow`
+/// exactly where the degree is `usize::MAX`, judged first. Takes memory for the answer alone.
 pub fn coefficients_of<F: Field>(alloc: Global, terms: &[(usize, F)]) -> Result<Vec<F>, PolyError>
     requires { IsSparse F.field terms.now }
     ensures same { IfOk result (λ c. of_list F.field c.items ≡ of_pairs F.field terms.now) }
@@ -89,8 +89,8 @@ pub fn coefficients_of<F: Field>(alloc: Global, terms: &[(usize, F)]) -> Result<
     Ok(coeffs)
 }
 
-/// The sum of coefficients and terms, or the difference, maybe with zeros at its end. `Overflow` exactly where the terms'
-/// degree is `usize::MAX`, judged first. Takes memory for the answer alone.
+/// The sum of coefficients and terms, or the difference, maybe with zeros at its end. `Overflow` exactly
+/// where the terms' degree is `usize::MAX`, judged first. Takes memory for the answer alone.
 pub fn sum_with_terms<F: Field>(
     alloc: Global,
     coeffs: &[F],
@@ -112,9 +112,9 @@ pub fn sum_with_terms<F: Field>(
     Ok(sum)
 }
 
-/// Adds the terms in place, or subtracts them, and cuts off the zeros at the end. `Overflow` exactly where the terms'
-/// degree is `usize::MAX`, judged first; after an error the items are as they were. Takes memory only where the degree is
-/// past the list.
+/// Adds the terms in place, or subtracts them, and cuts off the zeros at the end. `Overflow` exactly where
+/// the terms' degree is `usize::MAX`, judged first; after an error the items are as they were. Takes memory
+/// only where the degree is past the list.
 pub fn add_terms_trimmed<F: Field>(
     coeffs: &mut Vec<F>,
     sign: Sign,

@@ -23,7 +23,7 @@ pub enum Coefficients<'a, F: Field> {
 }
 
 impl<'a, F: Field> Coefficients<'a, F> {
-    /// Whether the polynomial with these coefficients is zero.
+    // Whether the polynomial with these coefficients is zero.
     fn is_zero(&self) -> bool
         requires { IsKept F.field self.now }
         ensures { IsTrue result ↔ (denoted F.field self.now ≡ nothing F.field) }
@@ -34,7 +34,7 @@ impl<'a, F: Field> Coefficients<'a, F> {
         }
     }
 
-    /// A list of the coefficients. `Overflow` exactly where the degree is `usize::MAX`, judged first.
+    // A list of the coefficients. `Overflow` exactly where the degree is `usize::MAX`, judged first.
     fn list(&self, alloc: Global) -> Result<Vec<F>, PolyError>
         requires { IsKept F.field self.now }
         ensures same { IfOk result (λ c. of_list F.field c.items ≡ denoted F.field self.now) }
@@ -52,7 +52,7 @@ impl<'a, F: Field> Coefficients<'a, F> {
         }
     }
 
-    /// What a division by the polynomial with these coefficients takes, and `None` exactly for zero.
+    // What a division by the polynomial with these coefficients takes, and `None` exactly for zero.
     fn divisor(&self) -> Option<Divisor<'a, F>>
         requires { IsKept F.field self.now }
         ensures some { IfSome result (λ v. Divides F.field v (denoted F.field self.now)) }
@@ -76,7 +76,7 @@ struct Divisor<'a, F: Field> {
     lower: Coefficients<'a, F>,
 }
 
-/// Subtracts a multiple of the other coefficients, moved up by this number of places.
+// Subtracts a multiple of the other coefficients, moved up by this number of places.
 fn subtract_list<F: Field>(coeffs: &mut [F], places: usize, factor: F, other: &[F])
     requires within { places + length other.now ≤ length coeffs.old }
     ensures { of_list F.field coeffs.new ≡ difference F.field (of_list F.field coeffs.old)
@@ -89,7 +89,7 @@ fn subtract_list<F: Field>(coeffs: &mut [F], places: usize, factor: F, other: &[
     }
 }
 
-/// Subtracts a multiple of these terms, moved up by this number of places.
+// Subtracts a multiple of these terms, moved up by this number of places.
 fn subtract_terms<F: Field>(coeffs: &mut [F], places: usize, factor: F, terms: &[(usize, F)])
     requires within { All (λ t. places + t.0 < length coeffs.old) terms.now }
     ensures { of_list F.field coeffs.new ≡ difference F.field (of_list F.field coeffs.old)
@@ -103,7 +103,7 @@ fn subtract_terms<F: Field>(coeffs: &mut [F], places: usize, factor: F, terms: &
 }
 
 impl<'a, F: Field> Divisor<'a, F> {
-    /// The polynomial with these coefficients, and `None` exactly for zero.
+    // The polynomial with these coefficients, and `None` exactly for zero.
     fn of_list(coeffs: &'a [F]) -> Option<Self>
         requires { IsTrimmed F.field coeffs.now }
         ensures some { IfSome result (λ v. Divides F.field v (of_list F.field coeffs.now)) }
@@ -118,7 +118,7 @@ impl<'a, F: Field> Divisor<'a, F> {
         })
     }
 
-    /// The sum of these terms, and `None` exactly for zero.
+    // The sum of these terms, and `None` exactly for zero.
     fn of_terms(terms: &'a [(usize, F)]) -> Option<Self>
         requires { IsSparse F.field terms.now }
         ensures some { IfSome result (λ v. Divides F.field v (of_pairs F.field terms.now)) }
@@ -146,8 +146,8 @@ impl<'a, F: Field> Divisor<'a, F> {
         }
     }
 
-    /// Divides these coefficients in place: as many as the degree are then the remainder's, and those after them the
-    /// quotient's. For each coefficient of the quotient there is one pass over the divisor's.
+    // Divides these coefficients in place: as many as the degree are then the remainder's, and those after
+    // them the quotient's. For each coefficient of the quotient there is one pass over the divisor's.
     fn divide(&self, coeffs: &mut [F])
         requires { StandBelow self.now.degree self.now.lower }
         ensures { (d : ℕ → F) → Divides F.field self.now d → of_list F.field coeffs.old
@@ -161,7 +161,8 @@ impl<'a, F: Field> Divisor<'a, F> {
         }
     }
 
-    /// The quotient and the remainder of the polynomial with these coefficients. Takes memory for the quotient alone.
+    // The quotient and the remainder of the polynomial with these coefficients. Takes memory for the quotient
+    // alone.
     fn quotient_and_remainder(&self, dividend: Vec<F>) -> Result<(Vec<F>, Vec<F>), AllocError>
         requires { StandBelow self.now.degree self.now.lower }
         ensures { IfOk result (λ p. (d : ℕ → F) → Divides F.field self.now d
@@ -176,8 +177,9 @@ impl<'a, F: Field> Divisor<'a, F> {
     }
 }
 
-/// The quotient and the remainder of the dividend by the divisor. A zero dividend gives two zeros, whatever the divisor;
-/// otherwise `None` exactly for a zero divisor, and then `Overflow` exactly where the dividend's degree is `usize::MAX`.
+/// The quotient and the remainder of the dividend by the divisor, by long division. A zero dividend gives two
+/// zeros, whatever the divisor; otherwise `None` exactly for a zero divisor, and then `Overflow` exactly
+/// where the dividend's degree is `usize::MAX`.
 ///
 /// For each coefficient of the quotient there is one pass over the divisor's, on one list of the dividend's.
 pub fn divided<F: Field>(
@@ -207,7 +209,8 @@ pub fn divided<F: Field>(
     Ok(Some(divisor.quotient_and_remainder(coeffs)?))
 }
 
-/// The quotient and the remainder of one list by another, from the inverse of its last coefficient.
+/// The quotient and the remainder of one list by another, by long division, from the inverse of its last
+/// coefficient.
 ///
 /// For each coefficient of the quotient there is one pass over the divisor's, on a copy of the dividend's.
 pub fn divided_list<F: Field>(

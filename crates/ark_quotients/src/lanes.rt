@@ -9,7 +9,7 @@ use crate::series::coefficient_at;
 use ark_traits::{Field, Lanes, Zero};
 use std::alloc::{AllocError, Global};
 
-/// The first `len` items of both lists, one of each side by side, with room for `room` pairs.
+// The first `len` items of both lists, one of each side by side, with room for `room` pairs.
 fn pairs<F: Field>(
     alloc: Global,
     first: &[F],
@@ -29,8 +29,8 @@ fn pairs<F: Field>(
     Ok(lanes)
 }
 
-/// The first `len` coefficients of both lists, filled with zeros: one of the first list in lane 0, one of the second in
-/// lane 1.
+/// The first `len` coefficients of both lists, filled with zeros: one of the first list in lane 0, one of the
+/// second in lane 1.
 pub fn side_by_side<F: Field>(
     alloc: Global,
     first: &[F],

@@ -22,7 +22,7 @@ pub fn degree_of_terms<F: Field>(terms: &[(usize, F)]) -> usize
     }
 }
 
-/// Adds the products of a term with each of these.
+// Adds the products of a term with each of these.
 fn push_multiples<F: Field>(
     products: &mut Vec<(usize, F)>,
     term: (usize, F),
@@ -40,7 +40,7 @@ fn push_multiples<F: Field>(
     Ok(())
 }
 
-/// All products of two terms, row by row, in a list with room for this many.
+// All products of two terms, row by row, in a list with room for this many.
 fn all_products<F: Field>(
     alloc: Global,
     left: &[(usize, F)],
@@ -58,11 +58,11 @@ fn all_products<F: Field>(
     Ok(products)
 }
 
-/// The product of two lists of terms by rising degrees, in the same form. `Overflow` exactly where the sum of the degrees
-/// is past `usize::MAX`, judged before memory is asked for.
+/// The product of two lists of terms by rising degrees, in the same form. `Overflow` exactly where the sum of
+/// the degrees is past `usize::MAX`, judged before memory is asked for.
 ///
-/// It takes a product for each two terms, sorts these products once, and takes memory for them and for the answer; more
-/// of them than `usize` counts are answered as `Memory`.
+/// It takes a product for each two terms, sorts these products once, and takes memory for them and for the
+/// answer; more of them than `usize` counts are answered as `Memory`.
 pub fn product_of_terms<F: Field>(
     alloc: Global,
     left: &[(usize, F)],

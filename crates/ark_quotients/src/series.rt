@@ -53,7 +53,8 @@ pub fn reversed<F: Field>(
     Ok(reversed)
 }
 
-/// The first `known` coefficients, and after them those of the correction, taken negatively: `len` coefficients in all.
+/// The first `known` coefficients, and after them those of the correction, taken negatively: `len`
+/// coefficients in all.
 pub fn corrected<F: Field>(
     alloc: Global,
     coeffs: &[F],

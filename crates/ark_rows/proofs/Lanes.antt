@@ -8,7 +8,7 @@ use Rattle.ark_math.specs.Transform.{transform, IsInverse}
 use Rattle.ark_math.proofs.Transforms.Carried.{IsLinear, same_carries, transform-linear, fit-linear}
 use Rattle.ark_rows.specs.Lanewise.{lane, lanewise}
 
-pub lane_linear : {F M : Type 0} (V : ModuleOn F M) (i : ℕ) → IsLinear (λ x. x) (lanewise V) V (λ r. r i)
+lane_linear : {F M : Type 0} (V : ModuleOn F M) (i : ℕ) → IsLinear (λ x. x) (lanewise V) V (λ r. r i)
 lane_linear V i = record { zero_kept = refl; plus_kept = λ x y. refl; scale_kept = λ a x. refl }
 
 module _ {F M : Type 0} (K : FieldOn F) (V : ModuleOn F M) (i : ℕ) (d : Domain F) where
@@ -17,7 +17,7 @@ module _ {F M : Type 0} (K : FieldOn F) (V : ModuleOn F M) (i : ℕ) (d : Domain
   transform-lane c = transform-linear (same_carries K) (lane_linear V i) d c
 
   -- and a lane of an inverse transform is the lane's
-  pub inverse-lane : (v u : List (ℕ → M)) → IsInverse K (lanewise V) d v u → IsInverse K V d (lane i v) (lane i u)
+  inverse-lane : (v u : List (ℕ → M)) → IsInverse K (lanewise V) d v u → IsInverse K V d (lane i v) (lane i u)
   inverse-lane v u inverse = record {
     size = length-map u (λ r. r i) ∙ inverse.size;
     values = sym (transform-lane u) ∙ (ap (lane i) inverse.values ∙ fit-linear (same_carries K) (lane_linear V i) v d.size);

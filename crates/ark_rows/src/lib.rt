@@ -1,4 +1,5 @@
-//! Rows: as many elements of a field side by side as a type says, so that one transform of rows transforms as many lists.
+//! Rows: as many elements of a field side by side as a type says, so that one transform of rows transforms as
+//! many lists.
 #![tactic(auto)]
 
 mod row;

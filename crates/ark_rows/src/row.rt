@@ -6,9 +6,9 @@ use ark_traits::{DomainCoeff, Field, Zero};
 use std::alloc::AllocError;
 use std::ops::{Add, AddAssign, MulAssign, Sub, SubAssign};
 
-/// `N` elements of a field, which operations take lane by lane: a module over the field, whose values are functions from
-/// lanes to elements. The loops over lanes are of a length known when the program is compiled, so two elements or more are
-/// taken at once; four to sixteen lanes are the quickest.
+/// `N` elements of a field, which operations take lane by lane: a module over the field, whose values are
+/// functions from lanes to elements. The loops over lanes are of a length known when the program is compiled,
+/// so two elements or more are taken at once; four to sixteen lanes are the quickest.
 #[derive_where(Copy, Debug, PartialEq, Eq, Hash; F)]
 pub struct Row<F, const N: usize> {
     items: [F; N],

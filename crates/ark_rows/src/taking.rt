@@ -11,8 +11,8 @@ use crate::row::Row;
 use ark_traits::Field;
 use std::alloc::{AllocError, Global};
 
-/// The elements of a lane, one of each row. Where the rows are the transform of others, or the inverse one, they are that
-/// of the others' elements in this lane.
+/// The elements of a lane, one of each row. Where the rows are the transform of others, or the inverse one,
+/// they are that of the others' elements in this lane.
 pub fn lane_of<F: Field, const N: usize>(
     alloc: Global,
     rows: &[Row<F, N>],

@@ -1,4 +1,4 @@
-//! Secrets in n shares, any k of which give them back: Shamir's scheme, over every field with laws.
+//! Shamir's secret sharing, over every field with laws: secrets in n shares, any k of which give them back.
 #![tactic(auto)]
 
 mod error;

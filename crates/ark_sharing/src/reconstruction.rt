@@ -12,10 +12,11 @@ use ark_base::Field;
 use ark_points::{PointsError, first_parts, weights_at};
 use std::alloc::Global;
 
-/// The secret, from any of its shares that are `k` or more, in any order. `RepeatedPoint` where two shares are of one
-/// point. Of fewer shares it gives a value that says nothing of the secret.
+/// The secret, from any of its shares that are `k` or more, in any order. `RepeatedPoint` where two shares
+/// are of one point. Of fewer shares it gives a value that says nothing of the secret.
 ///
-/// It takes some two products for each two shares, and one inversion; memory for the points and for their weights.
+/// It takes some two products for each two shares, and one inversion; memory for the points and for their
+/// weights.
 pub fn reconstruct<F: Field>(alloc: Global, shares: &[(F, F)]) -> Result<F, SharingError>
     ensures secret { IfOk result (λ s. (k : ℕ) (secret : F) (a : ℕ → F) → k ≤ length shares.now
         → IsSharing F.field k secret a → AreShares F.field a shares.now → s ≡ secret) }

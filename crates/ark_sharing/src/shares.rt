@@ -15,16 +15,18 @@ use ark_poly::univariate::DensePolynomial;
 use rand::CryptoRng;
 use std::alloc::{AllocError, Global};
 
-/// Shares of a secret, one for each point, of which any `k` give it back, by `reconstruct`: what `share_with` gives of
-/// `k - 1` drawn coefficients. `WrongThreshold` exactly where `k` is zero or above the number of points, else `ZeroPoint`
-/// exactly where a point is zero, else `RepeatedPoint` exactly where two of them are one; nothing is drawn then.
+/// Shares of a secret, one for each point, of which any `k` give it back, by `reconstruct`: what `share_with`
+/// gives of `k - 1` drawn coefficients. `WrongThreshold` exactly where `k` is zero or above the number of
+/// points, else `ZeroPoint` exactly where a point is zero, else `RepeatedPoint` exactly where two of them are
+/// one; nothing is drawn then.
 ///
-/// Fewer than `k` shares tell nothing of the secret where the coefficients are drawn uniformly, and unknown to others:
-/// `as_many_sharings_for_each_secret`. The coefficients are what `F` draws of the generator, one after another; that
-/// these are uniform and unknown is the generator's, whose type has to say that it is made for secrets.
+/// Fewer than `k` shares tell nothing of the secret where the coefficients are drawn uniformly, and unknown
+/// to others: `as_many_sharings_for_each_secret`. The coefficients are what `F` draws of the generator, one
+/// after another; that these are uniform and unknown is the generator's, whose type has to say that it is
+/// made for secrets.
 ///
-/// It takes `k - 1` draws and `k` products for each point, a comparison for each two points, and memory for the
-/// coefficients, twice, the values and the shares.
+/// It takes `k - 1` draws and `k` products for each point, a comparison for each two points, and memory for
+/// the coefficients, twice, the values and the shares.
 pub fn share<F: Field, R: CryptoRng>(
     alloc: Global,
     secret: F,
@@ -58,15 +60,16 @@ pub fn share<F: Field, R: CryptoRng>(
     values_of_sharing(alloc, secret, &coeffs, points)
 }
 
-/// Shares of a secret, one for each point, by coefficients of the caller's own: pairs of each point `x` and the value
-/// there of `secret + coeffs[0] * x + coeffs[1] * x^2 + ..`. Any `coeffs.len() + 1` give the secret back, by
-/// `reconstruct`. `WrongThreshold` exactly where these would be more than there are points, else `ZeroPoint` exactly where
-/// a point is zero, else `RepeatedPoint` exactly where two of them are one.
+/// Shares of a secret, one for each point, by coefficients of the caller's own: pairs of each point `x` and
+/// the value there of `secret + coeffs[0] * x + coeffs[1] * x^2 + ..`. Any `coeffs.len() + 1` give the secret
+/// back, by `reconstruct`. `WrongThreshold` exactly where these would be more than there are points, else
+/// `ZeroPoint` exactly where a point is zero, else `RepeatedPoint` exactly where two of them are one.
 ///
-/// Fewer shares hide the secret only from those to whom the coefficients are uniform and unknown; `share` draws them.
+/// Fewer shares hide the secret only from those to whom the coefficients are uniform and unknown; `share`
+/// draws them.
 ///
-/// It takes a product for each coefficient and the secret at each point, a comparison for each two points, and memory
-/// for the coefficients, the values and the shares.
+/// It takes a product for each coefficient and the secret at each point, a comparison for each two points,
+/// and memory for the coefficients, the values and the shares.
 pub fn share_with<F: Field>(
     alloc: Global,
     secret: F,

@@ -8,9 +8,8 @@ use Rattle.ark_math.proofs.Algebra.Ring.{ring2_by}
 use Rattle.ark_math.proofs.Polynomials.Univariate.{IsBelow-more, difference-below}
 use Rattle.ark_math.proofs.Polynomials.UnivariateValues.{one_value, value-difference, value-nothing}
 use Rattle.ark_sum_check.specs.Cube.{bound_to, cube_sum, product_value, round_value}
-use Rattle.ark_sum_check.specs.Rounds.{AddsUp, AreAccepted, AreDifferent, AreDrawn, AreTrueRounds, HasUnlucky, IsRefusedAt, IsRound, IsSound, IsTrueRound, IsUnlucky, challenges}
+use Rattle.ark_sum_check.specs.Rounds.{AddsUp, AreAccepted, AreDrawn, AreTrueRounds, HasUnlucky, IsRefusedAt, IsRound, IsSound, IsTrueRound, IsUnlucky, challenges}
 use Rattle.ark_sum_check.specs.declared.round.Round.{Round}
-use Rattle.ark_sum_check.proofs.ValuesThrough.{one_value_through}
 use Rattle.ark_sum_check.proofs.TrueRounds.{cube_sum-halves, cube_sum-none, natural-one, product_value-cons, true_polynomial}
 
 module _ {F : Type 0} (K : FieldOn F) (N : IsField K) where
@@ -18,13 +17,8 @@ module _ {F : Type 0} (K : FieldOn F) (N : IsField K) where
   length-bound_to [] x = refl
   length-bound_to (t ∷ ts) x = ap suc (length-bound_to ts x)
 
-  -- the claim after a round is the only one
-  pub one_next : (d : ℕ) (claim : F) (r : Round F) (x y : F) → AreDifferent K (d + 1) → IsRound K d claim r x → IsRound K d claim r y → x ≡ y
-  one_next d claim r x y different f g =
-      one_value_through K N r.values.items r.challenge x y (subst (AreDifferent K) (sym f.adds_up.count) different) f.value g.value
-
   -- a true round is accepted of the sum, and the next claim is the sum that is left
-  pub true_round : (d m : ℕ) (ts : List (ℕ → F)) (r : Round F) → 0 < d → length ts ≤ d → IsTrueRound K d m ts r.values.items → IsRound K d (cube_sum K (suc m) ts) r (round_value K m ts r.challenge)
+  true_round : (d m : ℕ) (ts : List (ℕ → F)) (r : Round F) → 0 < d → length ts ≤ d → IsTrueRound K d m ts r.values.items → IsRound K d (cube_sum K (suc m) ts) r (round_value K m ts r.challenge)
   true_round d m ts r some few h =
       let t = true_polynomial K N m ts in
       record {
@@ -115,9 +109,6 @@ pub record IsReached {F : Type 0} (K : FieldOn F) (d : ℕ) (claim : F) (rs : Li
   pub refused : (j : ℕ) → IsRefusedAt K d c (drop i rs) j → IsRefusedAt K d claim rs (i + j)
 
 module _ {F : Type 0} (K : FieldOn F) (d : ℕ) (claim : F) (rs : List (Round F)) where
-  pub IsReached-begin : IsReached K d claim rs 0 claim
-  IsReached-begin = record { whole = λ last h. h; only = λ last h. h; refused = λ j h. let e : j ≡ 0 + j = omega arith in subst (IsRefusedAt K d claim rs) e h }
-
   next_round : (i : ℕ) (r : Round F) → i < length rs → r ≡ get_or rs i r → drop i rs ≡ r ∷ drop (i + 1) rs
   next_round i r l e =
       let s : suc i ≡ i + 1 = omega arith in

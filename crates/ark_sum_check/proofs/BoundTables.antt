@@ -1,5 +1,5 @@
 -- Lists of tables whose first variables are bound one table after the other.
-use Rattle.std.proofs.Common.{◌≡◌, ℕ, ◌+◌, ◌*◌, ◌<◌, ◌≤◌, List, [], ◌∷◌, length, get_or, map, set, take, refl, sym, ◌∙◌, ap, subst, arith, Vec, Global}
+use Rattle.std.proofs.Common.{◌≡◌, ℕ, ◌+◌, ◌*◌, ◌<◌, ◌≤◌, List, [], ◌∷◌, length, get_or, map, set, take, sym, ◌∙◌, ap, subst, arith, Vec, Global}
 use Rattle.std.specs.Prelude.{All}
 use Rattle.std.proofs.lemmas.List.{ext_get_or, get_or-take, length-map, length-set, length-take}
 use Rattle.std.proofs.lemmas.List.Elements.{All-get_or}
@@ -30,15 +30,6 @@ pub record AreBound {F : Type 0} (K : FieldOn F) (x : F) (half : ℕ) (old : Lis
   pub whole : (k : ℕ) → i ≤ k → get_or (map (λ v. length v.items) now) k 0 ≡ get_or (map (λ v. length v.items) old) k 0
 
 module _ {F : Type 0} (K : FieldOn F) (x : F) (half : ℕ) (old : List (Vec F Global)) where
-  pub AreBound-begin : AreBound K x half old 0 old
-  AreBound-begin = record {
-    count = refl;
-    bound = λ k l. absurd (omega arith);
-    halves = λ k l. absurd (omega arith);
-    rest = λ k l. refl;
-    whole = λ k l. refl;
-  }
-
   pub AreBound-more : (i : ℕ) (now : List (Vec F Global)) (u v : Vec F Global) → i < length now → u ≡ get_or now i u → AreBound K x half old i now → of_list K v.items ≡ fixed K (of_list K u.items) (x ∷ []) → length v.items ≡ half → AreBound K x half old (i + 1) (set now i v)
   AreBound-more i now u v l e h is len = record {
     count = length-set now i v ∙ h.count;

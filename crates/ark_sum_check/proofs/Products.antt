@@ -1,5 +1,5 @@
 -- Products of the values of tables, one factor after the other, and lists of tables with the first variable bound.
-use Rattle.std.proofs.Common.{◌≡◌, ℕ, zero, suc, ◌+◌, ◌-◌, ◌*◌, ◌^◌, ◌%◌, ◌<◌, ◌≤◌, List, [], ◌∷◌, length, get_or, drop, refl, sym, ◌∙◌, ap, subst, arith, drop-cons, Vec, Global}
+use Rattle.std.proofs.Common.{◌≡◌, ℕ, suc, ◌+◌, ◌-◌, ◌*◌, ◌^◌, ◌%◌, ◌<◌, ◌≤◌, List, [], ◌∷◌, length, get_or, drop, sym, ◌∙◌, ap, subst, arith, drop-cons, Vec, Global}
 use Rattle.std.proofs.lemmas.List.{length-map}
 use Rattle.std.proofs.Math.Nat.{mod-eq_of_lt, pow-le-pow_right}
 use Rattle.ark_math.specs.Field.{FieldOn, IsField}
@@ -20,15 +20,6 @@ module _ {F : Type 0} (K : FieldOn F) (N : IsField K) where
       ∙ N.times_assoc p (get_or ts j (nothing K) b) (product_at K (drop (suc j) ts) b)
       ∙ ap (λ us. K.times p (product_at K us b)) (sym (drop-cons ts j (nothing K) l))
       ∙ h
-
-  pub product-end : (ts : List (ℕ → F)) (j b : ℕ) (p whole : F) → length ts ≤ j → K.times p (product_at K (drop j ts) b) ≡ whole → p ≡ whole
-  product-end ts j b p whole l h = sym (N.times_one p) ∙ ap (λ us. K.times p (product_at K us b)) (sym (past ts j l)) ∙ h
-    where
-      past : (ts : List (ℕ → F)) (j : ℕ) → length ts ≤ j → drop j ts ≡ []
-      past [] zero l = refl
-      past [] (suc j) l = refl
-      past (t ∷ ts) zero l = absurd (omega arith)
-      past (t ∷ ts) (suc j) l = past ts j (omega arith)
 
   -- tables of lists, and these with the first variable bound
   pub table_is : (vs : List (Vec F Global)) (j : ℕ) (v : Vec F Global) → j < length vs → v ≡ get_or vs j v → of_list K v.items ≡ get_or (as_tables K vs) j (nothing K)

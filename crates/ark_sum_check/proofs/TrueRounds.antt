@@ -53,10 +53,10 @@ module _ {F : Type 0} (K : FieldOn F) (N : IsField K) where
       ap₂ K.times (ap (λ f. f c) (fixed-one K N t K.one) ∙ ring2 K N (λ u v. (u ⊕ unit ⊗ (v ⊖ u), v)) refl (t (2 * c)) (t (2 * c + 1))) (product_at-one ts c)
 
   -- the sums where the first variable is zero, and where it is one
-  pub round_value-zero : (m : ℕ) (ts : List (ℕ → F)) → round_value K m ts K.zero ≡ sum_below (itself K) (2 ^ m) (λ c. product_at K ts (2 * c))
+  round_value-zero : (m : ℕ) (ts : List (ℕ → F)) → round_value K m ts K.zero ≡ sum_below (itself K) (2 ^ m) (λ c. product_at K ts (2 * c))
   round_value-zero m ts = sum_below-same (itself K) (2 ^ m) (product_at K (bound_to K K.zero ts)) (λ c. product_at K ts (2 * c)) (λ c l. product_at-zero ts c)
 
-  pub round_value-one : (m : ℕ) (ts : List (ℕ → F)) → round_value K m ts K.one ≡ sum_below (itself K) (2 ^ m) (λ c. product_at K ts (2 * c + 1))
+  round_value-one : (m : ℕ) (ts : List (ℕ → F)) → round_value K m ts K.one ≡ sum_below (itself K) (2 ^ m) (λ c. product_at K ts (2 * c + 1))
   round_value-one m ts = sum_below-same (itself K) (2 ^ m) (product_at K (bound_to K K.one ts)) (λ c. product_at K ts (2 * c + 1)) (λ c l. product_at-one ts c)
 
   -- as sums over the even or odd indices, for a half of the table

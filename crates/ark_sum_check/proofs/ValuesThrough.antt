@@ -33,7 +33,7 @@ module _ {F : Type 0} (K : FieldOn F) (N : IsField K) where
       (value-of_list K N (K.negated z ∷ K.one ∷ []) x)
 
   -- one value
-  pub IsPart-one : (v : ℕ → F) (i : ℕ) (x : F) → IsPart K v 0 i x (v i)
+  IsPart-one : (v : ℕ → F) (i : ℕ) (x : F) → IsPart K v 0 i x (v i)
   IsPart-one v i x =
       let p = of_list K (v i ∷ []) in
       let at : (t : F) → IsValue K p t (v i) = λ t.
@@ -65,7 +65,7 @@ module _ {F : Type 0} (K : FieldOn F) (N : IsField K) where
       (difference-below K N (suc k) q p g f)))
 
   -- one value more, by two neighbours
-  pub IsPart-more : (v : ℕ → F) (k i : ℕ) (x y z c : F) → K.times (natural K (suc k)) c ≡ K.one → IsPart K v k i x y → IsPart K v k (suc i) x z
+  IsPart-more : (v : ℕ → F) (k i : ℕ) (x y z c : F) → K.times (natural K (suc k)) c ≡ K.one → IsPart K v k i x y → IsPart K v k (suc i) x z
       → IsPart K v (suc k) i x (K.plus y (K.times (K.times (minus K x (natural K i)) c) (minus K z y)))
   IsPart-more v k i x y z c inverse f g =
       let r = joined K f.p g.p (natural K i) c in
@@ -101,7 +101,7 @@ module _ {F : Type 0} (K : FieldOn F) (N : IsField K) where
       }
 
   -- all of them
-  pub IsPart-all : (values : List F) (k : ℕ) (x y : F) → suc k ≡ length values → IsPart K (of_list K values) k 0 x y → IsValueThrough K values x y
+  IsPart-all : (values : List F) (k : ℕ) (x y : F) → suc k ≡ length values → IsPart K (of_list K values) k 0 x y → IsValueThrough K values x y
   IsPart-all values k x y e h = (
     h.p,
     record { below = subst (λ n. IsBelow K n h.p) e h.below; takes = λ i l. h.values i (omega arith) (omega arith) },

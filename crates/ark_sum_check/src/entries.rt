@@ -1,5 +1,5 @@
-//! A table by its entries, pairs of index and value: sums over the even or the odd indices, and the first variable bound.
-//! Each takes one pass over the entries, however many corners the cube has.
+//! A table by its entries, pairs of index and value: sums over the even or the odd indices, and the first
+//! variable bound. Each takes one pass over the entries, however many corners the cube has.
 
 ghost use Rattle.std.specs.Prelude.{◌≡◌, ℕ, ◌+◌, ◌*◌, ◌/◌, ◌<◌, ◌≤◌, [], ◌∷◌, All, drop, length, take};
 ghost use Rattle.ark_math.specs.Module.{itself, sum_below};
@@ -28,7 +28,7 @@ pub(crate) fn sums_of_sides<F: Field>(entries: &[(usize, F)]) -> (F, F)
     (zero, one)
 }
 
-/// What a value at an index counts at half the index once the first variable is bound to `x`.
+// What a value at an index counts at half the index once the first variable is bound to `x`.
 fn bound_part<F: Field>(index: usize, value: F, x: F) -> F
     ensures { monomial F.field (index / 2) result ≡ fixed F.field (monomial F.field index value) (x ∷ []) }
 {
@@ -36,8 +36,8 @@ fn bound_part<F: Field>(index: usize, value: F, x: F) -> F
     if index % 2 == 0 { value - high } else { high }
 }
 
-/// Adds a value at an index to the first `kept` entries, to the last of them where that has this index, and else after
-/// it. Returns how many entries are kept then.
+// Adds a value at an index to the first `kept` entries, to the last of them where that has this index, and
+// else after it. Returns how many entries are kept then.
 fn put<F: Field>(entries: &mut [(usize, F)], kept: usize, index: usize, value: F) -> usize
     requires { kept < length entries.old }
     ensures sum { of_pairs F.field (take result entries.new)
@@ -60,7 +60,8 @@ fn put<F: Field>(entries: &mut [(usize, F)], kept: usize, index: usize, value: F
     kept + 1
 }
 
-/// Writes what is left when the first variable is bound to `x` over the first entries. Returns how many they are.
+// Writes what is left when the first variable is bound to `x` over the first entries. Returns how many they
+// are.
 fn bind_in_place<F: Field>(entries: &mut [(usize, F)], x: F) -> usize
     ensures values { of_pairs F.field (take result entries.new)
         ≡ fixed F.field (of_pairs F.field entries.old) (x ∷ []) }
@@ -77,7 +78,8 @@ fn bind_in_place<F: Field>(entries: &mut [(usize, F)], x: F) -> usize
     kept
 }
 
-/// Binds the first variable to `x`: an entry's index is halved, and neighbours whose indices are one then are merged.
+/// Binds the first variable to `x`: an entry's index is halved, and neighbours whose indices are one then are
+/// merged.
 pub(crate) fn bind_entries<F: Field>(entries: &mut Vec<(usize, F)>, x: F)
     ensures values { of_pairs F.field entries.new.items
         ≡ fixed F.field (of_pairs F.field entries.old.items) (x ∷ []) }

@@ -11,8 +11,8 @@ pub enum SumCheckError {
     /// A growth of memory was refused.
     #[error("Memory")]
     Memory = 1,
-    /// The field's characteristic is so small that 0, 1, .., d are not different elements, and values at these don't tell
-    /// a polynomial of degree d.
+    /// The field's characteristic is so small that 0, 1, .., d are not different elements, and values at
+    /// these don't tell a polynomial of degree d.
     #[error("SmallCharacteristic")]
     SmallCharacteristic = 2,
 }

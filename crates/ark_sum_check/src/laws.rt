@@ -1,4 +1,5 @@
-//! What rounds tell, stated as the contract of a function that callers may cite: it promises nothing but its contract.
+//! What rounds tell, stated as the contract of a function that callers may cite: it promises nothing but its
+//! contract.
 
 ghost use Rattle.std.specs.Prelude.{◌≡◌, ◌⊎◌, ℕ, List, ◌+◌, ◌<◌, ◌≤◌, length};
 ghost use Rattle.ark_sum_check.specs.Cube.{cube_sum, product_value};
@@ -7,17 +8,18 @@ ghost use Rattle.ark_sum_check.specs.declared.round.Round.{Round};
 
 use ark_traits::Field;
 
-/// A law: whatever a round's values are, so many challenges at most are unlucky as the degree is. So of a claim that
-/// isn't the sum, each round lets at most `degree` of all elements lead to a true claim.
+/// A law: whatever a round's values are, so many challenges at most are unlucky as the degree is. So of a
+/// claim that isn't the sum, each round lets at most `degree` of all elements lead to a true claim.
 pub fn few_unlucky_challenges<F: Field>(degree: usize)
     requires { AreDifferent F.field (degree + 1) }
     ensures { (m : ℕ) (ts : List (ℕ → F)) (values : List F) → length values ≡ degree + 1
         → AtMost degree (IsUnlucky F.field degree m ts values) }
 {}
 
-/// A law of all rounds: where they are accepted of a claim, and the last claim is the product's value at the challenges,
-/// the claim is the sum over the cube, or at one of the rounds the challenge is one of at most `degree` elements, which
-/// are settled by the tables, the challenges before it and the round's values. Clauses of `verify` give what is asked.
+/// A law of all rounds: where they are accepted of a claim, and the last claim is the product's value at the
+/// challenges, the claim is the sum over the cube, or at one of the rounds the challenge is one of at most
+/// `degree` elements, which are settled by the tables, the challenges before it and the round's values.
+/// Clauses of `verify` give what is asked.
 pub fn true_or_one_of_few<F: Field>(degree: usize)
     ensures { (claim : F) (rounds : List (Round F)) (last : F) (ts : List (ℕ → F)) → length ts ≤ degree
         → (0 < length rounds → AreDifferent F.field (degree + 1))

@@ -1,4 +1,5 @@
-//! The sum-check of a product of multilinear extensions: provers that send rounds, and a verifier that takes them.
+//! The sum-check protocol for a product of multilinear extensions: provers that send rounds, and a verifier
+//! that takes them.
 #![tactic(auto)]
 
 mod entries;

@@ -33,8 +33,9 @@ pub(crate) fn round_of_two<F: Field>(
     Ok(values)
 }
 
-/// The sums of the products of two tables where the first variable is zero, where it is one, and where it is two. At two
-/// a factor is as far from its value at one as this is from that at zero: no product is needed to bind it.
+// The sums of the products of two tables where the first variable is zero, where it is one, and where it is
+// two. At two a factor is as far from its value at one as this is from that at zero: no product is needed to
+// bind it.
 fn sums_of_two<F: Field>(left: &[F], right: &[F], half: usize) -> (F, F, F)
     requires few { half ≤ 2 ^ 62 }
     requires left { length left.now ≡ 2 * half }

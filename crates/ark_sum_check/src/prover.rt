@@ -9,8 +9,8 @@ use ark_traits::Field;
 use std::alloc::Global;
 use std::marker::Model;
 
-/// A prover between two rounds: what is left of the factors' tables, whose variables are bound one after the other, the
-/// first one first. Bit i of an index is the value of variable i.
+/// A prover between two rounds: what is left of the factors' tables, whose variables are bound one after the
+/// other, the first one first. Bit i of an index is the value of variable i.
 ///
 /// ```
 /// let mut prover = Prover::new(num_vars, tables);
@@ -42,9 +42,9 @@ impl<F: Field> Prover<F> {
     ghost use Rattle.ark_sum_check.specs.Provers.{tables_of, variables_of};
     ghost use Rattle.ark_sum_check.specs.Rounds.{IsTrueRound};
 
-    /// The prover of the sum of the product of these factors, one at least, each of which is given by its `2^num_vars`
-    /// values in the order of their indices, as `to_evaluations` of a dense or a sparse extension lists them. Takes no
-    /// memory.
+    /// The prover of the sum of the product of these factors, one at least, each of which is given by its
+    /// `2^num_vars` values in the order of their indices, as `to_evaluations` of a dense or a sparse
+    /// extension lists them. Takes no memory.
     pub fn new(num_vars: usize, tables: Vec<Vec<F>>) -> Self
         requires few { num_vars < 64 }
         requires not_empty { 0 < length tables.items }
@@ -70,8 +70,8 @@ impl<F: Field> Prover<F> {
         self.tables.len()
     }
 
-    /// The round that comes next: the sums over the other variables where the first one is 0, 1, .., d, for d factors, in
-    /// time linear in what is left of the tables. Memory is taken for these sums alone.
+    /// The round that comes next: the sums over the other variables where the first one is 0, 1, .., d, for d
+    /// factors, in time linear in what is left of the tables. Memory is taken for these sums alone.
     pub fn round(&self, alloc: Global) -> Result<Vec<F>, SumCheckError>
         requires { 0 < variables_of self.now }
         ensures truth { IfOk result (λ values. IsTrueRound F.field (length (tables_of F.field self.now))
@@ -112,7 +112,7 @@ impl<F: Field> Prover<F> {
     }
 }
 
-/// How many corners there are where the first of the variables has one value.
+// How many corners there are where the first of the variables has one value.
 fn half(num_vars: usize) -> usize
     requires positive { 0 < num_vars }
     requires few { num_vars < 64 }

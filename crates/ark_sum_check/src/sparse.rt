@@ -8,13 +8,13 @@ use ark_traits::Field;
 use std::alloc::Global;
 use std::marker::Model;
 
-/// A prover between two rounds of a sum-check of one factor, given by its entries, which are pairs of index and value:
-/// the table is zero at all other indices, and the values of entries at one index add up. The variables are bound in the
-/// order of a `Prover`, and the verifier is the same.
+/// A prover between two rounds of a sum-check of one factor, given by its entries, which are pairs of index
+/// and value: the table is zero at all other indices, and the values of entries at one index add up. The
+/// variables are bound in the order of a `Prover`, and the verifier is the same.
 ///
-/// A round and a binding take one pass over the entries each, however many corners the cube has, and entries don't become
-/// more: where two that stand side by side come to one index, they are merged. So let indices rise: then they do so after
-/// each binding, and there is never more than one entry for each corner.
+/// A round and a binding take one pass over the entries each, however many corners the cube has, and entries
+/// don't become more: where two that stand side by side come to one index, they are merged. So let indices
+/// rise: then they do so after each binding, and there is never more than one entry for each corner.
 ///
 /// ```
 /// let mut prover = SparseProver::new(num_vars, entries);
@@ -61,8 +61,9 @@ impl<F: Field> SparseProver<F> {
         self.num_vars
     }
 
-    /// The round that comes next, whose polynomial is of degree 1: the sums over the other variables where the first one
-    /// is 0 and where it is 1, in one pass over the entries. Memory is taken for these two alone.
+    /// The round that comes next, whose polynomial is of degree 1: the sums over the other variables where
+    /// the first one is 0 and where it is 1, in one pass over the entries. Memory is taken for these two
+    /// alone.
     pub fn round(&self, alloc: Global) -> Result<Vec<F>, SumCheckError>
         requires { 0 < self.now.variables }
         ensures truth { IfOk result (λ values. IsTrueRound F.field 1 (self.now.variables - 1)

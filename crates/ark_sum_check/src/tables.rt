@@ -1,4 +1,5 @@
-//! Tables of the factors, by lists of values at the corners of a cube: sums of products, and the first variable bound.
+//! Tables of the factors, by lists of values at the corners of a cube: sums of products, and the first
+//! variable bound.
 
 ghost use Rattle.std.specs.Prelude.{◌≡◌, ℕ, ◌+◌, ◌*◌, ◌/◌, ◌^◌, ◌<◌, ◌≤◌, [], ◌∷◌, All, length};
 ghost use Rattle.ark_math.specs.Module.{itself, sum_below};
@@ -24,7 +25,7 @@ pub(crate) fn product_of_values<F: Field>(tables: &[Vec<F>], index: usize) -> F
     product
 }
 
-/// A table's value at a corner once its first variable is bound to `x`.
+// A table's value at a corner once its first variable is bound to `x`.
 fn bound_value<F: Field>(table: &[F], corner: usize, x: F) -> F
     requires few { corner < 2 ^ 62 }
     requires within { 2 * corner + 1 < length table.now }
@@ -34,7 +35,7 @@ fn bound_value<F: Field>(table: &[F], corner: usize, x: F) -> F
     low + x * (table[2 * corner + 1] - low)
 }
 
-/// The product of the values at a corner once the first variable is bound to `x`.
+// The product of the values at a corner once the first variable is bound to `x`.
 fn product_of_bound<F: Field>(tables: &[Vec<F>], corner: usize, x: F) -> F
     requires few { corner < 2 ^ 62 }
     requires within { All (λ t. 2 * corner + 1 < length t.items) tables.now }
@@ -50,7 +51,8 @@ fn product_of_bound<F: Field>(tables: &[Vec<F>], corner: usize, x: F) -> F
     product
 }
 
-/// The sum of the products at the corners where the first variable is zero, or where it is one, as `side` says.
+/// The sum of the products at the corners where the first variable is zero, or where it is one, as `side`
+/// says.
 pub(crate) fn sum_of_side<F: Field>(tables: &[Vec<F>], half: usize, side: usize) -> F
     requires few { half ≤ 2 ^ 62 }
     requires side { side < 2 }
@@ -79,7 +81,7 @@ pub(crate) fn sum_of_bound<F: Field>(tables: &[Vec<F>], half: usize, x: F) -> F
     sum
 }
 
-/// Writes what is left of a table when its first variable is bound to `x` over its lower half.
+// Writes what is left of a table when its first variable is bound to `x` over its lower half.
 fn bind_in_place<F: Field>(table: &mut [F], half: usize, x: F)
     requires few { half ≤ 2 ^ 62 }
     requires whole { length table.old ≡ 2 * half }
@@ -92,7 +94,7 @@ fn bind_in_place<F: Field>(table: &mut [F], half: usize, x: F)
     }
 }
 
-/// Binds the first variable of a table to `x`, which halves it.
+// Binds the first variable of a table to `x`, which halves it.
 fn bind_first<F: Field>(table: &mut Vec<F>, half: usize, x: F)
     requires few { half ≤ 2 ^ 62 }
     requires whole { length table.old.items ≡ 2 * half }

@@ -9,8 +9,8 @@ use crate::error::SumCheckError;
 use ark_traits::Field;
 use std::alloc::Global;
 
-/// Replaces each of the first items by what a line through it and the next one has at `x`: the lines go through points that
-/// are as far apart as `inverse` is the inverse of.
+// Replaces each of the first items by what a line through it and the next one has at `x`: the lines go
+// through points that are as far apart as `inverse` is the inverse of.
 fn along_lines<F: Field>(partials: &mut [F], count: usize, inverse: F, x: F)
     requires { count < length partials.old }
     ensures { (i : ℕ) → i < count → of_list F.field partials.new i
@@ -24,8 +24,8 @@ fn along_lines<F: Field>(partials: &mut [F], count: usize, inverse: F, x: F)
     }
 }
 
-/// The value at `x` of the polynomial with these values at 0, 1 and so on. The list is used up: after n steps each item is
-/// the value at `x` of the polynomial through n + 1 neighbours.
+// The value at `x` of the polynomial with these values at 0, 1 and so on. The list is used up: after n steps
+// each item is the value at `x` of the polynomial through n + 1 neighbours.
 fn value_in_place<F: Field>(partials: &mut [F], x: F) -> Result<F, SumCheckError>
     requires not_empty { 0 < length partials.old }
     ensures value { IfOk result (λ y. IsValueThrough F.field partials.old x y) }
@@ -43,7 +43,8 @@ fn value_in_place<F: Field>(partials: &mut [F], x: F) -> Result<F, SumCheckError
     Ok(partials[0])
 }
 
-/// The value at `x` of the polynomial of degree below the number of values that has these values at 0, 1 and so on.
+/// The value at `x` of the polynomial of degree below the number of values that has these values at 0, 1 and
+/// so on.
 pub(crate) fn value_through<F: Field>(alloc: Global, values: &[F], x: F) -> Result<F, SumCheckError>
     requires not_empty { 0 < length values.now }
     ensures value { IfOk result (λ y. IsValueThrough F.field values.now x y) }

@@ -14,7 +14,8 @@ use std::alloc::Global;
 ///
 /// ```
 /// let mut verifier = Verifier { degree: 2, claim };
-/// let fits = verifier.take(alloc, &round)?; // for each round; then compare verifier.claim with the product's value
+/// let fits = verifier.take(alloc, &round)?; // for each round
+/// // then compare verifier.claim with the product's value
 /// ```
 #[derive(Clone, Copy, Debug, Drop)]
 pub struct Verifier<F> {
@@ -27,17 +28,19 @@ pub struct Verifier<F> {
 /// What a verifier says of rounds.
 #[derive(Clone, Copy, Debug, PartialEq, Eq, Drop)]
 pub enum Verdict<F> {
-    /// Each round was accepted, and this is the last claim: what the product's value at the challenges has to be.
+    /// Each round was accepted, and this is the last claim: what the product's value at the challenges has to
+    /// be.
     Accepted(F),
-    /// The round with this index was refused: it hasn't one value more than the degree, or those at 0 and 1 don't add up
-    /// to the claim before it.
+    /// The round with this index was refused: it hasn't one value more than the degree, or those at 0 and 1
+    /// don't add up to the claim before it.
     Refused(usize),
 }
 
 impl<F: Field> Verifier<F> {
-    /// Takes a round, and says whether it was accepted: whether it has one value more than the degree, two at least, and
-    /// those at 0 and 1 add up to the claim. Then the claim becomes the value at the challenge. A verifier that refused a
-    /// round, or answered an error, is as it was. `SmallCharacteristic` where 0, 1, .., d are not different elements.
+    /// Takes a round, and says whether it was accepted: whether it has one value more than the degree, two at
+    /// least, and those at 0 and 1 add up to the claim. Then the claim becomes the value at the challenge. A
+    /// verifier that refused a round, or answered an error, is as it was. `SmallCharacteristic` where 0, 1,
+    /// .., d are not different elements.
     pub fn take(&mut self, alloc: Global, round: &Round<F>) -> Result<bool, SumCheckError>
         ensures accepted { IfOk result (λ fits. fits ≡ true
             → IsRound F.field self.old.degree self.old.claim round.now self.new.claim) }
@@ -71,10 +74,10 @@ impl<F: Field> Verifier<F> {
     }
 }
 
-/// What a verifier says of all rounds of a claim, of polynomials of this degree at most. There are as many rounds as
-/// variables, which the caller tests: what `sound` says is of tables with so many variables. The last claim is compared
-/// with the product's value at the challenges. Where a round was accepted, 0, 1, .., d are different elements, as the law
-/// `true_or_one_of_few` asks.
+/// What a verifier says of all rounds of a claim, of polynomials of this degree at most. There are as many
+/// rounds as variables, which the caller tests: what `sound` says is of tables with so many variables. The
+/// last claim is compared with the product's value at the challenges. Where a round was accepted, 0, 1, .., d
+/// are different elements, as the law `true_or_one_of_few` asks.
 pub fn verify<F: Field>(
     alloc: Global,
     degree: usize,

@@ -12,8 +12,9 @@ use crate::sparse::SparseProver;
 use ark_traits::Field;
 use std::alloc::Global;
 
-/// Where challenges come from, as from a transcript or a generator. Nothing is promised of them but what an `impl` says by
-/// `challenge_gives`: from a state, for a round's values, which challenge may come, and which state after it.
+/// Where challenges come from, as from a transcript or a generator. Nothing is promised of them but what an
+/// `impl` says by `challenge_gives`: from a state, for a round's values, which challenge may come, and which
+/// state after it.
 pub trait Challenger<F> {
     ghost challenge_gives: { Self → List F → F → Self → Type 0 } = { λ _ _ _ _. ⊤ };
 
@@ -22,9 +23,9 @@ pub trait Challenger<F> {
         ensures { challenge_gives self.old values.now result self.new };
 }
 
-/// All rounds, with challenges as they come, each of which the challenger gives for the values of its round. Whatever
-/// these are, the rounds are true and so accepted of the sum over the cube, with the product's value at the challenges as
-/// the last claim.
+/// All rounds, with challenges as they come, each of which the challenger gives for the values of its round.
+/// Whatever these are, the rounds are true and so accepted of the sum over the cube, with the product's value
+/// at the challenges as the last claim.
 pub fn prove<F: Field, C: Challenger<F>>(
     alloc: Global,
     prover: Prover<F>,
@@ -54,7 +55,8 @@ pub fn prove<F: Field, C: Challenger<F>>(
     Ok(rounds)
 }
 
-/// All rounds of a factor that is given by its entries, as `prove` makes them of one that is given by all its values.
+/// All rounds of a factor that is given by its entries, as `prove` makes them of one that is given by all its
+/// values.
 pub fn prove_sparse<F: Field, C: Challenger<F>>(
     alloc: Global,
     prover: SparseProver<F>,

@@ -40,8 +40,9 @@ pub trait One: PartialEq {
         ensures { result ≡ Self.eq self.now one };
 }
 
-/// A field: a commutative ring with 1 different from 0, in which every value but 0 has an inverse. In bytes each element
-/// has a spelling of its own, all of one length, both modes are the same, and reading takes no memory.
+/// A field: a commutative ring with 1 different from 0, in which every value but 0 has an inverse. In bytes
+/// each element has a spelling of its own, all of one length, both modes are the same, and reading takes no
+/// memory.
 pub trait Field: Copy
     + Eq
     + Ord
@@ -67,7 +68,8 @@ pub trait Field: Copy
     // How many bytes the spelling of an element has.
     ghost element_size: { ℕ };
 
-    // Which value is drawn of a generator's stream, and the stream that is left. Nothing is said of it by default.
+    // Which value is drawn of a generator's stream, and the stream that is left. Nothing is said of it by
+    // default.
     ghost draws: { Stream → Self → Stream → Type 0 } = { λ _ _ _. ⊤ };
 
     /// The inverse, and `None` exactly at zero.
@@ -99,7 +101,8 @@ pub trait Field: Copy
         result
     }
 
-    /// A value drawn from the generator: the one that the type draws of what the generator answers next.
+    /// A value drawn from the generator. Where the field has `draws`, this says which value the stream gives,
+    /// and what is left of the stream; otherwise nothing is known of the value.
     fn rand<R: Rng>(rng: &mut R) -> Self
         ensures drawn { draws (R.stream rng.old) result (R.stream rng.new) };
 

@@ -7,9 +7,9 @@ ghost use Rattle.ark_math.specs.Points.{IsPlaceQuotient};
 use crate::field::Field;
 use std::alloc::{AllocError, Global};
 
-/// Replaces each item by its inverse, in place; zeros stay zeros. It takes one inversion and some three products
-/// an item: the items at even places have a running product, and those at odd places one, so that no product waits
-/// for the last. The only error is memory, and then nothing is changed.
+/// Replaces each item by its inverse, in place; zeros stay zeros. It takes one inversion and some three
+/// products an item: the items at even places have a running product, and those at odd places one, so that no
+/// product waits for the last. The only error is memory, and then nothing is changed.
 pub fn batch_inversion<F: Field>(alloc: Global, items: &mut [F]) -> Result<(), AllocError>
     ensures inverses { OnOk result ((i : ℕ) → i < length items.old
         → IsPlaceQuotient F.field F.field.one (of_list F.field items.old i) (of_list F.field items.new i)) }

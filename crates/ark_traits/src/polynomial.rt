@@ -11,11 +11,12 @@ use std::alloc::Global;
 use std::fmt::Debug;
 use std::hash::Hash;
 
-/// A polynomial over a field, in any number of variables. Two of them are equal exactly where what they denote is: the
-/// polynomial, with a multilinear extension its number of variables too.
+/// A polynomial over a field, in any number of variables. Two of them are equal exactly where what they
+/// denote is: the polynomial, with a multilinear extension its number of variables too.
 ///
-/// A form may keep a number of variables that is no part of the polynomial; then a point fits by this number alone, and
-/// a sum keeps the greater one. Two polynomials can be added where their forms have a sum of the same kind.
+/// A form may keep a number of variables that is no part of the polynomial; then a point fits by this number
+/// alone, and a sum keeps the greater one. Two polynomials can be added where their forms have a sum of the
+/// same kind.
 pub trait Polynomial<F: Field>: Clone
     + Debug
     + Hash
@@ -102,8 +103,8 @@ pub trait Polynomial<F: Field>: Clone
         ensures variables { IfOk result (λ p. variables p ≡ variables self.now) }
         ensures memory { IsOkUnless result PolyError.Memory };
 
-    /// Adds one that it can be added to, in place. After an error it has the value that it had; a point that fits both
-    /// fits it either way.
+    /// Adds one that it can be added to, in place. After an error it has the value that it had; a point that
+    /// fits both fits it either way.
     fn add_assign(&mut self, alloc: Global, other: &Self) -> Result<(), PolyError>
         requires { addable (meaning self.old) (meaning other.now) }
         ensures sum { OnOk result (meaning self.new
@@ -113,8 +114,8 @@ pub trait Polynomial<F: Field>: Clone
             ≡ max (variables self.old) (variables other.now)) }
         ensures memory { IsOkUnless result PolyError.Memory };
 
-    /// Subtracts one that it can be added to, in place. After an error it has the value that it had; a point that fits
-    /// both fits it either way.
+    /// Subtracts one that it can be added to, in place. After an error it has the value that it had; a point
+    /// that fits both fits it either way.
     fn sub_assign(&mut self, alloc: Global, other: &Self) -> Result<(), PolyError>
         requires { addable (meaning self.old) (meaning other.now) }
         ensures difference { OnOk result (meaning self.new
@@ -124,8 +125,8 @@ pub trait Polynomial<F: Field>: Clone
             ≡ max (variables self.old) (variables other.now)) }
         ensures memory { IsOkUnless result PolyError.Memory };
 
-    /// Adds a multiple of one that it can be added to, in place. After an error it has the value that it had; a point
-    /// that fits both fits it either way.
+    /// Adds a multiple of one that it can be added to, in place. After an error it has the value that it had;
+    /// a point that fits both fits it either way.
     fn add_assign_scaled(&mut self, alloc: Global, factor: F, other: &Self) -> Result<(), PolyError>
         requires { addable (meaning self.old) (meaning other.now) }
         ensures sum { OnOk result (meaning self.new

@@ -14,15 +14,16 @@ use std::env::Env;
 use std::io::ErrorKind;
 use std::{env, io};
 
-/// The arguments after the program's name. One that isn't text is an error of another kind than want of memory.
+/// The arguments after the program's name. One that isn't text is an error of another kind than want of
+/// memory.
 pub fn arguments<R: Env + AllocGlobal>(rt: &R) -> io::Result<Vec<String>> {
     let mut all = env::args(rt)?;
     let _name = all.next();
     Ok(all.collect(rt.alloc())?)
 }
 
-/// Writes what `run` writes for the arguments, and gives its status. Where they are an error, that is `usage`, unless
-/// memory for them was refused.
+/// Writes what `run` writes for the arguments, and gives its status. Where they are an error, that is
+/// `usage`, unless memory for them was refused.
 pub fn run_arguments<W: Sink>(alloc: Global, arguments: io::Result<Vec<String>>, out: &mut W) -> u8
     ensures words { IfOk arguments (λ words. IsOneWritten (MayWrite (map string_bytes words.items))
         (writer W.Sink out.old) (writer W.Sink out.new) result) }

@@ -92,7 +92,7 @@ pub fn parse(words: &[String]) -> Option<Command>
     }
 }
 
-/// The transform whose size, offset and list the words are.
+// The transform whose size, offset and list the words are.
 fn parse_transform(direction: Direction, words: &[String]) -> Option<Command>
     ensures some { IfSome result (IsTransform (map string_bytes words.now) direction) }
     ensures none { IfNone result (IsNoTransform (map string_bytes words.now)) }
@@ -108,7 +108,7 @@ fn parse_transform(direction: Direction, words: &[String]) -> Option<Command>
     })
 }
 
-/// The extension whose number of variables, values and point the words are.
+// The extension whose number of variables, values and point the words are.
 fn parse_extension(words: &[String]) -> Option<Command>
     ensures some { IfSome result (IsExtension (map string_bytes words.now)) }
     ensures none { IfNone result (IsNoExtension (map string_bytes words.now)) }
@@ -130,7 +130,7 @@ fn parse_extension(words: &[String]) -> Option<Command>
     }
 }
 
-/// Whether the lists have `2^num_vars` and `num_vars` items, and `num_vars` is below 64. It takes no memory.
+// Whether the lists have `2^num_vars` and `num_vars` items, and `num_vars` is below 64. It takes no memory.
 fn are_values_and_point(num_vars: usize, list: &str, point: &str) -> bool
     requires list { SpellsList list.now }
     requires point { SpellsList point.now }
@@ -140,7 +140,7 @@ fn are_values_and_point(num_vars: usize, list: &str, point: &str) -> bool
     num_vars < 64 && list_len(list) == 1 << num_vars && list_len(point) == num_vars
 }
 
-/// The words themselves, where they spell two lists.
+// The words themselves, where they spell two lists.
 fn two_lists(words: &[String]) -> Option<(&str, &str)>
     ensures some { IfSome result (λ lists. (xs : List ℕ) × (ys : List ℕ)
         × AreTwoLists (map string_bytes words.now) xs ys × IsList lists.0.now xs × IsList lists.1.now ys) }
@@ -152,7 +152,7 @@ fn two_lists(words: &[String]) -> Option<(&str, &str)>
     Some((list_word(left.as_str())?, list_word(right.as_str())?))
 }
 
-/// The word itself, where it spells a list.
+// The word itself, where it spells a list.
 fn list_word(word: &str) -> Option<&str>
     ensures some { IfSome result (λ list. (list.now ≡ word.now) × SpellsList word.now) }
     ensures none { IfNone result ((xs : List ℕ) → ¬ IsList word.now xs) }

@@ -25,7 +25,7 @@ pub fn one_check(field: u64, rows: &[(Vec<String>, String)])
     one_writing::<Modulus65537>();
 }
 
-/// A command over a field writes one text at most, with one status.
+// A command over a field writes one text at most, with one status.
 fn one_writing<M: PrimeModulus>()
     ensures { (c : Asked) → HasAtMostOne (Writes (known_by M.modulus) c) }
 {}

@@ -37,16 +37,16 @@ use std::alloc::{AllocError, Global};
 /// The domains that the transforms are over.
 type Domain<M> = GeneralEvaluationDomain<PrimeField<M>>;
 
-/// Writes the answer to the words, and gives its status: 0; 1 where the line reports an error; 2 where the words are no
-/// command; and 3 where the writer failed, after a beginning of the text. An answer's memory is taken before its first
-/// byte is written, and that of `vectors` before each line.
+/// Writes the answer to the words, and gives its status: 0; 1 where the line reports an error; 2 where the
+/// words are no command; and 3 where the writer failed, after a beginning of the text. An answer's memory is
+/// taken before its first byte is written, and that of `vectors` before each line.
 ///
 /// The words are a field, which is `5`, `433` or `65537`, and a command:
 ///
-/// - `fft K H LIST` and `ifft K H LIST`, the transform or its inverse over the domain of size `K` or the next larger,
-///   with the offset `H`: of a power of two where there is one, and otherwise of a mixed size,
-/// - `mul LIST LIST`, the product of the polynomials with these coefficients, by transforms over that domain for the
-///   product's length,
+/// - `fft K H LIST` and `ifft K H LIST`, the transform or its inverse over the domain of size `K` or the next
+///   larger, with the offset `H`: of a power of two where there is one, and otherwise of a mixed size,
+/// - `mul LIST LIST`, the product of the polynomials with these coefficients, by transforms over that domain
+///   for the product's length,
 /// - `div LIST LIST`, the quotient and the remainder of the first polynomial by the second, a line each,
 /// - `eval LIST X`, the value at `X` of the polynomial with these coefficients,
 /// - `mle N LIST POINT`, the value at `POINT` of the multilinear extension of the `2^N` items of `LIST`,
@@ -66,7 +66,7 @@ pub fn run<W: Sink>(alloc: Global, words: &[String], out: &mut W) -> u8
     }
 }
 
-/// Writes the answer to words that don't ask for `vectors`, and gives its status.
+// Writes the answer to words that don't ask for `vectors`, and gives its status.
 fn run_command<W: Sink>(alloc: Global, words: &[String], out: &mut W) -> u8
     ensures { IsOneWritten (MayAnswer (map string_bytes words.now))
         (writer W.Sink out.old) (writer W.Sink out.new) result }
@@ -88,7 +88,7 @@ pub fn write<W: Sink>(out: &mut W, text: &str, status: u8) -> u8
     }
 }
 
-/// The text of the answer or the error in its place, and `None` where the words are no command.
+// The text of the answer or the error in its place, and `None` where the words are no command.
 fn answer(alloc: Global, words: &[String]) -> Option<Result<String, PolyError>>
     ensures some { IfSome result (IsOutcomeOf (map string_bytes words.now)) }
     ensures none { IfNone result ((f : Known) (c : Asked) → ¬ IsCommand (map string_bytes words.now) f c) }
@@ -99,8 +99,8 @@ fn answer(alloc: Global, words: &[String]) -> Option<Result<String, PolyError>>
     answer_in(alloc, field.as_str(), words)
 }
 
-/// The text of the answer to a field and the words after it or the error in its place, and `None` where these are no
-/// command.
+/// The text of the answer to a field and the words after it or the error in its place, and `None` where these
+/// are no command.
 pub fn answer_in(alloc: Global, field: &str, words: &[String]) -> Option<Result<String, PolyError>>
     ensures some { IfSome result (IsOutcomeOf (field.now ∷ map string_bytes words.now)) }
     ensures none { IfNone result ((f : Known) (c : Asked)
@@ -115,7 +115,7 @@ pub fn answer_in(alloc: Global, field: &str, words: &[String]) -> Option<Result<
     }
 }
 
-/// The answer to a command over one field.
+// The answer to a command over one field.
 fn answer_over<M: PrimeModulus>(alloc: Global, command: Command) -> Result<String, PolyError>
     requires { IsSpelled command }
     ensures { (c : Asked) → Spells command.entry c → IsOutcome (known_by M.modulus) c result }
@@ -139,7 +139,7 @@ fn answer_over<M: PrimeModulus>(alloc: Global, command: Command) -> Result<Strin
     }
 }
 
-/// The line of a transform or its inverse. Whether there is a domain is judged before memory is asked for.
+// The line of a transform or its inverse. Whether there is a domain is judged before memory is asked for.
 fn transform_line<M: PrimeModulus>(
     alloc: Global,
     direction: Direction,
@@ -162,7 +162,7 @@ fn transform_line<M: PrimeModulus>(
     element_line(alloc, &items)
 }
 
-/// The line of a product.
+// The line of a product.
 fn product_line<M: PrimeModulus>(
     alloc: Global,
     left: &str,
@@ -179,7 +179,7 @@ fn product_line<M: PrimeModulus>(
     element_line(alloc, product.coeffs())
 }
 
-/// The lines of a quotient and its remainder.
+// The lines of a quotient and its remainder.
 fn quotient_lines<M: PrimeModulus>(
     alloc: Global,
     left: &str,
@@ -196,7 +196,7 @@ fn quotient_lines<M: PrimeModulus>(
     two_lines(alloc, quotient.coeffs(), remainder.coeffs())
 }
 
-/// The quotient and the remainder of a polynomial by another: both zero for zero, whatever the other is.
+// The quotient and the remainder of a polynomial by another: both zero for zero, whatever the other is.
 fn divided<F: Field>(
     alloc: Global,
     dividend: &DensePolynomial<F>,
@@ -222,7 +222,7 @@ fn divided<F: Field>(
     Ok(pair)
 }
 
-/// The line of a value.
+// The line of a value.
 fn value_line<M: PrimeModulus>(alloc: Global, list: &str, point: u64) -> Result<String, PolyError>
     requires { SpellsList list.now }
     ensures { (xs : List ℕ) → IsList list.now xs
@@ -233,7 +233,7 @@ fn value_line<M: PrimeModulus>(alloc: Global, list: &str, point: u64) -> Result<
     element_line(alloc, &[value])
 }
 
-/// The line of an extension's value.
+// The line of an extension's value.
 fn extension_line<M: PrimeModulus>(
     alloc: Global,
     num_vars: usize,
@@ -251,7 +251,7 @@ fn extension_line<M: PrimeModulus>(
     element_line(alloc, &[value])
 }
 
-/// The line of a size.
+// The line of a size.
 fn size_line<M: PrimeModulus>(alloc: Global, num_coeffs: u64) -> Result<String, PolyError>
     ensures { IsOutcome (known_by M.modulus) (size_for num_coeffs) result }
 {
@@ -260,7 +260,7 @@ fn size_line<M: PrimeModulus>(alloc: Global, num_coeffs: u64) -> Result<String, 
     Ok(line(alloc, &[size as u64])?)
 }
 
-/// The coset of the size that the type of domain takes for `size`.
+// The coset of the size that the type of domain takes for `size`.
 fn coset<F: FftField, D: EvaluationDomain<F>>(size: u64, offset: F) -> Result<D, PolyError>
     ensures chosen { IfOk result (λ d. D.chooses size (D.domain d).kind (D.domain d).size) }
     ensures offset { IfOk result (λ d. (D.domain d).offset ≡ offset) }
@@ -271,7 +271,7 @@ fn coset<F: FftField, D: EvaluationDomain<F>>(size: u64, offset: F) -> Result<D,
     D::new_coset(size as usize, offset).ok_or(PolyError::NoDomain)
 }
 
-/// The polynomial with the elements of a list as its coefficients.
+// The polynomial with the elements of a list as its coefficients.
 fn polynomial<M: PrimeModulus>(
     alloc: Global,
     word: &str,
@@ -283,7 +283,7 @@ fn polynomial<M: PrimeModulus>(
     Ok(DensePolynomial::from_coefficients_vec(elements::<M>(alloc, word)?))
 }
 
-/// The elements of a list.
+// The elements of a list.
 fn elements<M: PrimeModulus>(alloc: Global, word: &str) -> Result<Vec<PrimeField<M>>, AllocError>
     requires { SpellsList word.now }
     ensures { IfOk result (λ elements. (xs : List ℕ) → IsList word.now xs →
@@ -296,7 +296,7 @@ fn elements<M: PrimeModulus>(alloc: Global, word: &str) -> Result<Vec<PrimeField
         .collect(alloc)
 }
 
-/// The elements' line.
+// The elements' line.
 fn element_line<M: PrimeModulus>(
     alloc: Global,
     elements: &[PrimeField<M>],
@@ -308,7 +308,7 @@ fn element_line<M: PrimeModulus>(
     Ok(line(alloc, &numbers)?)
 }
 
-/// The line of each, in this order.
+// The line of each, in this order.
 fn two_lines<M: PrimeModulus>(
     alloc: Global,
     first: &[PrimeField<M>],

@@ -13,13 +13,13 @@ use crate::program::{answer_in, write};
 use ark_base::{PolyError, Sink};
 use std::alloc::{AllocError, Global};
 
-/// Writes a line for each row, and gives the status: 0; 1 where a row is bad, or where memory was refused; and 3 where
-/// the writer failed, after a beginning of the text.
+/// Writes a line for each row, and gives the status: 0; 1 where a row is bad, or where memory was refused;
+/// and 3 where the writer failed, after a beginning of the text.
 ///
-/// A row is the words after the field, and a text. Its line is its number from 1, a space, and `ok` where `run` would
-/// write that text and a newline for the field and the words, and otherwise `bad`; a row whose command is `vectors` is
-/// always bad. Each line's memory is taken before that line is written: where it is refused, the lines before stand, and
-/// the error's line follows.
+/// A row is the words after the field, and a text. Its line is its number from 1, a space, and `ok` where
+/// `run` would write that text and a newline for the field and the words, and otherwise `bad`; a row whose
+/// command is `vectors` is always bad. Each line's memory is taken before that line is written: where it is
+/// refused, the lines before stand, and the error's line follows.
 pub fn check<W: Sink>(alloc: Global, field: u64, rows: &[(Vec<String>, String)], out: &mut W) -> u8
     ensures written { IsOneWritten (MayCheck (decimal field) (map row_of rows.now))
         (writer W.Sink out.old) (writer W.Sink out.new) result }
@@ -36,8 +36,8 @@ pub trait Checked {
     // What its words and its text spell.
     ghost shown: { Self → Row };
 
-    /// Writes the row's line, and tells whether the row is good. Where memory for the line is refused, or the writer
-    /// fails, no line comes after it, and the error is the status.
+    /// Writes the row's line, and tells whether the row is good. Where memory for the line is refused, or the
+    /// writer fails, no line comes after it, and the error is the status.
     fn check<W: Sink>(
         &self,
         alloc: Global,
@@ -118,7 +118,7 @@ pub fn refuse<W: Sink>(out: &mut W) -> u8
     write(out, refusal_line(PolyError::Memory), 1)
 }
 
-/// Whether a row is good. An answer for which memory was refused is neither.
+// Whether a row is good. An answer for which memory was refused is neither.
 fn is_good(alloc: Global, field: u64, words: &[String], text: &str) -> Result<bool, AllocError>
     ensures { IfOk result (IsVerdict (decimal field) (map string_bytes words.now, text.now)) }
 {
@@ -138,7 +138,7 @@ fn is_good(alloc: Global, field: u64, words: &[String], text: &str) -> Result<bo
     }
 }
 
-/// Whether the words' command is `vectors`.
+// Whether the words' command is `vectors`.
 fn is_vectors(words: &[String]) -> bool
     ensures { IsTrue result ↔ IsVectors (map string_bytes words.now) }
 {
@@ -148,7 +148,7 @@ fn is_vectors(words: &[String]) -> bool
     name.as_str() == "vectors"
 }
 
-/// Whether an answer is a text and a newline.
+// Whether an answer is a text and a newline.
 fn is_line_of(answer: &str, text: &str) -> bool
     ensures { IsTrue result ↔ (answer.now ≡ ended text.now) }
 {

@@ -67,7 +67,8 @@ pub fn vectors_of(words: &[String]) -> Option<(u64, &'static [Vector])>
     }
 }
 
-/// A row's words are copied only when its turn has come, so that where memory is refused, the lines before stand.
+/// A row's words are copied only when its turn has come, so that where memory is refused, the lines before
+/// stand.
 impl Checked for Vector {
     ghost shown = { shown_row };
 
@@ -85,7 +86,7 @@ impl Checked for Vector {
     }
 }
 
-/// The words with memory of their own.
+// The words with memory of their own.
 fn owned_words(alloc: Global, words: &[&str]) -> Result<Vec<String>, AllocError>
     ensures { IfOk result (λ owned. map string_bytes owned.items ≡ map (λ word. word.now) words.now) }
 {

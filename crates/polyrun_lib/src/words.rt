@@ -24,7 +24,8 @@ pub fn is_list(word: &str) -> bool
     word.is_empty() || word.split(',').all(|part| number(part).is_some())
 }
 
-/// How many numbers are in the list that a word spells: as many as there are pieces between commas. It takes no memory.
+/// How many numbers are in the list that a word spells: as many as there are pieces between commas. It takes
+/// no memory.
 pub fn list_len(word: &str) -> usize
     requires { SpellsList word.now }
     ensures { (numbers : List ℕ) → IsList word.now numbers → result ≡ length numbers }

@@ -12,7 +12,7 @@ use std::alloc::Global;
 use std::marker::PhantomData;
 
 impl<M: PrimeModulus> PrimeField<M> {
-    /// How many bytes an element has: as many as the modulus.
+    // How many bytes an element has: as many as the modulus.
     fn width() -> usize
         ensures { result ≡ width_of M.MODULUS }
     {

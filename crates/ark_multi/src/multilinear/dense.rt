@@ -254,7 +254,7 @@ impl<F: Field> MultilinearExtension<F> for DenseMultilinearExtension<F> {
     ghost addable_law = { λ a b. (λ h. h, λ h. h) };
 }
 
-/// How many values these have together, or `usize::MAX` where there are more.
+// How many values these have together, or `usize::MAX` where there are more.
 fn total_len<F: Field>(polys: &[DenseMultilinearExtension<F>]) -> usize
     ensures { result ≡ min usize.MAX (length (flat_map (λ p. p.evaluations.items) polys.now)) }
 {
@@ -265,7 +265,7 @@ fn total_len<F: Field>(polys: &[DenseMultilinearExtension<F>]) -> usize
     total
 }
 
-/// The values of these, one list after the other, then zeros up to this length. Memory is taken once.
+// The values of these, one list after the other, then zeros up to this length. Memory is taken once.
 fn joined_values<F: Field>(
     alloc: Global,
     polys: &[DenseMultilinearExtension<F>],
@@ -317,8 +317,9 @@ impl<F: Field> DenseMultilinearExtension<F> {
         }
     }
 
-    /// The extension of all these tables, one after the other, then zeros up to a power of two: of the value zero, of
-    /// no variables, where there are none. `Overflow` exactly where that power is past `2^63`, judged before memory.
+    /// The extension of all these tables, one after the other, then zeros up to a power of two: of the value
+    /// zero, of no variables, where there are none. `Overflow` exactly where that power is past `2^63`,
+    /// judged before memory.
     pub fn concat(alloc: Global, polys: &[Self]) -> Result<Self, PolyError>
         ensures values { IfOk result (λ p. IsConcat F.field (dense_values F.field polys.now)
             (dense_table F.field p)) }
@@ -342,7 +343,8 @@ impl<F: Field> DenseMultilinearExtension<F> {
         self.evaluations.iter()
     }
 
-    /// Exchanges the `k` variables from `a` on with the `k` from `b` on, by exchanging values. Takes no memory.
+    /// Exchanges the `k` variables from `a` on with the `k` from `b` on, by exchanging values. Takes no
+    /// memory.
     pub fn relabel_in_place(&mut self, a: usize, b: usize, k: usize)
         requires { AreWindows (dense_table F.field self.old).variables a b k }
         ensures values { (x : List F) → length x ≡ (dense_table F.field self.old).variables
@@ -378,8 +380,8 @@ impl<F: Field> DenseMultilinearExtension<F> {
         self.multiple(alloc, factor)
     }
 
-    /// The multiple by the factor, in place: zero of no variables where the factor is zero. Only then it takes memory,
-    /// for one value. After an error it has the value that it had.
+    /// The multiple by the factor, in place: zero of no variables where the factor is zero. Only then it
+    /// takes memory, for one value. After an error it has the value that it had.
     pub fn mul_assign(&mut self, alloc: Global, factor: F) -> Result<(), PolyError>
         ensures multiple { factor ≢ F.field.zero → OnOk result (dense_table F.field self.new
             ≡ table_scaled F.field factor (dense_table F.field self.old)) }
@@ -397,7 +399,7 @@ impl<F: Field> DenseMultilinearExtension<F> {
         Ok(())
     }
 
-    /// Multiplies all values by the factor, which keeps the variables.
+    // Multiplies all values by the factor, which keeps the variables.
     fn scale(&mut self, factor: F)
         ensures { dense_table F.field self.new
             ≡ table_scaled F.field factor (dense_table F.field self.old) }
@@ -405,7 +407,7 @@ impl<F: Field> DenseMultilinearExtension<F> {
         scale_each(self.evaluations.as_mut_slice(), factor);
     }
 
-    /// Adds a multiple of another, where one of the two is zero of no variables.
+    // Adds a multiple of another, where one of the two is zero of no variables.
     fn add_to_zero(&mut self, alloc: Global, factor: F, other: &Self) -> Result<(), PolyError>
         requires addable { AreAddable F.field (dense_table F.field self.old) (dense_table F.field other.now) }
         requires apart { (dense_table F.field self.old).variables
@@ -422,7 +424,7 @@ impl<F: Field> DenseMultilinearExtension<F> {
         Ok(())
     }
 
-    /// All values times the factor, which keeps the variables.
+    // All values times the factor, which keeps the variables.
     fn multiple(&self, alloc: Global, factor: F) -> Result<Self, PolyError>
         ensures multiple { IfOk result (λ p. dense_table F.field p
             ≡ table_scaled F.field factor (dense_table F.field self.now)) }

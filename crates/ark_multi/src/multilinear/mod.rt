@@ -17,13 +17,13 @@ use rand::Rng;
 pub use sparse::SparseMultilinearExtension;
 use std::alloc::Global;
 
-/// The multilinear extension of a table: the polynomial in `num_vars` variables, with no power above one, that has the
-/// table's values at the points whose items are zero or one. There are `2^num_vars` of these; item i of the point with
-/// an index is bit i of the index.
+/// The multilinear extension of a table: the polynomial in `num_vars` variables, with no power above one,
+/// that has the table's values at the points whose items are zero or one. There are `2^num_vars` of these;
+/// item i of the point with an index is bit i of the index.
 ///
-/// A point fits where it has `num_vars` items, and the degree is `num_vars`. Two can be added where their numbers of
-/// variables are equal, or one of them is zero of no variables; then the sum is the other one. Two are equal where
-/// their numbers of variables and their tables are.
+/// A point fits where it has `num_vars` items, and the degree is `num_vars`. Two can be added where their
+/// numbers of variables are equal, or one of them is zero of no variables; then the sum is the other one. Two
+/// are equal where their numbers of variables and their tables are.
 pub trait MultilinearExtension<F: Field>: Polynomial<F, Point = Vec<F>> {
     ghost use Rattle.std.proofs.Common.{ap, ◌∙◌};
     ghost use Rattle.ark_math.proofs.Callers.Forms.{embedding_shows};
@@ -35,8 +35,8 @@ pub trait MultilinearExtension<F: Field>: Polynomial<F, Point = Vec<F>> {
     fn num_vars(&self) -> usize
         ensures { result ≡ Self.variables self.now };
 
-    /// One of `num_vars` variables, below 64, with drawn values. A form that draws indices too tries each at most
-    /// `tries` times, and answers `None` where none of these is new.
+    /// One of `num_vars` variables, below 64, with drawn values. A form that draws indices too tries each at
+    /// most `tries` times, and answers `None` where none of these is new.
     fn rand<R: Rng>(
         alloc: Global,
         num_vars: usize,
@@ -47,8 +47,9 @@ pub trait MultilinearExtension<F: Field>: Polynomial<F, Point = Vec<F>> {
         ensures variables { IfOk result (λ drawn. IfSome drawn (λ p. Self.variables p ≡ num_vars)) }
         ensures memory { IsOkUnless result PolyError.Memory };
 
-    /// Whether the `k` variables from `a` on can be exchanged with the `k` from `b` on: where `a` is `b`, or `k` is 0,
-    /// or the lower ones end at or before the start of the higher ones, and these at or before `num_vars`.
+    /// Whether the `k` variables from `a` on can be exchanged with the `k` from `b` on: where `a` is `b`, or
+    /// `k` is 0, or the lower ones end at or before the start of the higher ones, and these at or before
+    /// `num_vars`.
     final fn relabel_fits(&self, a: usize, b: usize, k: usize) -> bool
         ensures { IsTrue result ↔ AreWindows (Self.variables self.now) a b k }
     {
@@ -58,8 +59,8 @@ pub trait MultilinearExtension<F: Field>: Polynomial<F, Point = Vec<F>> {
         a == b || k == 0 || (k <= higher - lower && higher <= num_vars && k <= num_vars - higher)
     }
 
-    /// The extension with the `k` variables from `a` on and the `k` from `b` on exchanged: its value at a point is the
-    /// old one at the point with these items exchanged.
+    /// The extension with the `k` variables from `a` on and the `k` from `b` on exchanged: its value at a
+    /// point is the old one at the point with these items exchanged.
     fn relabel(&self, alloc: Global, a: usize, b: usize, k: usize) -> Result<Self, PolyError>
         requires { AreWindows (Self.variables self.now) a b k }
         ensures values { IfOk result (λ p. (x : List F) → length x ≡ Self.variables self.now
@@ -68,7 +69,8 @@ pub trait MultilinearExtension<F: Field>: Polynomial<F, Point = Vec<F>> {
         ensures variables { IfOk result (λ p. Self.variables p ≡ Self.variables self.now) }
         ensures memory { IsOkUnless result PolyError.Memory };
 
-    /// What is left when the first variables are bound to the items of `point`, of which there are at most `num_vars`.
+    /// What is left when the first variables are bound to the items of `point`, of which there are at most
+    /// `num_vars`.
     fn fix_variables(&self, alloc: Global, point: &[F]) -> Result<Self, PolyError>
         requires { length point.now ≤ Self.variables self.now }
         ensures values { IfOk result (λ p. (table p).value

@@ -25,7 +25,8 @@ use std::fmt::{self, Debug, Formatter, Write};
 use std::ops::Index;
 use std::slice::Iter;
 
-/// A multilinear extension by the entries of its table that aren't zero: pairs of index and value, the indices rising.
+/// A multilinear extension by the entries of its table that aren't zero: pairs of index and value, the
+/// indices rising.
 #[derive(Drop)]
 #[derive_where(PartialEq, Eq, Hash; F)]
 pub struct SparseMultilinearExtension<F: Field> {
@@ -262,8 +263,8 @@ impl<F: Field> MultilinearExtension<F> for SparseMultilinearExtension<F> {
 impl<F: Field> SparseMultilinearExtension<F> {
     ghost use Rattle.ark_multi.specs.Extensions.{dense_table, sparse_table};
 
-    /// The extension of the table that holds these pairs of index and value, and zero elsewhere. The indices are below
-    /// `2^num_vars`, in any order; the last pair of an index wins.
+    /// The extension of the table that holds these pairs of index and value, and zero elsewhere. The indices
+    /// are below `2^num_vars`, in any order; the last pair of an index wins.
     pub fn from_evaluations(
         alloc: Global,
         num_vars: usize,
@@ -284,9 +285,9 @@ impl<F: Field> SparseMultilinearExtension<F> {
         })
     }
 
-    /// One of `num_vars` variables, below 64, with drawn values at drawn indices, and zero elsewhere. `entries`, at most
-    /// `2^num_vars`, says how many indices are drawn; a value that is drawn as zero is not stored. For each index at
-    /// most `tries` are drawn until one is new; `None` where these are spent.
+    /// One of `num_vars` variables, below 64, with drawn values at drawn indices, and zero elsewhere.
+    /// `entries`, at most `2^num_vars`, says how many indices are drawn; a value that is drawn as zero is not
+    /// stored. For each index at most `tries` are drawn until one is new; `None` where these are spent.
     pub fn rand_with_config<R: Rng>(
         alloc: Global,
         num_vars: usize,
@@ -335,7 +336,7 @@ impl<F: Field> SparseMultilinearExtension<F> {
         self.evaluations.iter()
     }
 
-    /// The sum with a multiple of another, the zeros dropped.
+    // The sum with a multiple of another, the zeros dropped.
     fn plus_multiple(
         &self,
         alloc: Global,

@@ -38,7 +38,7 @@ pub(crate) fn value_of_terms<F: Field, T: Term>(terms: &[(F, T)], point: &[F]) -
     value
 }
 
-/// Adds a term above the others, unless its coefficient is zero.
+// Adds a term above the others, unless its coefficient is zero.
 fn push_term<F: Field, T: Term>(
     terms: &mut Vec<(F, T)>,
     coefficient: F,
@@ -68,7 +68,7 @@ struct Least<'a, F, T> {
     right: &'a [(F, T)],
 }
 
-/// The least term of the sum of one list and a multiple of another; `None` where both are empty.
+// The least term of the sum of one list and a multiple of another; `None` where both are empty.
 fn least_term<'a, F: Field, T: Term>(
     left: &'a [(F, T)],
     multiple: Multiple<F>,
@@ -117,7 +117,8 @@ fn least_term<'a, F: Field, T: Term>(
     }
 }
 
-/// The sum of terms and a multiple of others, without zeros. One pass over both lists, and room for both at once.
+/// The sum of terms and a multiple of others, without zeros. One pass over both lists, and room for both at
+/// once.
 pub(crate) fn sum_of_terms<F: Field, T: Term>(
     alloc: Global,
     left: &[(F, T)],
@@ -143,7 +144,7 @@ pub(crate) fn sum_of_terms<F: Field, T: Term>(
     Ok(sum)
 }
 
-/// Takes the last term off if it is this one, and gives its coefficient; zero otherwise.
+// Takes the last term off if it is this one, and gives its coefficient; zero otherwise.
 fn take_like<F: Field, T: Term>(terms: &mut Vec<(F, T)>, term: &T) -> F
     requires rising { AreRising F.field T.cmp terms.old.items }
     requires upto { All (λ c. T.cmp c.1 term.now ≢ Greater) terms.old.items }

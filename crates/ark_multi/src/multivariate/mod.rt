@@ -18,18 +18,18 @@ use std::alloc::Global;
 use std::fmt::Debug;
 use std::hash::Hash;
 
-/// A term: a product of powers of variables, which are told by their numbers. Its order is total, and two terms are
-/// equal, and hash equally, exactly where their pairs are the same. In bytes a spelling tells the pairs, and both modes
-/// are the same.
+/// A term: a product of powers of variables, which are told by their numbers. Its order is total, and two
+/// terms are equal, and hash equally, exactly where their pairs are the same. In bytes a spelling tells the
+/// pairs, and both modes are the same.
 pub trait Term: Clone + Ord + Hash + Debug + Drop + CanonicalSerialize + CanonicalDeserialize {
     ghost use Rattle.ark_bytes.specs.declared.compress.Compress.{Compress};
 
     // What `pairs()` shows.
     ghost listed: { Self → List (ℕ × ℕ) };
 
-    /// The product of these powers, given by variable and power in any order: powers of one variable are added up, and
-    /// powers of 0 left out; no pairs give the constant term. `Overflow` exactly where the total of all powers is past
-    /// `usize::MAX`, judged before memory is asked for.
+    /// The product of these powers, given by variable and power in any order: powers of one variable are
+    /// added up, and powers of 0 left out; no pairs give the constant term. `Overflow` exactly where the
+    /// total of all powers is past `usize::MAX`, judged before memory is asked for.
     fn new(alloc: Global, powers: Vec<(usize, usize)>) -> Result<Self, PolyError>
         ensures term { IfOk result (λ t. IsTerm (listed t)) }
         ensures powers { IfOk result (λ t. (v : ℕ) → power_of (listed t) v ≡ power_of powers.items v) }
@@ -66,7 +66,8 @@ pub trait Term: Clone + Ord + Hash + Debug + Drop + CanonicalSerialize + Canonic
         is_within(self.pairs(), num_vars)
     }
 
-    /// The product of the point's items to the powers of their variables. The point has an item for each variable.
+    /// The product of the point's items to the powers of their variables. The point has an item for each
+    /// variable.
     fn evaluate<F: Field>(&self, point: &[F]) -> F
         requires { IsWithin (length point.now) (listed self.now) }
         ensures { result ≡ term_value F.field (listed self.now) point.now };

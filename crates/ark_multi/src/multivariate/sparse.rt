@@ -19,8 +19,8 @@ use rand::Rng;
 use std::alloc::{AllocError, Global};
 use std::fmt::{self, Debug, Formatter, Write};
 
-/// A polynomial in several variables by the terms whose coefficients aren't zero, in strictly rising order, beside a
-/// number that all their variables are below.
+/// A polynomial in several variables by the terms whose coefficients aren't zero, in strictly rising order,
+/// beside a number that all their variables are below.
 ///
 /// This number is no part of what `==` compares and `hash` feeds.
 #[derive(Drop)]
@@ -175,7 +175,7 @@ impl<F: Field, T: Term> Polynomial<F> for SparsePolynomial<F, T> {
 }
 
 impl<F: Field, T: Term> SparsePolynomial<F, T> {
-    /// The sum with a multiple of another.
+    // The sum with a multiple of another.
     fn plus_multiple(
         &self,
         alloc: Global,
@@ -270,7 +270,7 @@ impl<F: Field, T: Term> DenseMVPolynomial<F> for SparsePolynomial<F, T> {
     ghost evaluates = { tt };
 }
 
-/// The constant term.
+// The constant term.
 fn constant_term<T: Term>(alloc: Global) -> Result<T, PolyError>
     ensures term { IfOk result (λ t. T.listed t ≡ []) }
     ensures memory { IsOkUnless result PolyError.Memory }
@@ -278,7 +278,7 @@ fn constant_term<T: Term>(alloc: Global) -> Result<T, PolyError>
     T::new(alloc, Vec::new(alloc))
 }
 
-/// A power of one variable.
+// A power of one variable.
 fn power_of_variable<T: Term>(alloc: Global, variable: usize, power: usize) -> Result<T, PolyError>
     requires { 0 < power }
     ensures term { IfOk result (λ t. T.listed t ≡ (variable, power) ∷ []) }
@@ -287,7 +287,7 @@ fn power_of_variable<T: Term>(alloc: Global, variable: usize, power: usize) -> R
     T::new(alloc, Vec::from_slice(alloc, &[(variable, power)])?)
 }
 
-/// Adds the powers from 1 to `d` of a variable, with drawn coefficients.
+// Adds the powers from 1 to `d` of a variable, with drawn coefficients.
 fn push_powers<F: Field, T: Term, R: Rng>(
     alloc: Global,
     terms: &mut Vec<(F, T)>,

@@ -24,8 +24,9 @@ use std::marker::Model;
 
 /// A term by the powers of the variables that stand in it, by rising variables. The constant term has none.
 ///
-/// By `cmp` the greater total degree is greater, and of equal totals that with the greater power of the least variable
-/// where two differ: `laws::graded_order` states this order. Contracts see the list of the pairs of variable and power.
+/// By `cmp` the greater total degree is greater, and of equal totals that with the greater power of the least
+/// variable where two differ: `laws::graded_order` states this order. Contracts see the list of the pairs of
+/// variable and power.
 #[derive(Drop)]
 pub struct SparseTerm {
     powers: Vec<(usize, usize)>,

@@ -13,8 +13,8 @@ use ark_fft::domain::Coset;
 use ark_traits::{DomainCoeff, FftField, PolyError, Work};
 use std::alloc::{AllocError, Global};
 
-/// A domain of either kind: for a number of coefficients the radix 2 domain wherever there is one, even where a mixed
-/// one would be smaller, and otherwise the mixed radix domain.
+/// A domain of either kind: for a number of coefficients the radix 2 domain wherever there is one, even where
+/// a mixed one would be smaller, and otherwise the mixed radix domain.
 #[derive_where(Copy, Debug, PartialEq, Eq, Hash; F)]
 pub enum GeneralEvaluationDomain<F: FftField> {
     /// A domain whose size is a power of two.

@@ -39,8 +39,9 @@ use std::hash::Hash;
 
 /// A subgroup of roots of unity or a coset of one, and the transforms over it.
 ///
-/// A domain has a size `n`, a root of unity of order `n`, and an offset; its element `i` is `offset * root^i`. In bytes the
-/// mode `No` has what the getters answer, and the mode `Yes` the size and the offset alone.
+/// A domain has a size `n`, a root of unity of order `n`, and an offset; its element `i` is
+/// `offset * root^i`. In bytes the mode `No` has what the getters answer, and the mode `Yes` the size and the
+/// offset alone.
 pub trait EvaluationDomain<F: FftField>: Copy
     + Eq
     + Hash
@@ -57,22 +58,24 @@ pub trait EvaluationDomain<F: FftField>: Copy
     // The kind and the size of `new(k)`.
     ghost chooses: { ℕ → Kind → ℕ → Type 0 };
 
-    /// The subgroup of the least size at or above `num_coeffs` that the type allows, and `None` exactly where there is
-    /// none.
+    /// The subgroup of the least size at or above `num_coeffs` that the type allows, and `None` exactly where
+    /// there is none.
     ///
     /// ```
     /// let domain = Radix2EvaluationDomain::<F65537>::new(5).ok_or(PolyError::NoDomain)?;
-    /// let coset = domain.get_coset(F65537::GENERATOR).ok_or(PolyError::NoDomain)?; // both have eight elements
+    /// // both have eight elements
+    /// let coset = domain.get_coset(F65537::GENERATOR).ok_or(PolyError::NoDomain)?;
     /// ```
     ///
-    /// The call takes no memory, and asks the field for one root of unity and two inverses. A mixed radix domain first looks
-    /// at the least size for each power of the odd base.
+    /// The call takes no memory, and asks the field for one root of unity and two inverses. A mixed radix
+    /// domain first looks at the least size for each power of the odd base.
     fn new(num_coeffs: usize) -> Option<Self>
         ensures chosen { IfSome result (λ d. chooses num_coeffs (domain d).kind (domain d).size) }
         ensures subgroup { IfSome result (λ d. (domain d).offset ≡ F.field.one) }
         ensures none { IsNone result ↔ HasNoSize chooses num_coeffs };
 
-    /// The coset with this offset of `new(num_coeffs)`, and `None` exactly where that is none or the offset is zero.
+    /// The coset with this offset of `new(num_coeffs)`, and `None` exactly where that is none or the offset
+    /// is zero.
     final fn new_coset(num_coeffs: usize, offset: F) -> Option<Self>
         ensures chosen { IfSome result (λ d. chooses num_coeffs (domain d).kind (domain d).size) }
         ensures coset { IfSome result (λ d. (domain d).offset ≡ offset) }
@@ -176,8 +179,8 @@ pub trait EvaluationDomain<F: FftField>: Copy
         ensures different { (i j : ℕ) → i < (domain self.now).size → j < (domain self.now).size
             → element F.field (domain self.now) i ≡ element F.field (domain self.now) j → i ≡ j };
 
-    /// The values at the elements of the polynomial with these coefficients, cut to the domain's size or filled with
-    /// zeros: place `i` has the sum over `j` of coefficient `j` times `element(i)^j`.
+    /// The values at the elements of the polynomial with these coefficients, cut to the domain's size or
+    /// filled with zeros: place `i` has the sum over `j` of coefficient `j` times `element(i)^j`.
     ///
     /// ```
     /// let domain = Radix2EvaluationDomain::<F65537>::new(coeffs.len()).ok_or(PolyError::NoDomain)?;
@@ -185,10 +188,11 @@ pub trait EvaluationDomain<F: FftField>: Copy
     /// ```
     ///
     /// Over `n` elements with `n` a power of two it takes `n/2 * log2(n)` butterflies, and for at most `n/4`
-    /// coefficients `n/2 * log2(d)`, where `d` is the least power of two at or above their number. Over `n = 2^a * q^b`
-    /// elements of a mixed radix domain it takes `a * n/2` butterflies and `b * n/q` steps. A butterfly is one product,
-    /// a step `q^2 - 1`, and at most `n` products more shift to a coset. Beside the values there is memory for `n/2`
-    /// field elements while it runs; in a mixed radix domain for at most `n + 2^a`, and for `n` values more.
+    /// coefficients `n/2 * log2(d)`, where `d` is the least power of two at or above their number. Over
+    /// `n = 2^a * q^b` elements of a mixed radix domain it takes `a * n/2` butterflies and `b * n/q` steps. A
+    /// butterfly is one product, a step `q^2 - 1`, and at most `n` products more shift to a coset. Beside the
+    /// values there is memory for `n/2` field elements while it runs; in a mixed radix domain for at most
+    /// `n + 2^a`, and for `n` values more.
     final fn fft<T: DomainCoeff<F>>(&self, alloc: Global, coeffs: &[T]) -> Result<Vec<T>, PolyError>
         ensures transform { IfOk result (λ values. map T.meaning values.items
             ≡ transform F.field T.group (domain self.now) (map T.meaning coeffs.now)) }
@@ -200,8 +204,8 @@ pub trait EvaluationDomain<F: FftField>: Copy
         Ok(values)
     }
 
-    /// The values in place of the coefficients, as `fft` gives them. All memory is taken before the list is touched, and
-    /// after an error the list is as it was.
+    /// The values in place of the coefficients, as `fft` gives them. All memory is taken before the list is
+    /// touched, and after an error the list is as it was.
     final fn fft_in_place<T: DomainCoeff<F>>(
         &self,
         alloc: Global,
@@ -230,16 +234,17 @@ pub trait EvaluationDomain<F: FftField>: Copy
         ensures uncounted { OnErr result (work.new ≡ work.old) }
         ensures memory { IsOkUnless result PolyError.Memory };
 
-    /// The list of `size` items whose transform is the given one, cut to the domain's size or filled with zeros. There
-    /// is only one.
+    /// The list of `size` items whose transform is the given one, cut to the domain's size or filled with
+    /// zeros. There is only one.
     ///
     /// ```
     /// let values = domain.fft(alloc, &coeffs)?;
     /// let back = domain.ifft(alloc, &values)?; // the coefficients, cut to the size or filled with zeros
     /// ```
     ///
-    /// Over `n` elements it takes `n/2 * log2(n)` butterflies however short the list is, or in a mixed radix domain those
-    /// butterflies and steps that `fft` takes, and at most `n` products more. It takes as much memory as `fft`.
+    /// Over `n` elements it takes `n/2 * log2(n)` butterflies however short the list is, or in a mixed radix
+    /// domain those butterflies and steps that `fft` takes, and at most `n` products more. It takes as much
+    /// memory as `fft`.
     final fn ifft<T: DomainCoeff<F>>(&self, alloc: Global, evals: &[T]) -> Result<Vec<T>, PolyError>
         ensures inverse { IfOk result (λ coeffs. IsInverse F.field T.group (domain self.now)
             (map T.meaning evals.now) (map T.meaning coeffs.items)) }
@@ -253,8 +258,8 @@ pub trait EvaluationDomain<F: FftField>: Copy
         Ok(coeffs)
     }
 
-    /// The coefficients in place of the values, as `ifft` gives them. All memory is taken before the list is touched, and
-    /// after an error the list is as it was.
+    /// The coefficients in place of the values, as `ifft` gives them. All memory is taken before the list is
+    /// touched, and after an error the list is as it was.
     final fn ifft_in_place<T: DomainCoeff<F>>(
         &self,
         alloc: Global,
@@ -309,17 +314,17 @@ pub trait EvaluationDomain<F: FftField>: Copy
         }
     }
 
-    /// The weights by which the values at the elements give the value at `tau`, for every polynomial of a degree below
-    /// the size: the values at `tau` of the Lagrange polynomials. At an element they are one at its index and zero
-    /// elsewhere; at any other point they take one batch inversion.
+    /// The weights by which the values at the elements give the value at `tau`, for every polynomial of a
+    /// degree below the size: the values at `tau` of the Lagrange basis. At an element they are one at its
+    /// index and zero elsewhere; at any other point they take one batch inversion.
     ///
     /// ```
     /// let weights = domain.evaluate_all_lagrange_coefficients(alloc, tau)?;
     /// // the polynomial's value at tau is the sum of weights[i] * values[i]
     /// ```
     ///
-    /// Over `n` elements it takes some `4 * n` products and two inversions, and memory for `n` field elements beside the
-    /// weights while it runs; at an element `n` products, and no memory beside the weights.
+    /// Over `n` elements it takes some `4 * n` products and two inversions, and memory for `n` field elements
+    /// beside the weights while it runs; at an element `n` products, and no memory beside the weights.
     final fn evaluate_all_lagrange_coefficients(
         &self,
         alloc: Global,
@@ -376,17 +381,17 @@ pub trait EvaluationDomain<F: FftField>: Copy
             && subdomain.coset_offset().pow(self.size() as u64) == self.coset_offset_pow_size()
     }
 
-    /// The polynomial that is one at the subdomain's elements and zero at the others, of the least degree: the
-    /// difference of the sizes. `ForeignSubdomain` exactly where the subdomain isn't contained, judged before memory is
-    /// asked for.
+    /// The polynomial that is one at the subdomain's elements and zero at the others, of the least degree:
+    /// the difference of the sizes. `ForeignSubdomain` exactly where the subdomain isn't contained, judged
+    /// before memory is asked for.
     ///
     /// ```
     /// let subdomain = Radix2EvaluationDomain::<F65537>::new(4).ok_or(PolyError::NoDomain)?;
     /// let filter = domain.filter_polynomial(alloc, &subdomain)?; // one at four elements of the domain
     /// ```
     ///
-    /// For sizes `n` and `s` it takes memory for the `n - s + 1` coefficients alone, of which `n/s` are not zero, and a
-    /// product for each of these beside a few powers.
+    /// For sizes `n` and `s` it takes memory for the `n - s + 1` coefficients alone, of which `n/s` are not
+    /// zero, and a product for each of these beside a few powers.
     final fn filter_polynomial(
         &self,
         alloc: Global,
@@ -412,8 +417,8 @@ pub trait EvaluationDomain<F: FftField>: Copy
         Ok(DensePolynomial::from_coefficients_vec(coeffs))
     }
 
-    /// The value of the polynomial that is one at the subdomain's elements and zero at the others, of the least degree,
-    /// and `None` exactly where the subdomain isn't contained.
+    /// The value of the polynomial that is one at the subdomain's elements and zero at the others, of the
+    /// least degree, and `None` exactly where the subdomain isn't contained.
     final fn evaluate_filter_polynomial(&self, subdomain: &Self, tau: F) -> Option<F>
         ensures value { IfSome result (λ y. (a : ℕ → F)
             × IsFilter F.field (domain subdomain.now) (domain self.now) a × IsValue F.field a tau y) }
@@ -437,8 +442,8 @@ pub trait EvaluationDomain<F: FftField>: Copy
         )
     }
 
-    /// Item `i` of the order of this domain's indices that has those of the subdomain's elements first: the multiples
-    /// of the sizes' quotient, and then the others.
+    /// Item `i` of the order of this domain's indices that has those of the subdomain's elements first: the
+    /// multiples of the sizes' quotient, and then the others.
     final fn reindex_by_subdomain(&self, other: Self, i: usize) -> usize
         requires divides { (domain self.now).size % (domain other).size ≡ 0 }
         requires within { i < (domain self.now).size }

@@ -34,15 +34,15 @@ pub trait DenseUVPolynomial<F: Field>: Polynomial<F, Point = F> {
         ensures coefficients { of_list F.field (listed result) ≡ of_list F.field coeffs.items }
         ensures trimmed { IsTrimmed F.field (listed result) };
 
-    /// The coefficients, the lowest first. The last one isn't zero, so their number less one is the degree; zero has
-    /// none.
+    /// The coefficients, the lowest first. The last one isn't zero, so their number less one is the degree;
+    /// zero has none.
     fn coeffs(&self) -> &[F]
         ensures same { result.now ≡ listed self.now }
         ensures trimmed { IsTrimmed F.field result.now };
 
-    /// A polynomial of degree `d` with drawn coefficients: the `d` lowest, then at most `tries` draws for a leading one
-    /// that isn't zero, and `None` where these are spent. `Overflow` exactly where `d` is `usize::MAX`, judged first.
-    /// Takes memory for the coefficients once, before any draw.
+    /// A polynomial of degree `d` with drawn coefficients: the `d` lowest, then at most `tries` draws for a
+    /// leading one that isn't zero, and `None` where these are spent. `Overflow` exactly where `d` is
+    /// `usize::MAX`, judged first. Takes memory for the coefficients once, before any draw.
     fn rand<R: Rng>(
         alloc: Global,
         d: usize,

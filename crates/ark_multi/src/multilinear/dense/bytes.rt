@@ -84,7 +84,7 @@ impl<F: CanonicalDeserialize> CanonicalDeserialize for DenseMultilinearExtension
     }
 }
 
-/// Whether a table of so many variables, fewer than 64, has this length.
+// Whether a table of so many variables, fewer than 64, has this length.
 fn is_table_len(len: usize, num_vars: usize) -> bool
     ensures { IsTrue result ↔ (num_vars < 64) × (len ≡ 2 ^ num_vars) }
 {

@@ -83,28 +83,28 @@ impl<F: Field, T: Term> CanonicalDeserialize for SparsePolynomial<F, T> {
     }
 }
 
-/// Whether the terms strictly rise.
+// Whether the terms strictly rise.
 fn are_rising<F, T: Ord>(terms: &[(F, T)]) -> bool
     ensures { IsTrue result ↔ AllPairs (λ c d. T.cmp c.1 d.1 ≡ Less) terms.now }
 {
     terms.is_sorted_by(|term, next| term.1.cmp(&next.1).is_lt())
 }
 
-/// Whether no coefficient is zero.
+// Whether no coefficient is zero.
 fn have_no_zero<F: Field, T>(terms: &[(F, T)]) -> bool
     ensures { IsTrue result ↔ All (λ c. c.0 ≢ F.field.zero) terms.now }
 {
     terms.iter().all(|term| !term.0.is_zero())
 }
 
-/// Whether all variables are below this number.
+// Whether all variables are below this number.
 fn are_within<F, T: Term>(terms: &[(F, T)], num_vars: usize) -> bool
     ensures { IsTrue result ↔ All (λ c. IsWithin num_vars (T.listed c.1)) terms.now }
 {
     terms.iter().all(|term| term.1.is_within(num_vars))
 }
 
-/// Whether these are the terms of a polynomial in so many variables.
+// Whether these are the terms of a polynomial in so many variables.
 fn are_terms<F: Field, T: Term>(terms: &[(F, T)], num_vars: usize) -> bool
     ensures { IsTrue result ↔ AreTerms F.field T.cmp T.listed (num_vars, terms.now) }
 {

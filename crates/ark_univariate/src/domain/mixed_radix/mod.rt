@@ -12,8 +12,9 @@ use ark_traits::{DomainCoeff, FftField, PolyError, Work};
 use std::alloc::{AllocError, Global};
 use std::fmt::{self, Debug, Formatter, Write};
 
-/// A domain whose size is a power of two times a power of the field's odd base: the least at or above the number asked
-/// for of those of which the field has a root of unity. Over a field without a base there is none.
+/// A domain whose size is a power of two times a power of the field's odd base: the least at or above the
+/// number asked for of those of which the field has a root of unity. Over a field without a base there is
+/// none.
 #[derive_where(Copy, PartialEq, Eq, Hash; F)]
 pub struct MixedRadixEvaluationDomain<F: FftField> {
     coset: Coset<F>,

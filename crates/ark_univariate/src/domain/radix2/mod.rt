@@ -12,8 +12,8 @@ use ark_traits::{DomainCoeff, FftField, PolyError, Work};
 use std::alloc::{AllocError, Global};
 use std::fmt::{self, Debug, Formatter, Write};
 
-/// A domain whose size is a power of two: the least at or above the number asked for, where the field has a root of
-/// unity of that order.
+/// A domain whose size is a power of two: the least at or above the number asked for, where the field has a
+/// root of unity of that order.
 #[derive_where(Copy, PartialEq, Eq, Hash; F)]
 pub struct Radix2EvaluationDomain<F: FftField> {
     coset: Coset<F>,

@@ -22,8 +22,8 @@ use std::hash::{Hash, Hasher};
 use std::marker::Model;
 use std::ops::Index;
 
-/// The values of a polynomial at the elements of a domain, as many as the domain has. Two are equal where domains and
-/// values are.
+/// The values of a polynomial at the elements of a domain, as many as the domain has. Two are equal where
+/// domains and values are.
 ///
 /// Contracts see the list of the values, and the domain.
 #[derive(Drop)]
@@ -227,8 +227,9 @@ impl<F: FftField, D: EvaluationDomain<F>> Evaluations<F, D> {
         Ok(product)
     }
 
-    /// Divides by the values over the same domain, place by place, by one batch inversion: zero where the divisor is.
-    /// This isn't the quotient of the polynomials. The only error is memory, and then nothing is changed.
+    /// Divides by the values over the same domain, place by place, by one batch inversion: zero where the
+    /// divisor is. This isn't the quotient of the polynomials. The only error is memory, and then nothing is
+    /// changed.
     pub fn div_assign(&mut self, alloc: Global, other: &Self) -> Result<(), PolyError>
         requires { D.domain self.old.domain ≡ D.domain other.now.domain }
         ensures evals { OnOk result ((i : ℕ) → i < (D.domain self.old.domain).size

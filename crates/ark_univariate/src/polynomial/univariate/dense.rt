@@ -56,8 +56,8 @@ impl<F: Field> Model for DensePolynomial<F> {
     ghost invariant = { λ p. IsTrimmed F.field p.coeffs.items };
 }
 
-// `==` has laws at every list of coefficients, also at those with zeros at their end, which no polynomial keeps: hence
-// it compares what is left without these.
+// `==` has laws at every list of coefficients, also at those with zeros at their end, which no polynomial
+// keeps: hence it compares what is left without these.
 impl<F: Field> PartialEq for DensePolynomial<F> {
     ghost eq = { λ p q. pointwise F.eq (trim (λ x. F.eq x F.zero) p) (trim (λ x. F.eq x F.zero) q) };
 
@@ -280,8 +280,8 @@ impl<F: Field> DenseUVPolynomial<F> for DensePolynomial<F> {
 }
 
 impl<F: Field> DensePolynomial<F> {
-    /// The multiple by a factor: zero for the factor zero. Takes memory for a copy of the coefficients, and a product
-    /// for each.
+    /// The multiple by a factor: zero for the factor zero. Takes memory for a copy of the coefficients, and a
+    /// product for each.
     pub fn mul_scalar(&self, alloc: Global, factor: F) -> Result<Self, PolyError>
         ensures multiple { IfOk result (λ p. of_list F.field p
             ≡ multiple F.field factor (of_list F.field self.now)) }
@@ -298,9 +298,9 @@ impl<F: Field> DensePolynomial<F> {
             ↔ (of_list F.field self.now ≡ of_list F.field other.now) }
     {}
 
-    /// The product, by all products of two coefficients. `Overflow` exactly where neither factor is zero and the
-    /// product's length is past `usize::MAX`: never in practice, since two lists whose items take a byte or more can't
-    /// be so long.
+    /// The product, by all products of two coefficients. `Overflow` exactly where neither factor is zero and
+    /// the product's length is past `usize::MAX`: never in practice, since two lists whose items take a byte
+    /// or more can't be so long.
     pub fn naive_mul(&self, alloc: Global, other: &Self) -> Result<Self, PolyError>
         ensures product { IfOk result (λ p. of_list F.field p
             ≡ product F.field (of_list F.field self.now) (of_list F.field other.now)) }
@@ -314,8 +314,8 @@ impl<F: Field> DensePolynomial<F> {
 }
 
 impl<F: Field> DensePolynomial<F> {
-    /// The sparse polynomial by all its coefficients. `Overflow` exactly where its degree is `usize::MAX`, judged first.
-    /// Takes memory for the coefficients up to the degree.
+    /// The sparse polynomial by all its coefficients. `Overflow` exactly where its degree is `usize::MAX`,
+    /// judged first. Takes memory for the coefficients up to the degree.
     pub fn from_sparse(alloc: Global, sparse: &SparsePolynomial<F>) -> Result<Self, PolyError>
         ensures same { IfOk result (λ p. of_list F.field p ≡ of_pairs F.field sparse.now) }
         ensures overflow { (result ≡ Err PolyError.Overflow)
@@ -326,8 +326,8 @@ impl<F: Field> DensePolynomial<F> {
         Ok(DensePolynomial { coeffs })
     }
 
-    /// The sum with a sparse polynomial. `Overflow` exactly where that one's degree is `usize::MAX`, judged first.
-    /// Takes memory for the answer alone, and a sum of two coefficients for each term.
+    /// The sum with a sparse polynomial. `Overflow` exactly where that one's degree is `usize::MAX`, judged
+    /// first. Takes memory for the answer alone, and a sum of two coefficients for each term.
     pub fn add_sparse(&self, alloc: Global, other: &SparsePolynomial<F>) -> Result<Self, PolyError>
         ensures sum { IfOk result (λ p. of_list F.field p
             ≡ added F.field (of_list F.field self.now) (of_pairs F.field other.now)) }
@@ -339,8 +339,8 @@ impl<F: Field> DensePolynomial<F> {
         Ok(Self::from_coefficients_vec(sum))
     }
 
-    /// The difference with a sparse polynomial. `Overflow` exactly where that one's degree is `usize::MAX`, judged
-    /// first. Takes memory for the answer alone, and a difference of two coefficients for each term.
+    /// The difference with a sparse polynomial. `Overflow` exactly where that one's degree is `usize::MAX`,
+    /// judged first. Takes memory for the answer alone, and a difference of two coefficients for each term.
     pub fn sub_sparse(&self, alloc: Global, other: &SparsePolynomial<F>) -> Result<Self, PolyError>
         ensures difference { IfOk result (λ p. of_list F.field p
             ≡ difference F.field (of_list F.field self.now) (of_pairs F.field other.now)) }
@@ -352,8 +352,9 @@ impl<F: Field> DensePolynomial<F> {
         Ok(Self::from_coefficients_vec(difference))
     }
 
-    /// Adds a sparse polynomial in place. `Overflow` exactly where that one's degree is `usize::MAX`, judged first.
-    /// After an error it has the value that it had. Takes memory only where the other one's degree is higher.
+    /// Adds a sparse polynomial in place. `Overflow` exactly where that one's degree is `usize::MAX`, judged
+    /// first. After an error it has the value that it had. Takes memory only where the other one's degree is
+    /// higher.
     pub fn add_assign_sparse(
         &mut self,
         _alloc: Global,
@@ -369,8 +370,9 @@ impl<F: Field> DensePolynomial<F> {
         add_terms_trimmed(&mut self.coeffs, Sign::Plus, other.coeffs())
     }
 
-    /// Subtracts a sparse polynomial in place. `Overflow` exactly where that one's degree is `usize::MAX`, judged
-    /// first. After an error it has the value that it had. Takes memory only where the other one's degree is higher.
+    /// Subtracts a sparse polynomial in place. `Overflow` exactly where that one's degree is `usize::MAX`,
+    /// judged first. After an error it has the value that it had. Takes memory only where the other one's
+    /// degree is higher.
     pub fn sub_assign_sparse(
         &mut self,
         _alloc: Global,
@@ -386,10 +388,11 @@ impl<F: Field> DensePolynomial<F> {
         add_terms_trimmed(&mut self.coeffs, Sign::Minus, other.coeffs())
     }
 
-    /// The only quotient, without the remainder. Zero divided by anything is zero; otherwise `ZeroDivisor` exactly for a zero
-    /// divisor, judged before memory is asked for.
+    /// The only quotient, without the remainder. Zero divided by anything is zero; otherwise `ZeroDivisor`
+    /// exactly for a zero divisor, judged before memory is asked for.
     ///
-    /// For each coefficient of the quotient there is one pass over the divisor's, on one copy of this polynomial's.
+    /// For each coefficient of the quotient there is one pass over the divisor's, on one copy of this
+    /// polynomial's.
     pub fn div(&self, alloc: Global, divisor: &Self) -> Result<Self, PolyError>
         ensures division { IfOk result (λ q. (r : ℕ → F) × IsDivision F.field (of_list F.field self.now)
             (of_list F.field divisor.now) (of_list F.field q) r) }
@@ -411,9 +414,9 @@ impl<F: FftField> DensePolynomial<F> {
     /// domain. `NoDomain` exactly where neither factor is zero and the field has no domain for that length,
     /// judged before memory is asked for.
     ///
-    /// Both factors are transformed side by side, as one list. Over `n` elements it takes three transforms and
-    /// `n` products more, and memory for `n` values of each factor and of the product beside what a transform
-    /// takes.
+    /// Both factors are transformed side by side, as one list. Over `n` elements it takes three transforms
+    /// and `n` products more, and memory for `n` values of each factor and of the product beside what a
+    /// transform takes.
     pub fn mul(&self, alloc: Global, other: &Self) -> Result<Self, PolyError>
         ensures product { IfOk result (λ p. of_list F.field p
             ≡ product F.field (of_list F.field self.now) (of_list F.field other.now)) }
@@ -430,7 +433,8 @@ impl<F: FftField> DensePolynomial<F> {
         self.product_through(alloc, other, domain)
     }
 
-    // The product, by the values of both factors over a domain that has as many elements as the product coefficients.
+    // The product, by the values of both factors over a domain that has as many elements as the product
+    // coefficients.
     fn product_through<D: EvaluationDomain<F>>(
         &self,
         alloc: Global,
@@ -479,9 +483,9 @@ impl<F: FftField> DensePolynomial<F> {
         values.interpolate(alloc)
     }
 
-    /// The values at the elements of the domain, no coefficient cut off: all coefficients are reduced by the vanishing
-    /// polynomial, in one pass with a product for each coefficient from the domain's size on, and then transformed in
-    /// place.
+    /// The values at the elements of the domain, no coefficient cut off: all coefficients are reduced by the
+    /// vanishing polynomial, in one pass with a product for each coefficient from the domain's size on, and
+    /// then transformed in place.
     pub fn evaluate_over_domain<D: EvaluationDomain<F>>(
         self,
         alloc: Global,
@@ -514,9 +518,9 @@ impl<F: FftField> DensePolynomial<F> {
         DensePolynomial { coeffs }.evaluate_over_domain(alloc, domain)
     }
 
-    /// The product with the domain's own vanishing polynomial, `x^n - h^n` for the size `n` and the offset `h`; zero
-    /// gives zero. `Overflow` exactly where the polynomial isn't zero and the product's length is past `usize::MAX`,
-    /// judged before memory is asked for.
+    /// The product with the domain's own vanishing polynomial, `x^n - h^n` for the size `n` and the offset
+    /// `h`; zero gives zero. `Overflow` exactly where the polynomial isn't zero and the product's length is
+    /// past `usize::MAX`, judged before memory is asked for.
     ///
     /// It takes one product for each coefficient, and memory for the answer alone.
     pub fn mul_by_vanishing_poly<D: EvaluationDomain<F>>(
@@ -542,11 +546,11 @@ impl<F: FftField> DensePolynomial<F> {
         Ok(Self::from_coefficients_vec(coeffs))
     }
 
-    /// The quotient and the remainder by the domain's own vanishing polynomial, `x^n - h^n` for the size `n` and the
-    /// offset `h`. There is no other such pair.
+    /// The quotient and the remainder by the domain's own vanishing polynomial, `x^n - h^n` for the size `n`
+    /// and the offset `h`. There is no other such pair.
     ///
-    /// It takes one product for each coefficient from `n` on, and memory for the quotient and for a copy of the
-    /// coefficients, which becomes the remainder.
+    /// It takes one product for each coefficient from `n` on, and memory for the quotient and for a copy of
+    /// the coefficients, which becomes the remainder.
     pub fn divide_by_vanishing_poly<D: EvaluationDomain<F>>(
         &self,
         alloc: Global,

@@ -105,7 +105,8 @@ impl<'a, F: Field> DenseOrSparsePolynomial<'a, F> {
         }
     }
 
-    /// The value at a point, without a change of form. Takes no memory, and is always there: every point fits.
+    /// The value at a point, without a change of form. Takes no memory, and is always there: every point
+    /// fits.
     pub fn evaluate(&self, point: &F) -> F
         ensures { IsValue F.field (denoted F.field self.now) point.now result }
     {
@@ -115,11 +116,12 @@ impl<'a, F: Field> DenseOrSparsePolynomial<'a, F> {
         }
     }
 
-    /// The quotient and the remainder by a divisor, of which there is no other pair. A zero dividend gives two zeros,
-    /// whatever the divisor; otherwise `None` exactly for a zero divisor, and then `Overflow` exactly where the dividend's
-    /// degree is `usize::MAX`, judged before memory is asked for.
+    /// The quotient and the remainder by a divisor, of which there is no other pair. A zero dividend gives
+    /// two zeros, whatever the divisor; otherwise `None` exactly for a zero divisor, and then `Overflow`
+    /// exactly where the dividend's degree is `usize::MAX`, judged before memory is asked for.
     ///
-    /// For each coefficient of the quotient there is one pass over the divisor's, on one list of the dividend's.
+    /// For each coefficient of the quotient there is one pass over the divisor's, on one list of the
+    /// dividend's.
     pub fn divide_with_q_and_r(
         &self,
         alloc: Global,
@@ -147,8 +149,8 @@ impl<'a, F: Field> DenseOrSparsePolynomial<'a, F> {
         )))
     }
 
-    /// The polynomial in dense form. `Overflow` exactly where it is held in sparse form and its degree is `usize::MAX`,
-    /// judged first. Takes memory for the coefficients, and none for a dense one of its own.
+    /// The polynomial in dense form. `Overflow` exactly where it is held in sparse form and its degree is
+    /// `usize::MAX`, judged first. Takes memory for the coefficients, and none for a dense one of its own.
     pub fn into_dense(self, alloc: Global) -> Result<DensePolynomial<F>, PolyError>
         ensures same { IfOk result (λ p. of_list F.field p ≡ denoted F.field self.entry) }
         ensures overflow { (result ≡ Err PolyError.Overflow)
@@ -161,8 +163,8 @@ impl<'a, F: Field> DenseOrSparsePolynomial<'a, F> {
         }
     }
 
-    /// The polynomial in sparse form, without a change of form: `NotSparse` exactly where it is held in dense form,
-    /// judged first. Takes memory only for a copy of a borrowed one.
+    /// The polynomial in sparse form, without a change of form: `NotSparse` exactly where it is held in dense
+    /// form, judged first. Takes memory only for a copy of a borrowed one.
     pub fn into_sparse(self, _alloc: Global) -> Result<SparsePolynomial<F>, PolyError>
         ensures same { IfOk result (λ p. of_pairs F.field p ≡ denoted F.field self.entry) }
         ensures not_sparse { (result ≡ Err PolyError.NotSparse) ↔ IsDense self.entry }
@@ -177,8 +179,8 @@ impl<'a, F: Field> DenseOrSparsePolynomial<'a, F> {
 
 impl<'a, F: FftField> DenseOrSparsePolynomial<'a, F> {
     /// The values at the elements of the domain of a polynomial in either form, its own or a borrowed one: no
-    /// coefficient is cut off. A dense one of its own is reduced and transformed in place; else there is memory for the
-    /// values, and for a copy of a borrowed dense one, beside what a transform takes.
+    /// coefficient is cut off. A dense one of its own is reduced and transformed in place; else there is
+    /// memory for the values, and for a copy of a borrowed dense one, beside what a transform takes.
     pub fn evaluate_over_domain<D: EvaluationDomain<F>>(
         self,
         alloc: Global,

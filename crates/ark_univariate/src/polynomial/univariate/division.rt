@@ -17,20 +17,21 @@ use std::alloc::Global;
 // Divisors with fewer coefficients than this are divided by in passes, as measured.
 const SHORT_DIVISOR: usize = 512;
 
-// Quotients with at most this many coefficients are found by passes too. The bound is lower, since the inverse series is
-// only as long as the quotient.
+// Quotients with at most this many coefficients are found by passes too. The bound is lower, since the
+// inverse series is only as long as the quotient.
 const SHORT_QUOTIENT: usize = 128;
 
 impl<F: FftField> DensePolynomial<F> {
-    /// Quotient and remainder by products through transforms, for long operands: what `divide_with_q_and_r` answers. A
-    /// zero dividend gives two zeros, whatever the divisor; otherwise `None` exactly for a zero divisor, judged before
-    /// memory is asked for.
+    /// Quotient and remainder by products through transforms, for long operands: what `divide_with_q_and_r`
+    /// answers. A zero dividend gives two zeros, whatever the divisor; otherwise `None` exactly for a zero
+    /// divisor, judged before memory is asked for.
     ///
-    /// It takes two products for each time that the inverse series gets twice as long, one for the quotient and one for
-    /// the remainder, and memory for what these take. Where the divisor or the quotient is short, and where the field
-    /// has no domain for one of the products, it divides as `divide_with_q_and_r` does: for each coefficient of the
-    /// quotient one pass over the divisor's, and memory for the quotient and a copy of the dividend. That a domain is
-    /// missing may be seen only after the first products; their time is then spent in vain.
+    /// It takes two products for each time that the inverse series gets twice as long, one for the quotient
+    /// and one for the remainder, and memory for what these take. Where the divisor or the quotient is short,
+    /// and where the field has no domain for one of the products, it divides as `divide_with_q_and_r` does:
+    /// for each coefficient of the quotient one pass over the divisor's, and memory for the quotient and a
+    /// copy of the dividend. That a domain is missing may be seen only after the first products; their time
+    /// is then spent in vain.
     pub fn divide_by_transforms(
         &self,
         alloc: Global,
@@ -137,8 +138,8 @@ impl<F: FftField> DensePolynomial<F> {
         Ok(Self::from_coefficients_vec(coeffs))
     }
 
-    // Newton's step: from `known` coefficients of the inverse series to `len`, at most twice as many. The product with
-    // what is known is one up to there, and what it has after that is taken out.
+    // A step of Newton iteration: from `known` coefficients of the inverse series to `len`, at most twice as
+    // many. The product with what is known is one up to there, and what it has after that is taken out.
     fn refined_inverse(
         &self,
         alloc: Global,
@@ -163,8 +164,8 @@ impl<F: FftField> DensePolynomial<F> {
         Ok(Self::from_coefficients_vec(coeffs))
     }
 
-    // The first `len` coefficients of the inverse series, from the inverse of the first one: by halves, since a step of
-    // Newton doubles them.
+    // The first `len` coefficients of the inverse series, from the inverse of the first one: by halves, since
+    // a step of Each step of Newton iteration doubles them.
     fn inverse_series(
         &self,
         alloc: Global,
@@ -186,8 +187,8 @@ impl<F: FftField> DensePolynomial<F> {
         self.refined_inverse(alloc, &inverse, known, len)
     }
 
-    // The quotient by a divisor that isn't longer, from the inverse of its leading coefficient: in the reversed order
-    // it is the product with the inverse series.
+    // The quotient by a divisor that isn't longer, from the inverse of its leading coefficient: in the
+    // reversed order it is the product with the inverse series.
     fn quotient_by_series(
         &self,
         alloc: Global,

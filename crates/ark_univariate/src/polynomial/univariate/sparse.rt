@@ -49,7 +49,8 @@ impl<F: Field> Model for SparsePolynomial<F> {
     ghost invariant = { λ p. IsSparse F.field p.coeffs.items };
 }
 
-// `==` has laws at every list of pairs, also at those that no polynomial keeps: hence it compares these gathered.
+// `==` has laws at every list of pairs, also at those that no polynomial keeps: hence it compares these
+// gathered.
 impl<F: Field> PartialEq for SparsePolynomial<F> {
     ghost eq = { λ p q.
         pointwise (λ x y. (x.0 == y.0) && F.eq x.1 y.1)
@@ -178,7 +179,8 @@ impl<F: Field> Polynomial<F> for SparsePolynomial<F> {
         SparsePolynomial::zero(alloc)?.sub(alloc, self)
     }
 
-    // Sums and differences in place make a list of the terms of both, and then put it in place of the old one.
+    // Sums and differences in place make a list of the terms of both, and then put it in place of the old
+    // one.
     fn add_assign(&mut self, alloc: Global, other: &Self) -> Result<(), PolyError> {
         *self = self.add(alloc, other)?;
         Ok(())
@@ -242,7 +244,8 @@ impl<F: Field> SparsePolynomial<F> {
         &self.coeffs
     }
 
-    /// The multiple by a factor: zero for the factor zero. Takes memory for as many terms, and a product for each.
+    /// The multiple by a factor: zero for the factor zero. Takes memory for as many terms, and a product for
+    /// each.
     pub fn mul_scalar(&self, alloc: Global, factor: F) -> Result<Self, PolyError>
         ensures multiple { IfOk result (λ p. of_pairs F.field p
             ≡ multiple F.field factor (of_pairs F.field self.now)) }
@@ -271,10 +274,11 @@ impl<F: Field> SparsePolynomial<F> {
         })
     }
 
-    /// The product. `Overflow` exactly where the sum of the degrees is past `usize::MAX`, judged before memory is asked
-    /// for; so never with zero, whose degree is 0.
+    /// The product. `Overflow` exactly where the sum of the degrees is past `usize::MAX`, judged before
+    /// memory is asked for; so never with zero, whose degree is 0.
     ///
-    /// It takes a product for each two terms, sorts these products once, and takes memory for them and for the answer.
+    /// It takes a product for each two terms, sorts these products once, and takes memory for them and for
+    /// the answer.
     pub fn mul(&self, alloc: Global, other: &Self) -> Result<Self, PolyError>
         ensures product { IfOk result (λ p. of_pairs F.field p
             ≡ product F.field (of_pairs F.field self.now) (of_pairs F.field other.now)) }
@@ -290,9 +294,9 @@ impl<F: Field> SparsePolynomial<F> {
 }
 
 impl<F: FftField> SparsePolynomial<F> {
-    /// The values at the elements of the domain, no term cut off: all terms are reduced by the vanishing polynomial, with
-    /// a power and a product for each, and then transformed in place. Takes memory for the values, beside what a
-    /// transform takes.
+    /// The values at the elements of the domain, no term cut off: all terms are reduced by the vanishing
+    /// polynomial, with a power and a product for each, and then transformed in place. Takes memory for the
+    /// values, beside what a transform takes.
     pub fn evaluate_over_domain<D: EvaluationDomain<F>>(
         self,
         alloc: Global,

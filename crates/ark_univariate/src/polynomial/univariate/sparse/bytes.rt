@@ -1,4 +1,5 @@
-//! Sparse polynomials in bytes: the list of the pairs of degree and coefficient, degrees rising and no coefficient zero.
+//! Sparse polynomials in bytes: the list of the pairs of degree and coefficient, degrees rising and no
+//! coefficient zero.
 
 use crate::polynomial::univariate::SparsePolynomial;
 use ark_bytes::{
