@@ -27,7 +27,7 @@ module _ {F : Type 0} (K : FieldOn F) (N : IsField K) where
 
 module _ {F : Type 0} (K : FieldOn F) (N : IsField K) (size : ℕ) (x : ℕ → F) (R : AreReversed K size x) where
   -- values at a block's elements are those of the gathered coefficients, of which there are no more than the elements
-  pub gathered_values : (l s b r : ℕ) (a : ℕ → F) → r < 2 ^ l → b * 2 ^ l + r < size → value_below K (2 ^ l * s) a (x (b * 2 ^ l + r)) ≡ value_below K (2 ^ l) (gathered K x s (2 ^ l) b a) (x (b * 2 ^ l + r))
+  gathered_values : (l s b r : ℕ) (a : ℕ → F) → r < 2 ^ l → b * 2 ^ l + r < size → value_below K (2 ^ l * s) a (x (b * 2 ^ l + r)) ≡ value_below K (2 ^ l) (gathered K x s (2 ^ l) b a) (x (b * 2 ^ l + r))
   gathered_values l s b r a inside within =
       let z = x (b * 2 ^ l + r) in
       value_by_strides K N (2 ^ l) s a z

@@ -87,14 +87,14 @@ module _ {F : Type 0} (K : FieldOn F) (N : IsField K) where
         ∙ ap (λ t. K.plus t (value_below K s (λ j. p (s + (s + j))) z)) (value_below-difference K N s p (λ j. p (s + j)) z)
 
     -- the whole's value there
-    pub value_where_turned : (z : F) → power K z s ≡ K.negated K.one → value_below K (s + (s + s)) p z ≡ value_below K s turned z
+    value_where_turned : (z : F) → power K z s ≡ K.negated K.one → value_below K (s + (s + s)) p z ≡ value_below K s turned z
     value_where_turned z e =
         three_parts z (K.negated K.one) e
         ∙ ring3 K N (λ a b c. (a ⊕ (negative unit ⊗ (b ⊕ (negative unit ⊗ c))), (a ⊖ b) ⊕ c)) refl (low z) (middle z) (high z)
         ∙ sym (turned-value z)
 
     -- where the power is one, what is left of the whole without that is twice the second part
-    pub second_part : (z : F) → power K z s ≡ K.one → minus K (value_below K (s + (s + s)) p z) (value_below K s turned z) ≡ K.plus (value_below K s (λ j. p (s + j)) z) (value_below K s (λ j. p (s + j)) z)
+    second_part : (z : F) → power K z s ≡ K.one → minus K (value_below K (s + (s + s)) p z) (value_below K s turned z) ≡ K.plus (value_below K s (λ j. p (s + j)) z) (value_below K s (λ j. p (s + j)) z)
     unfolding middle
     second_part z e =
         ap₂ (minus K) (three_parts z K.one e) (turned-value z)

@@ -7,7 +7,7 @@ use Rattle.ark_blocks.proofs.Elements.{root_of_low, second_of_low, root_of_high,
 use Rattle.ark_blocks.proofs.Splits.{first_turned, second_turned, third_turned, fourth_turned, value_of_one}
 
 -- of the same items and roots
-pub turned_same : {F : Type 0} (K : FieldOn F) {t u v a b c d e f g h t' u' v' a' b' c' d' e' f' g' h' : F} → AreTurned K t u v a b c d e f g h → t ≡ t' → u ≡ u' → v ≡ v' → a ≡ a' → b ≡ b' → c ≡ c' → d ≡ d' → e' ≡ e → f' ≡ f → g' ≡ g → h' ≡ h → AreTurned K t' u' v' a' b' c' d' e' f' g' h'
+turned_same : {F : Type 0} (K : FieldOn F) {t u v a b c d e f g h t' u' v' a' b' c' d' e' f' g' h' : F} → AreTurned K t u v a b c d e f g h → t ≡ t' → u ≡ u' → v ≡ v' → a ≡ a' → b ≡ b' → c ≡ c' → d ≡ d' → e' ≡ e → f' ≡ f → g' ≡ g → h' ≡ h → AreTurned K t' u' v' a' b' c' d' e' f' g' h'
 turned_same K T et eu ev ea eb ec ed ee ef eg eh =
     let first = T.first in
     let second = T.second in
@@ -76,7 +76,7 @@ module _ {X : Type 0} (xs : List X) (n : ℕ) (a b c d z : X) (inside : n + 3 < 
 
 module _ {F : Type 0} (K : FieldOn F) (N : IsField K) (n : ℕ) (x : ℕ → F) (R : AreReversed K n x) where
   -- four coefficients become the values at a block's four elements
-  pub four_values : (b : ℕ) (a v : ℕ → F) → 4 * b + 3 < n → AreTurned K (x (2 * b)) (x (4 * b)) (x (4 * b + 2)) (a 0) (a 1) (a 2) (a 3) (v 0) (v 1) (v 2) (v 3) → (i : ℕ) → i < 4 → v i ≡ value_below K 4 a (x (4 * b + i))
+  four_values : (b : ℕ) (a v : ℕ → F) → 4 * b + 3 < n → AreTurned K (x (2 * b)) (x (4 * b)) (x (4 * b + 2)) (a 0) (a 1) (a 2) (a 3) (v 0) (v 1) (v 2) (v 3) → (i : ℕ) → i < 4 → v i ≡ value_below K 4 a (x (4 * b + i))
   four_values b a v within T = at
     where
       one : (y z : F) → y ≡ value_below K 1 (λ i. y) z

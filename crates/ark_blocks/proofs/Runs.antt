@@ -54,24 +54,16 @@ module _ {F : Type 0} (K : FieldOn F) (N : IsField K) where
     values-scaled c a u w U len each =
         record { len = len; values = λ i l. subst (IsValue K (scaled K c a) (x (s + i))) (sym (each i l)) (value-scaled K N c a (x (s + i)) _ (U.values i l)) }
 
-    -- polynomials with the same coefficients have the same values
-    pub values-same : (a b : ℕ → F) (u : List F) → ((i : ℕ) → a i ≡ b i) → AreValuesFrom K x s n a u → AreValuesFrom K x s n b u
-    values-same a b u same U = subst (λ p. AreValuesFrom K x s n p u) (fun_ext same) U
-
     -- the values of one polynomial are the same, item by item
     pub one_item : (a : ℕ → F) (u v : List F) → AreValuesFrom K x s n a u → AreValuesFrom K x s n a v → (i : ℕ) → i < n → of_list K u i ≡ of_list K v i
     one_item a u v U V i l = one_value K N a (x (s + i)) _ _ (U.values i l) (V.values i l)
-
-    -- so there is one list of them
-    pub one_list : (a : ℕ → F) (u v : List F) → AreValuesFrom K x s n a u → AreValuesFrom K x s n a v → u ≡ v
-    one_list a u v U V = ext_get_or K.zero u v (U.len ∙ sym V.len) (λ i l. one_item a u v U V i (rw U.len at l))
 
     -- values of a polynomial below a bound, from the sums of its parts
     pub values_from : (k : ℕ) (a : ℕ → F) (u : List F) → IsBelow K k a → length u ≡ n → ((i : ℕ) → i < n → of_list K u i ≡ value_below K k a (x (s + i))) → AreValuesFrom K x s n a u
     values_from k a u below len each = record { len = len; values = λ i l. (k, below, each i l) }
 
     -- and back
-    pub value_item : (k : ℕ) (a : ℕ → F) (u : List F) → IsBelow K k a → AreValuesFrom K x s n a u → (i : ℕ) → i < n → of_list K u i ≡ value_below K k a (x (s + i))
+    value_item : (k : ℕ) (a : ℕ → F) (u : List F) → IsBelow K k a → AreValuesFrom K x s n a u → (i : ℕ) → i < n → of_list K u i ≡ value_below K k a (x (s + i))
     value_item k a u below U i l = value_is K N k a (x (s + i)) (of_list K u i) below (U.values i l)
 
   -- the same of the first elements
@@ -81,10 +73,6 @@ module _ {F : Type 0} (K : FieldOn F) (N : IsField K) where
 
     pub first_item : AreValuesFrom K x 0 n a u → (i : ℕ) → i < n → of_list K u i ≡ value_below K k a (x i)
     first_item U i l = let place : 0 + i ≡ i = omega arith in value_item x 0 n k a u below U i l ∙ ap (λ j. value_below K k a (x j)) place
-
-  -- the values at the first of the elements
-  pub values-fewer : (x : ℕ → F) (s m n : ℕ) (a : ℕ → F) (u v : List F) → m ≤ n → AreValuesFrom K x s n a u → length v ≡ m → ((i : ℕ) → i < m → of_list K v i ≡ of_list K u i) → AreValuesFrom K x s m a v
-  values-fewer x s m n a u v few U len same = record { len = len; values = λ i l. subst (IsValue K a (x (s + i))) (sym (same i l)) (U.values i (omega (arith, l, few))) }
 
   -- at the first m elements coefficients from m on count as those m before them
   pub values_wrapped : (size m : ℕ) (x a r : ℕ → F) (v : List F) → AreReversed K size x → IsPowerOfTwo m → m ≤ size → IsBelow K (m + m) a → IsBelow K m r → ((i : ℕ) → i < m → r i ≡ K.plus (a i) (a (m + i))) → AreValuesFrom K x 0 m a v → AreValuesFrom K x 0 m r v

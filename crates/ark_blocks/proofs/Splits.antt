@@ -36,7 +36,7 @@ module _ {F : Type 0} (K : FieldOn F) (N : IsField K) where
   value_by_halves m a z w is = value_split m m a z ∙ ap (λ p. K.plus (value_below K m a z) (K.times p (value_below K m (λ j. a (m + j)) z))) is
 
   -- four quarters
-  pub value_by_quarters : (m : ℕ) (a : ℕ → F) (z w s : F) → power K z m ≡ w → K.times w w ≡ s → value_below K (4 * m) a z ≡ K.plus (K.plus (value_below K m a z) (K.times s (value_below K m (λ j. a (2 * m + j)) z))) (K.times w (K.plus (value_below K m (λ j. a (m + j)) z) (K.times s (value_below K m (λ j. a (3 * m + j)) z))))
+  value_by_quarters : (m : ℕ) (a : ℕ → F) (z w s : F) → power K z m ≡ w → K.times w w ≡ s → value_below K (4 * m) a z ≡ K.plus (K.plus (value_below K m a z) (K.times s (value_below K m (λ j. a (2 * m + j)) z))) (K.times w (K.plus (value_below K m (λ j. a (m + j)) z) (K.times s (value_below K m (λ j. a (3 * m + j)) z))))
   value_by_quarters m a z w s is square =
       let four : 4 * m ≡ (m + m) + (m + m) = omega arith in
       let third : (j : ℕ) → (m + m) + j ≡ 2 * m + j = λ j. omega arith in

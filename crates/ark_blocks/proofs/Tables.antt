@@ -158,7 +158,7 @@ module _ {F : Type 0} (K : FieldOn F) (N : IsField K) where
       ap₂ (λ t j. signed (t == 0) (of_list K r j)) odd half
 
   -- the elements that a list gives, where the first is one and their squares are the earlier ones
-  pub roots_from : (r : List F) → of_list K r 0 ≡ K.one → ((i : ℕ) → i < length r + length r → K.times (element_of K r i) (element_of K r i) ≡ element_of K r (i / 2)) → AreRoots K (element_of K r) r
+  roots_from : (r : List F) → of_list K r 0 ≡ K.one → ((i : ℕ) → i < length r + length r → K.times (element_of K r i) (element_of K r i) ≡ element_of K r (i / 2)) → AreRoots K (element_of K r) r
   roots_from r first squares = record {
     reversed = record {
       first = first;

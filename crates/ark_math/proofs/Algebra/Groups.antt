@@ -55,7 +55,7 @@ module _ {F M : Type 0} {K : FieldOn F} {V : ModuleOn F M} (L : IsModule K V) wh
   pub minus_zero : (x : M) → V.plus x (V.negated V.zero) ≡ x
   minus_zero x = ap (V.plus x) (sym (negated_unique V.zero V.zero (L.plus_zero V.zero))) ∙ L.plus_zero x
 
-  pub zero_unique : (a : M) → V.plus a a ≡ a → a ≡ V.zero
+  zero_unique : (a : M) → V.plus a a ≡ a → a ≡ V.zero
   zero_unique a h = cancel_left a a V.zero (h ∙ sym (L.plus_zero a))
 
   pub plus_swap : (a b c d : M) → V.plus (V.plus a b) (V.plus c d) ≡ V.plus (V.plus a c) (V.plus b d)

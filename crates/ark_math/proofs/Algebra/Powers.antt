@@ -51,7 +51,7 @@ module _ {F : Type 0} (K : FieldOn F) (L : IsField K) where
       ∙ times_zero i.0
 
   -- a root of one that isn't one is minus one
-  pub is_negated_one : (x : F) → K.times x x ≡ K.one → x ≢ K.one → x ≡ K.negated K.one
+  is_negated_one : (x : F) → K.times x x ≡ K.one → x ≢ K.one → x ≡ K.negated K.one
   is_negated_one x h ne =
       let z : K.plus x K.one ≡ K.zero =
       zero_factor (minus K x K.one) (K.plus x K.one)

@@ -116,7 +116,7 @@ module _ {F M : Type 0} {K : FieldOn F} {V : ModuleOn F M} (L : IsModule K V) (v
   settle_is behind d t u us r same opp h =
       ap (V.plus (signed V u.0 (val u.1))) h ∙ left_comm L (signed V t.0 (val t.1)) (signed V u.0 (val u.1)) (total V val us)
 
-  pub insert_is : (t : Signed) (p : List Signed) → total V val (insert t p) ≡ V.plus (signed V t.0 (val t.1)) (total V val p)
+  insert_is : (t : Signed) (p : List Signed) → total V val (insert t p) ≡ V.plus (signed V t.0 (val t.1)) (total V val p)
   insert_is t [] = refl
   insert_is t (u ∷ us) = settle_is (place t.1 u.1) (signs t.0 u.0) t u us (λ o. insert t us) (place_level t.1 u.1) refl (insert_is t us)
 

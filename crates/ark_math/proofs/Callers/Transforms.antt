@@ -23,7 +23,7 @@ module _ {F M : Type 0} (V : ModuleOn F M) where
   fit-same c n e = sym (is_tabulated V.zero c n (item V c) e (λ i l. refl))
 
   -- a fitted list has n items
-  pub fit-length : (c : List M) (n : ℕ) → length (fit V c n) ≡ n
+  fit-length : (c : List M) (n : ℕ) → length (fit V c n) ≡ n
   fit-length c n = length-tabulate n (item V c)
 
 module _ {F M : Type 0} (K : FieldOn F) (V : ModuleOn F M) (d : Domain F) where

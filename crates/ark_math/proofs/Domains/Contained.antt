@@ -27,7 +27,7 @@ search_below P (suc n) decide =
 
 module _ {F : Type 0} (K : FieldOn F) (N : IsField K) where
   -- where the power is one the order divides
-  pub order_divides : (x : F) (n k : ℕ) → 0 < n → HasOrder K x n → power K x k ≡ K.one → k % n ≡ 0
+  order_divides : (x : F) (n k : ℕ) → 0 < n → HasOrder K x n → power K x k ≡ K.one → k % n ≡ 0
   order_divides x n k pos o e =
       ⊎_elim
       (λ (z : k % n ≡ 0). z)

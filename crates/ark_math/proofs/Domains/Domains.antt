@@ -58,7 +58,7 @@ module _ {F : Type 0} (K : FieldOn F) (s : Adicity) (root : ℕ → F) where
   size_not_zero d R D = R.invertible d.size (size_supported s d.kind d.size D.size_of)
 
 module _ {F M : Type 0} (K : FieldOn F) (V : ModuleOn F M) where
-  pub fit-take : (c : List M) (n : ℕ) → fit V (take n c) n ≡ fit V c n
+  fit-take : (c : List M) (n : ℕ) → fit V (take n c) n ≡ fit V c n
   fit-take c n = tabulate-same n (item V (take n c)) (item V c) (λ i l. get_or-take n c i V.zero l)
 
   pub transform-take : (d : Domain F) (c : List M) → transform K V d (take d.size c) ≡ transform K V d c

@@ -46,7 +46,7 @@ module _ {F : Type 0} (K : FieldOn F) (N : IsField K) where
       ∙ ap (λ t. K.times t (K.times z e)) (q.some y_some)
       ∙ one_times K N (K.times z e)
 
-  pub vanishing_value : (d : Domain F) (x z : F) → IsValue K (vanishing K d) x z → z ≡ minus K (power K x d.size) (power K d.offset d.size)
+  vanishing_value : (d : Domain F) (x z : F) → IsValue K (vanishing K d) x z → z ≡ minus K (power K x d.size) (power K d.offset d.size)
   vanishing_value d x z h = one_value K N (vanishing K d) x z _ h (value-vanishing K N d x)
 
 -- a domain of a lawful field with its roots
@@ -211,7 +211,7 @@ module _ {F : Type 0} {K : FieldOn F} {s : Adicity} {root : ℕ → F} {d : Doma
       listed_row : IsRow K e d (inside_by h v q f g) (of_list K c)
       listed_row = record { short = subst (λ n. IsBelow K n (of_list K c)) count (of_list-below K c); at = at; apart = λ k r l. apart k r }
 
-      pub filter_of_row : IsFilter K e d (of_list K c)
+      filter_of_row : IsFilter K e d (of_list K c)
       filter_of_row = row_is_filter K N e d (inside_by h v q f g) (of_list K c) listed_row
 
     -- the same of a row over sizes, a start and a ratio that are these

@@ -5,7 +5,7 @@ use Rattle.std.proofs.Math.Nat.{pow-zero, pow-succ'}
 use Rattle.ark_math.specs.Format.{Format, IsSpelled, IsEnd, IsFormat, little_endian, number, word, ◌⊗◌, items, HaveSpellings, IsItemFault, list, lawful, either, either_spelling, EitherHas, IsTagFault}
 
 -- two lists of one length that begin one list are one
-pub same_front : (a b x y : List ℕ) → length a ≡ length b → a ++ x ≡ b ++ y → a ≡ b
+same_front : (a b x y : List ℕ) → length a ≡ length b → a ++ x ≡ b ++ y → a ≡ b
 same_front [] [] x y l e = refl
 same_front [] (b ∷ bs) x y l e = absurd (omega (arith, l))
 same_front (a ∷ more) [] x y l e = absurd (omega (arith, l))
@@ -223,7 +223,7 @@ module _ {X : Type 0} (item : Format X) where
 -- ---- lawful values of fields
 
 module _ {X Y : Type 0} (layout : Format X) (fields : Y → X) (IsLawful : Y → Type 0) where
-  pub lawful_spelled : (bytes : List ℕ) → IsSpelled (lawful layout fields IsLawful) bytes → IsSpelled layout bytes
+  lawful_spelled : (bytes : List ℕ) → IsSpelled (lawful layout fields IsLawful) bytes → IsSpelled layout bytes
   lawful_spelled bytes s = record { value = fields s.value; has = s.has.0; is = s.is }
 
   pub lawful_end : (bytes : List ℕ) → IsEnd (lawful layout fields IsLawful) bytes → IsEnd layout bytes
@@ -252,7 +252,7 @@ module _ {X Y : Type 0} (first : Format X) (second : Format Y) where
     of_neither : (tag : ℕ) → 1 < tag → tag < 256 → TagEnd (tag ∷ [])
 
   module _ (A : IsFormat first) (B : IsFormat second) where
-    pub tag_ends : (a b x y : List ℕ) → TagEnd a → TagEnd b → a ++ x ≡ b ++ y → a ≡ b
+    tag_ends : (a b x y : List ℕ) → TagEnd a → TagEnd b → a ++ x ≡ b ++ y → a ≡ b
     tag_ends _ _ x y (of_first a p) (of_first b q) e = let tails : a ++ x ≡ b ++ y = cc in ap (λ l. 0 ∷ l) (A.one_end a b x y p q tails)
     tag_ends _ _ x y (of_first a p) (of_second b q) e = cc
     tag_ends _ _ x y (of_first a p) (of_neither t h k) e = let heads : 0 ≡ t = cc in absurd (omega (arith, heads, h))

@@ -11,7 +11,7 @@ use Rattle.ark_math.proofs.Formats.Ends.{one_number, spelled, number_is_format}
 pub one_format : {F : Type 0} (e : Format F) → AreAlike e e
 one_format e = record { spellings = λ x. refl; have = λ x. ((λ h. h), (λ h. h)); faults = λ bytes. ((λ h. h), (λ h. h)) }
 
-pub alike_sym : {F : Type 0} (e other : Format F) → AreAlike e other → AreAlike other e
+alike_sym : {F : Type 0} (e other : Format F) → AreAlike e other → AreAlike other e
 alike_sym e other A = record { spellings = λ x. sym (A.spellings x); have = λ x. ((A.have x).1, (A.have x).0); faults = λ bytes. ((A.faults bytes).1, (A.faults bytes).0) }
 
 module _ {X Y : Type 0} where

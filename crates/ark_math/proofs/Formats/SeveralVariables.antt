@@ -24,10 +24,10 @@ term_tells = lawful_tells (list (word ⊗ word)) (λ ps. ps) IsTerm pairs_tell (
 -- ---- multilinear extensions
 
 module _ {F : Type 0} (e : Format F) (E : IsFormat e) where
-  pub values_are_format : IsFormat (list e ⊗ word)
+  values_are_format : IsFormat (list e ⊗ word)
   values_are_format = pair_is_format (list e) word (list_is_format e E) word_is_format
 
-  pub entries_are_format : IsFormat (list (word ⊗ e) ⊗ (word ⊗ e))
+  entries_are_format : IsFormat (list (word ⊗ e) ⊗ (word ⊗ e))
   entries_are_format =
       let pair = pair_is_format word e word_is_format E in
       pair_is_format (list (word ⊗ e)) (word ⊗ e) (list_is_format (word ⊗ e) pair) pair
@@ -36,7 +36,7 @@ module _ {F : Type 0} (e : Format F) (E : IsFormat e) where
     pub values_show : Tells {V = List V × ℕ} (λ p. (map view p.0, p.1)) (list e ⊗ word)
     values_show = pair_shows (list e) word (list_is_format e E) (map view) (λ n. n) (list_shows e E view one) (number_tells 8)
 
-    pub entries_show : Tells {V = List (ℕ × V) × (ℕ × V)} (λ p. (map (λ q. (q.0, view q.1)) p.0, (p.1.0, view p.1.1))) (list (word ⊗ e) ⊗ (word ⊗ e))
+    entries_show : Tells {V = List (ℕ × V) × (ℕ × V)} (λ p. (map (λ q. (q.0, view q.1)) p.0, (p.1.0, view p.1.1))) (list (word ⊗ e) ⊗ (word ⊗ e))
     entries_show =
         let pair = pair_is_format word e word_is_format E in
         let pair_one = pair_shows word e word_is_format (λ n. n) view (number_tells 8) one in
@@ -74,7 +74,7 @@ module _ {F : Type 0} (e : Format F) (E : IsFormat e) where
 -- ---- polynomials in several variables
 
 module _ {F T : Type 0} (e : Format F) (t : Format T) (E : IsFormat e) (I : IsFormat t) where
-  pub terms_are_format : IsFormat (word ⊗ list (e ⊗ t))
+  terms_are_format : IsFormat (word ⊗ list (e ⊗ t))
   terms_are_format = pair_is_format word (list (e ⊗ t)) word_is_format (list_is_format (e ⊗ t) (pair_is_format e t E I))
 
   pub multivariate_is_format : {X : Type 0} (fields : X → ℕ × List (F × T)) → IsFormat (multivariate e t fields)

@@ -3,11 +3,11 @@ use Rattle.std.proofs.Common.{◌≡◌, ℕ, zero, suc, ◌+◌, ◌<◌, List,
 use Rattle.ark_math.specs.Module.{ModuleOn, tabulate, tabulate_from, item}
 use Rattle.std.proofs.lemmas.List.{ext_get_or}
 
-pub length-tabulate_from : {M : Type 0} (i n : ℕ) (f : ℕ → M) → length (tabulate_from i n f) ≡ n
+length-tabulate_from : {M : Type 0} (i n : ℕ) (f : ℕ → M) → length (tabulate_from i n f) ≡ n
 length-tabulate_from i zero f = refl
 length-tabulate_from i (suc n) f = ap suc (length-tabulate_from (suc i) n f)
 
-pub get_or-tabulate_from : {M : Type 0} (i n : ℕ) (f : ℕ → M) (k : ℕ) (d : M) → k < n → get_or (tabulate_from i n f) k d ≡ f (i + k)
+get_or-tabulate_from : {M : Type 0} (i n : ℕ) (f : ℕ → M) (k : ℕ) (d : M) → k < n → get_or (tabulate_from i n f) k d ≡ f (i + k)
 get_or-tabulate_from i zero f k d l = absurd (omega arith)
 get_or-tabulate_from i (suc n) f zero d l =
     let e : i ≡ i + 0 = omega arith in

@@ -18,7 +18,7 @@ use Rattle.ark_math.proofs.Domains.Contained.{search_below, contained_size, cont
 use Rattle.ark_math.proofs.OverDomains.Filters.{Inside, IsRow, start, ratio, below, inner_positive, outer_power_not_zero, row_is_filter, row-inside, row-anywhere, row-degree}
 
 module _ {F : Type 0} (K : FieldOn F) (N : IsField K) (s d : Domain F) where
-  pub inside_from : HasOrder K s.root s.size → HasOrder K d.root d.size → natural K d.size ≢ K.zero → s.offset ≢ K.zero → d.offset ≢ K.zero → d.size % s.size ≡ 0 → power K s.offset d.size ≡ power K d.offset d.size → Inside K s d
+  inside_from : HasOrder K s.root s.size → HasOrder K d.root d.size → natural K d.size ≢ K.zero → s.offset ≢ K.zero → d.offset ≢ K.zero → d.size % s.size ≡ 0 → power K s.offset d.size ≡ power K d.offset d.size → Inside K s d
   inside_from p o ne a b z e =
       let k : s.size * (d.size / s.size) ≡ d.size = omega (arith, mod-add-div d.size s.size) in
       let some : natural K s.size ≢ K.zero =
@@ -51,7 +51,7 @@ module _ {F : Type 0} (K : FieldOn F) (N : IsField K) (s d : Domain F) where
     at_multiple : (k : ℕ) → s.size * k / s.size ≡ k
     at_multiple k = let e : s.size * k ≡ k * s.size + 0 = omega arith in ap (λ t. t / s.size) e ∙ div-mul-add k s.size 0 (inner_positive K N s d c)
 
-    pub row_is_row : IsRow K s d c row
+    row_is_row : IsRow K s d c row
     row_is_row = record {
       short = cut-outside K (d.size - s.size + 1) all_items;
       at = λ k l.

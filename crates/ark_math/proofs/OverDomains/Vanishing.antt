@@ -29,7 +29,7 @@ module _ {F : Type 0} (K : FieldOn F) (N : IsField K) (d : Domain F) where
       subst (λ t. IsBelow K t r) e h.degree.3
 
   -- a remainder by the vanishing polynomial has the same values at the places
-  pub remainder-values : (a q r : ℕ → F) (v : List F) → HasOrder K d.root d.size → IsQuotient K a (vanishing K d) q r → AreValues K d a v → AreValues K d r v
+  remainder-values : (a q r : ℕ → F) (v : List F) → HasOrder K d.root d.size → IsQuotient K a (vanishing K d) q r → AreValues K d a v → AreValues K d r v
   remainder-values a q r v o h A =
       values_from K N d h.degree.0 r v h.degree.3 (values-length K N d a v A)
       (λ i l.

@@ -37,14 +37,14 @@ module _ {F : Type 0} (K : FieldOn F) (N : IsField K) (d : Domain F) (o : HasOrd
       ∙ ap (λ t. K.times t (K.times (power K d.root i) (power K v.of_root k))) v.offset
       ∙ one_times K N (K.times (power K d.root i) (power K v.of_root k))
 
-  pub weight-same : (k : ℕ) → weight K d v (element K d k) k ≡ K.one
+  weight-same : (k : ℕ) → weight K d v (element K d k) k ≡ K.one
   weight-same k =
       ap (λ t. K.times v.of_size (sum_below (itself K) d.size (power K t))) (quotient k k)
       ∙ ap (K.times v.of_size) (quotients_one K N d.root v.of_root d.size o v.root k)
       ∙ N.times_comm v.of_size (natural K d.size)
       ∙ v.size
 
-  pub weight-other : (i k : ℕ) → i < d.size → k < d.size → i ≢ k → weight K d v (element K d i) k ≡ K.zero
+  weight-other : (i k : ℕ) → i < d.size → k < d.size → i ≢ k → weight K d v (element K d i) k ≡ K.zero
   weight-other i k a b ne =
       ap (λ t. K.times v.of_size (sum_below (itself K) d.size (power K t))) (quotient i k)
       ∙ ap (K.times v.of_size) (quotients_zero K N d.root v.of_root d.size o v.root i k a b ne)
@@ -58,7 +58,7 @@ module _ {F : Type 0} (K : FieldOn F) (N : IsField K) (d : Domain F) (o : HasOrd
       ap (λ t. K.times t (a j)) (power-times K N d.offset (power K d.root i) j)
       ∙ ring3 K N (λ h w a. ((h ⊗ w) ⊗ a, w ⊗ (h ⊗ a))) refl _ _ _)
 
-  pub weights_give : (tau : F) (a : ℕ → F) → sum_below (itself K) d.size (λ i. K.times (weight K d v tau i) (value_below K d.size a (element K d i))) ≡ value_below K d.size a tau
+  weights_give : (tau : F) (a : ℕ → F) → sum_below (itself K) d.size (λ i. K.times (weight K d v tau i) (value_below K d.size a (element K d i))) ≡ value_below K d.size a tau
   weights_give tau a =
       let n = d.size in
       let c = v.of_size in
@@ -109,7 +109,7 @@ module _ {F : Type 0} (K : FieldOn F) (N : IsField K) (d : Domain F) (o : HasOrd
       ∙ sum_below-scale (itself_is_module K N) d.size v.of_size (power K (K.times x (over K d v k)))
 
   -- weights have no other items
-  pub weight_is : (tau : F) (l : List F) → AreWeights K d tau l → (k : ℕ) → k < d.size → of_list K l k ≡ weight K d v tau k
+  weight_is : (tau : F) (l : List F) → AreWeights K d tau l → (k : ℕ) → k < d.size → of_list K l k ≡ weight K d v tau k
   weight_is tau l W k b =
       sym
       (sym (basis-value k tau)
@@ -144,7 +144,7 @@ module _ {F : Type 0} (K : FieldOn F) (N : IsField K) (d : Domain F) (o : HasOrd
       (minus_not_zero K N tau (element K d i) ne)
 
   -- elsewhere: (tau ^ n - offset ^ n) * element i / (n * offset ^ n * (tau - element i))
-  pub weight-formula : (tau : F) (i : ℕ) → K.times (weight K d v tau i) (K.times (K.times (natural K d.size) (power K d.offset d.size)) (minus K tau (element K d i))) ≡ K.times (minus K (power K tau d.size) (power K d.offset d.size)) (element K d i)
+  weight-formula : (tau : F) (i : ℕ) → K.times (weight K d v tau i) (K.times (K.times (natural K d.size) (power K d.offset d.size)) (minus K tau (element K d i))) ≡ K.times (minus K (power K tau d.size) (power K d.offset d.size)) (element K d i)
   weight-formula tau i =
       let n = d.size in
       let h = power K d.offset n in

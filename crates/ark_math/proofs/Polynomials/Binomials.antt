@@ -74,7 +74,7 @@ module _ {F : Type 0} (K : FieldOn F) (N : IsField K) (n : ℕ) (c : F) where
       }
 
   -- all places: a = the upper part * (x ^ n - c) + the lower one
-  pub carried-all : (i : ℕ) (a b : ℕ → F) → i ≤ n → IsCarried K n c i a b → a ≡ added K (product K (upper n b) (binomial K n c)) (cut K n b)
+  carried-all : (i : ℕ) (a b : ℕ → F) → i ≤ n → IsCarried K n c i a b → a ≡ added K (product K (upper n b) (binomial K n c)) (cut K n b)
   carried-all i a b all h = fun_ext (λ k.
       let q = upper n b in
       let y = K.times c (b (k + n)) in

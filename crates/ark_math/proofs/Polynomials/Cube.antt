@@ -54,7 +54,7 @@ bit-high (suc n) i hi lo l =
     let f : suc n + i ≡ suc (n + i) = omega arith in
     ap (bit (hi * 2 ^ suc n + lo)) f ∙ bit-suc (hi * 2 ^ suc n + lo) (n + i) ∙ ap (λ b. bit b (n + i)) e ∙ bit-high n i hi (lo / 2) (omega arith)
 
-pub bit-zero : (i : ℕ) → bit 0 i ≡ false
+bit-zero : (i : ℕ) → bit 0 i ≡ false
 bit-zero zero = refl
 bit-zero (suc i) = bit-suc 0 i ∙ bit-zero i
 
@@ -72,7 +72,7 @@ bit-half b c e = ⊎_elim
     (cases_Bool (bit b 0))
 
 -- a number below 2 ^ n is known by its n bits
-pub same_bits : (n b c : ℕ) → b < 2 ^ n → c < 2 ^ n → ((i : ℕ) → i < n → bit b i ≡ bit c i) → b ≡ c
+same_bits : (n b c : ℕ) → b < 2 ^ n → c < 2 ^ n → ((i : ℕ) → i < n → bit b i ≡ bit c i) → b ≡ c
 same_bits zero b c l m h = omega arith
 same_bits (suc n) b c l m h =
     let twice = pow_twice n in
@@ -134,7 +134,7 @@ module _ {F : Type 0} (K : FieldOn F) (N : IsField K) where
 
   -- ---- weights
 
-  pub weight-cons : (x : F) (p : List F) (b : ℕ) → weight K (x ∷ p) b ≡ K.times (side K (bit b 0) x) (weight K p (b / 2))
+  weight-cons : (x : F) (p : List F) (b : ℕ) → weight K (x ∷ p) b ≡ K.times (side K (bit b 0) x) (weight K p (b / 2))
   weight-cons x p b =
       product_below-first (length p) (λ i. side K (bit b i) (item (itself K) (x ∷ p) i))
       ∙ ap (K.times (side K (bit b 0) x))
@@ -152,7 +152,7 @@ module _ {F : Type 0} (K : FieldOn F) (N : IsField K) where
       weight-cons x p (2 * c + 1) ∙ ap₂ (λ s b. K.times (side K s x) (weight K p b)) (bit-odd c) e
 
   -- the items of one list, and those of another one
-  pub weight-append : (p q : List F) (b : ℕ) → weight K (p ++ q) b ≡ K.times (weight K p b) (weight K q (b / 2 ^ length p))
+  weight-append : (p q : List F) (b : ℕ) → weight K (p ++ q) b ≡ K.times (weight K p b) (weight K q (b / 2 ^ length p))
   weight-append [] q b = let e : b ≡ b / 2 ^ 0 = omega arith in ap (weight K q) e ∙ sym (one_times K N (weight K q (b / 2 ^ 0)))
   weight-append (x ∷ p) q b =
       let e : suc (length p) ≡ 1 + length p = omega arith in
@@ -162,7 +162,7 @@ module _ {F : Type 0} (K : FieldOn F) (N : IsField K) where
       ∙ ap₂ K.times (sym (weight-cons x p b)) (ap (weight K q) (shr-shr b 1 (length p) ∙ ap (λ n. b / 2 ^ n) (sym e)))
 
   -- only the low bits of a corner count
-  pub weight-low : (p : List F) (hi lo : ℕ) → weight K p (hi * 2 ^ length p + lo) ≡ weight K p lo
+  weight-low : (p : List F) (hi lo : ℕ) → weight K p (hi * 2 ^ length p + lo) ≡ weight K p lo
   weight-low p hi lo =
       product_below-same K (length p) (λ i. side K (bit (hi * 2 ^ length p + lo) i) (item (itself K) p i)) (λ i. side K (bit lo i) (item (itself K) p i))
       (λ i l. ap (λ s. side K s (item (itself K) p i)) (bit-low (length p) i hi lo l))

@@ -22,7 +22,7 @@ exchanged_index b i j k = (b + (part b j k * 2 ^ i + part b i k * 2 ^ j)) - (par
 
 -- ---- places
 
-pub place-first : (i j k l : ℕ) → i ≤ l → l < i + k → place i j k l ≡ (l - i) + j
+place-first : (i j k l : ℕ) → i ≤ l → l < i + k → place i j k l ≡ (l - i) + j
 place-first i j k l a b = cond-true (nat_le i l && nat_lt l (i + k)) _ _ (and_from (nat_le i l) (nat_lt l (i + k)) (le-leb i l a) (lt-ltb l (i + k) b))
 
 outside : (i k l : ℕ) → (l < i) ⊎ (i + k ≤ l) → (nat_le i l && nat_lt l (i + k)) ≡ false
@@ -30,12 +30,12 @@ outside i k l h = ⊎_elim
     (λ (a : l < i). and_left (nat_le i l) (nat_lt l (i + k)) (lt-leb i l a))
     (λ (a : i + k ≤ l). and_right (nat_le i l) (nat_lt l (i + k)) (le-ltb l (i + k) a)) h
 
-pub place-second : (i j k l : ℕ) → (l < i) ⊎ (i + k ≤ l) → j ≤ l → l < j + k → place i j k l ≡ (l - j) + i
+place-second : (i j k l : ℕ) → (l < i) ⊎ (i + k ≤ l) → j ≤ l → l < j + k → place i j k l ≡ (l - j) + i
 place-second i j k l o a b =
     cond-false (nat_le i l && nat_lt l (i + k)) _ _ (outside i k l o)
     ∙ cond-true (nat_le j l && nat_lt l (j + k)) _ _ (and_from (nat_le j l) (nat_lt l (j + k)) (le-leb j l a) (lt-ltb l (j + k) b))
 
-pub place-other : (i j k l : ℕ) → (l < i) ⊎ (i + k ≤ l) → (l < j) ⊎ (j + k ≤ l) → place i j k l ≡ l
+place-other : (i j k l : ℕ) → (l < i) ⊎ (i + k ≤ l) → (l < j) ⊎ (j + k ≤ l) → place i j k l ≡ l
 place-other i j k l o p =
     cond-false (nat_le i l && nat_lt l (i + k)) _ _ (outside i k l o) ∙ cond-false (nat_le j l && nat_lt l (j + k)) _ _ (outside j k l p)
 
@@ -45,19 +45,19 @@ which i k l = ⊎_elim
     (λ (a : i ≤ l). ⊎_elim (λ (b : l < i + k). inl (a, b)) (λ (b : i + k ≤ l). inr (inr b)) (cases_lt l (i + k)))
     (cases_lt l i)
 
-pub place-same : (i k l : ℕ) → place i i k l ≡ l
+place-same : (i k l : ℕ) → place i i k l ≡ l
 place-same i k l = ⊎_elim
     (λ h. let a = h.0 in let e : (l - i) + i ≡ l = omega arith in place-first i i k l h.0 h.1 ∙ e)
     (λ h. place-other i i k l h h)
     (which i k l)
 
-pub place-none : (i j l : ℕ) → place i j 0 l ≡ l
+place-none : (i j l : ℕ) → place i j 0 l ≡ l
 place-none i j l = place-other i j 0 l (beyond i) (beyond j)
   where
     beyond : (i : ℕ) → (l < i) ⊎ (i + 0 ≤ l)
     beyond i = ⊎_elim (λ (a : l < i). inl a) (λ (a : i ≤ l). inr (omega arith)) (cases_lt l i)
 
-pub place-within : (m i j k l : ℕ) → i + k ≤ m → j + k ≤ m → l < m → place i j k l < m
+place-within : (m i j k l : ℕ) → i + k ≤ m → j + k ≤ m → l < m → place i j k l < m
 place-within m i j k l a b c = ⊎_elim
     (λ h. let p = h.0 in let q = h.1 in let e = place-first i j k l h.0 h.1 in omega arith)
     (λ o. ⊎_elim
@@ -67,7 +67,7 @@ place-within m i j k l a b c = ⊎_elim
     (which i k l)
 
 -- windows that end in order, in either order
-pub place-swapped : (i j k l : ℕ) → i + k ≤ j → place i j k l ≡ place j i k l
+place-swapped : (i j k l : ℕ) → i + k ≤ j → place i j k l ≡ place j i k l
 place-swapped i j k l a = ⊎_elim
     (λ h. let p = h.1 in place-first i j k l h.0 h.1 ∙ sym (place-second j i k l (inl (omega arith)) h.0 h.1))
     (λ o. ⊎_elim
@@ -101,14 +101,14 @@ cases_windows P m i j k w same none up down = ⊎_elim
     (λ (e : k ≡ 0). subst (P i j) (sym e) (none i j))
     (λ w. ⊎_elim (λ h. up i j k h.0 h.1) (λ h. down j i k h.0 h.1) w) w) w
 
-pub place-below : (m i j k : ℕ) → AreWindows m i j k → (l : ℕ) → l < m → place i j k l < m
+place-below : (m i j k : ℕ) → AreWindows m i j k → (l : ℕ) → l < m → place i j k l < m
 place-below m i j k w = cases_windows (λ i j k. (l : ℕ) → l < m → place i j k l < m) m i j k w
     (λ i k l b. let e = place-same i k l in omega arith)
     (λ i j l b. let e = place-none i j l in omega arith)
     (λ i j k a c l b. place-within m i j k l (omega arith) c b)
     (λ i j k a c l b. place-within m j i k l c (omega arith) b)
 
-pub place-twice : (m i j k : ℕ) → AreWindows m i j k → (l : ℕ) → place i j k (place i j k l) ≡ l
+place-twice : (m i j k : ℕ) → AreWindows m i j k → (l : ℕ) → place i j k (place i j k l) ≡ l
 place-twice m i j k w = cases_windows (λ i j k. (l : ℕ) → place i j k (place i j k l) ≡ l) m i j k w
     (λ i k l. ap (place i i k) (place-same i k l) ∙ place-same i k l)
     (λ i j l. ap (place i j 0) (place-none i j l) ∙ place-none i j l)
@@ -275,11 +275,11 @@ exchanged_index-same n i k = omega arith
 pub exchanged_index-none : (n i j : ℕ) → exchanged_index n i j 0 ≡ n
 exchanged_index-none n i j = let e : (n / 2 ^ i) % 2 ^ 0 ≡ 0 = omega arith in let f : (n / 2 ^ j) % 2 ^ 0 ≡ 0 = omega arith in ap₂ (λ a b. (n + (b * 2 ^ i + a * 2 ^ j)) - (a * 2 ^ i + b * 2 ^ j)) e f ∙ omega arith
 
-pub exchanged_index-swapped : (n i j k : ℕ) → exchanged_index n i j k ≡ exchanged_index n j i k
+exchanged_index-swapped : (n i j k : ℕ) → exchanged_index n i j k ≡ exchanged_index n j i k
 exchanged_index-swapped n i j k = omega arith
 
 -- its bit at l is the one that stands there
-pub exchanged_index-bit : (m i j k : ℕ) → AreWindows m i j k → (n l : ℕ) → bit (exchanged_index n i j k) l ≡ bit n (place i j k l)
+exchanged_index-bit : (m i j k : ℕ) → AreWindows m i j k → (n l : ℕ) → bit (exchanged_index n i j k) l ≡ bit n (place i j k l)
 exchanged_index-bit m i j k w = cases_windows (λ i j k. (n l : ℕ) → bit (exchanged_index n i j k) l ≡ bit n (place i j k l)) m i j k w
     (λ i k n l. ap₂ bit (exchanged_index-same n i k) (sym (place-same i k l)))
     (λ i j n l. ap₂ bit (exchanged_index-none n i j) (sym (place-none i j l)))
@@ -306,7 +306,7 @@ exchanged_index-twice m i j k w n =
 
 module _ {F : Type 0} (K : FieldOn F) (N : IsField K) where
   -- the items of a corner are exchanged with its index
-  pub exchanged-corner : (m i j k : ℕ) → AreWindows m i j k → (b : ℕ) → exchanged K (corner K m b) i j k ≡ corner K m (exchanged_index b i j k)
+  exchanged-corner : (m i j k : ℕ) → AreWindows m i j k → (b : ℕ) → exchanged K (corner K m b) i j k ≡ corner K m (exchanged_index b i j k)
   exchanged-corner m i j k w b =
       ap (λ n. tabulate n (λ l. item (itself K) (corner K m b) (place i j k l))) (length-corner K N m b)
       ∙ tabulate-same m (λ l. item (itself K) (corner K m b) (place i j k l)) (λ l. if bit (exchanged_index b i j k) l then K.one else K.zero)

@@ -83,14 +83,14 @@ module _ {F : Type 0} (K : FieldOn F) (N : IsField K) (z : F → Bool) (decides 
       (λ l. sparse-cons K N y (pair_into z K.plus x p) (s.some 0 y (omega arith)) (pair_into-above y.0 x p l above) (pair_into-sparse x p rest))
 
   -- and leaves a sparse list
-  pub gather-sparse : (p : List (ℕ × F)) → IsSparse K (gather z K.plus p)
+  gather-sparse : (p : List (ℕ × F)) → IsSparse K (gather z K.plus p)
   gather-sparse [] = sparse-nil K N
   gather-sparse (x ∷ p) = pair_into-sparse x (gather z K.plus p) (gather-sparse p)
 
   pub gather_of-sparse : (p : List (ℕ × F)) → IsSparse K p → gather z K.plus p ≡ p
   gather_of-sparse p s = same_sparse K N (gather z K.plus p) p (gather-sparse p) s (gather-same p)
 
-  pub gather_Decides : {eq : F → F → Bool} → ((a b : F) → Decides (eq a b) (a ≡ b)) → (p q : List (ℕ × F)) → Decides (pointwise (λ x y. (x.0 == y.0) && eq x.1 y.1) (gather z K.plus p) (gather z K.plus q)) (of_pairs K p ≡ of_pairs K q)
+  gather_Decides : {eq : F → F → Bool} → ((a b : F) → Decides (eq a b) (a ≡ b)) → (p q : List (ℕ × F)) → Decides (pointwise (λ x y. (x.0 == y.0) && eq x.1 y.1) (gather z K.plus p) (gather z K.plus q)) (of_pairs K p ≡ of_pairs K q)
   gather_Decides same p q =
       let w = sparse_Decides K N same (gather z K.plus p) (gather z K.plus q) (gather-sparse p) (gather-sparse q) in
       (λ h. sym (gather-same p) ∙ w.0 h ∙ gather-same q, λ h. w.1 (gather-same p ∙ h ∙ sym (gather-same q)))

@@ -35,7 +35,7 @@ module _ {F : Type 0} (K : FieldOn F) (N : IsField K) where
       ∙ ring2 K N (λ z o. (nought, nought ⊖ nought)) refl z K.one
       ∙ sym (ap₂ (minus K) (monomial-other K 1 K.one (suc (suc i)) (λ e. omega (arith, e))) (monomial-other K 0 z (suc (suc i)) (λ e. omega (arith, e))))
 
-  pub linear_factor-is : (z : F) → linear_factor K z ≡ difference K (monomial K 1 K.one) (monomial K 0 z)
+  linear_factor-is : (z : F) → linear_factor K z ≡ difference K (monomial K 1 K.one) (monomial K 0 z)
   linear_factor-is z = fun_ext (factor_is z)
 
   pub linear-product : (q : ℕ → F) (z : F) (i : ℕ) → product K q (linear_factor K z) i ≡ minus K (before K q i) (K.times z (q i))
@@ -102,11 +102,11 @@ module _ {F : Type 0} (K : FieldOn F) (N : IsField K) where
   nodes-joined (x ∷ xs) ys =
       ap (product K (linear_factor K x)) (nodes-joined xs ys) ∙ sym (product_assoc K N (linear_factor K x) (nodes K xs) (nodes K ys))
 
-  pub nodes-one : (x : F) → nodes K (x ∷ []) ≡ linear_factor K x
+  nodes-one : (x : F) → nodes K (x ∷ []) ≡ linear_factor K x
   nodes-one x = product_comm K N (linear_factor K x) (monomial K 0 K.one) ∙ one-product K N (linear_factor K x)
 
   -- one more at the end
-  pub nodes-push : (xs : List F) (x : F) → nodes K (xs ++ x ∷ []) ≡ product K (nodes K xs) (linear_factor K x)
+  nodes-push : (xs : List F) (x : F) → nodes K (xs ++ x ∷ []) ≡ product K (nodes K xs) (linear_factor K x)
   nodes-push xs x = nodes-joined xs (x ∷ []) ∙ ap (product K (nodes K xs)) (nodes-one x)
 
   take_push : (xs : List F) (i : ℕ) (x : F) → i < length xs → get_or xs i x ≡ x → take (suc i) xs ≡ take i xs ++ x ∷ []

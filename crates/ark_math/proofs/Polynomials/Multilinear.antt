@@ -46,7 +46,7 @@ module _ {F : Type 0} (K : FieldOn F) (N : IsField K) where
   pub fixed-nil : (t : ℕ → F) → fixed K t [] ≡ t
   fixed-nil t = fun_ext (λ c. let e : c * 2 ^ 0 + 0 ≡ c = omega arith in extension-nil (λ b. t (c * 2 ^ 0 + b)) ∙ ap t e)
 
-  pub fixed-cons : (t : ℕ → F) (x : F) (p : List F) → fixed K t (x ∷ p) ≡ fixed K (bound K t x) p
+  fixed-cons : (t : ℕ → F) (x : F) (p : List F) → fixed K t (x ∷ p) ≡ fixed K (bound K t x) p
   fixed-cons t x p = fun_ext (λ c.
       let n = 2 ^ length p in
       extension-cons (λ b. t (c * 2 ^ suc (length p) + b)) x p
@@ -97,7 +97,7 @@ module _ {F : Type 0} (K : FieldOn F) (N : IsField K) where
 
   -- ---- sums and multiples
 
-  pub extension-nothing : (x : List F) → extension K (nothing K) x ≡ K.zero
+  extension-nothing : (x : List F) → extension K (nothing K) x ≡ K.zero
   extension-nothing x =
       sum_below-zero (itself_is_module K N) (2 ^ length x) (λ b. K.times K.zero (weight K x b)) (λ b l. ring1 K N (λ w. (nought ⊗ w, nought)) refl (weight K x b))
 
@@ -209,7 +209,7 @@ module _ {F : Type 0} (K : FieldOn F) (N : IsField K) where
       (sym (fixed-one t K.one ∙ fun_ext (λ c. ring2 K N (λ u v. (u ⊕ unit ⊗ (v ⊖ u), v)) refl (t (2 * c)) (t (2 * c + 1)))))
 
   -- what is left is affine in the item that is bound
-  pub fixed_one-affine : (t : ℕ → F) (x : F) → fixed K t (x ∷ []) ≡ added K (fixed K t (K.zero ∷ [])) (scaled K x (difference K (fixed K t (K.one ∷ [])) (fixed K t (K.zero ∷ []))))
+  fixed_one-affine : (t : ℕ → F) (x : F) → fixed K t (x ∷ []) ≡ added K (fixed K t (K.zero ∷ [])) (scaled K x (difference K (fixed K t (K.one ∷ [])) (fixed K t (K.zero ∷ []))))
   fixed_one-affine t x =
       fixed-one t x
       ∙ fun_ext (λ c. ring3 K N (λ u v x. (u ⊕ x ⊗ (v ⊖ u), (u ⊕ nought ⊗ (v ⊖ u)) ⊕ x ⊗ ((u ⊕ unit ⊗ (v ⊖ u)) ⊖ (u ⊕ nought ⊗ (v ⊖ u))))) refl (t (2 * c)) (t (2 * c + 1)) x)

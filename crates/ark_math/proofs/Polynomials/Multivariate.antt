@@ -39,10 +39,10 @@ module _ {F : Type 0} (K : FieldOn F) where
 
   -- ---- the total degree
 
-  pub nothing_total_degree : IsTotalDegree K (nothing K) 0
+  nothing_total_degree : IsTotalDegree K (nothing K) 0
   nothing_total_degree = record { within = λ t ne. absurd (ne refl); reached = λ l. absurd (omega arith) }
 
-  pub one_total_degree : (a : List (ℕ × ℕ) → F) (d e : ℕ) → IsTotalDegree K a d → IsTotalDegree K a e → d ≡ e
+  one_total_degree : (a : List (ℕ × ℕ) → F) (d e : ℕ) → IsTotalDegree K a d → IsTotalDegree K a e → d ≡ e
   one_total_degree a d e f g =
       ⊎_elim
       (λ (h : d ≡ e). h)
@@ -68,7 +68,7 @@ module _ {F : Type 0} (K : FieldOn F) (N : IsField K) where
       by true = refl
       by false = N.plus_zero K.zero
 
-  pub single-opposite : (t : List (ℕ × ℕ)) (c : F) → single K t (K.negated c) ≡ opposite K (single K t c)
+  single-opposite : (t : List (ℕ × ℕ)) (c : F) → single K t (K.negated c) ≡ opposite K (single K t c)
   single-opposite t c = fun_ext (λ u. by (same_term t u))
     where
       by : (b : Bool) → cond b (K.negated c) K.zero ≡ K.negated (cond b c K.zero)
@@ -84,7 +84,7 @@ module _ {F : Type 0} (K : FieldOn F) (N : IsField K) where
 
   -- ---- lists of terms
 
-  pub of_terms-append : (cs ds : List (F × List (ℕ × ℕ))) → of_terms K (cs ++ ds) ≡ added K (of_terms K cs) (of_terms K ds)
+  of_terms-append : (cs ds : List (F × List (ℕ × ℕ))) → of_terms K (cs ++ ds) ≡ added K (of_terms K cs) (of_terms K ds)
   of_terms-append [] ds = sym (zero_plus (coefficients_are_module K N) (of_terms K ds))
   of_terms-append (c ∷ cs) ds =
       ap (added K (single K c.1 c.0)) (of_terms-append cs ds)
@@ -97,13 +97,13 @@ module _ {F : Type 0} (K : FieldOn F) (N : IsField K) where
   pub of_terms-permutation : (cs ds : List (F × List (ℕ × ℕ))) → IsPermutation cs ds → of_terms K ds ≡ of_terms K cs
   of_terms-permutation cs ds h = total-permutation N (coefficients_are_module K N) (λ c. single K c.1 c.0) (of_terms K) (λ c cs. refl) cs ds h
 
-  pub of_terms-opposite : (cs : List (F × List (ℕ × ℕ))) → of_terms K (with_each K.negated cs) ≡ opposite K (of_terms K cs)
+  of_terms-opposite : (cs : List (F × List (ℕ × ℕ))) → of_terms K (with_each K.negated cs) ≡ opposite K (of_terms K cs)
   of_terms-opposite [] = fun_ext (λ u. ring1 K N (λ x. (nought, negative nought)) refl K.one)
   of_terms-opposite (c ∷ cs) =
       ap₂ (added K) (single-opposite c.1 c.0) (of_terms-opposite cs)
       ∙ fun_ext (λ u. ring2 K N (λ a b. (negative a ⊕ negative b, negative (a ⊕ b))) refl (single K c.1 c.0 u) (of_terms K cs u))
 
-  pub of_terms-scaled : (s : F) (cs : List (F × List (ℕ × ℕ))) → of_terms K (with_each (K.times s) cs) ≡ scaled K s (of_terms K cs)
+  of_terms-scaled : (s : F) (cs : List (F × List (ℕ × ℕ))) → of_terms K (with_each (K.times s) cs) ≡ scaled K s (of_terms K cs)
   of_terms-scaled s [] = fun_ext (λ u. sym (scale_zero (itself_is_module K N) s))
   of_terms-scaled s (c ∷ cs) =
       ap₂ (added K) (single-scaled c.1 s c.0) (of_terms-scaled s cs)
@@ -155,7 +155,7 @@ module _ {F : Type 0} (K : FieldOn F) (N : IsField K) where
   pub of_terms-first : (c : F × List (ℕ × ℕ)) (cs : List (F × List (ℕ × ℕ))) → All (λ e. c.1 ≢ e.1) cs → of_terms K (c ∷ cs) c.1 ≡ c.0
   of_terms-first c cs h = ap₂ K.plus (single-same K c.1 c.0) (of_terms-absent cs c.1 (λ k d l e. h k d l (sym e))) ∙ N.plus_zero c.0
 
-  pub of_terms-at : (cs : List (F × List (ℕ × ℕ))) (k : ℕ) (d : F × List (ℕ × ℕ)) → AllPairs (λ c e. c.1 ≢ e.1) cs → k < length cs → of_terms K cs (get_or cs k d).1 ≡ (get_or cs k d).0
+  of_terms-at : (cs : List (F × List (ℕ × ℕ))) (k : ℕ) (d : F × List (ℕ × ℕ)) → AllPairs (λ c e. c.1 ≢ e.1) cs → k < length cs → of_terms K cs (get_or cs k d).1 ≡ (get_or cs k d).0
   of_terms-at [] k d h l = absurd (omega arith)
   of_terms-at (c ∷ cs) zero d h l = of_terms-first c cs (λ j e b. h 0 (suc j) e (omega arith) (omega arith))
   of_terms-at (c ∷ cs) (suc k) d h l =
@@ -186,13 +186,13 @@ module _ {F : Type 0} (K : FieldOn F) (N : IsField K) where
   pub sum_at-push : (cs : List (F × List (ℕ × ℕ))) (c : F × List (ℕ × ℕ)) (x : List F) → sum_at K (cs ++ c ∷ []) x ≡ K.plus (sum_at K cs x) (K.times c.0 (term_value K c.1 x))
   sum_at-push cs c x = sum_at-append cs (c ∷ []) x ∙ ap (K.plus (sum_at K cs x)) (N.plus_zero (K.times c.0 (term_value K c.1 x)))
 
-  pub sum_at-opposite : (cs : List (F × List (ℕ × ℕ))) (x : List F) → sum_at K (with_each K.negated cs) x ≡ K.negated (sum_at K cs x)
+  sum_at-opposite : (cs : List (F × List (ℕ × ℕ))) (x : List F) → sum_at K (with_each K.negated cs) x ≡ K.negated (sum_at K cs x)
   sum_at-opposite [] x = ring1 K N (λ x. (nought, negative nought)) refl K.one
   sum_at-opposite (c ∷ cs) x =
       ap (K.plus (K.times (K.negated c.0) (term_value K c.1 x))) (sum_at-opposite cs x)
       ∙ ring3 K N (λ c v s. (negative c ⊗ v ⊕ negative s, negative (c ⊗ v ⊕ s))) refl c.0 (term_value K c.1 x) (sum_at K cs x)
 
-  pub sum_at-scaled : (s : F) (cs : List (F × List (ℕ × ℕ))) (x : List F) → sum_at K (with_each (K.times s) cs) x ≡ K.times s (sum_at K cs x)
+  sum_at-scaled : (s : F) (cs : List (F × List (ℕ × ℕ))) (x : List F) → sum_at K (with_each (K.times s) cs) x ≡ K.times s (sum_at K cs x)
   sum_at-scaled s [] x = sym (scale_zero (itself_is_module K N) s)
   sum_at-scaled s (c ∷ cs) x =
       ap (K.plus (K.times (K.times s c.0) (term_value K c.1 x))) (sum_at-scaled s cs x)
@@ -225,7 +225,7 @@ module _ {F : Type 0} (K : FieldOn F) (N : IsField K) where
       ∙ ring1 K N (λ v. (nought ⊗ v ⊕ nought, nought)) refl (term_value K c.1 x)
 
   -- lists that denote one polynomial have one value
-  pub same_sum_at : (cs ds : List (F × List (ℕ × ℕ))) (x : List F) → of_terms K cs ≡ of_terms K ds → sum_at K cs x ≡ sum_at K ds x
+  same_sum_at : (cs ds : List (F × List (ℕ × ℕ))) (x : List F) → of_terms K cs ≡ of_terms K ds → sum_at K cs x ≡ sum_at K ds x
   same_sum_at cs ds x e =
       let es = with_each K.negated ds in
       let none : of_terms K (cs ++ es) ≡ nothing K =
@@ -247,7 +247,7 @@ module _ {F : Type 0} (K : FieldOn F) (N : IsField K) where
   pub IsValueAt-opposite : (a : List (ℕ × ℕ) → F) (x : List F) (y : F) → IsValueAt K a x y → IsValueAt K (opposite K a) x (K.negated y)
   IsValueAt-opposite a x y h = (with_each K.negated h.0, of_terms-opposite h.0 ∙ ap (opposite K) h.1, ap K.negated h.2 ∙ sym (sum_at-opposite h.0 x))
 
-  pub IsValueAt-scaled : (c : F) (a : List (ℕ × ℕ) → F) (x : List F) (y : F) → IsValueAt K a x y → IsValueAt K (scaled K c a) x (K.times c y)
+  IsValueAt-scaled : (c : F) (a : List (ℕ × ℕ) → F) (x : List F) (y : F) → IsValueAt K a x y → IsValueAt K (scaled K c a) x (K.times c y)
   IsValueAt-scaled c a x y h = (with_each (K.times c) h.0, of_terms-scaled c h.0 ∙ ap (scaled K c) h.1, ap (K.times c) h.2 ∙ sym (sum_at-scaled c h.0 x))
 
 -- ---- the laws of polynomials in several variables, at points that show a list

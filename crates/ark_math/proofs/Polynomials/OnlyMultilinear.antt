@@ -76,7 +76,7 @@ module _ {F : Type 0} (K : FieldOn F) (N : IsField K) where
   -- ---- with the items in another order
 
   -- an order that is its own inverse
-  pub reordered-set : (m : ℕ) (s : ℕ → ℕ) → ((i : ℕ) → i < m → s i < m) → ((i : ℕ) → i < m → s (s i) ≡ i) → (x : List F) → length x ≡ m → (l : ℕ) → l < m → (c : F)
+  reordered-set : (m : ℕ) (s : ℕ → ℕ) → ((i : ℕ) → i < m → s i < m) → ((i : ℕ) → i < m → s (s i) ≡ i) → (x : List F) → length x ≡ m → (l : ℕ) → l < m → (c : F)
       → tabulate m (λ i. item (itself K) (set x l c) (s i)) ≡ set (tabulate m (λ i. item (itself K) x (s i))) (s l) c
   reordered-set m s within twice x e l b c =
       sym (is_tabulated K.zero (set xs (s l) c) m (λ i. item (itself K) (set x l c) (s i)) (length-set xs (s l) c ∙ length-tabulate m (λ i. item (itself K) x (s i)))
@@ -146,7 +146,7 @@ module _ {F : Type 0} (K : FieldOn F) (N : IsField K) where
       ∙ ap (λ y. K.times c (K.times (power K y p.1) (term_value K ps (set x l K.one)))) (sym (get_or-set_other x l p.0 K.one K.zero ne)))
       (cases_eq p.0 l)
 
-  pub term_value-affine : (m : ℕ) (ps : List (ℕ × ℕ)) → ((v : ℕ) → power_of ps v ≤ 1) → IsAffine K m (term_value K ps)
+  term_value-affine : (m : ℕ) (ps : List (ℕ × ℕ)) → ((v : ℕ) → power_of ps v ≤ 1) → IsAffine K m (term_value K ps)
   term_value-affine m ps h x e l b c = ⊎_elim
       (λ (none : power_of ps l ≡ 0).
       term_value-absent ps x l c none

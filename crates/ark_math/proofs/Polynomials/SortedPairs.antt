@@ -24,7 +24,7 @@ module _ {F : Type 0} (K : FieldOn F) (N : IsField K) where
     pub next : (k : ℕ) (d : ℕ × F) → i ≤ k → k < length p → n ≤ (get_or p k d).0
 
   -- one more of the same exponent
-  pub merged_more : (p c : List (ℕ × F)) (i n : ℕ) (s t : F) (x : ℕ × F) → IsMerged p c i n s → i < length p → x ≡ get_or p i x → x.0 ≡ n → t ≡ K.plus s x.1 → IsMerged p c (i + 1) n t
+  merged_more : (p c : List (ℕ × F)) (i n : ℕ) (s t : F) (x : ℕ × F) → IsMerged p c i n s → i < length p → x ≡ get_or p i x → x.0 ≡ n → t ≡ K.plus s x.1 → IsMerged p c (i + 1) n t
   merged_more p c i n s t x h l e f g = record {
     sparse = h.sparse;
     above = h.above;
@@ -40,7 +40,7 @@ module _ {F : Type 0} (K : FieldOn F) (N : IsField K) where
   }
 
   -- the exponent is done, and the next one begins
-  pub merged_next : (p c e : List (ℕ × F)) (i n : ℕ) (s : F) (x : ℕ × F) → IsMerged p c i n s → IsNonDecreasingBy (λ y. y.0) p → i < length p → x ≡ get_or p i x → x.0 ≢ n → IsSparse K e → of_pairs K e ≡ added K (of_pairs K c) (monomial K n s) → ((m : ℕ) → n < m → All (λ y. y.0 < m) e) → IsMerged p e i x.0 K.zero
+  merged_next : (p c e : List (ℕ × F)) (i n : ℕ) (s : F) (x : ℕ × F) → IsMerged p c i n s → IsNonDecreasingBy (λ y. y.0) p → i < length p → x ≡ get_or p i x → x.0 ≢ n → IsSparse K e → of_pairs K e ≡ added K (of_pairs K c) (monomial K n s) → ((m : ℕ) → n < m → All (λ y. y.0 < m) e) → IsMerged p e i x.0 K.zero
   merged_next p c e i n s x h rises l is ne sparse sum below =
       let up : n ≤ (get_or p i x).0 = h.next i x (omega arith) l in
       let same : x.0 ≡ (get_or p i x).0 = ap (λ t. t.0) is in

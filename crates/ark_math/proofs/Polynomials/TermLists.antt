@@ -92,7 +92,7 @@ module _ {F T : Type 0} (K : FieldOn F) (N : IsField K) (key : T → List (ℕ �
       h)
       (order.total c.1 d.1)
 
-  pub sorted_nothing : (cs : List (F × T)) → AllPairs (λ c d. below c.1 d.1) cs → All (λ c. c.0 ≢ K.zero) cs → of_terms K (keyed key cs) ≡ nothing K → cs ≡ []
+  sorted_nothing : (cs : List (F × T)) → AllPairs (λ c d. below c.1 d.1) cs → All (λ c. c.0 ≢ K.zero) cs → of_terms K (keyed key cs) ≡ nothing K → cs ≡ []
   sorted_nothing [] f s e = refl
   sorted_nothing (c ∷ cs) f s e = absurd (s 0 c (omega arith) (sym (first_coefficient c cs f) ∙ ap (λ a. a (key c.1)) e))
 

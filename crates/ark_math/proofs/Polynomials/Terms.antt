@@ -103,7 +103,7 @@ term_value-append K N x (p ∷ ps) qs =
 pub IsTerm-nil : IsTerm []
 IsTerm-nil = record { rising = λ i j d l m. absurd (omega arith); some = λ k d l. absurd (omega arith); fits = omega arith }
 
-pub IsTerm-tail : (p : ℕ × ℕ) (ps : List (ℕ × ℕ)) → IsTerm (p ∷ ps) → IsTerm ps
+IsTerm-tail : (p : ℕ × ℕ) (ps : List (ℕ × ℕ)) → IsTerm (p ∷ ps) → IsTerm ps
 IsTerm-tail p ps h = record {
   rising = λ i j d l m. h.rising (suc i) (suc j) d (omega arith) (omega arith);
   some = λ k d l. h.some (suc k) d (omega arith);
@@ -114,13 +114,13 @@ module _ (p : ℕ × ℕ) (ps : List (ℕ × ℕ)) (h : IsTerm (p ∷ ps)) where
   after_first : All (λ q. p.0 < q.0) ps
   after_first k d l = h.rising 0 (suc k) d (omega arith) (omega arith)
 
-  pub power_of-first : power_of (p ∷ ps) p.0 ≡ p.1
+  power_of-first : power_of (p ∷ ps) p.0 ≡ p.1
   power_of-first =
       power_of-same p ps p.0 refl
       ∙ ap (λ n. p.1 + n) (power_of-absent ps p.0 (λ k d l e. let m = after_first k d l in omega (arith, m, e)))
       ∙ omega arith
 
-  pub power_of-before : (v : ℕ) → v < p.0 → power_of (p ∷ ps) v ≡ 0
+  power_of-before : (v : ℕ) → v < p.0 → power_of (p ∷ ps) v ≡ 0
   power_of-before v l =
       power_of-other p ps v (λ e. omega arith) ∙ power_of-absent ps v (λ k d b e. let m = after_first k d b in omega (arith, m, e, l))
 

@@ -44,7 +44,7 @@ module _ {F : Type 0} (K : FieldOn F) (z : F → Bool) (decides : (x : F) → De
   pub trim_of-trimmed : (c : List F) → IsTrimmed K c → trim z c ≡ c
   trim_of-trimmed c t = same_trimmed K (trim z c) c (trim-trimmed c) t (trim-same c)
 
-  pub trim_Decides : {eq : F → F → Bool} → ((a b : F) → Decides (eq a b) (a ≡ b)) → (c d : List F) → Decides (pointwise eq (trim z c) (trim z d)) (of_list K c ≡ of_list K d)
+  trim_Decides : {eq : F → F → Bool} → ((a b : F) → Decides (eq a b) (a ≡ b)) → (c d : List F) → Decides (pointwise eq (trim z c) (trim z d)) (of_list K c ≡ of_list K d)
   trim_Decides same c d =
       let w = trimmed_Decides K same (trim z c) (trim z d) (trim-trimmed c) (trim-trimmed d) in
       (λ h. sym (trim-same c) ∙ w.0 h ∙ trim-same d, λ h. w.1 (trim-same c ∙ h ∙ sym (trim-same d)))

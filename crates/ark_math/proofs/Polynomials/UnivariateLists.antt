@@ -92,7 +92,7 @@ module _ {F : Type 0} (K : FieldOn F) where
   trimmed_degree_is c d t h = one_degree K (of_list K c) d (length c - 1) h (trimmed_degree c t)
 
   -- a trimmed list with an item denotes no zero
-  pub trimmed_some : (c : List F) → IsTrimmed K c → 0 < length c → of_list K c ≢ nothing K
+  trimmed_some : (c : List F) → IsTrimmed K c → 0 < length c → of_list K c ≢ nothing K
   trimmed_some c t l e = t l (ap (λ a. a (length c - 1)) e)
 
   -- of two trimmed lists: the second denotes no zero, or both denote zero, or the first alone does not

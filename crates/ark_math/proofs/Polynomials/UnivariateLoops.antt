@@ -86,7 +86,7 @@ module _ {F : Type 0} (K : FieldOn F) (N : IsField K) where
   rows-none a b = ap (λ t. product K t b) (cut-none K a) ∙ nothing-product K N b
 
   -- a whole row
-  pub rows-row : (a b : ℕ → F) (i : ℕ) → added K (product K (cut K i a) b) (product K (monomial K i (a i)) b) ≡ product K (cut K (i + 1) a) b
+  rows-row : (a b : ℕ → F) (i : ℕ) → added K (product K (cut K i a) b) (product K (monomial K i (a i)) b) ≡ product K (cut K (i + 1) a) b
   rows-row a b i = sym (ap (λ t. product K t b) (cut-more i a) ∙ added-product K N (cut K i a) (monomial K i (a i)) b)
 
   pub rows-begin : (a b : ℕ → F) (i : ℕ) → rows K a b i 0 ≡ product K (cut K i a) b
@@ -97,7 +97,7 @@ module _ {F : Type 0} (K : FieldOn F) (N : IsField K) where
   pub rows-end : (a b : ℕ → F) (i n : ℕ) → IsBelow K n b → rows K a b i n ≡ product K (cut K (i + 1) a) b
   rows-end a b i n f = ap (λ t. added K (product K (cut K i a) b) (product K (monomial K i (a i)) t)) (cut-all K n b f) ∙ rows-row a b i
 
-  pub rows-more : (a b : ℕ → F) (i j : ℕ) → rows K a b i (j + 1) ≡ added K (rows K a b i j) (monomial K (i + j) (K.times (a i) (b j)))
+  rows-more : (a b : ℕ → F) (i j : ℕ) → rows K a b i (j + 1) ≡ added K (rows K a b i j) (monomial K (i + j) (K.times (a i) (b j)))
   rows-more a b i j =
       let m = monomial K i (a i) in
       ap (added K (product K (cut K i a) b))
@@ -106,10 +106,10 @@ module _ {F : Type 0} (K : FieldOn F) (N : IsField K) where
       ∙ ap (added K (product K m (cut K j b))) (monomial-monomial K N i j (a i) (b j)))
       ∙ sym ((coefficients_are_module K N).plus_assoc (product K (cut K i a) b) (product K m (cut K j b)) (monomial K (i + j) (K.times (a i) (b j))))
 
-  pub rows-same : (a b : ℕ → F) (i j : ℕ) → rows K a b i (j + 1) (i + j) ≡ K.plus (rows K a b i j (i + j)) (K.times (a i) (b j))
+  rows-same : (a b : ℕ → F) (i j : ℕ) → rows K a b i (j + 1) (i + j) ≡ K.plus (rows K a b i j (i + j)) (K.times (a i) (b j))
   rows-same a b i j = ap (λ t. t (i + j)) (rows-more a b i j) ∙ ap (K.plus (rows K a b i j (i + j))) (monomial-same K (i + j) (K.times (a i) (b j)))
 
-  pub rows-other : (a b : ℕ → F) (i j k : ℕ) → k ≢ i + j → rows K a b i (j + 1) k ≡ rows K a b i j k
+  rows-other : (a b : ℕ → F) (i j k : ℕ) → k ≢ i + j → rows K a b i (j + 1) k ≡ rows K a b i j k
   rows-other a b i j k ne =
       ap (λ t. t k) (rows-more a b i j)
       ∙ ap (K.plus (rows K a b i j k)) (monomial-other K (i + j) (K.times (a i) (b j)) k (λ e. ne (sym e)))

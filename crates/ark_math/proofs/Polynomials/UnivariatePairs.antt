@@ -35,7 +35,7 @@ module _ {F : Type 0} (K : FieldOn F) (N : IsField K) where
       (λ (ne : n ≢ i). ap₂ K.plus (monomial-other K n c i ne) (monomial-other K n e i ne) ∙ N.plus_zero K.zero ∙ sym (monomial-other K n (K.plus c e) i ne))
       (cases_eq n i))
 
-  pub of_pairs-append : (p q : List (ℕ × F)) → of_pairs K (p ++ q) ≡ added K (of_pairs K p) (of_pairs K q)
+  of_pairs-append : (p q : List (ℕ × F)) → of_pairs K (p ++ q) ≡ added K (of_pairs K p) (of_pairs K q)
   of_pairs-append [] q = sym (zero_plus (coefficients_are_module K N) (of_pairs K q))
   of_pairs-append (x ∷ p) q =
       ap (added K (monomial K x.0 x.1)) (of_pairs-append p q)
@@ -44,7 +44,7 @@ module _ {F : Type 0} (K : FieldOn F) (N : IsField K) where
   pub of_pairs-push : (p : List (ℕ × F)) (x : ℕ × F) → of_pairs K (p ++ x ∷ []) ≡ added K (of_pairs K p) (monomial K x.0 x.1)
   of_pairs-push p x = of_pairs-append p (x ∷ []) ∙ ap (added K (of_pairs K p)) ((coefficients_are_module K N).plus_zero (monomial K x.0 x.1))
 
-  pub value-of_pairs_push : (x : ℕ × F) (p : List (ℕ × F)) (y z : F) → IsValue K (of_pairs K p) y z → IsValue K (of_pairs K (p ++ x ∷ [])) y (K.plus z (K.times (power K y x.0) x.1))
+  value-of_pairs_push : (x : ℕ × F) (p : List (ℕ × F)) (y z : F) → IsValue K (of_pairs K p) y z → IsValue K (of_pairs K (p ++ x ∷ [])) y (K.plus z (K.times (power K y x.0) x.1))
   value-of_pairs_push x p y z h =
       subst (λ t. IsValue K t y (K.plus z (K.times (power K y x.0) x.1))) (sym (of_pairs-push p x))
       (value-added K N (of_pairs K p) (monomial K x.0 x.1) y z (K.times (power K y x.0) x.1) h (value-monomial K N x.0 x.1 y))
@@ -84,7 +84,7 @@ module _ {F : Type 0} (K : FieldOn F) (N : IsField K) where
   of_pairs-first x p h =
       ap₂ K.plus (monomial-same K x.0 x.1) (of_pairs-absent p x.0 (λ k d l e. let m = after_first x p h k d l in omega arith)) ∙ N.plus_zero x.1
 
-  pub of_pairs-before : (x : ℕ × F) (p : List (ℕ × F)) (i : ℕ) → AllPairs (λ p q. p.0 < q.0) (x ∷ p) → i < x.0 → of_pairs K (x ∷ p) i ≡ K.zero
+  of_pairs-before : (x : ℕ × F) (p : List (ℕ × F)) (i : ℕ) → AllPairs (λ p q. p.0 < q.0) (x ∷ p) → i < x.0 → of_pairs K (x ∷ p) i ≡ K.zero
   of_pairs-before x p i h l =
       ap₂ K.plus (monomial-other K x.0 x.1 i (λ e. omega arith)) (of_pairs-absent p i (λ k d b e. let m = after_first x p h k d b in omega arith)) ∙ N.plus_zero K.zero
 
@@ -132,7 +132,7 @@ module _ {F : Type 0} (K : FieldOn F) (N : IsField K) where
   sparse_nothing p s e = same_sparse p [] s sparse-nil e
 
   -- its degree is its last exponent
-  pub sparse_degree : (p : List (ℕ × F)) (k : ℕ) (x : ℕ × F) → IsSparse K p → k + 1 ≡ length p → ((d : ℕ × F) → get_or p k d ≡ x) → IsDegree K (of_pairs K p) x.0
+  sparse_degree : (p : List (ℕ × F)) (k : ℕ) (x : ℕ × F) → IsSparse K p → k + 1 ≡ length p → ((d : ℕ × F) → get_or p k d ≡ x) → IsDegree K (of_pairs K p) x.0
   sparse_degree p k x h l is = record {
     rest = λ i b. of_pairs-absent p i (λ j d m e.
         let last : (get_or p k d).0 ≡ x.0 = ap (λ t. t.0) (is d) in

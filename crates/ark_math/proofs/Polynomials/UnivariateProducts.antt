@@ -53,7 +53,7 @@ module _ {F : Type 0} (K : FieldOn F) (N : IsField K) where
       (λ i l. N.times_plus (a i) (b (k - i)) (c (k - i)))
       ∙ sum_below-plus whole (suc k) (λ i. K.times (a i) (b (k - i))) (λ i. K.times (a i) (c (k - i))))
 
-  pub product-opposite : (a b : ℕ → F) → product K a (opposite K b) ≡ opposite K (product K a b)
+  product-opposite : (a b : ℕ → F) → product K a (opposite K b) ≡ opposite K (product K a b)
   product-opposite a b = fun_ext (λ k.
       sum_below-same (itself K) (suc k) (λ i. K.times (a i) (K.negated (b (k - i)))) (λ i. K.negated (K.times (a i) (b (k - i))))
       (λ i l. ring2 K N (λ a b. (a ⊗ negative b, negative (a ⊗ b))) refl _ _)
@@ -136,7 +136,7 @@ module _ {F : Type 0} (K : FieldOn F) (N : IsField K) where
 
   -- ---- the value
 
-  pub value_below-product : (m n : ℕ) (a b : ℕ → F) (x : F) → IsBelow K m a → IsBelow K n b → value_below K (m + n) (product K a b) x ≡ K.times (value_below K m a x) (value_below K n b x)
+  value_below-product : (m n : ℕ) (a b : ℕ → F) (x : F) → IsBelow K m a → IsBelow K n b → value_below K (m + n) (product K a b) x ≡ K.times (value_below K m a x) (value_below K n b x)
   value_below-product m n a b x f g =
       let p : ℕ → F = λ i. K.times (power K x i) (a i) in
       let q : ℕ → F = λ j. K.times (power K x j) (b j) in

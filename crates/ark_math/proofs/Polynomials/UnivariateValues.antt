@@ -18,17 +18,17 @@ use Rattle.ark_math.proofs.Polynomials.UnivariateLists.{of_list-below, trimmed-n
 -- ---- Horner's step, from the last item to the first
 
 module _ {F M : Type 0} {K : FieldOn F} {V : ModuleOn F M} (L : IsModule K V) where
-  pub horner : (n : ℕ) (a : ℕ → M) (x : F) → sum_below V (suc n) (λ i. V.scale (power K x i) (a i)) ≡ V.plus (a 0) (V.scale x (sum_below V n (λ i. V.scale (power K x i) (a (suc i)))))
+  horner : (n : ℕ) (a : ℕ → M) (x : F) → sum_below V (suc n) (λ i. V.scale (power K x i) (a i)) ≡ V.plus (a 0) (V.scale x (sum_below V n (λ i. V.scale (power K x i) (a (suc i)))))
   horner n a x =
       sum_below-first L n (λ i. V.scale (power K x i) (a i))
       ∙ ap₂ V.plus (L.one_scale (a 0))
       (sum_below-same V n (λ i. V.scale (power K x (suc i)) (a (suc i))) (λ i. V.scale x (V.scale (power K x i) (a (suc i)))) (λ i l. L.times_scale x (power K x i) (a (suc i)))
       ∙ sum_below-scale L n x (λ i. V.scale (power K x i) (a (suc i))))
 
-  pub value_at-cons : (c : List M) (y : M) (x : F) → value_at K V (y ∷ c) x ≡ V.plus y (V.scale x (value_at K V c x))
+  value_at-cons : (c : List M) (y : M) (x : F) → value_at K V (y ∷ c) x ≡ V.plus y (V.scale x (value_at K V c x))
   value_at-cons c y x = horner (length c) (item V (y ∷ c)) x
 
-  pub value_at-drop : (c : List M) (i : ℕ) (x : F) → i < length c → value_at K V (drop i c) x ≡ V.plus (item V c i) (V.scale x (value_at K V (drop (i + 1) c) x))
+  value_at-drop : (c : List M) (i : ℕ) (x : F) → i < length c → value_at K V (drop i c) x ≡ V.plus (item V c i) (V.scale x (value_at K V (drop (i + 1) c) x))
   value_at-drop c i x l = ap (λ t. value_at K V t x) (drop_more c i V.zero l) ∙ value_at-cons (drop (i + 1) c) (item V c i) x
 
 -- ---- values
@@ -40,7 +40,7 @@ module _ {F : Type 0} (K : FieldOn F) (N : IsField K) where
       sum_below-past (itself_is_module K N) m n (λ i. K.times (power K x i) (a i)) l
       (λ i h _. ap (K.times (power K x i)) (b i h) ∙ scale_zero (itself_is_module K N) (power K x i))
 
-  pub value_below-two : (m n : ℕ) (a : ℕ → F) (x : F) → IsBelow K m a → IsBelow K n a → value_below K m a x ≡ value_below K n a x
+  value_below-two : (m n : ℕ) (a : ℕ → F) (x : F) → IsBelow K m a → IsBelow K n a → value_below K m a x ≡ value_below K n a x
   value_below-two m n a x f g =
       ⊎_elim
       (λ (l : m < n). sym (value_below-past m n a x (omega arith) f))
@@ -66,7 +66,7 @@ module _ {F : Type 0} (K : FieldOn F) (N : IsField K) where
       (λ i l. N.times_plus (power K x i) (a i) (b i))
       ∙ sum_below-plus (itself_is_module K N) n (λ i. K.times (power K x i) (a i)) (λ i. K.times (power K x i) (b i))
 
-  pub value_below-opposite : (n : ℕ) (a : ℕ → F) (x : F) → value_below K n (opposite K a) x ≡ K.negated (value_below K n a x)
+  value_below-opposite : (n : ℕ) (a : ℕ → F) (x : F) → value_below K n (opposite K a) x ≡ K.negated (value_below K n a x)
   value_below-opposite n a x =
       sum_below-same (itself K) n (λ i. K.times (power K x i) (K.negated (a i))) (λ i. K.negated (K.times (power K x i) (a i)))
       (λ i l. ring2 K N (λ p a. (p ⊗ negative a, negative (p ⊗ a))) refl _ _)

@@ -65,7 +65,7 @@ odd_part (suc b) q c d P e above =
           ]
     ]
 
-pub prime_part : (a b q c d : ℕ) → (b ≡ 0) ⊎ IsPrime q → d * c ≡ 2 ^ a * q ^ b → 1 < c → ((0 < a) × (c % 2 ≡ 0)) ⊎ ((0 < b) × (c % q ≡ 0))
+prime_part : (a b q c d : ℕ) → (b ≡ 0) ⊎ IsPrime q → d * c ≡ 2 ^ a * q ^ b → 1 < c → ((0 < a) × (c % 2 ≡ 0)) ⊎ ((0 < b) × (c % q ≡ 0))
 prime_part zero b q c d P e above = inr (odd_part b q c d P (e ∙ ap (λ y. y * q ^ b) (pow-zero 2) ∙ one-mul (q ^ b)) above)
 prime_part (suc a) b q c d P e above =
     let f : d * c ≡ 2 ^ a * q ^ b * 2 = e ∙ ap (λ y. y * q ^ b) (pow-suc 2 a) ∙ mul_right_comm (2 ^ a) 2 (q ^ b) in

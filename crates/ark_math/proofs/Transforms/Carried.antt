@@ -28,7 +28,7 @@ pub record IsLinear {F G M X : Type 0} (g : F → G) (V : ModuleOn F M) (W : Mod
 abbrev pub carried : {F G : Type 0} → (F → G) → Domain F → Domain G
 carried g d = record { kind = d.kind; size = d.size; root = g d.root; offset = g d.offset }
 
-pub map-tabulate_from : {F G : Type 0} (h : F → G) (i n : ℕ) (f : ℕ → F) → map h (tabulate_from i n f) ≡ tabulate_from i n (λ k. h (f k))
+map-tabulate_from : {F G : Type 0} (h : F → G) (i n : ℕ) (f : ℕ → F) → map h (tabulate_from i n f) ≡ tabulate_from i n (λ k. h (f k))
 map-tabulate_from h i zero f = refl
 map-tabulate_from h i (suc n) f = ap (λ t. h (f i) ∷ t) (map-tabulate_from h (suc i) n f)
 
@@ -36,7 +36,7 @@ pub map-tabulate : {F G : Type 0} (h : F → G) (n : ℕ) (f : ℕ → F) → ma
 map-tabulate h n f = map-tabulate_from h 0 n f
 
 -- a field's values are carried as those of a module
-pub itself_linear : {F G : Type 0} {K : FieldOn F} {L : FieldOn G} {g : F → G} → Carries K L g → IsLinear g (itself K) (itself L) g
+itself_linear : {F G : Type 0} {K : FieldOn F} {L : FieldOn G} {g : F → G} → Carries K L g → IsLinear g (itself K) (itself L) g
 itself_linear C = record { zero_kept = C.zero_kept; plus_kept = C.plus_kept; scale_kept = C.times_kept }
 
 -- and so are the meanings of a module that is the field itself, with the same scalars
@@ -67,7 +67,7 @@ module _ {F G : Type 0} {K : FieldOn F} {L : FieldOn G} {g : F → G} (C : Carri
     pub fit-linear : (c : List M) (n : ℕ) → map h (fit V c n) ≡ fit W (map h c) n
     fit-linear c n = map-tabulate h n (item V c) ∙ tabulate-same n (λ i. h (item V c i)) (item W (map h c)) (λ i l. item-linear c i)
 
-    pub value_at-linear : (c : List M) (x : F) → h (value_at K V c x) ≡ value_at L W (map h c) (g x)
+    value_at-linear : (c : List M) (x : F) → h (value_at K V c x) ≡ value_at L W (map h c) (g x)
     value_at-linear c x =
         sum_below-linear (length c) (λ i. V.scale (power K x i) (item V c i))
         ∙ sum_below-same W (length c) _ (λ i. W.scale (power L (g x) i) (item W (map h c) i))

@@ -50,7 +50,7 @@ module _ {F M : Type 0} {K : FieldOn F} {V : ModuleOn F M} (N : IsField K) (L : 
         ∙ returned N L d.root root.0 d.size order root.1 b k l)))
 
     -- lists of the domain's size are told apart by their transforms
-    pub transform_tells : HasOrder K d.root d.size → natural K d.size ≢ K.zero → d.offset ≢ K.zero → (u u1 : List M) → length u ≡ d.size → length u1 ≡ d.size → transform K V d u ≡ transform K V d u1 → u ≡ u1
+    transform_tells : HasOrder K d.root d.size → natural K d.size ≢ K.zero → d.offset ≢ K.zero → (u u1 : List M) → length u ≡ d.size → length u1 ≡ d.size → transform K V d u ≡ transform K V d u1 → u ≡ u1
     transform_tells order ne off u u1 a b h =
         ext_get_or V.zero u u1 (a ∙ sym b)
         (λ k l. let m : k < d.size = rw a at l in same_items order ne off u u1 h k m)
