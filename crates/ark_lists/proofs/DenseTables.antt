@@ -41,7 +41,7 @@ equal_tables K eq decides c d m n left right =
     )
 
 -- zero of no variables is one value, zero
-pub is_zero_table : {F : Type 0} (K : FieldOn F) (v : List F) (n : ℕ) (x : F) → length v ≡ 2 ^ n → n ≡ 0 → x ≡ get_or v 0 x → x ≡ K.zero → listed K n v ≡ zero_table K
+is_zero_table : {F : Type 0} (K : FieldOn F) (v : List F) (n : ℕ) (x : F) → length v ≡ 2 ^ n → n ≡ 0 → x ≡ get_or v 0 x → x ≡ K.zero → listed K n v ≡ zero_table K
 is_zero_table K v n x whole none is zero =
     let one : length v ≡ 1 = whole ∙ ap (λ k. 2 ^ k) none in
     same_table (listed K n v) (zero_table K) none

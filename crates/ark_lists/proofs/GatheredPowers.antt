@@ -6,11 +6,11 @@ use Rattle.std.proofs.lemmas.List.{get_or_default}
 use Rattle.std.proofs.lemmas.List.Sums.{sum_by_more, sum_by-take-le}
 use Rattle.ark_math.specs.Term.{IsTerm, power_of, total_degree}
 
-pub if_plus : (b : Bool) (m n : ℕ) → (if b then m + n else 0) ≡ (if b then m else 0) + (if b then n else 0)
+if_plus : (b : Bool) (m n : ℕ) → (if b then m + n else 0) ≡ (if b then m else 0) + (if b then n else 0)
 if_plus true m n = refl
 if_plus false m n = refl
 
-pub if_zero : (b : Bool) (m : ℕ) → m ≡ 0 → (if b then m else 0) ≡ 0
+if_zero : (b : Bool) (m : ℕ) → m ≡ 0 → (if b then m else 0) ≡ 0
 if_zero true m e = e
 if_zero false m e = refl
 

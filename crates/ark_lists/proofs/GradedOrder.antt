@@ -212,7 +212,7 @@ first_greater (p ∷ ps) (q ∷ qs) left right some totals h =
 
 -- ---- the order of terms
 
-pub above_from_greater : (s t : List (ℕ × ℕ)) → IsTerm s → IsTerm t → graded_cmp s t ≡ Greater → IsAbove s t
+above_from_greater : (s t : List (ℕ × ℕ)) → IsTerm s → IsTerm t → graded_cmp s t ≡ Greater → IsAbove s t
 above_from_greater s t left right h =
     ⊎_elim
     (λ a. inl (nat_greater (total_degree s) (total_degree t) a))
@@ -237,7 +237,7 @@ first_one_way s t v w h k =
     d)
     (cases_order v w)
 
-pub above_one_way : (s t : List (ℕ × ℕ)) → IsAbove s t → IsAbove t s → ⊥
+above_one_way : (s t : List (ℕ × ℕ)) → IsAbove s t → IsAbove t s → ⊥
 above_one_way s t (inl a) (inl b) = omega arith
 above_one_way s t (inl a) (inr b) = let e = b.0 in omega arith
 above_one_way s t (inr a) (inl b) = let e = a.0 in omega arith
@@ -249,7 +249,7 @@ graded_same s t h = (same_term_Decides s t).0 (graded_ties s t ∙ ap is_eq h)
 turned : (s t : List (ℕ × ℕ)) → graded_cmp s t ≡ Less → graded_cmp t s ≡ Greater
 turned s t h = graded_total.antisymm t s ∙ ap ordering_reverse h
 
-pub greater_from_above : (s t : List (ℕ × ℕ)) → IsTerm s → IsTerm t → IsAbove s t → graded_cmp s t ≡ Greater
+greater_from_above : (s t : List (ℕ × ℕ)) → IsTerm s → IsTerm t → IsAbove s t → graded_cmp s t ≡ Greater
 greater_from_above s t left right h = go (graded_cmp s t) refl
   where
     go : (o : Ordering) → graded_cmp s t ≡ o → o ≡ Greater

@@ -78,7 +78,7 @@ module _ {F : Type 0} (K : FieldOn F) (N : IsField K) where
       ∙ ap (λ t. written K.zero t b) (sym (take_next K N ps i p l is)))
 
   -- one more entry is bound
-  pub bound_more : (es : List (ℕ × F)) (p : List F) (i : ℕ) (e : ℕ × F) (k : ℕ) (w : F) (s t : ℕ → F) → s ≡ fixed K (of_pairs K (take i es)) p → i < length es → e ≡ get_or es i e
+  bound_more : (es : List (ℕ × F)) (p : List F) (i : ℕ) (e : ℕ × F) (k : ℕ) (w : F) (s t : ℕ → F) → s ≡ fixed K (of_pairs K (take i es)) p → i < length es → e ≡ get_or es i e
       → k ≡ e.0 / 2 ^ length p → w ≡ K.times e.1 (weight K p (e.0 % 2 ^ length p)) → t ≡ added K s (monomial K k w) → t ≡ fixed K (of_pairs K (take (i + 1) es)) p
   bound_more es p i e k w s t h l is f g j =
       j

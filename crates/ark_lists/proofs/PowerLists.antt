@@ -19,7 +19,7 @@ highest_bit n b low high =
     ap (λ t. t / 2 ^ b) e ∙ shr_high 1 b (n - 2 ^ b) rest
 
 -- the next lower bit
-pub next_bit : (n b : ℕ) → 0 < b → n / 2 ^ (b - 1) / 2 ≡ n / 2 ^ b
+next_bit : (n b : ℕ) → 0 < b → n / 2 ^ (b - 1) / 2 ≡ n / 2 ^ b
 next_bit n b pos =
     let e : b - 1 + 1 ≡ b = omega arith in
     shr-shr n (b - 1) 1 ∙ ap (λ k. n / 2 ^ k) e

@@ -127,10 +127,10 @@ module _ {F : Type 0} (s : ℕ → ℕ) (t : ℕ → F) where
   pub exchanged_below-inside : (i c : ℕ) → min c (s c) < i → exchanged_below s i t c ≡ t (s c)
   exchanged_below-inside i c l = cond-true (nat_lt (min c (s c)) i) (t (s c)) (t c) (lt-ltb (min c (s c)) i l)
 
-  pub exchanged_below-outside : (i c : ℕ) → i ≤ min c (s c) → exchanged_below s i t c ≡ t c
+  exchanged_below-outside : (i c : ℕ) → i ≤ min c (s c) → exchanged_below s i t c ≡ t c
   exchanged_below-outside i c l = cond-false (nat_lt (min c (s c)) i) (t (s c)) (t c) (le-ltb (min c (s c)) i l)
 
-  pub exchanged_below-next : (i c : ℕ) → (min c (s c) ≡ i → t (s c) ≡ t c) → exchanged_below s i t c ≡ exchanged_below s (i + 1) t c
+  exchanged_below-next : (i c : ℕ) → (min c (s c) ≡ i → t (s c) ≡ t c) → exchanged_below s i t c ≡ exchanged_below s (i + 1) t c
   exchanged_below-next i c same = ⊎_elim
       (λ (l : min c (s c) < i). exchanged_below-inside i c l ∙ sym (exchanged_below-inside (i + 1) c (omega arith)))
       (λ (l : i ≤ min c (s c)). exchanged_below-outside i c l ∙ ⊎_elim

@@ -127,30 +127,41 @@ pub fn value_of_table<F: Field>(alloc: Global, table: &[F], point: &[F]) -> Resu
     Ok(left[0])
 }
 
-/// The index with its `k` bits from `a` on and its `k` bits from `b` on exchanged.
-pub fn exchanged_bits(index: usize, a: usize, b: usize, k: usize) -> usize
-    requires windows { ((a + k ≤ b) × (b + k ≤ 63)) ⊎ ((b + k ≤ a) × (a + k ≤ 63)) }
-    requires below { index < 2 ^ 63 }
-    ensures { result ≡ exchanged_index index a b k }
-{
-    let first = (index >> a) % (1 << k);
-    let second = (index >> b) % (1 << k);
-    index - ((first << a) + (second << b)) + ((second << a) + (first << b))
+/// Which variables change places: the `count` from `first` on with the `count` from `second` on. Where it is
+/// taken, `AreWindows` says that both windows are below the number of variables and share none, or that none
+/// moves.
+#[derive(Clone, Copy)]
+pub struct Exchange {
+    pub first: usize,
+    pub second: usize,
+    pub count: usize,
 }
 
-/// Exchanges the `k` variables from `a` on with the `k` from `b` on: the values at each two indices that
-/// change places are swapped once.
-pub fn relabel_table<F: Field>(table: &mut [F], a: usize, b: usize, k: usize)
-    requires { (m : ℕ) × (m < 64) × (length table.old ≡ 2 ^ m) × AreWindows m a b k }
-    ensures { (x : List F) → length table.old ≡ 2 ^ length x → AreWindows (length x) a b k
-        → extension F.field (of_list F.field table.new) x
-        ≡ extension F.field (of_list F.field table.old) (exchanged F.field x a b k) }
+/// The index with its bits at the places of these variables exchanged.
+pub fn exchanged_bits(index: usize, by: Exchange) -> usize
+    requires windows { ((by.first + by.count ≤ by.second) × (by.second + by.count ≤ 63))
+        ⊎ ((by.second + by.count ≤ by.first) × (by.first + by.count ≤ 63)) }
+    requires below { index < 2 ^ 63 }
+    ensures { result ≡ exchanged_index index by.first by.second by.count }
 {
-    if k == 0 || a == b {
+    let first = (index >> by.first) % (1 << by.count);
+    let second = (index >> by.second) % (1 << by.count);
+    index - ((first << by.first) + (second << by.second))
+        + ((second << by.first) + (first << by.second))
+}
+
+/// Exchanges variables: the values at each two indices that change places are swapped once.
+pub fn relabel_table<F: Field>(table: &mut [F], by: Exchange)
+    requires { (m : ℕ) × (m < 64) × (length table.old ≡ 2 ^ m) × AreWindows m by.first by.second by.count }
+    ensures { (x : List F) → length table.old ≡ 2 ^ length x → AreWindows (length x) by.first by.second by.count
+        → extension F.field (of_list F.field table.new) x
+        ≡ extension F.field (of_list F.field table.old) (exchanged F.field x by.first by.second by.count) }
+{
+    if by.count == 0 || by.first == by.second {
         return;
     }
     for i in 0..table.len() {
-        let j = exchanged_bits(i, a, b, k);
+        let j = exchanged_bits(i, by);
         if i < j {
             table.swap(i, j);
         }

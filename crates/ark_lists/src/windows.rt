@@ -10,7 +10,7 @@ ghost use Rattle.ark_math.proofs.Polynomials.Exchanged.{exchanged_index};
 ghost use Rattle.ark_lists.specs.Entries.{AreEntries};
 ghost use Rattle.ark_lists.specs.Held.{held};
 
-use crate::tables::exchanged_bits;
+use crate::tables::{Exchange, exchanged_bits};
 use ark_coeffs::dense::zeros;
 use ark_coeffs::sparse::{gathered_terms, is_sparse};
 use ark_traits::{Field, PolyError, log2};
@@ -141,47 +141,45 @@ pub fn bind_variables<F: Field>(
 fn exchanged_entries<F: Field>(
     alloc: Global,
     entries: &[(usize, F)],
-    a: usize,
-    b: usize,
-    k: usize,
+    by: Exchange,
 ) -> Result<Vec<(usize, F)>, PolyError>
-    requires windows { ((a + k ≤ b) × (b + k ≤ 63)) ⊎ ((b + k ≤ a) × (a + k ≤ 63)) }
+    requires windows { ((by.first + by.count ≤ by.second) × (by.second + by.count ≤ 63))
+        ⊎ ((by.second + by.count ≤ by.first) × (by.first + by.count ≤ 63)) }
     requires below { All (λ e. e.0 < 2 ^ 63) entries.now }
-    ensures moved { IfOk result (λ m. m.items ≡ map (λ e. (exchanged_index e.0 a b k, e.1)) entries.now) }
+    ensures moved { IfOk result (λ m. m.items
+        ≡ map (λ e. (exchanged_index e.0 by.first by.second by.count, e.1)) entries.now) }
     ensures memory { IsOkUnless result PolyError.Memory }
 {
     let mut moved = Vec::with_capacity(alloc, entries.len())?;
     for i in 0..entries.len() {
         let entry = entries[i];
-        moved.push((exchanged_bits(entry.0, a, b, k), entry.1))?;
+        moved.push((exchanged_bits(entry.0, by), entry.1))?;
     }
     Ok(moved)
 }
 
-/// The entries with the `k` variables from `a` on and the `k` from `b` on exchanged, by rising indices.
+/// The entries of the table with variables exchanged, by rising indices.
 pub fn relabel_entries<F: Field>(
     alloc: Global,
     num_vars: usize,
     entries: &[(usize, F)],
-    a: usize,
-    b: usize,
-    k: usize,
+    by: Exchange,
 ) -> Result<Vec<(usize, F)>, PolyError>
     requires few { num_vars < 64 }
-    requires windows { AreWindows num_vars a b k }
+    requires windows { AreWindows num_vars by.first by.second by.count }
     requires sparse { IsSparse F.field entries.now }
     requires within { All (λ e. e.0 < 2 ^ num_vars) entries.now }
     ensures sparse { IfOk result (λ e. IsSparse F.field e.items) }
     ensures within { IfOk result (λ e. All (λ p. p.0 < 2 ^ num_vars) e.items) }
     ensures values { IfOk result (λ e. (x : List F) → length x ≡ num_vars
         → extension F.field (of_pairs F.field e.items) x
-        ≡ extension F.field (of_pairs F.field entries.now) (exchanged F.field x a b k)) }
+        ≡ extension F.field (of_pairs F.field entries.now) (exchanged F.field x by.first by.second by.count)) }
     ensures memory { IsOkUnless result PolyError.Memory }
 {
-    if k == 0 || a == b {
+    if by.count == 0 || by.first == by.second {
         return Ok(Vec::from_slice(alloc, entries)?);
     }
-    gathered_terms(alloc, exchanged_entries(alloc, entries, a, b, k)?)
+    gathered_terms(alloc, exchanged_entries(alloc, entries, by)?)
 }
 
 /// What stands in a table of zeros after these pairs of index and value are written in order, so that the

@@ -27,7 +27,7 @@ module _ {X Z : Type 0} (layout : Format X) (fields : Z → X) (IsLawful : Z →
       (write_fields layout fields IsLawful a b z r law (subst (λ v. Writes layout v a b r) is w))
 
   -- fields without what those of all lawful values have, where a spelling tells what this depends on
-  pub fault_by_view : {V : Type 0} (view : X → V) → Tells view layout → (Kept : X → Type 0) → ((x y : X) → view x ≡ view y → Kept y → Kept x) → ((z : Z) → IsLawful z → Kept (fields z))
+  fault_by_view : {V : Type 0} (view : X → V) → Tells view layout → (Kept : X → Type 0) → ((x y : X) → view x ≡ view y → Kept y → Kept x) → ((z : Z) → IsLawful z → Kept (fields z))
       → (a b : SourceState) (x : X) → ¬ Kept x → TakesSpelling layout a b x → TakesFault (lawful layout fields IsLawful) a b
   fault_by_view view one Kept alike kept a b x lost t =
       unlawful layout fields IsLawful a b x (λ z has law e. lost (alike x (fields z) (one x (fields z) t.has has e) (kept z law))) t

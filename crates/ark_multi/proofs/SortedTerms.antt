@@ -116,7 +116,7 @@ module _ {F T : Type 0} (K : FieldOn F) (N : IsField K) {cmp : T → T → Order
 
   -- ---- one coefficient
 
-  pub of_listed-absent : (cs : List (F × T)) (t : List (ℕ × ℕ)) → All (λ c. listed c.1 ≢ t) cs → sum_of cs t ≡ K.zero
+  of_listed-absent : (cs : List (F × T)) (t : List (ℕ × ℕ)) → All (λ c. listed c.1 ≢ t) cs → sum_of cs t ≡ K.zero
   of_listed-absent [] t h = refl
   of_listed-absent (c ∷ cs) t h =
       ap₂ K.plus (single-other K (listed c.1) c.0 t (h 0 c (omega arith))) (of_listed-absent cs t (All-tail (λ c. listed c.1 ≢ t) c cs h)) ∙ N.plus_zero K.zero
@@ -127,7 +127,7 @@ module _ {F T : Type 0} (K : FieldOn F) (N : IsField K) {cmp : T → T → Order
   later : (c : F × T) (cs : List (F × T)) → AllPairs (λ c d. cmp c.1 d.1 ≡ Less) (c ∷ cs) → AllPairs (λ c d. cmp c.1 d.1 ≡ Less) cs
   later c cs h i j d l m = h (suc i) (suc j) d (omega arith) (omega arith)
 
-  pub of_listed-at : (cs : List (F × T)) (k : ℕ) (d : F × T) → AllPairs (λ c d. cmp c.1 d.1 ≡ Less) cs → k < length cs → sum_of cs (listed (get_or cs k d).1) ≡ (get_or cs k d).0
+  of_listed-at : (cs : List (F × T)) (k : ℕ) (d : F × T) → AllPairs (λ c d. cmp c.1 d.1 ≡ Less) cs → k < length cs → sum_of cs (listed (get_or cs k d).1) ≡ (get_or cs k d).0
   of_listed-at [] k d h l = absurd (omega arith)
   of_listed-at (c ∷ cs) zero d h l =
       ap₂ K.plus (single-same K (listed c.1) c.0)
@@ -139,19 +139,19 @@ module _ {F T : Type 0} (K : FieldOn F) (N : IsField K) {cmp : T → T → Order
       ∙ zero_plus (itself_is_module K N) x.0
 
   -- what holds of every term that has a coefficient
-  pub All-from_sum : (P : List (ℕ × ℕ) → Type 0) → ((t : List (ℕ × ℕ)) → P t ⊎ (¬ P t)) → (cs : List (F × T)) → AreRising K cmp cs → ((t : List (ℕ × ℕ)) → ¬ P t → sum_of cs t ≡ K.zero) → All (λ c. P (listed c.1)) cs
+  All-from_sum : (P : List (ℕ × ℕ) → Type 0) → ((t : List (ℕ × ℕ)) → P t ⊎ (¬ P t)) → (cs : List (F × T)) → AreRising K cmp cs → ((t : List (ℕ × ℕ)) → ¬ P t → sum_of cs t ≡ K.zero) → All (λ c. P (listed c.1)) cs
   All-from_sum P cases cs h none k d l =
       ⊎_elim (λ p. p) (λ n. absurd (h.not_zero k d l (sym (of_listed-at cs k d h.rising l) ∙ none (listed (get_or cs k d).1) n))) (cases (listed (get_or cs k d).1))
 
-  pub none_from_All : (P : List (ℕ × ℕ) → Type 0) → (cs : List (F × T)) → All (λ c. P (listed c.1)) cs → (t : List (ℕ × ℕ)) → ¬ P t → sum_of cs t ≡ K.zero
+  none_from_All : (P : List (ℕ × ℕ) → Type 0) → (cs : List (F × T)) → All (λ c. P (listed c.1)) cs → (t : List (ℕ × ℕ)) → ¬ P t → sum_of cs t ≡ K.zero
   none_from_All P cs h t n = of_listed-absent cs t (λ k d l e. n (subst P e (h k d l)))
 
   -- ---- rising lists
 
-  pub rising-nil : AreRising K cmp []
+  rising-nil : AreRising K cmp []
   rising-nil = record { rising = λ i j d l m. absurd (omega arith); not_zero = λ k d l. absurd (omega arith) }
 
-  pub rising_tail : (c : F × T) (cs : List (F × T)) → AreRising K cmp (c ∷ cs) → AreRising K cmp cs
+  rising_tail : (c : F × T) (cs : List (F × T)) → AreRising K cmp (c ∷ cs) → AreRising K cmp cs
   rising_tail c cs h = record { rising = later c cs h.rising; not_zero = All-tail (λ c. c.0 ≢ K.zero) c cs h.not_zero }
 
   -- below the first of a rising list is below all of it
@@ -302,7 +302,7 @@ module _ {F T : Type 0} (K : FieldOn F) (N : IsField K) {cmp : T → T → Order
     pub upto : All (λ x. All (λ r. cmp x.1 r.1 ≢ Greater) rest) done
     pub sum : added K (sum_of done) (sum_of rest) ≡ a
 
-  pub falling_sorted : (cs : List (F × T)) → IsSortedBy (λ x y. is_lt (cmp y.1 x.1)) cs → IsFalling cs
+  falling_sorted : (cs : List (F × T)) → IsSortedBy (λ x y. is_lt (cmp y.1 x.1)) cs → IsFalling cs
   falling_sorted cs h i j d l m e =
       let far : is_lt (cmp (get_or cs i d).1 (get_or cs j d).1) ≡ false =
       sorted_far (λ x y. is_lt (cmp y.1 x.1)) (IsStrictWeakOrder-flip (λ x y. is_lt (cmp x.1 y.1)) (ranks_by o.total (λ x. x.1))) cs h i j d (omega arith) m in

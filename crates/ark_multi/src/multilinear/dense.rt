@@ -14,7 +14,7 @@ mod bytes;
 use crate::multilinear::MultilinearExtension;
 use ark_coeffs::dense::{add_each, add_scaled, negate_each, scale_each, subtract_each};
 use ark_coeffs::draws::push_drawn;
-use ark_lists::tables::{fixed_table, relabel_table, value_of_table};
+use ark_lists::tables::{Exchange, fixed_table, relabel_table, value_of_table};
 use ark_traits::{Field, PolyError, Polynomial, log2};
 use rand::Rng;
 use std::alloc::{AllocError, Global};
@@ -353,7 +353,14 @@ impl<F: Field> DenseMultilinearExtension<F> {
         ensures variables { (dense_table F.field self.new).variables
             ≡ (dense_table F.field self.old).variables }
     {
-        relabel_table(self.evaluations.as_mut_slice(), a, b, k);
+        relabel_table(
+            self.evaluations.as_mut_slice(),
+            Exchange {
+                first: a,
+                second: b,
+                count: k,
+            },
+        );
     }
 
     /// Replaces the value at this index, one of the first `2^num_vars`.

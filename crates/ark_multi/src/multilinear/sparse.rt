@@ -15,6 +15,7 @@ use crate::multilinear::{DenseMultilinearExtension, MultilinearExtension};
 use ark_coeffs::multiple::Multiple;
 use ark_coeffs::sparse::sum_with_multiple;
 use ark_lists::draws::drawn_entries;
+use ark_lists::tables::Exchange;
 use ark_lists::windows::{
     bind_variables, relabel_entries, value_at, values_of_entries, written_entries,
 };
@@ -221,7 +222,16 @@ impl<F: Field> MultilinearExtension<F> for SparseMultilinearExtension<F> {
 
     fn relabel(&self, alloc: Global, a: usize, b: usize, k: usize) -> Result<Self, PolyError> {
         Ok(SparseMultilinearExtension {
-            evaluations: relabel_entries(alloc, self.num_vars, &self.evaluations, a, b, k)?,
+            evaluations: relabel_entries(
+                alloc,
+                self.num_vars,
+                &self.evaluations,
+                Exchange {
+                    first: a,
+                    second: b,
+                    count: k,
+                },
+            )?,
             num_vars: self.num_vars,
             zero: self.zero,
         })

@@ -248,7 +248,7 @@ impl<F: Field, T: Term> DenseMVPolynomial<F> for SparsePolynomial<F, T> {
         let constant = constant_term(alloc)?;
         terms.push((F::rand(rng), constant))?;
         for variable in 0..num_vars {
-            push_powers(alloc, &mut terms, variable, d, num_vars, rng)?;
+            push_powers(alloc, &mut terms, variable, d, rng)?;
         }
         Self::from_coefficients_vec(alloc, num_vars, terms)
     }
@@ -293,13 +293,12 @@ fn push_powers<F: Field, T: Term, R: Rng>(
     terms: &mut Vec<(F, T)>,
     variable: usize,
     d: usize,
-    num_vars: usize,
     rng: &mut R,
 ) -> Result<(), PolyError>
-    requires within { variable < num_vars }
-    requires old_within { All (λ c. IsWithin num_vars (T.listed c.1)) terms.old.items }
-    requires old_powers { All (λ c. IsOnePower d (T.listed c.1)) terms.old.items }
-    ensures within { OnOk result (All (λ c. IsWithin num_vars (T.listed c.1)) terms.new.items) }
+    requires { All (λ c. IsOnePower d (T.listed c.1)) terms.old.items }
+    ensures within { OnOk result ((n : ℕ) → variable < n
+        → All (λ c. IsWithin n (T.listed c.1)) terms.old.items
+        → All (λ c. IsWithin n (T.listed c.1)) terms.new.items) }
     ensures powers { OnOk result (All (λ c. IsOnePower d (T.listed c.1)) terms.new.items) }
     ensures memory { IsOkUnless result PolyError.Memory }
 {

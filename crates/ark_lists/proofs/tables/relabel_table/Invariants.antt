@@ -7,4 +7,4 @@ use Rattle.ark_lists.proofs.tables.relabel_table.Given as goal
 abbrev pub invariant-loop-i : goal.invariant-loop-i
 invariant-loop-i g l =
     let K = g.F.Field.field in
-    (c : ℕ) → of_list K l.table c ≡ exchanged_below (λ n. exchanged_index n l.a l.b l.k) l.i (of_list K l.initial.table) c
+    (c : ℕ) → of_list K l.table c ≡ exchanged_below (λ n. exchanged_index n l.by.first l.by.second l.by.count) l.i (of_list K l.initial.table) c

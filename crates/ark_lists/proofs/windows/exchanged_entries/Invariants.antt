@@ -3,4 +3,4 @@ use Rattle.ark_math.proofs.Polynomials.Exchanged.{exchanged_index}
 use Rattle.ark_lists.proofs.windows.exchanged_entries.Given as goal
 
 abbrev pub invariant-loop-i : goal.invariant-loop-i
-invariant-loop-i g l = l.moved.items ≡ map (λ e. (exchanged_index e.0 l.a l.b l.k, e.1)) (take l.i l.entries)
+invariant-loop-i g l = l.moved.items ≡ map (λ e. (exchanged_index e.0 l.by.first l.by.second l.by.count, e.1)) (take l.i l.entries)

@@ -15,7 +15,7 @@ loop-power-preserved g c =
     let is = c.in_ok-term.ensures.term in
     let upto : power ≤ c.args.d = omega arith in
     record {
-      within = subst (All (λ x. IsWithin c.args.num_vars (listed x.1))) (sym c.in_ok-push.ensures.items) (All-push (λ x. IsWithin c.args.num_vars (listed x.1)) old (c.rand.result, term) h.within (one_power-within c.args.num_vars c.args.variable power (listed term) is c.requires.within));
+      within = λ n below before. subst (All (λ x. IsWithin n (listed x.1))) (sym c.in_ok-push.ensures.items) (All-push (λ x. IsWithin n (listed x.1)) old (c.rand.result, term) (h.within n below before) (one_power-within n c.args.variable power (listed term) is below));
       powers = subst (All (λ x. IsOnePower c.args.d (listed x.1))) (sym c.in_ok-push.ensures.items) (All-push (λ x. IsOnePower c.args.d (listed x.1)) old (c.rand.result, term) h.powers (inr (c.args.variable, power, is, upto)));
     }
 

@@ -1,8 +1,17 @@
+use Rattle.std.proofs.Common.{◌<◌, arith}
 use Rattle.std.proofs.lemmas.List.Elements.{All-map}
 use Rattle.ark_math.specs.Term.{IsOnePower}
 use Rattle.ark_math.proofs.Outcomes.Results.{IfOk_more}
 use Rattle.ark_multi.proofs.SortedTerms.{term_order, same_sum_All, cases_one_power}
 use Rattle.ark_multi.proofs.multivariate.sparse.SparsePolynomialDenseMVPolynomial.rand.Goals as goal
+
+pub loop-variable-preserved : goal.loop-variable-preserved
+loop-variable-preserved g c =
+    let below : c.loop-variable.variable < c.args.num_vars = omega arith in
+    record {
+      within = c.in_ok-push_powers.ensures.within c.args.num_vars below c.loop-variable.invariant.within;
+      powers = c.in_ok-push_powers.ensures.powers;
+    }
 
 pub returns-clause-powers : goal.returns-clause-powers
 returns-clause-powers g c =
