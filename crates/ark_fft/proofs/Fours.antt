@@ -10,16 +10,17 @@ use Rattle.ark_math.proofs.Algebra.Powers.{power-mul}
 use Rattle.ark_math.proofs.Algebra.Sums.{sum_below-same}
 use Rattle.ark_math.proofs.Lists.Lists.{read_front, read_back, written_same, written_other}
 use Rattle.ark_traits.proofs.Cost.{grows_twice}
-use Rattle.ark_fft.specs.Halves.{reversed, AreLevels, IsHalfTable}
+use Rattle.ark_math.specs.BitReversal.{reversed}
+use Rattle.ark_fft.specs.Halves.{AreLevels, IsHalfTable}
 use Rattle.ark_fft.proofs.Halving.{one_level_to, four_items}
-use Rattle.ark_fft.proofs.Reversal.{pow_suc}
+use Rattle.ark_math.proofs.Numbers.PowersOfTwo.{pow_twice}
 
 -- as many items as blocks of four have
 pub fours : (n : ℕ) → 2 ≤ n → 2 ^ n ≡ 4 * 2 ^ (n - 2)
 fours n le =
     let m = n - 2 in
     let e : suc (suc m) ≡ n = omega (arith, le) in
-    ap (λ t. 2 ^ t) (sym e) ∙ omega (arith, pow_suc m, pow_suc (suc m))
+    ap (λ t. 2 ^ t) (sym e) ∙ omega (arith, pow_twice m, pow_twice (suc m))
 
 -- the levels above, and then two butterflies for two items
 pub fours_count : {before between after : Counts} (n len : ℕ) → 2 ≤ n → len ≡ 2 ^ n → GrowsBy (butterfly_counts (2 ^ n / 2 * (n - 2))) before between → GrowsBy (butterfly_counts (4 * (len / 4))) between after → GrowsBy (butterfly_counts (2 ^ n / 2 * n)) before after
@@ -37,9 +38,9 @@ below_levels : {F : Type 0} (K : FieldOn F) (N : IsField K) (j : ℕ) (w : F) (t
 below_levels K N zero w tables levels = subst (λ x. AreLevels K x 2 tables) (sym (N.times_one w)) levels
 below_levels K N (suc j) w tables levels =
     let h = 2 ^ suc (suc j) in
-    let twice : 2 * 2 ^ j ≡ 2 ^ suc j = omega (arith, pow_suc j) in
+    let twice : 2 * 2 ^ j ≡ 2 ^ suc j = omega (arith, pow_twice j) in
     let root : power K (power K w 2) (2 ^ j) ≡ power K w (2 ^ suc j) = sym (power-mul K N w 2 (2 ^ j)) ∙ ap (power K w) twice in
-    let there : h + (h - 4) ≡ 2 ^ suc (suc (suc j)) - 4 = omega (arith, pow_suc (suc (suc j)), pow_suc (suc j), pow_suc j, pow_pos j) in
+    let there : h + (h - 4) ≡ 2 ^ suc (suc (suc j)) - 4 = omega (arith, pow_twice (suc (suc j)), pow_twice (suc j), pow_twice j, pow_pos j) in
     subst (λ x. AreLevels K x 2 (drop (2 ^ suc (suc (suc j)) - 4) tables)) root
     (subst (AreLevels K (power K (power K w 2) (2 ^ j)) 2) (drop-drop (h - 4) h tables ∙ ap (λ t. drop t tables) there)
     (below_levels K N j (power K w 2) (drop h tables) levels.1))
@@ -124,7 +125,7 @@ module _ {F M X : Type 0} {K : FieldOn F} {V : ModuleOn F M} (N : IsField K) (L 
   level_of_blocks n w twiddles xs lo hi lo1 hi1 lo2 hi2 t some len joins len_lo len_lo2 sums differences of_lo of_hi p l =
       let j = n - 1 - 2 in
       let next : suc j ≡ n - 2 = omega arith in
-      let twice : 2 * 2 ^ j ≡ 2 ^ (n - 2) = omega (arith, pow_suc j) ∙ ap (λ u. 2 ^ u) next in
+      let twice : 2 * 2 ^ j ≡ 2 ^ (n - 2) = omega (arith, pow_twice j) ∙ ap (λ u. 2 ^ u) next in
       let root : power K w (2 ^ (n - 2)) ≡ power K (power K w 2) (2 ^ j) = ap (power K w) (sym twice) ∙ power-mul K N w 2 (2 ^ j) in
       let size : 2 ^ (n - 1) ≡ 4 * 2 ^ j = fours (n - 1) (omega arith) in
       let there : (u : ℕ) → of_block (power K w (2 ^ (n - 2))) (lo2 ++ hi2) (u / 4) (u % 4) ≡ of_block (power K (power K w 2) (2 ^ j)) (lo2 ++ hi2) (u / 4) (u % 4) = λ u.

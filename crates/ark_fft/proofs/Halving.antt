@@ -9,11 +9,13 @@ use Rattle.ark_math.specs.Field.{FieldOn, IsField, power}
 use Rattle.ark_math.specs.Root.{HasOrder}
 use Rattle.ark_math.specs.Module.{ModuleOn, IsModule, sum_below, item}
 use Rattle.ark_math.proofs.Transforms.Places.{dft_at}
-use Rattle.ark_fft.specs.Halves.{reversed, IsHalfTable, AreLevels}
+use Rattle.ark_math.specs.BitReversal.{reversed}
+use Rattle.ark_fft.specs.Halves.{IsHalfTable, AreLevels}
 use Rattle.ark_math.proofs.Algebra.Groups.{zero_plus}
 use Rattle.ark_math.proofs.Lists.Lists.{read_front, read_back, read_order}
 use Rattle.ark_math.proofs.Algebra.Powers.{power-add, power-mul, power_comm, negated_one_even, negated_one_odd, half_of_order}
-use Rattle.ark_fft.proofs.Reversal.{Half, low, high, half_of, pow_suc, reversed_low, reversed_high, reversed_below, reversed_twice}
+use Rattle.ark_math.proofs.Numbers.BitReversal.{Half, low, high, half_of, reversed_low, reversed_high, reversed_below, reversed_twice}
+use Rattle.ark_math.proofs.Numbers.PowersOfTwo.{pow_twice}
 use Rattle.ark_math.proofs.Algebra.Sums.{sum_below-same, sum_below-plus, sum_below-add}
 use Rattle.ark_math.proofs.Algebra.Solve.{◌⊗◌, ◌•◌, ◌⊞◌, ◌⊟◌, unit, negative}
 use Rattle.ark_math.proofs.Algebra.Ring.{module2_2}
@@ -34,7 +36,7 @@ some_level (suc n) size is l = omega arith
 
 pub one_item : (n size : ℕ) → size ≡ 2 ^ n → size ≤ 1 → n ≡ 0
 one_item zero size is l = refl
-one_item (suc n) size is l = absurd (omega (arith, pow_suc n, pow_pos n))
+one_item (suc n) size is l = absurd (omega (arith, pow_twice n, pow_pos n))
 
 -- the butterflies of e levels of 2 ^ n items: those of the topmost, and those of its halves
 pub count_levels : (n e : ℕ) → 0 < e → e ≤ n → 2 ^ n / 2 * e ≡ 2 ^ (n - 1) + (2 ^ (n - 1) / 2 * (e - 1) + 2 ^ (n - 1) / 2 * (e - 1))
@@ -43,18 +45,19 @@ count_levels n zero some within = absurd (omega arith)
 count_levels (suc zero) (suc zero) some within = refl
 count_levels (suc zero) (suc (suc j)) some within = absurd (omega arith)
 count_levels (suc (suc k)) (suc j) some within =
-    let a : 2 ^ suc (suc k) / 2 ≡ 2 ^ k + 2 ^ k = omega (arith, pow_suc (suc k), pow_suc k) in
-    let b : 2 ^ suc k / 2 ≡ 2 ^ k = omega (arith, pow_suc k) in
+    let twice : 2 ^ suc k ≡ 2 ^ k + 2 ^ k = omega (arith, pow_twice k) in
+    let a : 2 ^ suc (suc k) / 2 ≡ 2 ^ k + 2 ^ k = omega (arith, pow_twice (suc k), pow_twice k) in
+    let b : 2 ^ suc k / 2 ≡ 2 ^ k = omega (arith, pow_twice k) in
     let e : suc (suc k) - 1 ≡ suc k = omega arith in
     let f : suc j - 1 ≡ j = omega arith in
     let h : (2 ^ k + 2 ^ k) * suc j ≡ 2 ^ k + 2 ^ k + (2 ^ k * j + 2 ^ k * j) = omega arith in
     ap (λ t. t * suc j) a
     ∙ (h
-    ∙ sym (ap₂ (λ t u. 2 ^ t + (2 ^ t / 2 * u + 2 ^ t / 2 * u)) e f ∙ (ap (λ t. 2 ^ suc k + (t * j + t * j)) b ∙ ap (λ t. t + (2 ^ k * j + 2 ^ k * j)) (pow_suc k))))
+    ∙ sym (ap₂ (λ t u. 2 ^ t + (2 ^ t / 2 * u + 2 ^ t / 2 * u)) e f ∙ (ap (λ t. 2 ^ suc k + (t * j + t * j)) b ∙ ap (λ t. t + (2 ^ k * j + 2 ^ k * j)) twice)))
 
 halved : (levels size half : ℕ) → size ≡ 2 ^ levels → half ≡ size / 2 → 0 < half → size ≡ half * 2
 halved zero size half is len pos = absurd (omega arith)
-halved (suc k) size half is len pos = omega (arith, pow_suc k)
+halved (suc k) size half is len pos = omega (arith, pow_twice k)
 
 -- a table of half the powers of a root
 pub is_half_table : {F : Type 0} (K : FieldOn F) (N : IsField K) (levels size : ℕ) (w : F) (table : List F) → size ≡ 2 ^ levels → length table ≡ size / 2 → HasOrder K w size → ((i : ℕ) → i < length table → get_or table i K.zero ≡ power K w i) → IsHalfTable K w table
@@ -118,13 +121,15 @@ module _ {F M : Type 0} {K : FieldOn F} {V : ModuleOn F M} (N : IsField K) (L : 
   -- the transform at w, in reversed order, from those of the sums and of the differences at w ^ 2
   level_at : (k : ℕ) (w : F) (f g h r : ℕ → M) → power K w (2 ^ k) ≡ K.negated K.one → ((j : ℕ) → j < 2 ^ k → g j ≡ V.plus (f j) (f (2 ^ k + j))) → ((j : ℕ) → j < 2 ^ k → h j ≡ V.scale (power K w j) (V.plus (f j) (V.negated (f (2 ^ k + j))))) → ((p : ℕ) → p < 2 ^ k → r p ≡ dft_at K V (2 ^ k) (power K w 2) g (reversed k p)) → ((p : ℕ) → p < 2 ^ k → r (2 ^ k + p) ≡ dft_at K V (2 ^ k) (power K w 2) h (reversed k p)) → (p : ℕ) → Half k p → r p ≡ dft_at K V (2 ^ suc k) w f (reversed (suc k) p)
   level_at k w f g h r half sums differences of_lo of_hi _ (low p l) =
+      let halves : 2 ^ k + 2 ^ k ≡ 2 ^ suc k = omega (arith, pow_twice k) in
       of_lo p l
       ∙ (sym (at_even (2 ^ k) w f g (reversed k p) half sums)
-      ∙ ap₂ (λ n i. dft_at K V n w f i) (sym (pow_suc k)) (sym (reversed_low k p l)))
+      ∙ ap₂ (λ n i. dft_at K V n w f i) halves (sym (reversed_low k p l)))
   level_at k w f g h r half sums differences of_lo of_hi _ (high p l) =
+      let halves : 2 ^ k + 2 ^ k ≡ 2 ^ suc k = omega (arith, pow_twice k) in
       of_hi p l
       ∙ (sym (at_odd (2 ^ k) w f h (reversed k p) half differences)
-      ∙ ap₂ (λ n i. dft_at K V n w f i) (sym (pow_suc k)) (sym (reversed_high k p (2 ^ k + p) refl)))
+      ∙ ap₂ (λ n i. dft_at K V n w f i) halves (sym (reversed_high k p (2 ^ k + p) refl)))
 
   -- one item is its own transform
   pub no_level : (n : ℕ) (w : F) (f : ℕ → M) → n ≡ 0 → (p : ℕ) → p < 2 ^ n → f p ≡ dft_at K V (2 ^ n) w f (reversed n p)

@@ -1,4 +1,4 @@
--- Lemmas of the kernels, over plain lists and tables: the transform by halves (Halving, Fours, Reversal, Carries, Places, Joining, Radix2, Short), by parts (Split, Parts, Blocks, Mixed), what their loops count (Counts), the iterator over a domain (Yielded), and what reading a domain gives (DomainReading).
+-- Lemmas of the kernels, over plain lists and tables: the transform by halves (Halving, Fours, Carries, Places, Joining, Radix2, Short), by parts (Split, Parts, Blocks, Mixed), what their loops count (Counts), the iterator over a domain (Yielded), and what reading a domain gives (DomainReading).
 pub mod Blocks
 pub mod Carries
 pub mod Counts
@@ -10,7 +10,6 @@ pub mod Mixed
 pub mod Parts
 pub mod Places
 pub mod Radix2
-pub mod Reversal
 pub mod Short
 pub mod Split
 pub mod Yielded

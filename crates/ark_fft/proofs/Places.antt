@@ -2,8 +2,10 @@
 use Rattle.std.proofs.Common.{◌≡◌, ◌≢◌, ℕ, zero, ◌+◌, ◌-◌, ◌^◌, ◌<◌, ◌≤◌, suc, ◌*◌, ◌/◌, ◌%◌, ◌++◌, List, length, get_or, sym, ◌∙◌, ap, subst, ⊎_elim, arith, refl}
 use Rattle.std.proofs.lemmas.Bool.{cases_eq, cases_lt}
 use Rattle.std.proofs.lemmas.List.{get_or_append_left, get_or-append-add}
-use Rattle.ark_fft.specs.Halves.{reversed, IsDealt}
-use Rattle.ark_fft.proofs.Reversal.{pow_suc, reversed_even, reversed_odd, reversed_low, reversed_high, reversed_none, reversed_below, reversed_twice}
+use Rattle.ark_math.specs.BitReversal.{reversed}
+use Rattle.ark_fft.specs.Halves.{IsDealt}
+use Rattle.ark_math.proofs.Numbers.BitReversal.{reversed_even, reversed_odd, reversed_low, reversed_high, reversed_none, reversed_below, reversed_twice}
+use Rattle.ark_math.proofs.Numbers.PowersOfTwo.{pow_twice}
 use Rattle.std.proofs.lemmas.Nat.{pow_pos}
 
 -- the pairs of an index and its reversal of which one is below i are swapped, and the others are not
@@ -93,7 +95,7 @@ pub sixteenth : (n len : ℕ) → 4 ≤ n → len ≡ 2 ^ n → len ≡ 16 * 2 ^
 sixteenth n len le is =
     let m = n - 4 in
     let e : suc (suc (suc (suc m))) ≡ n = omega (arith, le) in
-    is ∙ ap (λ t. 2 ^ t) (sym e) ∙ omega (arith, pow_suc m, pow_suc (suc m), pow_suc (suc (suc m)), pow_suc (suc (suc (suc m))))
+    is ∙ ap (λ t. 2 ^ t) (sym e) ∙ omega (arith, pow_twice m, pow_twice (suc m), pow_twice (suc (suc m)), pow_twice (suc (suc (suc m))))
 
 -- ---- blocks of four, after the two highest bits of each index were exchanged with the two lowest ones
 
@@ -153,17 +155,17 @@ module _ {X : Type 0} (n : ℕ) (whole first second third fourth : List X) (d : 
 top_two : (k r q p : ℕ) → r < 4 → q < 2 ^ k → p ≡ r * 2 ^ k + q → reversed (suc (suc k)) p ≡ 4 * reversed k q + (2 * (r % 2) + r / 2)
 top_two k zero q p four l is =
     let e : p ≡ q = omega (arith, is) in
-    let b : q < 2 ^ suc k = omega (arith, pow_suc k, l) in
+    let b : q < 2 ^ suc k = omega (arith, pow_twice k, l) in
     ap (reversed (suc (suc k))) e ∙ omega (arith, reversed_low (suc k) q b, reversed_low k q l)
 top_two k (suc zero) q p four l is =
     let e : p ≡ 2 ^ k + q = omega (arith, is) in
-    let b : p < 2 ^ suc k = omega (arith, pow_suc k, l, e) in
+    let b : p < 2 ^ suc k = omega (arith, pow_twice k, l, e) in
     omega (arith, reversed_low (suc k) p b, reversed_high k q p e)
 top_two k (suc (suc zero)) q p four l is =
-    let e : p ≡ 2 ^ suc k + q = omega (arith, is, pow_suc k) in
+    let e : p ≡ 2 ^ suc k + q = omega (arith, is, pow_twice k) in
     omega (arith, reversed_high (suc k) q p e, reversed_low k q l)
 top_two k (suc (suc (suc zero))) q p four l is =
-    let e : p ≡ 2 ^ suc k + (2 ^ k + q) = omega (arith, is, pow_suc k) in
+    let e : p ≡ 2 ^ suc k + (2 ^ k + q) = omega (arith, is, pow_twice k) in
     omega (arith, reversed_high (suc k) (2 ^ k + q) p e, reversed_high k q (2 ^ k + q) refl)
 top_two k (suc (suc (suc (suc r)))) q p four l is = absurd (omega arith)
 
@@ -171,26 +173,26 @@ top_two k (suc (suc (suc (suc r)))) q p four l is = absurd (omega arith)
 bottom_two : (k i c q : ℕ) → c < 4 → i < 2 ^ k → q ≡ 4 * i + c → reversed (suc (suc k)) q ≡ (2 * (c % 2) + c / 2) * 2 ^ k + reversed k i
 bottom_two k i zero q four l is =
     let e : q ≡ 2 * (2 * i) = omega (arith, is) in
-    let b : 2 * i < 2 ^ suc k = omega (arith, pow_suc k, l) in
+    let b : 2 * i < 2 ^ suc k = omega (arith, pow_twice k, l) in
     ap (reversed (suc (suc k))) e ∙ omega (arith, reversed_even (suc k) (2 * i) b, reversed_even k i l)
 bottom_two k i (suc zero) q four l is =
     let e : q ≡ 2 * (2 * i) + 1 = omega (arith, is) in
-    let b : 2 * i < 2 ^ suc k = omega (arith, pow_suc k, l) in
-    ap (reversed (suc (suc k))) e ∙ omega (arith, reversed_odd (suc k) (2 * i) b, reversed_even k i l, pow_suc k)
+    let b : 2 * i < 2 ^ suc k = omega (arith, pow_twice k, l) in
+    ap (reversed (suc (suc k))) e ∙ omega (arith, reversed_odd (suc k) (2 * i) b, reversed_even k i l, pow_twice k)
 bottom_two k i (suc (suc zero)) q four l is =
     let e : q ≡ 2 * (2 * i + 1) = omega (arith, is) in
-    let b : 2 * i + 1 < 2 ^ suc k = omega (arith, pow_suc k, l) in
+    let b : 2 * i + 1 < 2 ^ suc k = omega (arith, pow_twice k, l) in
     ap (reversed (suc (suc k))) e ∙ omega (arith, reversed_even (suc k) (2 * i + 1) b, reversed_odd k i l)
 bottom_two k i (suc (suc (suc zero))) q four l is =
     let e : q ≡ 2 * (2 * i + 1) + 1 = omega (arith, is) in
-    let b : 2 * i + 1 < 2 ^ suc k = omega (arith, pow_suc k, l) in
-    ap (reversed (suc (suc k))) e ∙ omega (arith, reversed_odd (suc k) (2 * i + 1) b, reversed_odd k i l, pow_suc k)
+    let b : 2 * i + 1 < 2 ^ suc k = omega (arith, pow_twice k, l) in
+    ap (reversed (suc (suc k))) e ∙ omega (arith, reversed_odd (suc k) (2 * i + 1) b, reversed_odd k i l, pow_twice k)
 bottom_two k i (suc (suc (suc (suc c)))) q four l is = absurd (omega arith)
 
 -- the bits of an index r * (4 * 2 ^ m) + (4 * i + c) backwards are those of c, of i and of r
 backwards : (m r i c p : ℕ) → r < 4 → i < 2 ^ m → c < 4 → p ≡ r * (4 * 2 ^ m) + (4 * i + c) → reversed (suc (suc (suc (suc m)))) p ≡ (2 * (c % 2) + c / 2) * (4 * 2 ^ m) + (4 * reversed m i + (2 * (r % 2) + r / 2))
 backwards m r i c p in_r in_i in_c is =
-    let n : 2 ^ suc (suc m) ≡ 4 * 2 ^ m = omega (arith, pow_suc (suc m), pow_suc m) in
+    let n : 2 ^ suc (suc m) ≡ 4 * 2 ^ m = omega (arith, pow_twice (suc m), pow_twice m) in
     let below : 4 * i + c < 2 ^ suc (suc m) = omega (arith, n, in_i, in_c) in
     let ends : reversed (suc (suc (suc (suc m)))) p ≡ 4 * reversed (suc (suc m)) (4 * i + c) + (2 * (r % 2) + r / 2) =
     top_two (suc (suc m)) r (4 * i + c) p in_r below (is ∙ ap (λ t. r * t + (4 * i + c)) (sym n)) in
@@ -241,7 +243,7 @@ module _ {X : Type 0} (m : ℕ) (whole first second third fourth : List X) (d : 
   pub quarters_restored : (now first2 second2 third2 fourth2 : List X) → AreQuarters (4 * 2 ^ m) now first2 second2 third2 fourth2 → IsRow 0 first2 → IsRow 2 second2 → IsRow 1 third2 → IsRow 3 fourth2 → (p : ℕ) → p < 2 ^ suc (suc (suc (suc m))) → get_or now p d ≡ get_or whole (reversed (suc (suc (suc (suc m)))) p) d
   quarters_restored now first2 second2 third2 fourth2 g one two three four p l =
       let n = 4 * 2 ^ m in
-      let all : p < 4 * n = omega (arith, l, pow_suc m, pow_suc (suc m), pow_suc (suc (suc m)), pow_suc (suc (suc (suc m)))) in
+      let all : p < 4 * n = omega (arith, l, pow_twice m, pow_twice (suc m), pow_twice (suc (suc m)), pow_twice (suc (suc (suc m)))) in
       ⊎_elim
       (λ (a : p < n). in_first n now first2 second2 third2 fourth2 d g p a ∙ in_quarter 0 p p first2 (omega arith) a (omega arith) one)
       (λ (a : n ≤ p).

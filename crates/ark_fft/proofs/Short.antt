@@ -12,7 +12,7 @@ use Rattle.ark_math.proofs.Transforms.Places.{dft_at}
 use Rattle.ark_fft.specs.Halves.{ArePowers, AreLevels}
 use Rattle.ark_fft.specs.Scalings.{GrowsByScalings}
 use Rattle.ark_fft.proofs.Joining.{sum_of_few, levels_below}
-use Rattle.ark_fft.proofs.Reversal.{pow_pred}
+use Rattle.ark_math.proofs.Numbers.PowersOfTwo.{pow_pred}
 use Rattle.ark_math.proofs.Algebra.Powers.{half_of_order}
 use Rattle.ark_math.proofs.Domains.Sizes.{log_of_short, log_within}
 use Rattle.ark_math.proofs.Lists.Lists.{read_fitted}

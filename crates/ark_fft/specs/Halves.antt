@@ -1,11 +1,6 @@
--- The transform by halves: the order that it leaves, and the tables that it reads.
-use Rattle.std.specs.Prelude.{◌≡◌, ℕ, suc, zero, ◌+◌, ◌-◌, ◌*◌, ◌^◌, ◌<◌, List, length, get_or, take, drop, nat_lt, if◌then◌else◌}
+-- The transform by halves: the tables of twiddles that it reads, and how bit reversal deals blocks of four.
+use Rattle.std.specs.Prelude.{◌≡◌, ℕ, suc, zero, ◌+◌, ◌*◌, ◌^◌, ◌<◌, List, length, get_or, take, drop}
 use Rattle.ark_math.specs.Field.{FieldOn, power}
-
--- the place that the index p goes to when its lowest k bits are read backwards
-abbrev pub reversed : ℕ → ℕ → ℕ
-reversed zero p = 0
-reversed (suc k) p = if nat_lt p (2 ^ k) then 2 * reversed k p else 2 * reversed k (p - 2 ^ k) + 1
 
 -- the first n powers of w
 pub record ArePowers {F : Type 0} (K : FieldOn F) (w : F) (n : ℕ) (table : List F) : Type 0 where

@@ -1,8 +1,10 @@
--- Natural numbers: primes, division, residues and powers under a modulus, multiples.
+-- Natural numbers: bits read backwards, primes, division, powers of two, residues and powers under a modulus, multiples.
+pub mod BitReversal
 pub mod Euclid
 pub mod Factors
 pub mod GreatestPowers
 pub mod Multiples
 pub mod PowerMod
+pub mod PowersOfTwo
 pub mod Prime
 pub mod Residues

@@ -1,5 +1,5 @@
 -- The definitions that contracts speak of, each in the words of a textbook, in the order in which they are met: fields,
--- modules and roots of unity; domains, transforms and their cost; polynomials in one variable, and at the elements of a
+-- modules and roots of unity; domains, transforms, bit-reversed order and cost; polynomials in one variable, and at the elements of a
 -- domain; terms, polynomials in several variables, multilinear extensions, and what all of these share; what calls
 -- answer; the constants of a prime field; how values are spelled in bytes, and the layout of each type. Rows has
 -- examples.
@@ -8,6 +8,7 @@ pub mod Module
 pub mod Root
 pub mod Domain
 pub mod Transform
+pub mod BitReversal
 pub mod Cost
 pub mod Univariate
 pub mod Linear

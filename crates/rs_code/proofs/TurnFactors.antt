@@ -8,8 +8,9 @@ use Rattle.ark_math.specs.Root.{HasOrder}
 use Rattle.ark_math.specs.Domain.{Domain, element}
 use Rattle.ark_math.specs.Univariate.{of_list}
 use Rattle.ark_blocks.specs.Blocks.{element_of}
-use Rattle.ark_fft.specs.Halves.{reversed}
-use Rattle.ark_fft.proofs.Reversal.{pow_suc, reversed_below}
+use Rattle.ark_math.specs.BitReversal.{reversed}
+use Rattle.ark_math.proofs.Numbers.BitReversal.{reversed_below}
+use Rattle.ark_math.proofs.Numbers.PowersOfTwo.{pow_twice as pow_suc}
 use Rattle.rs_code.specs.Locator.{lost, located, slope, IsFactor}
 use Rattle.rs_code.specs.Turns.{AreMadeBelow, AreSorted, HoldValues, IsMadeOf, IsTableOf, Sorted, Values, at_turn, erased_from, kept_from, product_of_eight, turn_place}
 use Rattle.rs_code.proofs.TableOrder.{turn_element, turn_fourth, turn_place_less, turn_square}

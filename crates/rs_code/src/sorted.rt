@@ -2,7 +2,7 @@
 
 ghost use Rattle.std.specs.Prelude.{◌≡◌, ℕ, ◌+◌, ◌*◌, ◌^◌, ◌<◌, [], length, get_or, map, IfOk, if◌then◌else◌};
 ghost use Rattle.ark_blocks.specs.Blocks.{IsPowerOfTwo, size_of};
-ghost use Rattle.ark_fft.specs.Halves.{reversed};
+ghost use Rattle.ark_math.specs.BitReversal.{reversed};
 ghost use Rattle.ark_math.specs.Domain.{Domain};
 ghost use Rattle.ark_math.specs.Root.{HasOrder};
 ghost use Rattle.rs_code.specs.Turns.{AreSorted, IsTableOf, alternating, finished, in_row, roots_of, turn_place, turned};

@@ -8,7 +8,7 @@
 
 ghost use Rattle.std.specs.Prelude.{◌≡◌, ℕ, ◌+◌, ◌*◌, ◌^◌, ◌<◌, ◌≤◌, true, false, length, get_or, IfOk};
 ghost use Rattle.ark_blocks.specs.Blocks.{IsPowerOfTwo, element_of, size_of};
-ghost use Rattle.ark_fft.specs.Halves.{reversed};
+ghost use Rattle.ark_math.specs.BitReversal.{reversed};
 ghost use Rattle.ark_math.specs.Univariate.{of_list};
 ghost use Rattle.rs_code.specs.Locator.{AreFactors, located};
 ghost use Rattle.rs_code.specs.Turns.{AreForFours, AreWithin, HoldValues, IsMadeOf, IsTableOf, at_turn, product_of_eight};

@@ -1,17 +1,15 @@
 -- Bits of an index, corners of the cube, and how much each corner counts at a point.
-use Rattle.std.proofs.Common.{◌≡◌, ℕ, zero, suc, ◌+◌, ◌*◌, ◌/◌, ◌%◌, ◌^◌, ◌<◌, Bool, true, false, if◌then◌else◌, List, [], ◌∷◌, ◌++◌, length, sym, ◌∙◌, ap, ap₂, refl, arith, shr-shr, pow-suc, pow_pos, div-add-mod', ⊎_elim, ◌≤◌, ◌-◌, eqb, eq-eqb, ne_eqb}
+use Rattle.std.proofs.Common.{◌≡◌, ℕ, zero, suc, ◌+◌, ◌*◌, ◌/◌, ◌%◌, ◌^◌, ◌<◌, Bool, true, false, if◌then◌else◌, List, [], ◌∷◌, ◌++◌, length, sym, ◌∙◌, ap, ap₂, refl, arith, shr-shr, pow_pos, div-add-mod', ⊎_elim, ◌≤◌, ◌-◌, eqb, eq-eqb, ne_eqb}
 use Rattle.std.proofs.lemmas.Bool.{cases_Bool, eqb-true, eqb-false}
 use Rattle.std.proofs.lemmas.Nat.{div-mul-add, mod_below, pow-add}
 use Rattle.ark_math.specs.Field.{FieldOn, IsField, minus}
 use Rattle.ark_math.specs.Module.{ModuleOn, IsModule, itself, sum_below, item}
 use Rattle.ark_math.specs.Multilinear.{bit, corner, product_below, weight}
 use Rattle.ark_math.proofs.Algebra.Groups.{one_times}
+pub use Rattle.ark_math.proofs.Numbers.PowersOfTwo.{pow_twice}
 use Rattle.ark_math.proofs.Lists.Tabulated.{tabulate-suc, tabulate-same}
 
 -- ---- bits
-
-pub pow_twice : (n : ℕ) → 2 ^ suc n ≡ 2 * 2 ^ n
-pow_twice n = let e = pow-suc 2 n in omega arith
 
 -- the exponents of a product that is a power of two
 pub pow_rest : (m j : ℕ) → j ≤ m → 2 ^ (m - j) * 2 ^ j ≡ 2 ^ m

@@ -13,7 +13,8 @@ use Rattle.ark_math.proofs.Algebra.Regrouped.{sum_below-zero, sum_below-single, 
 use Rattle.ark_math.proofs.Algebra.Solve.{unit, nought, negative, ◌⊕◌, ◌⊖◌, ◌⊗◌}
 use Rattle.ark_math.proofs.Algebra.Ring.{ring1, ring2, ring3, ring4}
 use Rattle.ark_math.proofs.Polynomials.Univariate.{monomial-same, monomial-other}
-use Rattle.ark_math.proofs.Polynomials.Cube.{pow_twice, sum_below-pairs, weight-even, weight-odd, corner-suc}
+use Rattle.ark_math.proofs.Numbers.PowersOfTwo.{pow_twice}
+use Rattle.ark_math.proofs.Polynomials.Cube.{sum_below-pairs, weight-even, weight-odd, corner-suc}
 
 -- the first variable bound to x: its value at c, from those at 2 c and at 2 c + 1
 abbrev pub bound : {F : Type 0} → FieldOn F → (ℕ → F) → F → ℕ → F

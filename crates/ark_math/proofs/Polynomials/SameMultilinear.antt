@@ -13,7 +13,8 @@ use Rattle.ark_math.proofs.Algebra.Ring.{ring1, ring2_by}
 use Rattle.ark_math.proofs.Lists.Tabulated.{get_or-tabulate}
 use Rattle.ark_math.proofs.Polynomials.Terms.{same_term-same, cases_term}
 use Rattle.ark_math.proofs.Polynomials.Multivariate.{without, length-without, of_terms-without_same, of_terms-without_other, sum_at-without, IsValueAt-added, IsValueAt-opposite}
-use Rattle.ark_math.proofs.Polynomials.Cube.{pow_twice, bit-suc, bit-even, bit-odd}
+use Rattle.ark_math.proofs.Numbers.PowersOfTwo.{pow_twice}
+use Rattle.ark_math.proofs.Polynomials.Cube.{bit-suc, bit-even, bit-odd}
 use Rattle.ark_math.proofs.Polynomials.SquareFree.{square_free-tail, square_free-at, square_free-among}
 
 -- ---- a corner with given bits

@@ -8,8 +8,9 @@ ghost use Rattle.ark_math.specs.Field.{FieldOn, power};
 ghost use Rattle.ark_math.specs.Root.{HasOrder, odd_base};
 ghost use Rattle.ark_math.specs.Transform.{transform, IsInverse};
 ghost use Rattle.ark_math.proofs.Transforms.Places.{dft_at};
-ghost use Rattle.ark_fft.specs.Halves.{reversed, ArePowers, AreLevels};
-ghost use Rattle.ark_fft.specs.Mixed.{IsPowerTable, joined, mixed_counts};
+ghost use Rattle.ark_math.specs.BitReversal.{reversed};
+ghost use Rattle.ark_fft.specs.Halves.{ArePowers, AreLevels};
+ghost use Rattle.ark_fft.specs.Mixed.{IsLevel, IsPlan, IsPowerTable, joined, mixed_counts};
 ghost use Rattle.ark_math.specs.Module.{ModuleOn, item, sum_below};
 ghost use Rattle.ark_math.specs.Cost.{GrowsBy, counts, butterfly_counts, forward, inverse};
 ghost use Rattle.ark_traits.specs.Cost.{GrowsByCost};
@@ -21,27 +22,37 @@ use crate::domain::scaling::{scale_by_powers, shift_to_coset};
 use ark_traits::{DomainCoeff, FftField, PolyError, Work};
 use std::alloc::{AllocError, Global};
 
-/// The sum of the parts' values at one place, times the powers of the factor, by Horner's rule. The last part's is at
-/// index `last`.
+// One level of a decimation in time by the odd base: a list is `base` parts of so many items, one after the other, and
+// its own root is this power of the root whose powers are known.
+#[derive(Drop)]
+struct Level<'a, F> {
+    roots: &'a [F],
+    stride: usize,
+    base: usize,
+    part_len: usize,
+}
+
+// The sum of the parts' values at one place, times the powers of the factor, by Horner's rule. The last part's is at
+// index `last`.
 fn horner_sum<F: FftField, T: DomainCoeff<F>>(
     work: &mut Work,
     parts: &[T],
-    base: usize,
-    m: usize,
+    level: &Level<'_, F>,
     factor: F,
     last: usize,
 ) -> T
-    requires base_not_zero { 0 < base }
-    requires rows { (base - 1) * m ≤ last }
+    requires base_not_zero { 0 < level.now.base }
+    requires rows { (level.now.base - 1) * level.now.part_len ≤ last }
     requires inside { last < length parts.now }
-    ensures counted { GrowsBy (counts (base - 1) 0 0) work.old work.new }
-    ensures sum { (i : ℕ) → last ≡ (base - 1) * m + i → T.meaning result
-        ≡ sum_below T.group base (λ r. T.group.scale (power F.field factor r)
-        (item T.group (map T.meaning parts.now) (r * m + i))) }
+    ensures counted { GrowsBy (counts (level.now.base - 1) 0 0) work.old work.new }
+    ensures sum { (i : ℕ) → last ≡ (level.now.base - 1) * level.now.part_len + i → T.meaning result
+        ≡ sum_below T.group level.now.base (λ r. T.group.scale (power F.field factor r)
+        (item T.group (map T.meaning parts.now) (r * level.now.part_len + i))) }
 {
+    let m = level.part_len;
     let mut sum = parts[last];
     let mut place = last;
-    for _r in 1..base {
+    for _r in 1..level.base {
         place -= m;
         work.scale(&mut sum, factor);
         sum += parts[place];
@@ -49,119 +60,115 @@ fn horner_sum<F: FftField, T: DomainCoeff<F>>(
     sum
 }
 
-/// One step's products before its sums: twists each part's item at place i.
+// The twiddles of one place: part r's item there times the power r of the place's own. A step in the count.
 fn apply_twiddles<F: FftField, T: DomainCoeff<F>>(
     work: &mut Work,
     parts: &mut [T],
-    table: &[F],
-    base: usize,
-    m: usize,
-    stride: usize,
+    level: &Level<'_, F>,
     i: usize,
 )
-    requires parts_size { length parts.old ≡ base * m }
-    requires table_size { length table.now ≡ base * (m * stride) }
-    requires small { length table.now < 2 ^ 64 }
-    requires above_one { 1 < base }
-    requires stride_not_zero { 0 < stride }
-    requires place { i < m }
-    ensures counted { GrowsBy (counts (base - 1) 0 1) work.old work.new }
-    ensures twisted { get_or table.now 0 F.field.zero ≡ F.field.one → (r : ℕ) → r < base
-        → item T.group (map T.meaning parts.new) (r * m + i)
-        ≡ T.group.scale (get_or table.now (r * i * stride) F.field.zero)
-        (item T.group (map T.meaning parts.old) (r * m + i)) }
-    ensures other_parts { (r k : ℕ) → k < m → k ≢ i → item T.group (map T.meaning parts.new) (r * m + k)
-        ≡ item T.group (map T.meaning parts.old) (r * m + k) }
+    requires level { IsLevel level.now }
+    requires parts_size { length parts.old ≡ level.now.base * level.now.part_len }
+    requires place { i < level.now.part_len }
+    ensures counted { GrowsBy (counts (level.now.base - 1) 0 1) work.old work.new }
+    ensures twisted { get_or level.now.roots.now 0 F.field.zero ≡ F.field.one → (r : ℕ) → r < level.now.base
+        → item T.group (map T.meaning parts.new) (r * level.now.part_len + i)
+        ≡ T.group.scale (get_or level.now.roots.now (r * i * level.now.stride) F.field.zero)
+        (item T.group (map T.meaning parts.old) (r * level.now.part_len + i)) }
+    ensures other_places { (r k : ℕ) → k < level.now.part_len → k ≢ i
+        → item T.group (map T.meaning parts.new) (r * level.now.part_len + k)
+        ≡ item T.group (map T.meaning parts.old) (r * level.now.part_len + k) }
 {
-    let turn = i * stride;
+    let roots = level.roots;
+    let m = level.part_len;
+    let turn = i * level.stride;
     let mut place = i;
     let mut at = 0;
-    for _r in 1..base {
+    for _r in 1..level.base {
         place += m;
         at += turn;
-        work.scale(&mut parts[place], table[at]);
+        work.scale(&mut parts[place], roots[at]);
     }
     work.step();
 }
 
-/// Twists the parts' items, and counts a step for each place.
+// The twiddles of all places.
 fn apply_all_twiddles<F: FftField, T: DomainCoeff<F>>(
     work: &mut Work,
     parts: &mut [T],
-    table: &[F],
-    base: usize,
-    m: usize,
-    stride: usize,
+    level: &Level<'_, F>,
 )
-    requires parts_size { length parts.old ≡ base * m }
-    requires table_size { length table.now ≡ base * (m * stride) }
-    requires small { length table.now < 2 ^ 64 }
-    requires above_one { 1 < base }
-    requires stride_not_zero { 0 < stride }
-    ensures counted { GrowsBy (counts ((base - 1) * m) 0 m) work.old work.new }
-    ensures twisted { get_or table.now 0 F.field.zero ≡ F.field.one → (r i : ℕ) → r < base → i < m
-        → item T.group (map T.meaning parts.new) (r * m + i)
-        ≡ T.group.scale (get_or table.now (r * i * stride) F.field.zero)
-        (item T.group (map T.meaning parts.old) (r * m + i)) }
+    requires level { IsLevel level.now }
+    requires parts_size { length parts.old ≡ level.now.base * level.now.part_len }
+    ensures counted { GrowsBy (counts ((level.now.base - 1) * level.now.part_len) 0 level.now.part_len)
+        work.old work.new }
+    ensures twisted { get_or level.now.roots.now 0 F.field.zero ≡ F.field.one → (r i : ℕ) → r < level.now.base
+        → i < level.now.part_len
+        → item T.group (map T.meaning parts.new) (r * level.now.part_len + i)
+        ≡ T.group.scale (get_or level.now.roots.now (r * i * level.now.stride) F.field.zero)
+        (item T.group (map T.meaning parts.old) (r * level.now.part_len + i)) }
 {
-    for i in 0..m {
-        apply_twiddles(work, parts, table, base, m, stride, i);
+    for i in 0..level.part_len {
+        apply_twiddles(work, parts, level, i);
     }
 }
 
-/// Row j of the whole: at each place the sum of the parts' items, times the powers of the row's factor.
+// Row j of the whole: at each place the sum of the parts' items, times the powers of the row's root of unity, whose order
+// is the base.
 fn sum_row<F: FftField, T: DomainCoeff<F>>(
     work: &mut Work,
     parts: &[T],
     whole: &mut [T],
-    base: usize,
-    m: usize,
-    factor: F,
+    level: &Level<'_, F>,
     j: usize,
 )
-    requires parts_size { length parts.now ≡ base * m }
-    requires whole_size { length whole.old ≡ base * m }
-    requires row { j < base }
-    ensures counted { GrowsBy (counts ((base - 1) * m) 0 0) work.old work.new }
-    ensures sums { (i : ℕ) → i < m → item T.group (map T.meaning whole.new) (j * m + i)
-        ≡ sum_below T.group base (λ r. T.group.scale (power F.field factor r)
-        (item T.group (map T.meaning parts.now) (r * m + i))) }
-    ensures other_rows { (k i : ℕ) → i < m → k ≢ j → item T.group (map T.meaning whole.new) (k * m + i)
-        ≡ item T.group (map T.meaning whole.old) (k * m + i) }
+    requires level { IsLevel level.now }
+    requires parts_size { length parts.now ≡ level.now.base * level.now.part_len }
+    requires whole_size { length whole.old ≡ level.now.base * level.now.part_len }
+    requires not_empty { 0 < level.now.part_len }
+    requires row { j < level.now.base }
+    ensures counted { GrowsBy (counts ((level.now.base - 1) * level.now.part_len) 0 0) work.old work.new }
+    ensures sums { (i : ℕ) → i < level.now.part_len
+        → item T.group (map T.meaning whole.new) (j * level.now.part_len + i)
+        ≡ sum_below T.group level.now.base (λ r. T.group.scale
+        (power F.field (get_or level.now.roots.now (j * (level.now.part_len * level.now.stride)) F.field.zero) r)
+        (item T.group (map T.meaning parts.now) (r * level.now.part_len + i))) }
+    ensures other_rows { (k i : ℕ) → i < level.now.part_len → k ≢ j
+        → item T.group (map T.meaning whole.new) (k * level.now.part_len + i)
+        ≡ item T.group (map T.meaning whole.old) (k * level.now.part_len + i) }
 {
+    let m = level.part_len;
+    let leap = m * level.stride;
+    let factor = level.roots[j * leap];
     let row = j * m;
-    let last = (base - 1) * m;
+    let last = (level.base - 1) * m;
     for i in 0..m {
-        whole[row + i] = horner_sum(work, parts, base, m, factor, last + i);
+        whole[row + i] = horner_sum(work, parts, level, factor, last + i);
     }
 }
 
-/// Joins the parts at each place.
+// Joins the parts: a transform of as many items as the base at each place, after its twiddles.
 fn join<F: FftField, T: DomainCoeff<F>>(
     work: &mut Work,
     parts: &mut [T],
     whole: &mut [T],
-    table: &[F],
-    base: usize,
-    m: usize,
-    stride: usize,
+    level: &Level<'_, F>,
 )
-    requires parts_size { length parts.old ≡ base * m }
-    requires whole_size { length whole.old ≡ base * m }
-    requires table_size { length table.now ≡ base * (m * stride) }
-    requires small { length table.now < 2 ^ 64 }
-    requires above_one { 1 < base }
-    requires stride_not_zero { 0 < stride }
-    ensures counted { GrowsBy (counts ((base * base - 1) * m) 0 m) work.old work.new }
-    ensures joined { get_or table.now 0 F.field.zero ≡ F.field.one → (j i : ℕ) → j < base → i < m
-        → item T.group (map T.meaning whole.new) (j * m + i)
-        ≡ joined F.field T.group table.now base m stride (item T.group (map T.meaning parts.old)) j i }
+    requires level { IsLevel level.now }
+    requires parts_size { length parts.old ≡ level.now.base * level.now.part_len }
+    requires whole_size { length whole.old ≡ level.now.base * level.now.part_len }
+    ensures counted { GrowsBy (counts ((level.now.base * level.now.base - 1) * level.now.part_len)
+        0 level.now.part_len) work.old work.new }
+    ensures joined { get_or level.now.roots.now 0 F.field.zero ≡ F.field.one → (j i : ℕ) → j < level.now.base
+        → i < level.now.part_len
+        → item T.group (map T.meaning whole.new) (j * level.now.part_len + i)
+        ≡ joined F.field T.group level.now.roots.now level.now.base level.now.part_len level.now.stride
+        (item T.group (map T.meaning parts.old)) j i }
 {
-    apply_all_twiddles(work, parts, table, base, m, stride);
-    if m > 0 {
-        let leap = m * stride;
-        for j in 0..base {
-            sum_row(work, parts, whole, base, m, table[j * leap], j);
+    apply_all_twiddles(work, parts, level);
+    if level.part_len > 0 {
+        for j in 0..level.base {
+            sum_row(work, parts, whole, level, j);
         }
     }
 }
@@ -202,55 +209,66 @@ fn even_transform<F: FftField, T: DomainCoeff<F>>(
     }
 }
 
-/// The transform of a list of 2 ^ levels * base ^ odds items, with as many to work in. The tables are those of all levels,
-/// if there is one, of the lists that are left once the list is parted as often as its length has the base.
+// A transform of mixed radix of lists of 2 ^ levels * base ^ odds items: the powers of the whole list's root, of which a
+// list's own is the power `stride`, and the tables of all levels, if there is one, of the lists that are left once a list
+// is parted as often as its length has the base.
+#[derive(Drop)]
+struct Plan<'a, F> {
+    roots: &'a [F],
+    stride: usize,
+    base: usize,
+    odds: u32,
+    levels: u32,
+    tables: &'a [F],
+}
+
+// The transform of a list, with as many items to work in.
 fn mixed<F: FftField, T: DomainCoeff<F>>(
     work: &mut Work,
     xs: &mut [T],
     scratch: &mut [T],
-    table: &[F],
-    tables: &[F],
-    stride: usize,
-    base: usize,
-    levels: u32,
-    odds: u32,
+    plan: &Plan<'_, F>,
 )
-    requires size { length xs.old ≡ 2 ^ levels * base ^ odds }
+    requires plan { IsPlan plan.now (length xs.old) }
     requires scratch_size { length scratch.old ≡ length xs.old }
-    requires whole { length xs.old * stride ≡ length table.now }
-    requires even_part { 0 < levels → length tables.now ≡ 2 ^ levels }
-    requires small { length table.now < 2 ^ 64 }
-    requires stride_not_zero { 0 < stride }
-    requires above_one { 1 < base }
-    requires few { base < 2 ^ 32 }
-    ensures counted { GrowsBy (mixed_counts base (levels * length xs.old / 2) (odds * (length xs.old / base)))
-        work.old work.new }
-    ensures transformed { (w : F) → IsPowerTable F.field w table.now
-        → AreLevels F.field (power F.field w (stride * base ^ odds)) levels tables.now → (i : ℕ)
-        → i < length xs.old → item T.group (map T.meaning xs.new) i
-        ≡ dft_at F.field T.group (length xs.old) (power F.field w stride)
+    ensures counted { GrowsBy (mixed_counts plan.now.base (plan.now.levels * length xs.old / 2)
+        (plan.now.odds * (length xs.old / plan.now.base))) work.old work.new }
+    ensures transformed { (w : F) → IsPowerTable F.field w plan.now.roots.now
+        → AreLevels F.field (power F.field w (plan.now.stride * plan.now.base ^ plan.now.odds)) plan.now.levels
+        plan.now.tables.now → (i : ℕ) → i < length xs.old → item T.group (map T.meaning xs.new) i
+        ≡ dft_at F.field T.group (length xs.old) (power F.field w plan.now.stride)
         (item T.group (map T.meaning xs.old)) i }
 {
-    if odds > 0 {
+    let base = plan.base;
+    if plan.odds > 0 {
         let m = xs.len() / base;
         deinterleave(xs, scratch, base, m);
+        let of_parts = Plan {
+            roots: plan.roots,
+            stride: plan.stride * base,
+            base,
+            odds: plan.odds - 1,
+            levels: plan.levels,
+            tables: plan.tables,
+        };
         for r in 0..base {
             let from = r * m;
             mixed(
                 work,
                 &mut scratch[from..from + m],
                 &mut xs[from..from + m],
-                table,
-                tables,
-                stride * base,
-                base,
-                levels,
-                odds - 1,
+                &of_parts,
             );
         }
-        join(work, scratch, xs, table, base, m, stride);
+        let level = Level {
+            roots: plan.roots,
+            stride: plan.stride,
+            base,
+            part_len: m,
+        };
+        join(work, scratch, xs, &level);
     } else {
-        even_transform(work, xs, tables, levels);
+        even_transform(work, xs, plan.tables, plan.levels);
     }
 }
 
@@ -316,17 +334,15 @@ pub fn fft_counted<F: FftField, T: DomainCoeff<F>>(
     let (table, mut scratch) = prepare(alloc, coset.group_gen, coset.size as usize, coeffs)?;
     let xs = coeffs.as_mut_slice();
     shift_to_coset(work, xs, coset.offset);
-    mixed(
-        work,
-        xs,
-        scratch.as_mut_slice(),
-        table.as_slice(),
-        tables.as_slice(),
-        1,
-        base as usize,
-        coset.log_size_of_group,
-        coset.odd_exponent,
-    );
+    let plan = Plan {
+        roots: table.as_slice(),
+        stride: 1,
+        base: base as usize,
+        odds: coset.odd_exponent,
+        levels: coset.log_size_of_group,
+        tables: tables.as_slice(),
+    };
+    mixed(work, xs, scratch.as_mut_slice(), &plan);
     Ok(())
 }
 
@@ -352,17 +368,15 @@ pub fn ifft_counted<F: FftField, T: DomainCoeff<F>>(
     let tables = even_tables(alloc, coset, coset.group_gen_inv)?;
     let (table, mut scratch) = prepare(alloc, coset.group_gen_inv, coset.size as usize, evals)?;
     let xs = evals.as_mut_slice();
-    mixed(
-        work,
-        xs,
-        scratch.as_mut_slice(),
-        table.as_slice(),
-        tables.as_slice(),
-        1,
-        base as usize,
-        coset.log_size_of_group,
-        coset.odd_exponent,
-    );
+    let plan = Plan {
+        roots: table.as_slice(),
+        stride: 1,
+        base: base as usize,
+        odds: coset.odd_exponent,
+        levels: coset.log_size_of_group,
+        tables: tables.as_slice(),
+    };
+    mixed(work, xs, scratch.as_mut_slice(), &plan);
     scale_by_powers(work, xs, coset.size_inv, coset.offset_inv);
     Ok(())
 }

@@ -3,8 +3,9 @@ use Rattle.std.proofs.Math.Pow.{pow_pos}
 use Rattle.std.proofs.lemmas.List.{get_or-map}
 use Rattle.ark_math.specs.Domain.{element}
 use Rattle.ark_blocks.specs.Blocks.{element_of}
-use Rattle.ark_fft.specs.Halves.{reversed}
-use Rattle.ark_fft.proofs.Reversal.{pow_suc, reversed_none}
+use Rattle.ark_math.specs.BitReversal.{reversed}
+use Rattle.ark_math.proofs.Numbers.BitReversal.{reversed_none}
+use Rattle.ark_math.proofs.Numbers.PowersOfTwo.{pow_twice as pow_suc}
 use Rattle.rs_code.specs.Turns.{AreSorted, AreSortedBelow, finished, finished_from, pushed, roots_of, turn_place, turned}
 use Rattle.rs_code.proofs.TurnedPlaces.{four_read}
 use Rattle.rs_code.proofs.TableOrder.{four_below, row_element, turn_element}

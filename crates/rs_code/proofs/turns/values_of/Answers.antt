@@ -1,6 +1,6 @@
 use Rattle.std.proofs.Common.{◌≡◌, suc, ◌∙◌, ap, ap₂, arith}
 use Rattle.ark_blocks.specs.Blocks.{element_of}
-use Rattle.ark_fft.proofs.Reversal.{pow_suc}
+use Rattle.ark_math.proofs.Numbers.PowersOfTwo.{pow_twice as pow_suc}
 use Rattle.rs_code.specs.Locator.{located}
 use Rattle.rs_code.proofs.turns.values_of.Goals as goal
 

@@ -9,7 +9,7 @@ invariant-loop-i g l =
     let V = g.T.DomainCoeff.group in
     let m = g.T.DomainCoeff.meaning in
     record {
-      counted : GrowsBy (counts (l.i * (l.base - 1)) 0 l.i) l.fn.work l.work;
-      done : get_or l.table 0 K.zero ≡ K.one → (r i : ℕ) → r < l.base → i < l.i → item V (map m l.parts) (r * l.m + i) ≡ V.scale (get_or l.table (r * i * l.stride) K.zero) (item V (map m l.fn.parts) (r * l.m + i));
-      rest : (r k : ℕ) → l.i ≤ k → k < l.m → item V (map m l.parts) (r * l.m + k) ≡ item V (map m l.fn.parts) (r * l.m + k);
+      counted : GrowsBy (counts (l.i * (l.level.base - 1)) 0 l.i) l.fn.work l.work;
+      done : get_or l.level.roots.now 0 K.zero ≡ K.one → (r i : ℕ) → r < l.level.base → i < l.i → item V (map m l.parts) (r * l.level.part_len + i) ≡ V.scale (get_or l.level.roots.now (r * i * l.level.stride) K.zero) (item V (map m l.fn.parts) (r * l.level.part_len + i));
+      rest : (r k : ℕ) → l.i ≤ k → k < l.level.part_len → item V (map m l.parts) (r * l.level.part_len + k) ≡ item V (map m l.fn.parts) (r * l.level.part_len + k);
     }

@@ -9,10 +9,10 @@ invariant-loop-r g l =
     let m = g.T.DomainCoeff.meaning in
     record {
       from : 1 ≤ l._r;
-      place : l.place ≡ (l._r - 1) * l.m + l.i;
-      at : l.at ≡ (l._r - 1) * l.i * l.stride;
+      place : l.place ≡ (l._r - 1) * l.level.part_len + l.i;
+      at : l.at ≡ (l._r - 1) * l.i * l.level.stride;
       counted : GrowsBy (counts (l._r - 1) 0 0) l.fn.work l.work;
-      done : get_or l.table 0 g.F.Field.field.zero ≡ g.F.Field.field.one → (r : ℕ) → r < l._r → item V (map m l.parts) (r * l.m + l.i) ≡ V.scale (get_or l.table (r * l.i * l.stride) g.F.Field.field.zero) (item V (map m l.fn.parts) (r * l.m + l.i));
-      rest : (r : ℕ) → l._r ≤ r → item V (map m l.parts) (r * l.m + l.i) ≡ item V (map m l.fn.parts) (r * l.m + l.i);
-      others : (r k : ℕ) → k < l.m → k ≢ l.i → item V (map m l.parts) (r * l.m + k) ≡ item V (map m l.fn.parts) (r * l.m + k);
+      done : get_or l.level.roots.now 0 g.F.Field.field.zero ≡ g.F.Field.field.one → (r : ℕ) → r < l._r → item V (map m l.parts) (r * l.level.part_len + l.i) ≡ V.scale (get_or l.level.roots.now (r * l.i * l.level.stride) g.F.Field.field.zero) (item V (map m l.fn.parts) (r * l.level.part_len + l.i));
+      rest : (r : ℕ) → l._r ≤ r → item V (map m l.parts) (r * l.level.part_len + l.i) ≡ item V (map m l.fn.parts) (r * l.level.part_len + l.i);
+      others : (r k : ℕ) → k < l.level.part_len → k ≢ l.i → item V (map m l.parts) (r * l.level.part_len + k) ≡ item V (map m l.fn.parts) (r * l.level.part_len + k);
     }

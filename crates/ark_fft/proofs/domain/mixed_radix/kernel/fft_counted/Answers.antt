@@ -1,4 +1,4 @@
-use Rattle.std.proofs.Common.{◌≡◌, ℕ, map, length, Some, ◌<◌, ◌*◌, ◌^◌, arith, sym, ap, subst, ◌∙◌}
+use Rattle.std.proofs.Common.{rules, ◌≡◌, ℕ, map, length, Some, ◌<◌, ◌*◌, ◌^◌, arith, sym, ap, subst, ◌∙◌}
 use Rattle.ark_math.specs.Domain.{Domain, mixed_radix}
 use Rattle.ark_math.specs.Field.{power}
 use Rattle.ark_fft.specs.Halves.{ArePowers, AreLevels}
@@ -56,11 +56,20 @@ returns-clause-cost g c =
     scaled_cost s t.group_gen t.offset forward (length c.args.coeffs.now.items) t.size q t.log_size_of_group t.odd_exponent t.splits base some
     (length c.as_mut_slice-xs.result.now) (length c.shift_to_coset.new.xs) of_fitted (c.shift_to_coset.auto.xs ∙ of_fitted) c.shift_to_coset.ensures.counted c.mixed.ensures.counted
 
-pub mixed-requires-clause-above_one : goal.mixed-requires-clause-above_one
-mixed-requires-clause-above_one g c =
+pub mixed-requires-clause-plan : goal.mixed-requires-clause-plan
+mixed-requires-clause-plan g c =
     let s = g.F.FftField.adicity in
     let e : s.odd ≡ Some c.unwrap-base.result = sym c.odd_base.ensures ∙ c.unwrap-base.ensures in
-    subst (λ k. 1 < k) (ap odd_base e) (base_above s.odd c.unwrap-base.result g.met.F.FftField.roots_law.base e)
-
-pub mixed-requires-clause-even_part : goal.mixed-requires-clause-even_part
-mixed-requires-clause-even_part g c = λ some. ap length c.as_slice-2.ensures.value ∙ c.in_ok-tables.ensures.len some
+    let t = c.args.coset.now in
+    let base = ap odd_base e in
+    let items : length c.shift_to_coset.new.xs ≡ t.size = c.shift_to_coset.auto.xs ∙ (c.as_mut_slice-xs.ensures.len ∙ c.in_ok-table.ensures.len) in
+    let roots : length c.as_slice.result.now ≡ t.size = ap length c.as_slice.ensures.value ∙ c.in_ok-table.ensures.table.len in
+    record {
+      size = items ∙ (t.splits.product ∙ ap (λ k. 2 ^ t.log_size_of_group * k ^ t.odd_exponent) base);
+      whole = omega (arith, items, roots);
+      even_part = λ some. ap length c.as_slice-2.ensures.value ∙ c.in_ok-tables.ensures.len some;
+      small = omega (arith, roots, t.splits.fits);
+      stride_not_zero = omega arith;
+      above_one = subst (λ k. 1 < k) base (base_above s.odd c.unwrap-base.result g.met.F.FftField.roots_law.base e);
+      few = search rules;
+    }

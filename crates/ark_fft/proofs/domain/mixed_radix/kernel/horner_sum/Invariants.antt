@@ -10,8 +10,8 @@ invariant-loop-r g l =
     let m = g.T.DomainCoeff.meaning in
     record {
       from : 1 ≤ l._r;
-      place : l.place ≡ (l.base - l._r) * l.m + (l.last - (l.base - 1) * l.m);
+      place : l.place ≡ (l.level.base - l._r) * l.level.part_len + (l.last - (l.level.base - 1) * l.level.part_len);
       within : l.place ≤ l.last;
       counted : GrowsBy (counts (l._r - 1) 0 0) l.fn.work l.work;
-      sum : m l.sum ≡ sum_below V l._r (λ k. V.scale (power g.F.Field.field l.factor k) (item V (map m l.parts) ((l.base - l._r + k) * l.m + (l.last - (l.base - 1) * l.m))));
+      sum : m l.sum ≡ sum_below V l._r (λ k. V.scale (power g.F.Field.field l.factor k) (item V (map m l.parts) ((l.level.base - l._r + k) * l.level.part_len + (l.last - (l.level.base - 1) * l.level.part_len))));
     }

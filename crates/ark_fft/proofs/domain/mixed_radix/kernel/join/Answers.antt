@@ -10,39 +10,15 @@ use Rattle.ark_fft.proofs.Counts.{below_is_within, positive, none_below, none_ye
 use Rattle.ark_fft.proofs.Parts.{leap_below, joined_twisted, rows_less}
 use Rattle.ark_fft.proofs.domain.mixed_radix.kernel.join.Goals as goal
 
--- the step between two indices into the table is a word, and so is each index
-step_small : (q m s t : ℕ) → t ≡ q * (m * s) → t < 2 ^ 64 → 1 < q → 0 < m → 0 < s → m * s < 2 ^ 64
-step_small q m s t size small base some pos =
-    let b = leap_below q m s 1 0 base some pos in
-    omega (arith, b, size, small)
-
-index_below : (q m s t j : ℕ) → t ≡ q * (m * s) → j < q → 0 < m → 0 < s → j * (m * s) < t
-index_below q m s t j size in_base some pos = subst (λ k. j * (m * s) < k) (sym size) (leap_below q m s j 0 in_base some pos)
-
 all_rows : {before after : Counts} (j q m : ℕ) → 1 < q → j ≡ q → GrowsBy (counts ((q - 1) * m + j * ((q - 1) * m)) 0 m) before after → GrowsBy (counts ((q * q - 1) * m) 0 m) before after
 all_rows {before} {after} j q m base end rows =
     subst (λ k. GrowsBy (counts k 0 m) before after) (ap (λ k. (q - 1) * m + k * ((q - 1) * m)) end ∙ rows_less q m (positive q base)) rows
-
-pub overflow_mul-leap : goal.overflow_mul-leap
-overflow_mul-leap g c =
-    let small = step_small c.args.base c.args.m c.args.stride (length c.args.table.now) c.requires.table_size c.requires.small c.requires.above_one c.if-m-gt0.true c.requires.stride_not_zero in
-    omega (arith, small)
 
 pub loop-j-init : goal.loop-j-init
 loop-j-init g c = record {
   counted = grows_twice c.apply_all_twiddles.ensures.counted (none_grown _) (omega arith) refl (omega arith);
   done = λ one j i jl il. none_yet j jl;
 }
-
-pub overflow_mul-j : goal.overflow_mul-j
-overflow_mul-j g c =
-    let b = index_below c.args.base c.args.m c.args.stride (length c.args.table.now) c.loop-j.j c.requires.table_size c.loop-j-test.true c.if-m-gt0.true c.requires.stride_not_zero in
-    omega (arith, b, c.requires.small)
-
-pub offset_bounds-table-j : goal.offset_bounds-table-j
-offset_bounds-table-j g c =
-    below_is_within (c.loop-j.j * (c.args.m * c.args.stride)) (length c.args.table.now)
-    (index_below c.args.base c.args.m c.args.stride (length c.args.table.now) c.loop-j.j c.requires.table_size c.loop-j-test.true c.if-m-gt0.true c.requires.stride_not_zero)
 
 pub sum_row-requires-clause-parts_size : goal.sum_row-requires-clause-parts_size
 sum_row-requires-clause-parts_size g c = c.apply_all_twiddles.auto.parts ∙ c.requires.parts_size
@@ -59,35 +35,28 @@ loop-j-preserved g c =
     let v = c.loop-j.invariant in
     let old = λ (k : ℕ). item V (map m c.args.parts.now) k in
     let twisted = λ (k : ℕ). item V (map m c.apply_all_twiddles.new.parts) k in
-    let leap = j0 * (c.args.m * c.args.stride) in
-    let a = index_below c.args.base c.args.m c.args.stride (length c.args.table.now) j0 c.requires.table_size c.loop-j-test.true c.if-m-gt0.true c.requires.stride_not_zero in
-    let root : c.index-table-j.result ≡ get_or c.args.table.now leap K.zero = get_or_read c.args.table.now _ _ a c.index-table-j.is K.zero in
     record {
       counted = grows_twice v.counted c.sum_row.ensures.counted (omega arith) refl (omega arith);
       done = λ one j i jl il.
           ⊎_elim
           (λ (e : j ≡ j0).
-          subst (λ t. item V (map m c.sum_row.new.whole) (t * c.args.m + i) ≡ joined K V c.args.table.now c.args.base c.args.m c.args.stride old t i) (sym e)
+          subst (λ t. item V (map m c.sum_row.new.whole) (t * c.args.level.now.part_len + i) ≡ joined K V c.args.level.now.roots.now c.args.level.now.base c.args.level.now.part_len c.args.level.now.stride old t i) (sym e)
           (c.sum_row.ensures.sums i il
-          ∙ (ap (λ x. sum_below V c.args.base (λ r. V.scale (power K x r) (twisted (r * c.args.m + i)))) root
-          ∙ joined_twisted K V c.args.table.now c.args.base c.args.m c.args.stride twisted old j0 i (λ r rl. c.apply_all_twiddles.ensures.twisted one r i rl il))))
+          ∙ joined_twisted K V c.args.level.now.roots.now c.args.level.now.base c.args.level.now.part_len c.args.level.now.stride twisted old j0 i (λ r rl. c.apply_all_twiddles.ensures.twisted one r i rl il)))
           (λ (ne : j ≢ j0). c.sum_row.ensures.other_rows j i il ne ∙ v.done one j i (not_last j j0 jl ne) il)
           (cases_eq j j0);
     }
 
-pub bounds-table-j : goal.bounds-table-j
-bounds-table-j g c = index_below c.args.base c.args.m c.args.stride (length c.args.table.now) c.loop-j.j c.requires.table_size c.loop-j-test.true c.if-m-gt0.true c.requires.stride_not_zero
-
 pub returns-after-loop-j-clause-counted : goal.returns-after-loop-j-clause-counted
 returns-after-loop-j-clause-counted g c =
-    all_rows c.loop-j.j c.args.base c.args.m c.requires.above_one (ended c.loop-j.j c.args.base c.loop-j.auto.j-end c.loop-j-test.false) c.loop-j.invariant.counted
+    all_rows c.loop-j.j c.args.level.now.base c.args.level.now.part_len c.requires.level.above_one (ended c.loop-j.j c.args.level.now.base c.loop-j.auto.j-end c.loop-j-test.false) c.loop-j.invariant.counted
 
 pub returns-after-loop-j-clause-joined : goal.returns-after-loop-j-clause-joined
 returns-after-loop-j-clause-joined g c = λ one j i jl il.
-    c.loop-j.invariant.done one j i (subst (λ k. j < k) (sym (ended c.loop-j.j c.args.base c.loop-j.auto.j-end c.loop-j-test.false)) jl) il
+    c.loop-j.invariant.done one j i (subst (λ k. j < k) (sym (ended c.loop-j.j c.args.level.now.base c.loop-j.auto.j-end c.loop-j-test.false)) jl) il
 
-pub returns-else-m-gt0-clause-counted : goal.returns-else-m-gt0-clause-counted
-returns-else-m-gt0-clause-counted g c = no_places (c.args.base - 1) (c.args.base * c.args.base - 1) c.args.m c.if-m-gt0.false c.apply_all_twiddles.ensures.counted
+pub returns-else-level-gt0-clause-counted : goal.returns-else-level-gt0-clause-counted
+returns-else-level-gt0-clause-counted g c = no_places (c.args.level.now.base - 1) (c.args.level.now.base * c.args.level.now.base - 1) c.args.level.now.part_len c.if-level-gt0.false c.apply_all_twiddles.ensures.counted
 
-pub returns-else-m-gt0-clause-joined : goal.returns-else-m-gt0-clause-joined
-returns-else-m-gt0-clause-joined g c = λ one j i jl il. none_below i c.args.m il c.if-m-gt0.false
+pub returns-else-level-gt0-clause-joined : goal.returns-else-level-gt0-clause-joined
+returns-else-level-gt0-clause-joined g c = λ one j i jl il. none_below i c.args.level.now.part_len il c.if-level-gt0.false

@@ -9,6 +9,6 @@ invariant-loop-j g l =
     let V = g.T.DomainCoeff.group in
     let m = g.T.DomainCoeff.meaning in
     record {
-      counted : GrowsBy (counts ((l.base - 1) * l.m + l.j * ((l.base - 1) * l.m)) 0 l.m) l.fn.work l.work;
-      done : get_or l.table 0 g.F.Field.field.zero ≡ g.F.Field.field.one → (j i : ℕ) → j < l.j → i < l.m → item V (map m l.whole) (j * l.m + i) ≡ joined g.F.Field.field V l.table l.base l.m l.stride (item V (map m l.fn.parts)) j i;
+      counted : GrowsBy (counts ((l.level.base - 1) * l.level.part_len + l.j * ((l.level.base - 1) * l.level.part_len)) 0 l.level.part_len) l.fn.work l.work;
+      done : get_or l.level.roots.now 0 g.F.Field.field.zero ≡ g.F.Field.field.one → (j i : ℕ) → j < l.j → i < l.level.part_len → item V (map m l.whole) (j * l.level.part_len + i) ≡ joined g.F.Field.field V l.level.roots.now l.level.base l.level.part_len l.level.stride (item V (map m l.fn.parts)) j i;
     }

@@ -1,4 +1,4 @@
-use Rattle.std.proofs.Common.{◌≡◌, ◌≢◌, ℕ, map, ◌+◌, ◌-◌, ◌*◌, ◌<◌}
+use Rattle.std.proofs.Common.{◌≡◌, ◌≢◌, ℕ, map, get_or, ◌+◌, ◌-◌, ◌*◌, ◌<◌}
 use Rattle.ark_math.specs.Field.{power}
 use Rattle.ark_math.specs.Cost.{GrowsBy, counts}
 use Rattle.ark_math.specs.Module.{item, sum_below}
@@ -9,7 +9,7 @@ invariant-loop-i g l =
     let V = g.T.DomainCoeff.group in
     let m = g.T.DomainCoeff.meaning in
     record {
-      counted : GrowsBy (counts (l.i * (l.base - 1)) 0 0) l.fn.work l.work;
-      done : (i : ℕ) → i < l.i → item V (map m l.whole) (l.j * l.m + i) ≡ sum_below V l.base (λ r. V.scale (power g.F.Field.field l.factor r) (item V (map m l.parts) (r * l.m + i)));
-      others : (k i : ℕ) → i < l.m → k ≢ l.j → item V (map m l.whole) (k * l.m + i) ≡ item V (map m l.fn.whole) (k * l.m + i);
+      counted : GrowsBy (counts (l.i * (l.level.base - 1)) 0 0) l.fn.work l.work;
+      done : (i : ℕ) → i < l.i → item V (map m l.whole) (l.j * l.level.part_len + i) ≡ sum_below V l.level.base (λ r. V.scale (power g.F.Field.field (get_or l.level.roots.now (l.j * (l.level.part_len * l.level.stride)) g.F.Field.field.zero) r) (item V (map m l.parts) (r * l.level.part_len + i)));
+      others : (k i : ℕ) → i < l.level.part_len → k ≢ l.j → item V (map m l.whole) (k * l.level.part_len + i) ≡ item V (map m l.fn.whole) (k * l.level.part_len + i);
     }

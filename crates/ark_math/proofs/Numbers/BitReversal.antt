@@ -1,13 +1,11 @@
--- Reading an index's bits backwards.
+-- Reading an index's bits backwards, the bit-reversal permutation: bit by bit from either end, and that it is its own inverse.
 use Rattle.std.proofs.Common.{◌≡◌, ℕ, zero, suc, ◌+◌, ◌-◌, ◌*◌, ◌/◌, ◌%◌, ◌^◌, ◌<◌, ◌≤◌, sym, ◌∙◌, ap, subst, ⊎_elim, refl, arith}
 use Rattle.std.proofs.lemmas.Bool.{cases_lt}
 use Rattle.std.proofs.lemmas.Nat.{pow_pos}
 use Rattle.std.specs.Int.{reverse_bits_onto}
 use Rattle.std.proofs.lemmas.Bool.Decides.{nat_tests}
-use Rattle.ark_fft.specs.Halves.{reversed}
-
-pub pow_suc : (k : ℕ) → 2 ^ suc k ≡ 2 ^ k + 2 ^ k
-pow_suc k = omega arith
+use Rattle.ark_math.specs.BitReversal.{reversed}
+use Rattle.ark_math.proofs.Numbers.PowersOfTwo.{pow_twice}
 
 pub reversed_low : (k p : ℕ) → p < 2 ^ k → reversed (suc k) p ≡ 2 * reversed k p
 reversed_low k p l = grind (arith, nat_tests)
@@ -32,14 +30,14 @@ pub half_of : (k q : ℕ) → q < 2 ^ suc k → Half k q
 half_of k q l =
     ⊎_elim (λ a. low q a)
     (λ b.
-    let p : q - 2 ^ k < 2 ^ k = omega (arith, pow_suc k) in
+    let p : q - 2 ^ k < 2 ^ k = omega (arith, pow_twice k) in
     let e : 2 ^ k + (q - 2 ^ k) ≡ q = omega arith in
     subst (Half k) e (high (q - 2 ^ k) p))
     (cases_lt q (2 ^ k))
 
 below_step : (k q : ℕ) → Half k q → ((p : ℕ) → p < 2 ^ k → reversed k p < 2 ^ k) → reversed (suc k) q < 2 ^ suc k
-below_step k _ (low p l) h = omega (arith, reversed_low k p l, h p l, pow_suc k)
-below_step k _ (high p l) h = omega (arith, reversed_high k p (2 ^ k + p) refl, h p l, pow_suc k)
+below_step k _ (low p l) h = omega (arith, reversed_low k p l, h p l, pow_twice k)
+below_step k _ (high p l) h = omega (arith, reversed_high k p (2 ^ k + p) refl, h p l, pow_twice k)
 
 pub reversed_below : (k p : ℕ) → p < 2 ^ k → reversed k p < 2 ^ k
 reversed_below zero p l = omega arith
@@ -47,10 +45,10 @@ reversed_below (suc k) q l = below_step k q (half_of k q l) (λ p b. reversed_be
 
 even_step : (k q : ℕ) → Half k q → ((p : ℕ) → p < 2 ^ k → reversed (suc k) (2 * p) ≡ reversed k p) → reversed (suc (suc k)) (2 * q) ≡ reversed (suc k) q
 even_step k _ (low p l) h =
-    let b : 2 * p < 2 ^ suc k = omega (arith, pow_suc k) in
+    let b : 2 * p < 2 ^ suc k = omega (arith, pow_twice k) in
     reversed_low (suc k) (2 * p) b ∙ (ap (λ t. 2 * t) (h p l) ∙ sym (reversed_low k p l))
 even_step k _ (high p l) h =
-    let e : 2 * (2 ^ k + p) ≡ 2 ^ suc k + 2 * p = omega (arith, pow_suc k) in
+    let e : 2 * (2 ^ k + p) ≡ 2 ^ suc k + 2 * p = omega (arith, pow_twice k) in
     reversed_high (suc k) (2 * p) (2 * (2 ^ k + p)) e ∙ (ap (λ t. 2 * t + 1) (h p l) ∙ sym (reversed_high k p (2 ^ k + p) refl))
 
 pub reversed_even : (k p : ℕ) → p < 2 ^ k → reversed (suc k) (2 * p) ≡ reversed k p
@@ -61,11 +59,11 @@ reversed_even (suc k) q l = even_step k q (half_of k q l) (λ p b. reversed_even
 
 odd_step : (k q : ℕ) → Half k q → ((p : ℕ) → p < 2 ^ k → reversed (suc k) (2 * p + 1) ≡ 2 ^ k + reversed k p) → reversed (suc (suc k)) (2 * q + 1) ≡ 2 ^ suc k + reversed (suc k) q
 odd_step k _ (low p l) h =
-    let b : 2 * p + 1 < 2 ^ suc k = omega (arith, pow_suc k) in
-    omega (arith, reversed_low (suc k) (2 * p + 1) b, h p l, reversed_low k p l, pow_suc k)
+    let b : 2 * p + 1 < 2 ^ suc k = omega (arith, pow_twice k) in
+    omega (arith, reversed_low (suc k) (2 * p + 1) b, h p l, reversed_low k p l, pow_twice k)
 odd_step k _ (high p l) h =
-    let e : 2 * (2 ^ k + p) + 1 ≡ 2 ^ suc k + (2 * p + 1) = omega (arith, pow_suc k) in
-    omega (arith, reversed_high (suc k) (2 * p + 1) (2 * (2 ^ k + p) + 1) e, h p l, reversed_high k p (2 ^ k + p) refl, pow_suc k)
+    let e : 2 * (2 ^ k + p) + 1 ≡ 2 ^ suc k + (2 * p + 1) = omega (arith, pow_twice k) in
+    omega (arith, reversed_high (suc k) (2 * p + 1) (2 * (2 ^ k + p) + 1) e, h p l, reversed_high k p (2 ^ k + p) refl, pow_twice k)
 
 pub reversed_odd : (k p : ℕ) → p < 2 ^ k → reversed (suc k) (2 * p + 1) ≡ 2 ^ k + reversed k p
 reversed_odd zero p l =
@@ -89,7 +87,7 @@ reversed_twice (suc k) q l = twice_step k q (half_of k q l) (λ p b. reversed_tw
 -- the lowest bit becomes the highest
 pub reversed_lowest : (k q : ℕ) → q < 2 ^ suc k → reversed (suc k) q ≡ q % 2 * 2 ^ k + reversed k (q / 2)
 reversed_lowest k q l =
-    let b : q / 2 < 2 ^ k = omega (arith, pow_suc k) in
+    let b : q / 2 < 2 ^ k = omega (arith, pow_twice k) in
     ⊎_elim
     (λ (z : q % 2 < 1).
     let e : q ≡ 2 * (q / 2) = omega arith in
@@ -101,15 +99,12 @@ reversed_lowest k q l =
     ap (reversed (suc k)) e ∙ (reversed_odd k (q / 2) b ∙ rw r (omega arith)))
     (cases_lt (q % 2) 1)
 
--- a power of two is twice the one below it
-pub pow_pred : (n : ℕ) → 0 < n → 2 ^ n ≡ 2 ^ (n - 1) + 2 ^ (n - 1)
-pow_pred n pos = let e : n ≡ suc (n - 1) = omega arith in ap (λ u. 2 ^ u) e ∙ pow_suc (n - 1)
-
-reverse_bits_onto-is : (k n a : ℕ) → n < 2 ^ k → reverse_bits_onto k n a ≡ a * 2 ^ k + reversed k n
+-- what std's `reverse_bits` does, bit by bit, is this
+pub reverse_bits_onto-is : (k n a : ℕ) → n < 2 ^ k → reverse_bits_onto k n a ≡ a * 2 ^ k + reversed k n
 unfolding reverse_bits_onto
 reverse_bits_onto-is zero n a l = omega arith
 reverse_bits_onto-is (suc k) n a l =
-    let h : reverse_bits_onto k (n / 2) (a * 2 + n % 2) ≡ (a * 2 + n % 2) * 2 ^ k + reversed k (n / 2) = reverse_bits_onto-is k (n / 2) (a * 2 + n % 2) (omega (arith, pow_suc k)) in
+    let h : reverse_bits_onto k (n / 2) (a * 2 + n % 2) ≡ (a * 2 + n % 2) * 2 ^ k + reversed k (n / 2) = reverse_bits_onto-is k (n / 2) (a * 2 + n % 2) (omega (arith, pow_twice k)) in
     let r = reversed_lowest k n l in
-    let twice : a * 2 ^ suc k ≡ a * 2 ^ k + a * 2 ^ k = rw (pow_suc k) (omega arith) in
+    let twice : a * 2 ^ suc k ≡ a * 2 ^ k + a * 2 ^ k = rw (pow_twice k) (omega arith) in
     h ∙ omega arith
