@@ -49,7 +49,7 @@ impl<F: FftField, D: EvaluationDomain<F>> DomainDecoder<F, D> {
     /// The codeword that has the word's values at the places that aren't erased; what the word has at the others isn't
     /// looked at. There is at most one such codeword. `WrongLength` exactly for another number of places than the code's,
     /// judged before memory is asked for; `NoCodeword` where no codeword has these values, which can't be where exactly
-    /// `n - k` places are erased.
+    /// `n - k` places are erased; never `TooManyErased`, since a decoder has at most `n - k` erased places.
     pub fn restore<T: DomainCoeff<F>>(&self, alloc: Global, word: &[T]) -> Result<Vec<T>, RsError>
         ensures codeword { IfOk result (λ c. IsCodeword F.field T.group self.now.code.domain self.now.code.k
             (map T.meaning c.items)) }

@@ -1,10 +1,14 @@
 //! Factors for all places from products over fours of them, of which each is a quarter turn of the last: `x`, `w * x`,
 //! `-x` and `-w * x`, where `w` is an element whose square is -1.
 //!
-//! With `E` the product of `x - r` over the erased places and `K` that over the kept ones, `E * K` is `x^n - 1`; so at an
-//! erased place the inverse of `x * E'(x)` is `K(x) / n`, and no derivative is needed. Both products have a part for each
-//! pattern of erased places among four, which one polynomial gives by its values at turns of `x`: so no more than `n / 4`
-//! roots are multiplied, however the places are erased.
+//! With `E` the locator polynomial of the erased places, the product of `x - r` over them, and `K` that of the kept ones,
+//! `E * K` is `x^n - 1`; so at an erased place the inverse of `x * E'(x)` is `K(x) / n`, and neither a formal derivative
+//! nor an inversion is needed. Both products have a part for each pattern of erased places among four, which one polynomial
+//! gives by its values at turns of `x`: so no more than `n / 4` roots are multiplied, however the places are erased.
+//!
+//! This module and `sorted` are a faster way and nothing else: with them, restoring half of 4096 places takes the time of
+//! some 8 transforms in place of 13. Who wants the plain way alone deletes both, with their proofs and the lemmas that only
+//! those use, and lets `factors` of `locator.rt` call `factors_by_slopes` always: the rest stays proved.
 
 ghost use Rattle.std.specs.Prelude.{◌≡◌, ℕ, ◌+◌, ◌*◌, ◌^◌, ◌<◌, ◌≤◌, true, false, length, get_or, IfOk};
 ghost use Rattle.ark_blocks.specs.Blocks.{IsPowerOfTwo, element_of, size_of};
