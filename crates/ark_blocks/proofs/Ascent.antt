@@ -5,9 +5,10 @@ use Rattle.std.proofs.lemmas.Nat.{mul-le, pow_pos, pow-add}
 use Rattle.ark_math.specs.Field.{FieldOn, IsField, minus, power}
 use Rattle.ark_math.specs.Univariate.{of_list, value_below}
 use Rattle.ark_math.proofs.Algebra.Groups.{one_times}
+use Rattle.ark_math.proofs.Numbers.PowersOfTwo.{pow_twice}
 use Rattle.ark_blocks.specs.Blocks.{AreReversed, AreInverseRoots}
 use Rattle.ark_blocks.proofs.BlockParts.{pair_back}
-use Rattle.ark_blocks.proofs.Elements.{power_of_block, pow_suc}
+use Rattle.ark_blocks.proofs.Elements.{power_of_block}
 use Rattle.ark_blocks.proofs.Joined.{by_halves, named_within, pow_half}
 use Rattle.ark_blocks.proofs.Splits.{value_by_strides, value_of_one, value_of_same}
 use Rattle.ark_blocks.proofs.Undone.{two}
@@ -16,7 +17,7 @@ use Rattle.ark_blocks.proofs.Undone.{two}
 pub twice_as_many : (level m : ℕ) → m ≡ 2 ^ level → 2 * m ≡ 2 ^ (level + 1)
 twice_as_many level m is =
     let e : suc level ≡ level + 1 = omega arith in
-    ap (λ t. 2 * t) is ∙ sym (pow_suc level) ∙ ap (λ t. 2 ^ t) e
+    ap (λ t. 2 * t) is ∙ sym (pow_twice level) ∙ ap (λ t. 2 ^ t) e
 
 -- they are the whole list
 pub blocks_whole : (n level m : ℕ) → level < n → m ≡ 2 ^ level → 2 ^ n ≡ 2 * m * 2 ^ (n - (level + 1))

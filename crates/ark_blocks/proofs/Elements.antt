@@ -6,11 +6,8 @@ use Rattle.ark_math.specs.Field.{FieldOn, IsField, power}
 use Rattle.ark_math.proofs.Algebra.Powers.{power-mul, times_zero, zero_factor}
 use Rattle.ark_math.proofs.Algebra.Ring.{ring1}
 use Rattle.ark_math.proofs.Algebra.Solve.{◌⊗◌, ◌⊕◌, unit}
+use Rattle.ark_math.proofs.Numbers.PowersOfTwo.{pow_twice}
 use Rattle.ark_blocks.specs.Blocks.{AreReversed}
-
--- a power of two is twice the one before
-pub pow_suc : (l : ℕ) → 2 ^ suc l ≡ 2 * 2 ^ l
-pow_suc l = let e : suc l ≡ 1 + l = omega arith in ap (λ t. 2 ^ t) e ∙ pow-add 2 1 l
 
 -- half of a place in a block of twice as many
 half_place : (b m i : ℕ) → (b * (2 * m) + i) / 2 ≡ b * m + i / 2
@@ -33,11 +30,11 @@ module _ {F : Type 0} (K : FieldOn F) (N : IsField K) (n : ℕ) (x : ℕ → F) 
   power_of_block (suc l) b i inside within =
       let m = 2 ^ l in
       let z = x (b * 2 ^ suc l + i) in
-      let place : (b * 2 ^ suc l + i) / 2 ≡ b * m + i / 2 = ap (λ t. (b * t + i) / 2) (pow_suc l) ∙ half_place b m i in
+      let place : (b * 2 ^ suc l + i) / 2 ≡ b * m + i / 2 = ap (λ t. (b * t + i) / 2) (pow_twice l) ∙ half_place b m i in
       let less : (b * 2 ^ suc l + i) / 2 < n = omega (arith, within) in
       let square : K.times z (K.times z K.one) ≡ x (b * m + i / 2) = ap (K.times z) (N.times_one z) ∙ R.squares (b * 2 ^ suc l + i) within ∙ ap x place in
-      ap (power K z) (pow_suc l) ∙ power-mul K N z 2 m ∙ ap (λ y. power K y m) square
-      ∙ power_of_block l b (i / 2) (omega (arith, inside, pow_suc l)) (subst (λ t. t < n) place less)
+      ap (power K z) (pow_twice l) ∙ power-mul K N z 2 m ∙ ap (λ y. power K y m) square
+      ∙ power_of_block l b (i / 2) (omega (arith, inside, pow_twice l)) (subst (λ t. t < n) place less)
 
   -- two levels down: the roots of a block's first half
   pub root_of_low : (b : ℕ) → 4 * b < n → K.times (x (4 * b)) (x (4 * b)) ≡ x (2 * b)

@@ -3,7 +3,7 @@ use Rattle.std.proofs.Common.{◌≡◌, ◌⊎◌, ℕ, suc, ◌+◌, ◌*◌, 
 use Rattle.std.proofs.lemmas.Bool.{cases_lt}
 use Rattle.std.proofs.lemmas.List.{get_or_append_left, get_or-append-add}
 use Rattle.std.proofs.lemmas.Nat.{div-add-mod', div_below, mod_below, mul-le, pow_pos}
-use Rattle.ark_blocks.proofs.Elements.{pow_suc}
+use Rattle.ark_math.proofs.Numbers.PowersOfTwo.{pow_twice}
 
 -- what holds in both halves holds everywhere
 pub by_halves : (P : ℕ → Type 0) (m : ℕ) → ((i : ℕ) → i < m → P i) → ((i : ℕ) → i < m → P (m + i)) → (r : ℕ) → r < m + m → P r
@@ -54,14 +54,14 @@ pub pow_fourth : (n : ℕ) → 2 ≤ n → 2 ^ n ≡ 4 * 2 ^ (n - 2)
 pow_fourth n le =
     let m = n - 2 in
     let e : suc (suc m) ≡ n = omega (arith, le) in
-    ap (λ t. 2 ^ t) (sym e) ∙ omega (arith, pow_suc m, pow_suc (suc m))
+    ap (λ t. 2 ^ t) (sym e) ∙ omega (arith, pow_twice m, pow_twice (suc m))
 
 -- and twice the one before
 pub pow_half : (n : ℕ) → 1 ≤ n → 2 ^ n ≡ 2 * 2 ^ (n - 1)
 pow_half n le =
     let m = n - 1 in
     let e : suc m ≡ n = omega (arith, le) in
-    ap (λ t. 2 ^ t) (sym e) ∙ pow_suc m
+    ap (λ t. 2 ^ t) (sym e) ∙ pow_twice m
 
 -- a block that lies within is named within as many parts as it has items
 pub named_within : (b m n : ℕ) (p : ℕ) → 0 < m → suc b * (p * m) ≤ n → suc b * p ≤ n

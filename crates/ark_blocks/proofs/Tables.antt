@@ -20,21 +20,21 @@ use Rattle.ark_math.specs.Root.{Adicity, HasOrder, IsAdicity, IsGreatestPower, I
 use Rattle.ark_math.specs.Univariate.{of_list}
 use Rattle.ark_math.proofs.Algebra.Solve.{◌⊗◌, negative}
 use Rattle.ark_math.proofs.Algebra.Ring.{ring1, ring2}
+use Rattle.ark_math.proofs.Numbers.PowersOfTwo.{pow_twice}
 use Rattle.ark_blocks.specs.Blocks.{AreReversed, AreRoots, IsPowerOfTwo, element_of}
-use Rattle.ark_blocks.proofs.Elements.{pow_suc}
 
 -- a power of two above one is twice one
 pub half_of_power : (n : ℕ) → IsPowerOfTwo n → n / 2 ≢ 0 → IsPowerOfTwo (n / 2) × (n ≡ n / 2 + n / 2)
 half_of_power n (zero, e) some = absurd (some (omega (arith, e)))
 half_of_power n (suc k, e) some =
-    let twice : 2 ^ suc k ≡ 2 * 2 ^ k = pow_suc k in
+    let twice : 2 ^ suc k ≡ 2 * 2 ^ k = pow_twice k in
     ((k, omega (arith, e, twice)), omega (arith, e, twice))
 
 -- one that isn't is one
 pub power_of_few : (n : ℕ) → IsPowerOfTwo n → n / 2 ≡ 0 → n ≡ 1
 power_of_few n (zero, e) none = e
 power_of_few n (suc k, e) none =
-    let twice : 2 ^ suc k ≡ 2 * 2 ^ k = pow_suc k in
+    let twice : 2 ^ suc k ≡ 2 * 2 ^ k = pow_twice k in
     absurd (omega (arith, e, twice, none, pow_pos k))
 
 -- a supported power of two is a size of radix 2, since no other power of the odd base than one divides it

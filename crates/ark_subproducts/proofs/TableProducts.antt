@@ -13,8 +13,8 @@ use Rattle.ark_math.proofs.Domains.Sizes.{power_lt}
 use Rattle.ark_math.proofs.Polynomials.Univariate.{same_below}
 use Rattle.ark_math.proofs.Polynomials.UnivariateLists.{of_list-past}
 use Rattle.ark_math.proofs.Polynomials.UnivariateLoops.{cut, cut-inside, cut-outside}
+use Rattle.ark_math.proofs.Numbers.PowersOfTwo.{pow_twice}
 use Rattle.ark_blocks.specs.Blocks.{AreFirstValues, AreReversed, AreValuesFrom, IsPowerOfTwo}
-use Rattle.ark_blocks.proofs.Elements.{pow_suc}
 use Rattle.ark_blocks.proofs.PowersOfTwo.{half_is_power}
 use Rattle.ark_blocks.proofs.Padded.{item_behind, whole_blocks}
 use Rattle.ark_blocks.proofs.Runs.{values_wrapped}
@@ -25,7 +25,7 @@ pub twice_within : (n : ℕ) → IsPowerOfTwo n → n < 2 ^ 64 → n + n ≤ 2 ^
 twice_within n (k, e) fits =
     let few : k < 64 = power_lt k 64 (omega (arith, e, fits)) in
     let most : 2 ^ suc k ≤ 2 ^ 64 = pow_mono few in
-    omega (arith, most, pow_suc k, e)
+    omega (arith, most, pow_twice k, e)
 
 -- a power of two of which 17 / 16 is enough for a number above 40 is a multiple of 64
 multiple_of_64 : (n count : ℕ) → IsPowerOfTwo count → 40 < n → 16 * n ≤ 17 * count → count / 64 * 64 ≡ count

@@ -10,7 +10,7 @@ use Rattle.ark_math.proofs.Algebra.Ring.{ring2}
 use Rattle.ark_blocks.specs.Blocks.{IsPowerOfTwo, element_of}
 use Rattle.ark_math.specs.BitReversal.{reversed}
 use Rattle.ark_math.proofs.Numbers.BitReversal.{reversed_low, reversed_high, reversed_even, reversed_odd, reversed_below, reversed_lowest}
-use Rattle.ark_math.proofs.Numbers.PowersOfTwo.{pow_twice as pow_suc}
+use Rattle.ark_math.proofs.Numbers.PowersOfTwo.{pow_twice}
 use Rattle.rs_code.specs.Turns.{IsTableOf, turn_place}
 
 -- ---- places
@@ -19,8 +19,8 @@ use Rattle.rs_code.specs.Turns.{IsTableOf, turn_place}
 pub reversed_next : (n levels i : ℕ) → n ≡ 2 ^ levels → 0 < i → i < n → reversed levels i ≡ i % 2 * (n / 2) + reversed levels (i / 2) / 2
 reversed_next n zero i e pos l = absurd (omega (arith, e, pos, l))
 reversed_next n (suc levels) i e pos l =
-    let half : 2 ^ levels ≡ n / 2 = omega (arith, e, pow_suc levels) in
-    let low = reversed_low levels (i / 2) (omega (arith, e, l, pow_suc levels)) in
+    let half : 2 ^ levels ≡ n / 2 = omega (arith, e, pow_twice levels) in
+    let low = reversed_low levels (i / 2) (omega (arith, e, l, pow_twice levels)) in
     let twice : reversed levels (i / 2) ≡ reversed (suc levels) (i / 2) / 2 = omega (arith, low) in
     reversed_lowest levels i (omega (arith, e, l)) ∙ ap₂ (λ s t. i % 2 * s + t) half twice
 
@@ -28,13 +28,13 @@ reversed_next n (suc levels) i e pos l =
 pub reversed_turn : (l t j i : ℕ) → t < 4 → j < 2 ^ l → i ≡ t * 2 ^ l + j → reversed (suc (suc l)) i ≡ 4 * reversed l j + turn_place t
 reversed_turn l zero j i b h e =
     let same : i ≡ j = omega (arith, e) in
-    ap (reversed (suc (suc l))) same ∙ omega (arith, reversed_low (suc l) j (omega (arith, h, pow_suc l)), reversed_low l j h)
+    ap (reversed (suc (suc l))) same ∙ omega (arith, reversed_low (suc l) j (omega (arith, h, pow_twice l)), reversed_low l j h)
 reversed_turn l (suc zero) j i b h e =
-    omega (arith, reversed_low (suc l) i (omega (arith, e, h, pow_suc l)), reversed_high l j i (omega (arith, e)))
+    omega (arith, reversed_low (suc l) i (omega (arith, e, h, pow_twice l)), reversed_high l j i (omega (arith, e)))
 reversed_turn l (suc (suc zero)) j i b h e =
-    omega (arith, reversed_high (suc l) j i (omega (arith, e, pow_suc l)), reversed_low l j h)
+    omega (arith, reversed_high (suc l) j i (omega (arith, e, pow_twice l)), reversed_low l j h)
 reversed_turn l (suc (suc (suc zero))) j i b h e =
-    omega (arith, reversed_high (suc l) (2 ^ l + j) i (omega (arith, e, pow_suc l)), reversed_high l j (2 ^ l + j) refl)
+    omega (arith, reversed_high (suc l) (2 ^ l + j) i (omega (arith, e, pow_twice l)), reversed_high l j (2 ^ l + j) refl)
 reversed_turn l (suc (suc (suc (suc t)))) j i b h e = absurd (omega (arith, b))
 
 pub turn_place_less : (t : ℕ) → turn_place t < 4
@@ -59,8 +59,8 @@ four_below fours (l, e) places j b = omega (arith, places l j e b, reversed_belo
 -- a power of two has quarters
 pub quarter_of : (n m : ℕ) → n ≡ m → IsPowerOfTwo m → 256 ≤ m → (l : ℕ) × (n / 4 ≡ 2 ^ l) × (4 * (n / 4) ≡ n)
 quarter_of n m same (zero, e) many = absurd (omega (arith, e, many))
-quarter_of n m same (suc zero, e) many = absurd (omega (arith, e, many, pow_suc 0))
-quarter_of n m same (suc (suc l), e) many = (l, omega (arith, same, e, pow_suc l, pow_suc (suc l)), omega (arith, same, e, pow_suc l, pow_suc (suc l)))
+quarter_of n m same (suc zero, e) many = absurd (omega (arith, e, many, pow_twice 0))
+quarter_of n m same (suc (suc l), e) many = (l, omega (arith, same, e, pow_twice l, pow_twice (suc l)), omega (arith, same, e, pow_twice l, pow_twice (suc l)))
 
 -- ---- elements
 
@@ -80,7 +80,7 @@ module _ {F : Type 0} (K : FieldOn F) (N : IsField K) (x : ℕ → F) where
       x (reversed (suc l) i) ≡ power K w i
   by_halves l i w h next halves =
       let k = i / 2 in
-      let b : k < 2 ^ l = omega (arith, h, pow_suc l) in
+      let b : k < 2 ^ l = omega (arith, h, pow_twice l) in
       ⊎_elim
       (λ (low : i % 2 < 1). let e : 2 * k ≡ i = omega (arith, low) in subst (λ t. x (reversed (suc l) t) ≡ power K w t) e (even_power l k w b (halves k b)))
       (λ (high : 1 ≤ i % 2). let e : 2 * k + 1 ≡ i = omega (arith, high) in subst (λ t. x (reversed (suc l) t) ≡ power K w t) e (odd_power l k w b next (halves k b)))
@@ -92,19 +92,19 @@ module _ {F : Type 0} (K : FieldOn F) (N : IsField K) (x : ℕ → F) where
   power_at zero w first squares next i h = by_halves zero i w h next (λ k b. let e : k ≡ 0 = omega (arith, b) in first ∙ sym (ap (power K (power K w 2)) e))
   power_at (suc l) w first squares next i h =
       by_halves (suc l) i w h next
-      (power_at l (power K w 2) first (λ k b. squares k (omega (arith, b, pow_suc (suc l))))
+      (power_at l (power K w 2) first (λ k b. squares k (omega (arith, b, pow_twice (suc l))))
       (λ k b.
-      let upper : (2 ^ suc l + 2 * k) / 2 ≡ 2 ^ l + k = omega (arith, pow_suc l) in
+      let upper : (2 ^ suc l + 2 * k) / 2 ≡ 2 ^ l + k = omega (arith, pow_twice l) in
       let lower : 2 * k / 2 ≡ k = omega arith in
-      sym (squares (2 ^ suc l + 2 * k) (omega (arith, b, pow_suc l, pow_suc (suc l))) ∙ ap x upper)
-      ∙ ap (λ t. K.times t t) (next (2 * k) (omega (arith, b, pow_suc l)))
+      sym (squares (2 ^ suc l + 2 * k) (omega (arith, b, pow_twice l, pow_twice (suc l))) ∙ ap x upper)
+      ∙ ap (λ t. K.times t t) (next (2 * k) (omega (arith, b, pow_twice l)))
       ∙ ring2 K N (λ y w. ((y ⊗ w) ⊗ (y ⊗ w), (y ⊗ y) ⊗ (w ⊗ (w ⊗ unit)))) refl (x (2 * k)) w
-      ∙ ap (λ t. K.times t (power K w 2)) (squares (2 * k) (omega (arith, b, pow_suc l, pow_suc (suc l))) ∙ ap x lower)))
+      ∙ ap (λ t. K.times t (power K w 2)) (squares (2 * k) (omega (arith, b, pow_twice l, pow_twice (suc l))) ∙ ap x lower)))
 
 module _ {F : Type 0} (K : FieldOn F) (N : IsField K) (d : Domain F) (one : d.offset ≡ K.one) (table : List F) (T : IsTableOf K d table) where
   pub element_at : (l i : ℕ) → d.size ≡ 2 ^ suc l → i < d.size → element_of K table (reversed (suc l) i) ≡ element K d i
   element_at l i size h =
-      let half : length table ≡ 2 ^ l = omega (arith, T.size, size, pow_suc l) in
+      let half : length table ≡ 2 ^ l = omega (arith, T.size, size, pow_twice l) in
       let p = power K d.root i in
       power_at K N (element_of K table) l d.root T.reversed.first
       (λ k b. T.reversed.squares k (omega (arith, b, size)))
@@ -125,10 +125,10 @@ module _ {F : Type 0} (K : FieldOn F) (N : IsField K) (d : Domain F) (one : d.of
         let m : t * q ≤ 3 * q = mul-le-mul_right q (omega (arith, h)) in
         let i_is : j + t * q ≡ t * 2 ^ l + j = ap (λ n. j + t * n) e ∙ omega arith in
         ap (λ p. element_of K table (4 * reversed l j + p)) (sym (turn_place-twice place b))
-        ∙ turn_element t h (j + t * q) i_is (omega (arith, m, inside, e, size, pow_suc l, pow_suc (suc l)))
+        ∙ turn_element t h (j + t * q) i_is (omega (arith, m, inside, e, size, pow_twice l, pow_twice (suc l)))
 
     fits_turn : (t : ℕ) → 4 * reversed l j + turn_place t < d.size
-    fits_turn t = omega (arith, turn_place_less t, reversed_below l j inside, size, pow_suc l, pow_suc (suc l))
+    fits_turn t = omega (arith, turn_place_less t, reversed_below l j inside, size, pow_twice l, pow_twice (suc l))
 
     -- earlier ones are squares, and fourth powers
     pub turn_square : (s : ℕ) → s < 2 → (i : ℕ) → i ≡ s * 2 ^ l + j → i < d.size → element_of K table (2 * reversed l j + s) ≡ K.times (element K d i) (element K d i)
@@ -146,6 +146,6 @@ module _ {F : Type 0} (K : FieldOn F) (N : IsField K) (d : Domain F) (one : d.of
         let e : 2 * r / 2 ≡ r = omega arith in
         let f : 2 * r ≡ 2 * r + 0 = omega arith in
         let b : 2 * r < d.size = omega (arith, fits_turn 0) in
-        let h : j < d.size = omega (arith, inside, size, pow_suc l, pow_suc (suc l)) in
+        let h : j < d.size = omega (arith, inside, size, pow_twice l, pow_twice (suc l)) in
         sym (T.reversed.squares (2 * r) b ∙ ap (element_of K table) e)
         ∙ ap (λ y. K.times y y) (ap (element_of K table) f ∙ turn_square 0 (omega arith) j (omega arith) h)

@@ -10,7 +10,7 @@ use Rattle.ark_math.specs.Univariate.{of_list}
 use Rattle.ark_blocks.specs.Blocks.{element_of}
 use Rattle.ark_math.specs.BitReversal.{reversed}
 use Rattle.ark_math.proofs.Numbers.BitReversal.{reversed_below}
-use Rattle.ark_math.proofs.Numbers.PowersOfTwo.{pow_twice as pow_suc}
+use Rattle.ark_math.proofs.Numbers.PowersOfTwo.{pow_twice}
 use Rattle.rs_code.specs.Locator.{lost, located, slope, IsFactor}
 use Rattle.rs_code.specs.Turns.{AreMadeBelow, AreSorted, HoldValues, IsMadeOf, IsTableOf, Sorted, Values, at_turn, erased_from, kept_from, product_of_eight, turn_place}
 use Rattle.rs_code.proofs.TableOrder.{turn_element, turn_fourth, turn_place_less, turn_square}
@@ -98,7 +98,7 @@ module _ {F : Type 0} (K : FieldOn F) (v : Values F) where
 module _ {F : Type 0} (K : FieldOn F) (N : IsField K) (d : Domain F) (q l : ℕ) (q_is : q ≡ 2 ^ l) (o : HasOrder K d.root d.size) (one : d.offset ≡ K.one) (size : d.size ≡ q + (q + (q + q))) (some : 0 < q)
     (table : List F) (T : IsTableOf K d table) (j : ℕ) (inside : j < q) where
   levels : d.size ≡ 2 ^ suc (suc l)
-  levels = omega (arith, size, q_is, pow_suc l, pow_suc (suc l))
+  levels = omega (arith, size, q_is, pow_twice l, pow_twice (suc l))
 
   below : j < 2 ^ l
   below = omega (arith, inside, q_is)

@@ -5,7 +5,7 @@ use Rattle.ark_math.specs.Domain.{element}
 use Rattle.ark_blocks.specs.Blocks.{element_of}
 use Rattle.ark_math.specs.BitReversal.{reversed}
 use Rattle.ark_math.proofs.Numbers.BitReversal.{reversed_none}
-use Rattle.ark_math.proofs.Numbers.PowersOfTwo.{pow_twice as pow_suc}
+use Rattle.ark_math.proofs.Numbers.PowersOfTwo.{pow_twice}
 use Rattle.rs_code.specs.Turns.{AreSorted, AreSortedBelow, finished, finished_from, pushed, roots_of, turn_place, turned}
 use Rattle.rs_code.proofs.TurnedPlaces.{four_read}
 use Rattle.rs_code.proofs.TableOrder.{four_below, row_element, turn_element}
@@ -65,7 +65,7 @@ loop-j-preserved g c =
           let turn = turn_place place in
           let l = c.requires.power.0 in
           let q_is : q ≡ 2 ^ l = c.requires.power.1 in
-          let levels : d.size ≡ 2 ^ suc (suc l) = omega (arith, c.requires.size, table.size, q_is, pow_suc l, pow_suc (suc l)) in
+          let levels : d.size ≡ 2 ^ suc (suc l) = omega (arith, c.requires.size, table.size, q_is, pow_twice l, pow_twice (suc l)) in
           let whole : d.size ≡ q + (q + (q + q)) = omega (arith, c.requires.size, table.size) in
           let root : r ≡ element K d (j + turn * q) =
           c.element.ensures ∙ ap (λ k. element_of K c.args.table.now (4 * k + place)) (c.requires.places l j q_is c.loop-j-test.true)
@@ -92,7 +92,7 @@ returns g c = λ d one order table.
     let w = element K d q in
     let l = c.requires.power.0 in
     let q_is : q ≡ 2 ^ l = c.requires.power.1 in
-    let levels : d.size ≡ 2 ^ suc (suc l) = omega (arith, c.requires.size, table.size, q_is, pow_suc l, pow_suc (suc l)) in
+    let levels : d.size ≡ 2 ^ suc (suc l) = omega (arith, c.requires.size, table.size, q_is, pow_twice l, pow_twice (suc l)) in
     let whole : d.size ≡ q + (q + (q + q)) = omega (arith, c.requires.size, table.size) in
     let some : 0 < q = omega (arith, q_is, pow_pos l) in
     let end : c.loop-j.j ≡ q = omega (arith, c.loop-j-test.false, c.loop-j.auto.j-end) in

@@ -1,13 +1,13 @@
 use Rattle.std.proofs.Common.{◌≡◌, suc, ◌∙◌, ap, ap₂, arith}
 use Rattle.ark_blocks.specs.Blocks.{element_of}
-use Rattle.ark_math.proofs.Numbers.PowersOfTwo.{pow_twice as pow_suc}
+use Rattle.ark_math.proofs.Numbers.PowersOfTwo.{pow_twice}
 use Rattle.rs_code.specs.Locator.{located}
 use Rattle.rs_code.proofs.turns.values_of.Goals as goal
 
 pub values_over-requires-4-clause-power : goal.values_over-requires-4-clause-power
 values_over-requires-4-clause-power g c =
     let l = c.requires.power.0 in
-    (suc l, omega (arith, c.size-n.ensures.size, c.requires.size, c.requires.power.1, pow_suc l))
+    (suc l, omega (arith, c.size-n.ensures.size, c.requires.size, c.requires.power.1, pow_twice l))
 
 pub returns-clause-values : goal.returns-clause-values
 returns-clause-values g c =

@@ -1,12 +1,13 @@
 use Rattle.std.proofs.Common.{◌≡◌, ◌≢◌, ◌+◌, ◌*◌, ◌<◌, suc, subst, length, arith}
+use Rattle.ark_math.proofs.Numbers.PowersOfTwo.{pow_twice}
 use Rattle.ark_blocks.specs.Blocks.{AreReversed, element_of}
-use Rattle.ark_blocks.proofs.Elements.{elements_different, pow_suc}
+use Rattle.ark_blocks.proofs.Elements.{elements_different}
 use Rattle.ark_blocks.proofs.table.BlockRoots.size.Goals as goal
 
 pub returns-clause-power : goal.returns-clause-power
 returns-clause-power g c =
     let p = c.self.invariant.power in
-    (suc p.0, omega (arith, c.len.ensures, p.1, pow_suc p.0))
+    (suc p.0, omega (arith, c.len.ensures, p.1, pow_twice p.0))
 
 pub returns-clause-elements : goal.returns-clause-elements
 returns-clause-elements g c =
