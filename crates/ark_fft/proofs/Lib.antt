@@ -1,5 +1,6 @@
--- Lemmas of the kernels, over plain lists and tables: the transform by halves (Halving, Fours, Carries, Places, Joining, Radix2, Short), by parts (Split, Parts, Blocks, Mixed), what their loops count (Counts), the iterator over a domain (Yielded), and what reading a domain gives (DomainReading).
+-- Lemmas of the kernels, over plain lists and tables: the transform by halves (Butterflies, Halving, Fours, Carries, Places, Joining, Radix2, Short), by parts (Split, Parts, Blocks, Mixed), what their loops count (Counts), the iterator over a domain (Yielded), and what reading a domain gives (DomainReading).
 pub mod Blocks
+pub mod Butterflies
 pub mod Carries
 pub mod Counts
 pub mod DomainReading

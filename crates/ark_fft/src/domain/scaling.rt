@@ -8,7 +8,7 @@ ghost use Rattle.ark_fft.specs.Scalings.{GrowsByScalings};
 
 use ark_traits::{DomainCoeff, FftField, Work};
 
-/// Scales each item.
+// Scales each item.
 fn scale_each<F: FftField, T: DomainCoeff<F>>(work: &mut Work, xs: &mut [T], factor: F)
     ensures items { (i : ℕ) → i < length xs.old → item T.group (map T.meaning xs.new) i
         ≡ T.group.scale factor (item T.group (map T.meaning xs.old) i) }
@@ -19,7 +19,7 @@ fn scale_each<F: FftField, T: DomainCoeff<F>>(work: &mut Work, xs: &mut [T], fac
     }
 }
 
-/// Scales item i by start times the factor to the i. Two rows of powers take turns, so that no product waits for the last.
+// Scales item i by start times the factor to the i. Two rows of powers take turns, so that no product waits for the last.
 pub(crate) fn scale_by_powers<F: FftField, T: DomainCoeff<F>>(
     work: &mut Work,
     xs: &mut [T],
@@ -46,7 +46,7 @@ pub(crate) fn scale_by_powers<F: FftField, T: DomainCoeff<F>>(
     }
 }
 
-/// Scales item i by the offset to the i, and nothing where the offset is one.
+// Scales item i by the offset to the i, and nothing where the offset is one.
 pub(crate) fn shift_to_coset<F: FftField, T: DomainCoeff<F>>(
     work: &mut Work,
     xs: &mut [T],

@@ -1,4 +1,5 @@
-//! The mixed radix transform, and its inverse.
+//! The mixed radix transform (Cooley-Tukey), and its inverse: by decimation in time as often as the length has the odd
+//! base, each time with twiddle factors, and what is left by halves.
 
 ghost use Rattle.std.specs.Prelude.{◌≡◌, ◌≢◌, ℕ, true, false, IsSome, IsOkUnless, IfOk, OnOk, OnErr, List};
 ghost use Rattle.std.specs.Prelude.{map, length, get_or, ◌+◌, ◌-◌, ◌*◌, ◌/◌, ◌≤◌, ◌<◌, ◌^◌, vec_len};
@@ -173,7 +174,7 @@ fn join<F: FftField, T: DomainCoeff<F>>(
     }
 }
 
-/// Deals the items out in turn: part r gets those at r, r + base, ..
+// Deals the items out in turn: part r gets those at r, r + base, ..
 fn deinterleave<T: Copy>(whole: &[T], parts: &mut [T], base: usize, m: usize)
     requires whole_size { length whole.now ≡ base * m }
     requires parts_size { length parts.old ≡ base * m }
@@ -188,7 +189,7 @@ fn deinterleave<T: Copy>(whole: &[T], parts: &mut [T], base: usize, m: usize)
     }
 }
 
-/// The transform of a list of 2 ^ levels items. The tables are those of all levels, if there is one.
+// The transform of a list of 2 ^ levels items. The tables are those of all levels, if there is one.
 fn even_transform<F: FftField, T: DomainCoeff<F>>(
     work: &mut Work,
     xs: &mut [T],
@@ -272,8 +273,8 @@ fn mixed<F: FftField, T: DomainCoeff<F>>(
     }
 }
 
-/// The tables of all levels of the lists that are left once a list is parted as often as its length has the odd base; none
-/// where these have one item.
+// The tables of all levels of the lists that are left once a list is parted as often as its length has the odd base; none
+// where these have one item.
 fn even_tables<F: FftField>(alloc: Global, coset: &Coset<F>, root: F) -> Result<Vec<F>, AllocError>
     ensures len { IfOk result (λ t. 0 < coset.now.log_size_of_group
         → length t.items ≡ 2 ^ coset.now.log_size_of_group) }
@@ -288,8 +289,8 @@ fn even_tables<F: FftField>(alloc: Global, coset: &Coset<F>, root: F) -> Result<
     level_tables(alloc, root.pow(coset.size >> log_len), 1 << log_len)
 }
 
-/// Takes all memory, for a root's powers, for n items to work in and for n items, and cuts the list or fills it with
-/// zeros.
+// Takes all memory, for a root's powers, for n items to work in and for n items, and cuts the list or fills it with
+// zeros.
 fn prepare<F: FftField, T: DomainCoeff<F>>(
     alloc: Global,
     root: F,

@@ -13,7 +13,7 @@ pub fn odd_base<F: FftField>() -> Option<(u32, u32)>
     Some((F::SMALL_SUBGROUP_BASE?, F::SMALL_SUBGROUP_BASE_ADICITY?))
 }
 
-/// The least supported size at or above `num_coeffs` with this power of the base, and its exponent of two.
+// The least supported size at or above `num_coeffs` with this power of the base, and its exponent of two.
 fn least_with<F: FftField>(num_coeffs: usize, base: u32, odds: u32) -> Option<(u64, u32)>
     requires base { base ≡ odd_base F.adicity.odd }
     requires odds { odds ≤ odd_most F.adicity.odd }
@@ -32,7 +32,7 @@ fn least_with<F: FftField>(num_coeffs: usize, base: u32, odds: u32) -> Option<(u
     Some((twos_part.checked_mul(power)?, twos))
 }
 
-/// Whether the size is less than the least one so far.
+// Whether the size is less than the least one so far.
 fn improves(size: u64, least: Option<(u64, u32, u32)>) -> bool
     ensures { IsTrue result ↔ IfSome least (λ p. size < p.0) }
 {

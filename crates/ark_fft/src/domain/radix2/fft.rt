@@ -1,4 +1,5 @@
-//! The radix 2 transform by halves, and its inverse.
+//! The radix 2 transform (Cooley-Tukey), and its inverse: long lists go by decimation in frequency, short ones by
+//! decimation in time.
 
 ghost use Rattle.std.specs.Prelude.{◌≡◌, ◌≢◌, ◌⊎◌, ℕ, true, false, IsOkUnless, IfOk, OnOk, OnErr, List, map};
 ghost use Rattle.std.specs.Prelude.{length, get_or, take, ◌+◌, ◌-◌, ◌*◌, ◌/◌, ◌%◌, ◌≤◌, ◌<◌, ◌^◌, vec_len};
@@ -19,7 +20,7 @@ use ark_traits::{DomainCoeff, FftField, PolyError, Work};
 use std::alloc::{AllocError, Global};
 use std::mem;
 
-/// One butterfly: the sum, and the difference times the twiddle.
+// One butterfly of a decimation in frequency (Gentleman-Sande): the sum, and the difference times the twiddle factor.
 fn butterfly<F: FftField, T: DomainCoeff<F>>(work: &mut Work, lo: &mut T, hi: &mut T, twiddle: F)
     ensures sum { T.meaning lo.new ≡ T.group.plus (T.meaning lo.old) (T.meaning hi.old) }
     ensures difference { T.meaning hi.new ≡ T.group.scale twiddle
@@ -33,7 +34,7 @@ fn butterfly<F: FftField, T: DomainCoeff<F>>(work: &mut Work, lo: &mut T, hi: &m
     work.butterfly();
 }
 
-/// Butterflies across two halves, each with the twiddle at its index.
+// Butterflies across two halves, each with the twiddle factor at its index.
 fn butterflies<F: FftField, T: DomainCoeff<F>>(
     work: &mut Work,
     lo: &mut [T],
@@ -55,7 +56,7 @@ fn butterflies<F: FftField, T: DomainCoeff<F>>(
     }
 }
 
-/// The butterfly of a list of two items.
+// The butterfly of a list of two items.
 fn pair<F: FftField, T: DomainCoeff<F>>(work: &mut Work, xs: &mut [T], twiddle: F)
     requires { length xs.old ≡ 2 }
     ensures sum { item T.group (map T.meaning xs.new) 0
@@ -72,8 +73,8 @@ fn pair<F: FftField, T: DomainCoeff<F>>(work: &mut Work, xs: &mut [T], twiddle: 
     xs[1] = hi;
 }
 
-/// The transform of four items, block r of a list, by two levels. Place i of it is left at the index that has the bits of
-/// i backwards. The tables are those of both levels.
+// The transform of four items, block r of a list, by two levels. Place i of it is left at the index that has the bits of
+// i backwards. The tables are those of both levels.
 fn four<F: FftField, T: DomainCoeff<F>>(work: &mut Work, xs: &mut [T], tables: &[F], r: usize)
     requires within { 4 * r + 3 < length xs.old }
     requires whole { length tables.now ≡ 4 }
@@ -98,7 +99,7 @@ fn four<F: FftField, T: DomainCoeff<F>>(work: &mut Work, xs: &mut [T], tables: &
     xs[4 * r + 3] = fourth;
 }
 
-/// The transforms of all blocks of four items. No block waits for another, so that several can be taken at a time.
+// The transforms of all blocks of four items. No block waits for another, so that several can be taken at a time.
 fn fours<F: FftField, T: DomainCoeff<F>>(work: &mut Work, xs: &mut [T], tables: &[F])
     requires { length tables.now ≡ 4 }
     ensures sums { (w : F) → AreLevels F.field w 2 tables.now → (r q : ℕ) → r < length xs.old / 4 → q < 4
@@ -111,7 +112,7 @@ fn fours<F: FftField, T: DomainCoeff<F>>(work: &mut Work, xs: &mut [T], tables: 
     }
 }
 
-/// The levels of `halves` above blocks of four items: the transform's places are then those of the blocks' own ones.
+// The levels of `halves` above blocks of four items: the transform's places are then those of the blocks' own ones.
 fn down_to_fours<F: FftField, T: DomainCoeff<F>>(
     work: &mut Work,
     xs: &mut [T],
@@ -137,7 +138,7 @@ fn down_to_fours<F: FftField, T: DomainCoeff<F>>(
     }
 }
 
-/// The transform of `halves` of a list that is short enough to be passed over once more for its last two levels.
+// The transform of `halves` of a list that is short enough to be passed over once more for its last two levels.
 fn short_halves<F: FftField, T: DomainCoeff<F>>(
     work: &mut Work,
     xs: &mut [T],
@@ -157,8 +158,8 @@ fn short_halves<F: FftField, T: DomainCoeff<F>>(
     fours(work, xs, last);
 }
 
-/// The transform in place. Place i of it is left at the index that has the bits of i backwards. The tables are those of
-/// all levels, the whole list's twiddles first.
+// The transform in place, by decimation in frequency. It is left in bit-reversed order: place i at the index that has the
+// bits of i backwards. The tables are those of all levels, the whole list's twiddle factors first.
 pub(crate) fn halves<F: FftField, T: DomainCoeff<F>>(
     work: &mut Work,
     xs: &mut [T],
@@ -186,7 +187,7 @@ pub(crate) fn halves<F: FftField, T: DomainCoeff<F>>(
     }
 }
 
-/// Puts every second item of twice as many in front.
+// Puts every second item of twice as many in front.
 fn keep_every_second<F: FftField>(xs: &mut [F], half: usize)
     requires size { half * 2 ≤ length xs.old }
     ensures { (i : ℕ) → i < half → get_or xs.new i F.field.zero ≡ get_or xs.old (2 * i) F.field.zero }
@@ -196,8 +197,8 @@ fn keep_every_second<F: FftField>(xs: &mut [F], half: usize)
     }
 }
 
-/// Puts the tables of all levels below, each as many twiddles one after the other as its lists have pairs, in the place
-/// of the twiddles of a list.
+// Puts the tables of all levels below, each as many twiddles one after the other as its lists have pairs, in the place
+// of the twiddles of a list.
 fn pack_levels<F: FftField>(table: &mut [F])
     ensures { (w : F) (n : ℕ) → length table.old ≡ 2 ^ n → IsHalfTable F.field w table.old
         → AreLevels F.field (power F.field w 2) n table.new }
@@ -207,8 +208,8 @@ fn pack_levels<F: FftField>(table: &mut [F])
     continue_levels(table, half);
 }
 
-/// The transform of `halves` at the table's root. Once its twiddles have been read, those of the levels below take their
-/// places, so that each level reads its own one after the other.
+// The transform of `halves` at the table's root. Once its twiddles have been read, those of the levels below take their
+// places, so that each level reads its own one after the other.
 fn first_halves<F: FftField, T: DomainCoeff<F>>(
     work: &mut Work,
     xs: &mut [T],
@@ -232,7 +233,7 @@ fn first_halves<F: FftField, T: DomainCoeff<F>>(
     }
 }
 
-/// The index with the lowest bits of i + 1 backwards, from the one with those of i.
+// The index with the lowest bits of i + 1 backwards, from the one with those of i.
 fn next_reversed(_i: usize, before: usize, levels: u32) -> usize
     requires few { levels < 64 }
     requires within { _i + 1 < 2 ^ levels }
@@ -248,7 +249,7 @@ fn next_reversed(_i: usize, before: usize, levels: u32) -> usize
     left + bit
 }
 
-/// Exchanges two items.
+// Exchanges two items.
 fn exchange<T>(xs: &mut [T], i: usize, j: usize)
     requires apart { i < j }
     requires within { j < length xs.old }
@@ -259,7 +260,7 @@ fn exchange<T>(xs: &mut [T], i: usize, j: usize)
     xs.swap(i, j);
 }
 
-/// Puts each item of a short list at the index that has the bits of its own backwards.
+// The bit-reversal permutation of a short list.
 fn bit_reverse_items<T>(xs: &mut [T], levels: u32)
     requires few { levels < 64 }
     requires size { length xs.old ≡ 2 ^ levels }
@@ -274,7 +275,7 @@ fn bit_reverse_items<T>(xs: &mut [T], levels: u32)
     }
 }
 
-/// Exchanges two blocks of four neighbours.
+// Exchanges two blocks of four neighbours.
 fn swap_fours<T>(xs: &mut [T], i: usize, j: usize)
     requires apart { i < j }
     requires within { 4 * j + 3 < length xs.old }
@@ -289,7 +290,7 @@ fn swap_fours<T>(xs: &mut [T], i: usize, j: usize)
     xs.swap(4 * i + 3, 4 * j + 3);
 }
 
-/// Puts each block of four neighbours at the index that has the bits of its own backwards.
+// Puts each block of four neighbours at the index that has the bits of its own backwards.
 fn bit_reverse_fours<T>(xs: &mut [T], levels: u32)
     requires few { levels < 62 }
     requires size { length xs.old ≡ 4 * 2 ^ levels }
@@ -305,7 +306,7 @@ fn bit_reverse_fours<T>(xs: &mut [T], levels: u32)
     }
 }
 
-/// Exchanges the two highest bits of an index with the two lowest ones, backwards, at block k of each quarter of a list.
+// Exchanges the two highest bits of an index with the two lowest ones, backwards, at block k of each quarter of a list.
 fn turn_block<T>(first: &mut [T], second: &mut [T], third: &mut [T], fourth: &mut [T], k: usize)
     requires within { 4 * k + 3 < length first.old }
     requires second_len { length second.old ≡ length first.old }
@@ -327,7 +328,7 @@ fn turn_block<T>(first: &mut [T], second: &mut [T], third: &mut [T], fourth: &mu
     mem::swap(&mut third[4 * k + 3], &mut fourth[4 * k + 1]);
 }
 
-/// Exchanges the two highest bits of each index with the two lowest ones, backwards. The list is given by its quarters.
+// Exchanges the two highest bits of each index with the two lowest ones, backwards. The list is given by its quarters.
 fn turn_blocks<T>(
     first: &mut [T],
     second: &mut [T],
@@ -349,8 +350,8 @@ fn turn_blocks<T>(
     }
 }
 
-/// Puts each item at the index that has the bits of its own backwards: first by the two highest and the two lowest bits,
-/// and then, in each quarter, by those between them.
+// The bit-reversal permutation: puts each item at the index that has the bits of its own backwards, first by the two
+// highest and the two lowest bits, and then, in each quarter, by those between them.
 pub(crate) fn bit_reverse<T>(xs: &mut [T], levels: u32)
     requires few { levels < 64 }
     requires size { length xs.old ≡ 2 ^ levels }
@@ -371,7 +372,7 @@ pub(crate) fn bit_reverse<T>(xs: &mut [T], levels: u32)
     }
 }
 
-/// The transform at the table's root, in place and in order.
+// The transform at the table's root, in place and in order.
 fn in_order<F: FftField, T: DomainCoeff<F>>(
     work: &mut Work,
     xs: &mut [T],
@@ -390,7 +391,8 @@ fn in_order<F: FftField, T: DomainCoeff<F>>(
     bit_reverse(xs, levels);
 }
 
-/// One butterfly that joins two parts: hi times the twiddle, added to lo and taken from it.
+// One butterfly of a decimation in time, which joins two parts: hi times the twiddle factor, added to lo and taken from
+// it.
 fn join<F: FftField, T: DomainCoeff<F>>(work: &mut Work, lo: &mut T, hi: &mut T, twiddle: F)
     ensures sum { T.meaning lo.new ≡ T.group.plus (T.meaning lo.old)
         (T.group.scale twiddle (T.meaning hi.old)) }
@@ -406,7 +408,7 @@ fn join<F: FftField, T: DomainCoeff<F>>(work: &mut Work, lo: &mut T, hi: &mut T,
     work.butterfly();
 }
 
-/// The butterflies that join two halves, each with the twiddle at its index.
+// The butterflies that join two halves, each with the twiddle factor at its index.
 fn join_butterflies<F: FftField, T: DomainCoeff<F>>(
     work: &mut Work,
     lo: &mut [T],
@@ -429,8 +431,8 @@ fn join_butterflies<F: FftField, T: DomainCoeff<F>>(
     }
 }
 
-/// The transform of 2 ^ log_len items, in place and in order. The items stand at the indices that have the bits of their
-/// own backwards, each in all places of a block. The tables are those of all levels, the whole list's twiddles first.
+// The transform of 2 ^ log_len items, in place and in order, by decimation in time. The items stand in bit-reversed
+// order, each in all places of a block. The tables are those of all levels, the whole list's twiddles first.
 fn join_halves<F: FftField, T: DomainCoeff<F>>(
     work: &mut Work,
     xs: &mut [T],
@@ -457,7 +459,7 @@ fn join_halves<F: FftField, T: DomainCoeff<F>>(
     }
 }
 
-/// Fills the places from one to before another with the item.
+// Fills the places from one to before another with the item.
 fn fill<T: Copy>(xs: &mut [T], from: usize, to: usize, item: T)
     requires within { to ≤ length xs.old }
     ensures filled { (i : ℕ) (d : T) → from ≤ i → i < to → get_or xs.new i d ≡ item }
@@ -469,7 +471,7 @@ fn fill<T: Copy>(xs: &mut [T], from: usize, to: usize, item: T)
     }
 }
 
-/// Fills a block of places with each of the first items, in their order.
+// Fills a block of places with each of the first items, in their order.
 fn spread_out<T: Copy>(xs: &mut [T], items: usize, block: usize)
     requires whole { length xs.old ≡ items * block }
     requires not_empty { 0 < block }
@@ -482,63 +484,75 @@ fn spread_out<T: Copy>(xs: &mut [T], items: usize, block: usize)
     }
 }
 
-/// The transform of `join_halves` at a root, where the tables are those of all levels but the last. The last one's
-/// twiddles take the place of these once they have been used.
+// A pruned transform, by decimation in time: at this root, of a list of 2 ^ levels places of which the first
+// 2 ^ log_len items alone are not zero.
+#[derive(Drop)]
+struct Pruned<F> {
+    root: F,
+    levels: u32,
+    log_len: u32,
+}
+
+// The transform of `join_halves` at the root, where the tables are those of all levels but the last. The last one's
+// twiddles take the place of these once they have been used.
 fn join_levels<F: FftField, T: DomainCoeff<F>>(
     work: &mut Work,
     xs: &mut [T],
     tables: &mut [F],
-    root: F,
-    levels: u32,
-    log_len: u32,
+    pruned: &Pruned<F>,
 )
-    requires size { length xs.old ≡ 2 ^ levels }
-    requires whole { length tables.old ≡ 2 ^ levels / 2 }
-    requires within { log_len ≤ levels }
-    ensures sums { (c : ℕ → T.Meaning) → AreLevels F.field (power F.field root 2) (levels - 1) tables.old
-        → (0 < levels → power F.field root (2 ^ levels / 2) ≡ F.field.negated F.field.one)
-        → ((p : ℕ) → p < 2 ^ levels → item T.group (map T.meaning xs.old) p
-        ≡ c (reversed log_len (p / 2 ^ (levels - log_len)))) → (p : ℕ) → p < 2 ^ levels
-        → item T.group (map T.meaning xs.new) p ≡ dft_at F.field T.group (2 ^ log_len) root c p }
-    ensures counted { GrowsBy (butterfly_counts (2 ^ levels / 2 * log_len)) work.old work.new }
+    requires size { length xs.old ≡ 2 ^ pruned.now.levels }
+    requires whole { length tables.old ≡ 2 ^ pruned.now.levels / 2 }
+    requires within { pruned.now.log_len ≤ pruned.now.levels }
+    ensures sums { (c : ℕ → T.Meaning)
+        → AreLevels F.field (power F.field pruned.now.root 2) (pruned.now.levels - 1) tables.old
+        → (0 < pruned.now.levels
+        → power F.field pruned.now.root (2 ^ pruned.now.levels / 2) ≡ F.field.negated F.field.one)
+        → ((p : ℕ) → p < 2 ^ pruned.now.levels → item T.group (map T.meaning xs.old) p
+        ≡ c (reversed pruned.now.log_len (p / 2 ^ (pruned.now.levels - pruned.now.log_len))))
+        → (p : ℕ) → p < 2 ^ pruned.now.levels
+        → item T.group (map T.meaning xs.new) p ≡ dft_at F.field T.group (2 ^ pruned.now.log_len) pruned.now.root c p }
+    ensures counted { GrowsBy (butterfly_counts (2 ^ pruned.now.levels / 2 * pruned.now.log_len)) work.old work.new }
 {
+    let levels = pruned.levels;
+    let log_len = pruned.log_len;
     if log_len > 0 {
         let half = xs.len() / 2;
         let (lo, hi) = xs.split_at_mut(half);
         join_halves(work, lo, tables, levels - 1, log_len - 1);
         join_halves(work, hi, tables, levels - 1, log_len - 1);
-        fill_with_powers(root, tables);
+        fill_with_powers(pruned.root, tables);
         join_butterflies(work, lo, hi, tables);
     }
 }
 
-/// The transform of the first 2 ^ log_len items at the root, in place and in order, by butterflies of as many levels.
+// The transform of the first items, in place and in order, by butterflies of as many levels as these have.
 fn short_in_order<F: FftField, T: DomainCoeff<F>>(
     work: &mut Work,
     xs: &mut [T],
     tables: &mut [F],
-    root: F,
-    levels: u32,
-    log_len: u32,
+    pruned: &Pruned<F>,
 )
-    requires size { length xs.old ≡ 2 ^ levels }
+    requires size { length xs.old ≡ 2 ^ pruned.now.levels }
     requires fits { length xs.old < 2 ^ 64 }
     requires whole { length tables.old ≡ length xs.old / 2 }
-    requires within { log_len ≤ levels }
-    ensures sums { AreLevels F.field (power F.field root 2) (levels - 1) tables.old
-        → (0 < levels → power F.field root (length xs.old / 2) ≡ F.field.negated F.field.one) → (i : ℕ)
+    requires within { pruned.now.log_len ≤ pruned.now.levels }
+    ensures sums { AreLevels F.field (power F.field pruned.now.root 2) (pruned.now.levels - 1) tables.old
+        → (0 < pruned.now.levels
+        → power F.field pruned.now.root (length xs.old / 2) ≡ F.field.negated F.field.one) → (i : ℕ)
         → i < length xs.old → item T.group (map T.meaning xs.new) i
-        ≡ dft_at F.field T.group (2 ^ log_len) root (item T.group (map T.meaning xs.old)) i }
-    ensures counted { GrowsBy (butterfly_counts (length xs.old / 2 * log_len)) work.old work.new }
+        ≡ dft_at F.field T.group (2 ^ pruned.now.log_len) pruned.now.root (item T.group (map T.meaning xs.old)) i }
+    ensures counted { GrowsBy (butterfly_counts (length xs.old / 2 * pruned.now.log_len)) work.old work.new }
 {
-    let log_block = levels - log_len;
+    let log_len = pruned.log_len;
+    let log_block = pruned.levels - log_len;
     let items = xs.len() >> log_block;
     bit_reverse(&mut xs[..items], log_len);
     spread_out(xs, items, 1 << log_block);
-    join_levels(work, xs, tables, root, levels, log_len);
+    join_levels(work, xs, tables, pruned);
 }
 
-/// Continues a list of powers by as many more: the known ones times the power after them.
+// Continues a list of powers by as many more: the known ones times the power after them.
 fn continue_powers<F: FftField>(known: &[F], rest: &mut [F], count: usize, next: F)
     requires known_enough { count ≤ length known.now }
     requires rest_enough { count ≤ length rest.old }
@@ -550,7 +564,7 @@ fn continue_powers<F: FftField>(known: &[F], rest: &mut [F], count: usize, next:
     }
 }
 
-/// Fills a list with the powers of a root from 0 on. No product waits for the one before it.
+// Fills a list with the powers of a root from 0 on. No product waits for the one before it.
 fn fill_with_powers<F: FftField>(root: F, xs: &mut [F])
     ensures { ArePowers F.field root (length xs.old) xs.new }
 {
@@ -578,7 +592,7 @@ pub fn powers<F: FftField>(alloc: Global, root: F, count: usize) -> Result<Vec<F
     Ok(powers)
 }
 
-/// Continues a table of twiddles by those of the squared root, every second one, and so on down to one.
+// Continues a table of twiddles by those of the squared root, every second one, and so on down to one.
 fn continue_levels<F: FftField>(xs: &mut [F], half: usize)
     requires size { half * 2 ≤ length xs.old }
     ensures first { (i : ℕ) → i < half → get_or xs.new i F.field.zero ≡ get_or xs.old i F.field.zero }
@@ -590,8 +604,8 @@ fn continue_levels<F: FftField>(xs: &mut [F], half: usize)
     }
 }
 
-/// The tables of all levels, of a list of n items down to lists of one: each has half as many powers of its root as its
-/// lists have items.
+// The twiddle factors of all levels, of a list of n items down to lists of one: each has half as many powers of its root as its
+// lists have items.
 pub(crate) fn level_tables<F: FftField>(
     alloc: Global,
     root: F,
@@ -610,7 +624,7 @@ pub(crate) fn level_tables<F: FftField>(
     Ok(tables)
 }
 
-/// Takes all memory, for the first half of a root's powers and for n items, and cuts the list or fills it with zeros.
+// Takes all memory, for the first half of a root's powers and for n items, and cuts the list or fills it with zeros.
 fn prepare<F: FftField, T: DomainCoeff<F>>(
     alloc: Global,
     root: F,
@@ -629,8 +643,8 @@ fn prepare<F: FftField, T: DomainCoeff<F>>(
     Ok(table)
 }
 
-/// The transform in place of a list of at most a quarter of the n items, by n/2 butterflies for each level of that many
-/// items, and a scaling an item where there is an offset.
+// The transform in place of a list of at most a quarter of the n items, by decimation in time: n/2 butterflies for each
+// level of that many items, and a scaling an item where there is an offset.
 fn degree_aware_fft_in_place<F: FftField, T: DomainCoeff<F>>(
     coset: &Coset<F>,
     alloc: Global,
@@ -656,19 +670,17 @@ fn degree_aware_fft_in_place<F: FftField, T: DomainCoeff<F>>(
     coeffs.resize(size, T::zero())?;
     let xs = coeffs.as_mut_slice();
     shift_to_coset(work, &mut xs[..len], coset.offset);
-    short_in_order(
-        work,
-        xs,
-        tables.as_mut_slice(),
+    let pruned = Pruned {
         root,
-        coset.log_size_of_group,
+        levels: coset.log_size_of_group,
         log_len,
-    );
+    };
+    short_in_order(work, xs, tables.as_mut_slice(), &pruned);
     Ok(())
 }
 
-/// The transform in place of a longer list, by n/2 * log2(n) butterflies, and a scaling a place where there is an
-/// offset.
+// The transform in place of a longer list, by decimation in frequency: n/2 * log2(n) butterflies, and a scaling a place
+// where there is an offset.
 fn in_order_fft_in_place<F: FftField, T: DomainCoeff<F>>(
     coset: &Coset<F>,
     alloc: Global,

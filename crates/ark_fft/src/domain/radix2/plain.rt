@@ -12,7 +12,7 @@ use crate::domain::coset::Coset;
 use ark_traits::{DomainCoeff, FftField, PolyError, Work};
 use std::alloc::Global;
 
-/// The value of a list at a point, term by term.
+// The value of a list at a point, term by term.
 fn plain_value<F: FftField, T: DomainCoeff<F>>(work: &mut Work, items: &[T], point: F) -> T
     ensures value { T.meaning result ≡ value_at F.field T.group (map T.meaning items.now) point }
     ensures counted { GrowsBy (counts (length items.now) 0 0) work.old work.new }
@@ -28,7 +28,7 @@ fn plain_value<F: FftField, T: DomainCoeff<F>>(work: &mut Work, items: &[T], poi
     sum
 }
 
-/// The values of a list at the points `offset * root^i`, each by a plain sum.
+// The values of a list at the points `offset * root^i`, each by a plain sum.
 fn plain_values<F: FftField, T: DomainCoeff<F>>(
     work: &mut Work,
     items: &[T],

@@ -1,16 +1,16 @@
-use Rattle.std.proofs.Common.{◌≡◌, map, ◌≤◌, ◌<◌, ℕ, get_or}
+use Rattle.std.proofs.Common.{map, ℕ, get_or}
 use Rattle.ark_math.specs.Cost.{GrowsBy, butterfly_counts}
 use Rattle.ark_math.specs.Module.{item}
+use Rattle.ark_fft.proofs.Butterflies.{AreCrossed}
 use Rattle.ark_fft.proofs.domain.radix2.fft.butterflies.Given as goal
 
 abbrev pub invariant-loop-i : goal.invariant-loop-i
 invariant-loop-i g l =
     let V = g.T.DomainCoeff.group in
     let m = g.T.DomainCoeff.meaning in
+    let lo0 = λ (k : ℕ). item V (map m l.initial.lo) k in
+    let hi0 = λ (k : ℕ). item V (map m l.initial.hi) k in
     record {
       counted : GrowsBy (butterfly_counts l.i) l.fn.work l.work;
-      sums : (i : ℕ) → i < l.i → item V (map m l.lo) i ≡ V.plus (item V (map m l.initial.lo) i) (item V (map m l.initial.hi) i);
-      differences : (i : ℕ) → i < l.i → item V (map m l.hi) i ≡ V.scale (get_or l.twiddles i g.F.Field.field.zero) (V.plus (item V (map m l.initial.lo) i) (V.negated (item V (map m l.initial.hi) i)));
-      rest_lo : (i : ℕ) → l.i ≤ i → item V (map m l.lo) i ≡ item V (map m l.initial.lo) i;
-      rest_hi : (i : ℕ) → l.i ≤ i → item V (map m l.hi) i ≡ item V (map m l.initial.hi) i;
+      crossed : AreCrossed m V.zero (λ (k : ℕ). V.plus (lo0 k) (hi0 k)) (λ (k : ℕ). V.scale (get_or l.twiddles k g.F.Field.field.zero) (V.plus (lo0 k) (V.negated (hi0 k)))) lo0 hi0 l.i l.lo l.hi;
     }

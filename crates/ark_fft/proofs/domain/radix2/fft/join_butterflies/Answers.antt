@@ -1,9 +1,9 @@
 use Rattle.std.proofs.Common.{refl, ◌≡◌, ◌<◌, ℕ, map, length, get_or, ap₂, sym, subst, ◌∙◌}
 use Rattle.std.proofs.lemmas.List.{get_or_read}
 use Rattle.ark_math.specs.Module.{item}
-use Rattle.ark_math.proofs.Lists.Lists.{read_at, written_more, written_rest}
 use Rattle.ark_traits.proofs.Cost.{none_grown, grows_twice}
-use Rattle.ark_fft.proofs.Counts.{below_is_within, ended, itself, none_yet}
+use Rattle.ark_fft.proofs.Counts.{below_is_within, ended}
+use Rattle.ark_fft.proofs.Butterflies.{none_crossed, one_crossed}
 use borrow.Author.Rules.{scaled_Fits}
 use borrow.Author.Count.{falls}
 use Rattle.ark_fft.proofs.domain.radix2.fft.join_butterflies.Goals as goal
@@ -16,38 +16,25 @@ loop-i-preserved g c =
     let v = c.loop-i.invariant in
     let in_lo : i < length c.loop-i.lo = subst (λ k. i < k) (sym c.loop-i.auto.lo) c.loop-i-test.true in
     let in_hi : i < length c.loop-i.hi = subst (λ k. i < k) (sym (c.loop-i.auto.hi ∙ sym c.requires.same)) c.loop-i-test.true in
-    let here = itself i in
-    let rest_lo : m (get_or c.loop-i.lo i c.index-lo-i.result) ≡ item V (map m c.args.lo.now) i = read_at m V.zero c.loop-i.lo i c.index-lo-i.result in_lo ∙ v.rest_lo i here in
-    let rest_hi : m (get_or c.loop-i.hi i c.index-hi-i.result) ≡ item V (map m c.args.hi.now) i = read_at m V.zero c.loop-i.hi i c.index-hi-i.result in_hi ∙ v.rest_hi i here in
     let in_roots : i < length c.args.twiddles.now = subst (λ k. i < k) c.requires.enough c.loop-i-test.true in
     let root : c.index-twiddles-i.result ≡ get_or c.args.twiddles.now i g.F.Field.field.zero = get_or_read c.args.twiddles.now _ _ in_roots c.index-twiddles-i.is g.F.Field.field.zero in
     let lo0 = λ (k : ℕ). item V (map m c.args.lo.now) k in
     let hi0 = λ (k : ℕ). item V (map m c.args.hi.now) k in
-    let scaled = λ (k : ℕ). V.scale (get_or c.args.twiddles.now k g.F.Field.field.zero) (hi0 k) in
     record {
       counted = grows_twice v.counted c.join.ensures.counted refl refl refl;
-      sums = written_more m V.zero (λ k. V.plus (lo0 k) (scaled k)) c.loop-i.lo i c.join.new.lo in_lo v.sums
-          (c.join.ensures.sum ∙ ap₂ V.plus rest_lo (ap₂ V.scale root rest_hi));
-      differences = written_more m V.zero (λ k. V.plus (lo0 k) (V.negated (scaled k))) c.loop-i.hi i c.join.new.hi in_hi v.differences
-          (c.join.ensures.difference ∙ ap₂ (λ x y. V.plus x (V.negated y)) rest_lo (ap₂ V.scale root rest_hi));
-      rest_lo = written_rest m V.zero lo0 c.loop-i.lo i c.join.new.lo v.rest_lo;
-      rest_hi = written_rest m V.zero hi0 c.loop-i.hi i c.join.new.hi v.rest_hi;
+      crossed = one_crossed m V.zero (λ (k : ℕ). V.plus (lo0 k) (V.scale (get_or c.args.twiddles.now k g.F.Field.field.zero) (hi0 k))) (λ (k : ℕ). V.plus (lo0 k) (V.negated (V.scale (get_or c.args.twiddles.now k g.F.Field.field.zero) (hi0 k)))) lo0 hi0 c.loop-i.lo c.loop-i.hi i c.index-lo-i.result c.index-hi-i.result c.join.new.lo c.join.new.hi in_lo in_hi v.crossed
+          (λ at_lo at_hi.
+          (c.join.ensures.sum ∙ ap₂ V.plus at_lo (ap₂ V.scale root at_hi), c.join.ensures.difference ∙ ap₂ (λ x y. V.plus x (V.negated y)) at_lo (ap₂ V.scale root at_hi)));
     }
 
 pub returns-clause-sums : goal.returns-clause-sums
-returns-clause-sums g c = λ i l. c.loop-i.invariant.sums i (subst (λ k. i < k) (sym (ended c.loop-i.i (length c.args.lo.now) c.loop-i.auto.i-end c.loop-i-test.false)) l)
+returns-clause-sums g c = λ i l. c.loop-i.invariant.crossed.done_lo i (subst (λ k. i < k) (sym (ended c.loop-i.i (length c.args.lo.now) c.loop-i.auto.i-end c.loop-i-test.false)) l)
 
 pub returns-clause-differences : goal.returns-clause-differences
-returns-clause-differences g c = λ i l. c.loop-i.invariant.differences i (subst (λ k. i < k) (sym (ended c.loop-i.i (length c.args.lo.now) c.loop-i.auto.i-end c.loop-i-test.false)) l)
+returns-clause-differences g c = λ i l. c.loop-i.invariant.crossed.done_hi i (subst (λ k. i < k) (sym (ended c.loop-i.i (length c.args.lo.now) c.loop-i.auto.i-end c.loop-i-test.false)) l)
 
 pub loop-i-init : goal.loop-i-init
-loop-i-init g c = record {
-  counted = none_grown _;
-  sums = λ i l. none_yet i l;
-  differences = λ i l. none_yet i l;
-  rest_lo = λ i l. refl;
-  rest_hi = λ i l. refl;
-}
+loop-i-init g c = record { counted = none_grown _; crossed = none_crossed g.T.DomainCoeff.meaning g.T.DomainCoeff.group.zero _ _ c.args.lo.now c.args.hi.now }
 
 pub offset_bounds-lo-i : goal.offset_bounds-lo-i
 offset_bounds-lo-i g c = let inside : c.loop-i.i < length c.args.lo.now = c.loop-i-test.true in search scaled_Fits

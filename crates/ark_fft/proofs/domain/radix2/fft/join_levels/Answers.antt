@@ -8,27 +8,27 @@ use Rattle.ark_fft.proofs.domain.radix2.fft.join_levels.Goals as goal
 pub join_halves-requires-clause-size : goal.join_halves-requires-clause-size
 join_halves-requires-clause-size g c =
     let s = c.split_at_mut-lo in
-    front_half c.args.levels c.args.log_len c.if-log_len-gt0.true c.requires.within (length c.args.xs.now) (length s.result.0.now) c.requires.size s.ensures.front_len
+    front_half c.args.pruned.now.levels c.args.pruned.now.log_len c.if-log_len-gt0.true c.requires.within (length c.args.xs.now) (length s.result.0.now) c.requires.size s.ensures.front_len
 
 pub join_halves-requires-clause-whole : goal.join_halves-requires-clause-whole
 join_halves-requires-clause-whole g c =
-    front_half c.args.levels c.args.log_len c.if-log_len-gt0.true c.requires.within (2 ^ c.args.levels) (length c.args.tables.now) refl c.requires.whole
+    front_half c.args.pruned.now.levels c.args.pruned.now.log_len c.if-log_len-gt0.true c.requires.within (2 ^ c.args.pruned.now.levels) (length c.args.tables.now) refl c.requires.whole
 
 pub join_halves-requires-clause-within : goal.join_halves-requires-clause-within
-join_halves-requires-clause-within g c = one_less c.args.log_len c.args.levels c.requires.within
+join_halves-requires-clause-within g c = one_less c.args.pruned.now.log_len c.args.pruned.now.levels c.requires.within
 
 pub join_halves-requires-then-log_len-gt0-clause-size : goal.join_halves-requires-then-log_len-gt0-clause-size
 join_halves-requires-then-log_len-gt0-clause-size g c =
     let s = c.split_at_mut-lo in
     let len = length c.args.xs.now in
-    back_half c.args.levels c.args.log_len c.if-log_len-gt0.true c.requires.within len len (length s.result.1.now) c.requires.size c.requires.size s.ensures.back_len
+    back_half c.args.pruned.now.levels c.args.pruned.now.log_len c.if-log_len-gt0.true c.requires.within len len (length s.result.1.now) c.requires.size c.requires.size s.ensures.back_len
 
 pub join_halves-requires-then-log_len-gt0-clause-whole : goal.join_halves-requires-then-log_len-gt0-clause-whole
 join_halves-requires-then-log_len-gt0-clause-whole g c =
-    front_half c.args.levels c.args.log_len c.if-log_len-gt0.true c.requires.within (2 ^ c.args.levels) (length c.args.tables.now) refl c.requires.whole
+    front_half c.args.pruned.now.levels c.args.pruned.now.log_len c.if-log_len-gt0.true c.requires.within (2 ^ c.args.pruned.now.levels) (length c.args.tables.now) refl c.requires.whole
 
 pub join_halves-requires-then-log_len-gt0-clause-within : goal.join_halves-requires-then-log_len-gt0-clause-within
-join_halves-requires-then-log_len-gt0-clause-within g c = one_less c.args.log_len c.args.levels c.requires.within
+join_halves-requires-then-log_len-gt0-clause-within g c = one_less c.args.pruned.now.log_len c.args.pruned.now.levels c.requires.within
 
 pub join_butterflies-requires-clause-same : goal.join_butterflies-requires-clause-same
 join_butterflies-requires-clause-same g c =
@@ -36,16 +36,16 @@ join_butterflies-requires-clause-same g c =
     let len = length c.args.xs.now in
     let some = c.if-log_len-gt0.true in
     c.join_halves.auto.xs
-    ∙ (front_half c.args.levels c.args.log_len some c.requires.within len (length s.result.0.now) c.requires.size s.ensures.front_len
-    ∙ sym (c.join_halves-then-log_len-gt0.auto.xs ∙ back_half c.args.levels c.args.log_len some c.requires.within len len (length s.result.1.now) c.requires.size c.requires.size s.ensures.back_len))
+    ∙ (front_half c.args.pruned.now.levels c.args.pruned.now.log_len some c.requires.within len (length s.result.0.now) c.requires.size s.ensures.front_len
+    ∙ sym (c.join_halves-then-log_len-gt0.auto.xs ∙ back_half c.args.pruned.now.levels c.args.pruned.now.log_len some c.requires.within len len (length s.result.1.now) c.requires.size c.requires.size s.ensures.back_len))
 
 pub join_butterflies-requires-clause-enough : goal.join_butterflies-requires-clause-enough
 join_butterflies-requires-clause-enough g c =
     let s = c.split_at_mut-lo in
     let some = c.if-log_len-gt0.true in
     c.join_halves.auto.xs
-    ∙ (front_half c.args.levels c.args.log_len some c.requires.within (length c.args.xs.now) (length s.result.0.now) c.requires.size s.ensures.front_len
-    ∙ sym (c.fill_with_powers.auto.xs ∙ front_half c.args.levels c.args.log_len some c.requires.within (2 ^ c.args.levels) (length c.args.tables.now) refl c.requires.whole))
+    ∙ (front_half c.args.pruned.now.levels c.args.pruned.now.log_len some c.requires.within (length c.args.xs.now) (length s.result.0.now) c.requires.size s.ensures.front_len
+    ∙ sym (c.fill_with_powers.auto.xs ∙ front_half c.args.pruned.now.levels c.args.pruned.now.log_len some c.requires.within (2 ^ c.args.pruned.now.levels) (length c.args.tables.now) refl c.requires.whole))
 
 pub returns-then-log_len-gt0-clause-sums : goal.returns-then-log_len-gt0-clause-sums
 returns-then-log_len-gt0-clause-sums g c = λ f levels half blocks p l.
@@ -53,9 +53,9 @@ returns-then-log_len-gt0-clause-sums g c = λ f levels half blocks p l.
     let N = g.met.F.Field.field_laws in
     let L = g.met.T.DomainCoeff.module_laws in
     let m = g.T.DomainCoeff.meaning in
-    let n = c.args.levels in
-    let e = c.args.log_len in
-    let w = c.args.root in
+    let n = c.args.pruned.now.levels in
+    let e = c.args.pruned.now.log_len in
+    let w = c.args.pruned.now.root in
     let some = c.if-log_len-gt0.true in
     let within = c.requires.within in
     let s = c.split_at_mut-lo in
@@ -75,14 +75,14 @@ returns-then-log_len-gt0-clause-sums g c = λ f levels half blocks p l.
 pub returns-then-log_len-gt0-clause-counted : goal.returns-then-log_len-gt0-clause-counted
 returns-then-log_len-gt0-clause-counted g c =
     let s = c.split_at_mut-lo in
-    joined_count c.args.levels c.args.log_len c.if-log_len-gt0.true c.requires.within (length c.join_halves.new.xs)
+    joined_count c.args.pruned.now.levels c.args.pruned.now.log_len c.if-log_len-gt0.true c.requires.within (length c.join_halves.new.xs)
     c.join_halves.ensures.counted c.join_halves-then-log_len-gt0.ensures.counted c.join_butterflies.ensures.counted
-    (c.join_halves.auto.xs ∙ front_half c.args.levels c.args.log_len c.if-log_len-gt0.true c.requires.within (length c.args.xs.now) (length s.result.0.now) c.requires.size s.ensures.front_len)
+    (c.join_halves.auto.xs ∙ front_half c.args.pruned.now.levels c.args.pruned.now.log_len c.if-log_len-gt0.true c.requires.within (length c.args.xs.now) (length s.result.0.now) c.requires.size s.ensures.front_len)
 
 pub returns-else-log_len-gt0-clause-sums : goal.returns-else-log_len-gt0-clause-sums
 returns-else-log_len-gt0-clause-sums g c = λ f tables half blocks p l.
-    let none : c.args.log_len ≡ 0 = omega arith in
-    one_block g.met.F.Field.field_laws g.met.T.DomainCoeff.module_laws g.T.DomainCoeff.meaning c.args.levels c.args.log_len _ c.args.xs.now f none blocks p l
+    let none : c.args.pruned.now.log_len ≡ 0 = omega arith in
+    one_block g.met.F.Field.field_laws g.met.T.DomainCoeff.module_laws g.T.DomainCoeff.meaning c.args.pruned.now.levels c.args.pruned.now.log_len _ c.args.xs.now f none blocks p l
 
 pub returns-else-log_len-gt0-clause-counted : goal.returns-else-log_len-gt0-clause-counted
-returns-else-log_len-gt0-clause-counted g c = no_count (2 ^ c.args.levels / 2) c.args.log_len c.args.work.now c.if-log_len-gt0.false
+returns-else-log_len-gt0-clause-counted g c = no_count (2 ^ c.args.pruned.now.levels / 2) c.args.pruned.now.log_len c.args.work.now c.if-log_len-gt0.false

@@ -10,35 +10,35 @@ use Rattle.ark_fft.proofs.domain.radix2.fft.short_in_order.Goals as goal
 
 pub overflow_shr-items : goal.overflow_shr-items
 overflow_shr-items g c =
-    let b : 2 ^ c.args.levels < 2 ^ 64 = omega arith in
-    let f = few_levels c.args.levels b in
+    let b : 2 ^ c.args.pruned.now.levels < 2 ^ 64 = omega arith in
+    let f = few_levels c.args.pruned.now.levels b in
     omega arith
 
 pub bit_reverse-requires-clause-few : goal.bit_reverse-requires-clause-few
 bit_reverse-requires-clause-few g c =
-    let b : 2 ^ c.args.levels < 2 ^ 64 = omega arith in
-    let f = few_levels c.args.levels b in
+    let b : 2 ^ c.args.pruned.now.levels < 2 ^ 64 = omega arith in
+    let f = few_levels c.args.pruned.now.levels b in
     omega arith
 
 pub bit_reverse-requires-clause-size : goal.bit_reverse-requires-clause-size
 bit_reverse-requires-clause-size g c =
     let old = c.args.xs.now in
-    let k = length old / 2 ^ (c.args.levels - c.args.log_len) in
-    let items : k ≡ 2 ^ c.args.log_len = first_items c.args.levels c.args.log_len (length old) c.requires.within c.requires.size in
-    let le : 2 ^ c.args.log_len ≤ 2 ^ c.args.levels = pow_mono c.requires.within in
+    let k = length old / 2 ^ (c.args.pruned.now.levels - c.args.pruned.now.log_len) in
+    let items : k ≡ 2 ^ c.args.pruned.now.log_len = first_items c.args.pruned.now.levels c.args.pruned.now.log_len (length old) c.requires.within c.requires.size in
+    let le : 2 ^ c.args.pruned.now.log_len ≤ 2 ^ c.args.pruned.now.levels = pow_mono c.requires.within in
     let fits : k ≤ length old = omega (arith, items, le, c.requires.size) in
     length-take-le k old fits ∙ items
 
 pub overflow_shl-log_block : goal.overflow_shl-log_block
 overflow_shl-log_block g c =
-    let b : 2 ^ c.args.levels < 2 ^ 64 = omega arith in
-    let f = few_levels c.args.levels b in
+    let b : 2 ^ c.args.pruned.now.levels < 2 ^ 64 = omega arith in
+    let f = few_levels c.args.pruned.now.levels b in
     omega arith
 
 pub spread_out-requires : goal.spread_out-requires
 spread_out-requires g c =
-    let n = c.args.levels in
-    let e = c.args.log_len in
+    let n = c.args.pruned.now.levels in
+    let e = c.args.pruned.now.log_len in
     let b : 2 ^ n < 2 ^ 64 = omega arith in
     let f = few_levels n b in
     let block = shifted (n - e) (omega arith) in
@@ -62,8 +62,8 @@ returns-clause-sums g c = λ levels half i l.
     let m = g.T.DomainCoeff.meaning in
     let N = g.met.F.Field.field_laws in
     let L = g.met.T.DomainCoeff.module_laws in
-    let n = c.args.levels in
-    let e = c.args.log_len in
+    let n = c.args.pruned.now.levels in
+    let e = c.args.pruned.now.log_len in
     let b : 2 ^ n < 2 ^ 64 = omega (arith, c.requires.fits, c.requires.size) in
     let f = few_levels n b in
     let block = shifted (n - e) (omega arith) in
@@ -80,4 +80,4 @@ returns-clause-sums g c = λ levels half i l.
     c.bit_reverse.ensures p d b ∙ ap (λ t. get_or (take t old) (reversed e p) d) items in
     let blocks : AreBlocks N L m n e c.spread_out.new.xs (item V (map m old)) =
     blocks_spread N L m n e old front (drop k old) c.spread_out.new.xs c.requires.within c.requires.size len_front len_now len_mid order (λ p d h. c.spread_out.ensures p d h ∙ ap (λ t. get_or (front ++ drop k old) (p / t) d) block) in
-    c.join_levels.ensures.sums (item V (map m old)) levels (λ pos. ap (λ t. power g.F.Field.field c.args.root (t / 2)) (sym c.requires.size) ∙ half pos) blocks i (omega (arith, l, c.requires.size))
+    c.join_levels.ensures.sums (item V (map m old)) levels (λ pos. ap (λ t. power g.F.Field.field c.args.pruned.now.root (t / 2)) (sym c.requires.size) ∙ half pos) blocks i (omega (arith, l, c.requires.size))
