@@ -7,25 +7,20 @@ use ark_base::Field;
 use ark_sharing::{SharingError, reconstruct, share_with, sum_of_sharings};
 use std::alloc::{AllocError, Global};
 
-/// A secret, and the coefficients above it of the polynomial whose values are its shares.
-#[derive(Clone, Copy)]
-pub struct SharedSecret<'a, F> {
-    pub secret: F,
-    pub coeffs: &'a [F],
-}
-
 /// The sum of two secrets, each shared by coefficients of its own, from the sums of their shares alone: who holds a
 /// share of each adds the two, and neither secret is given back.
 pub fn sum_from_shares<F: Field>(
     alloc: Global,
-    left: SharedSecret<'_, F>,
-    right: SharedSecret<'_, F>,
+    left: F,
+    left_coeffs: &[F],
+    right: F,
+    right_coeffs: &[F],
     points: &[F],
 ) -> Result<F, SharingError>
-    ensures { IfOk result (λ sum. sum ≡ F.field.plus left.secret right.secret) }
+    ensures { IfOk result (λ sum. sum ≡ F.field.plus left right) }
 {
-    let left_shares = share_with(alloc, left.secret, left.coeffs, points)?;
-    let right_shares = share_with(alloc, right.secret, right.coeffs, points)?;
+    let left_shares = share_with(alloc, left, left_coeffs, points)?;
+    let right_shares = share_with(alloc, right, right_coeffs, points)?;
     sum_of_sharings(&left_shares, &right_shares);
     let sums = with_values_added(alloc, &left_shares, &right_shares)?;
     reconstruct(alloc, &sums)
