@@ -1,4 +1,4 @@
-//! Files in pieces, by the erasure codes of `rs_code`: stripes are messages over a field that has the numbers up to 2^16.
+//! Files in pieces, by the Reed-Solomon codes of `rs_code`: stripes are messages over a field that has the numbers up to 2^16.
 //! What splits and joins in memory, over any code, is shown again.
 #![tactic(auto)]
 

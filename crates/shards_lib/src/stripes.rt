@@ -1,5 +1,5 @@
-//! The code for stripes: the items of a stripe are the coefficients of a polynomial, and its numbers are the values of this
-//! at the first `n` elements of a domain.
+//! The code for stripes, a Reed-Solomon code that is not systematic: the items of a stripe are the coefficients of a
+//! polynomial, and its numbers are the values of this at the first `n` elements of a domain.
 
 ghost use Rattle.std.specs.Prelude.{◌≡◌, ◌≢◌, ℕ, ◌+◌, ◌*◌, ◌^◌, ◌<◌, ◌≤◌, true, false, List, get_or, length, IfOk, OnOk};
 ghost use Rattle.ark_math.specs.Domain.{element};
@@ -237,8 +237,8 @@ impl<F: NumberField, const N: usize> RowCode<F, N> {
         Ok(())
     }
 
-    // What each value at a kept place counts in the items of a message, where these are no more than the lanes; else
-    // nothing.
+    // What each value at a kept place counts in the items of a message, the inverse of a Vandermonde matrix, where the
+    // items are no more than the lanes; else nothing.
     fn weights(
         &self,
         alloc: Global,

@@ -1,5 +1,5 @@
 //! Short messages from values, without transforms: each item is the sum of the values at the places that are kept, each
-//! times a weight of its own.
+//! times a weight of its own. The weights are the inverse of the Vandermonde matrix of the elements at these places.
 
 ghost use Rattle.std.specs.Prelude.{◌≡◌, ◌≢◌, ℕ, ◌<◌, ◌≤◌, get_or, length, IfOk};
 ghost use Rattle.ark_math.specs.Module.{itself, sum_below};
