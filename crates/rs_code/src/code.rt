@@ -19,8 +19,8 @@ use std::marker::{Model, PhantomData};
 /// A code over a general domain: there is one of each length for which the field has a domain.
 pub type Code<F> = DomainCode<F, GeneralEvaluationDomain<F>>;
 
-/// A code: its codewords are the values, at the `n` elements of a domain, of the polynomials with at most `k`
-/// coefficients. Coefficients and values may be of any module over the field.
+/// A Reed-Solomon code: its codewords are the values, at the `n` elements of a domain, of the polynomials with at most `k`
+/// coefficients. Coefficients and values may be of any module over the field. It is not systematic.
 ///
 /// ```
 /// let code = Code::<F65537>::new(5, 8).ok_or(RsError::WrongLength)?; // any 5 of 8 places give a codeword back
@@ -80,7 +80,8 @@ impl<F: FftField, D: EvaluationDomain<F>> DomainCode<F, D> {
         self.domain.size()
     }
 
-    /// The message's codeword. `WrongLength` exactly for more than `k` items, judged before memory is asked for.
+    /// The message's codeword: the message times the Vandermonde matrix of the domain's elements. `WrongLength` exactly
+    /// for more than `k` items, judged before memory is asked for.
     ///
     /// It takes one transform, `fft` of the domain.
     pub fn encode<T: DomainCoeff<F>>(&self, alloc: Global, message: &[T]) -> Result<Vec<T>, RsError>

@@ -1,5 +1,9 @@
 //! Words with places erased, restored by two transforms. `Work` is told of every product of a module's value by an
 //! element of the field, and `Work::scale` alone makes one.
+//!
+//! With `E` the erasure locator polynomial, which is zero exactly at the erased places' elements, and `f` the message's
+//! polynomial, the values of `E * f` are known at all places. At an erased place the formal derivative of `E * f` is
+//! `E' * f` there, so that `f` is the quotient of both derivatives, as in Forney's formula; both are taken times `x`.
 
 ghost use Rattle.std.specs.Prelude.{◌≡◌, ◌≢◌, ◌↔◌, ℕ, ◌+◌, ◌-◌, ◌*◌, ◌<◌, ◌≤◌, true, false, List, get_or};
 ghost use Rattle.std.specs.Prelude.{length, map, is_none, unwrap_or, IsTrue, IfOk, Err, IsOkUnless};
