@@ -1,5 +1,5 @@
 -- Refusals: that one is right, and one told in other words.
-use Rattle.std.proofs.Common.{◌≡◌, ◌≢◌, ℕ, ◌+◌, ◌-◌, ◌≤◌, List, Result, Err, subst, subst₂, arith}
+use Rattle.std.proofs.Common.{◌≡◌, ◌≢◌, ℕ, ◌+◌, ◌≤◌, List, Result, Err, subst, subst₂, arith}
 use Rattle.ark_math.specs.Field.{FieldOn}
 use Rattle.ark_math.specs.Module.{ModuleOn}
 use Rattle.rs_code.specs.Code.{CodeOver}

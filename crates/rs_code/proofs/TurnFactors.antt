@@ -11,7 +11,7 @@ use Rattle.ark_blocks.specs.Blocks.{element_of}
 use Rattle.ark_fft.specs.Halves.{reversed}
 use Rattle.ark_fft.proofs.Reversal.{pow_suc, reversed_below}
 use Rattle.rs_code.specs.Locator.{lost, located, slope, IsFactor}
-use Rattle.rs_code.specs.Turns.{AreAtTurns, AreMadeBelow, ArePlaceValues, AreSorted, HoldValues, IsFactorFrom, IsMadeOf, IsTableOf, Sorted, Values, at_turn, erased_from, kept_from, product_of_eight, turn_place}
+use Rattle.rs_code.specs.Turns.{AreAtTurns, AreMadeBelow, AreSorted, HoldValues, IsFactorFrom, IsMadeOf, IsTableOf, Sorted, Values, at_turn, erased_from, kept_from, product_of_eight, turn_place}
 use Rattle.rs_code.specs.declared.turns.AtTurns.{AtTurns}
 use Rattle.rs_code.specs.declared.turns.PlaceValues.{PlaceValues}
 use Rattle.rs_code.proofs.TableOrder.{turn_element, turn_fourth, turn_place_less, turn_square}
