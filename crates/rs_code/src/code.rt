@@ -5,6 +5,7 @@ ghost use Rattle.std.specs.Prelude.{IfSome, IsNone, IfOk, IfErr, Err};
 ghost use Rattle.ark_math.specs.Domain.{Kind, HasNoSize};
 ghost use Rattle.ark_math.specs.Transform.{transform};
 ghost use Rattle.rs_code.specs.Codeword.{AgreesWith, IsCodeword, erasure_count, mark_count};
+ghost use Rattle.rs_code.specs.Refusals.{RefusesRightly};
 
 use crate::decoder::DomainDecoder;
 use crate::error::RsError;
@@ -19,8 +20,8 @@ use std::marker::{Model, PhantomData};
 /// A code over a general domain: there is one of each length for which the field has a domain.
 pub type Code<F> = DomainCode<F, GeneralEvaluationDomain<F>>;
 
-/// A code: its codewords are the values, at the `n` elements of a domain, of the polynomials with at most `k`
-/// coefficients. Coefficients and values may be of any module over the field.
+/// A Reed-Solomon code: its codewords are the values, at the `n` elements of a domain, of the polynomials with at most `k`
+/// coefficients. Coefficients and values may be of any module over the field. It is not systematic.
 ///
 /// ```
 /// let code = Code::<F65537>::new(5, 8).ok_or(RsError::WrongLength)?; // any 5 of 8 places give a codeword back
@@ -80,7 +81,8 @@ impl<F: FftField, D: EvaluationDomain<F>> DomainCode<F, D> {
         self.domain.size()
     }
 
-    /// The message's codeword. `WrongLength` exactly for more than `k` items, judged before memory is asked for.
+    /// The message's codeword: the message times the Vandermonde matrix of the domain's elements. `WrongLength` exactly
+    /// for more than `k` items, judged before memory is asked for.
     ///
     /// It takes one transform, `fft` of the domain.
     pub fn encode<T: DomainCoeff<F>>(&self, alloc: Global, message: &[T]) -> Result<Vec<T>, RsError>
@@ -157,15 +159,8 @@ impl<F: FftField, D: EvaluationDomain<F>> DomainCode<F, D> {
             → AgreesWith T.group T.meaning word.now other → other ≡ map T.meaning c.items) }
         ensures len { IfOk result (λ c. length word.now ≡ self.now.domain.size) }
         ensures few { IfOk result (λ c. erasure_count word.now ≤ self.now.domain.size - self.now.k) }
-        ensures wrong_length { (result ≡ Err RsError.WrongLength) ↔ (length word.now ≢ self.now.domain.size) }
-        ensures too_many_erased { (result ≡ Err RsError.TooManyErased)
-            ↔ (length word.now ≡ self.now.domain.size)
-            × (self.now.domain.size - self.now.k < erasure_count word.now) }
-        ensures no_codeword { (result ≡ Err RsError.NoCodeword) → (other : List T.Meaning)
-            → IsCodeword F.field T.group self.now.domain self.now.k other
-            → AgreesWith T.group T.meaning word.now other → ⊥ }
-        ensures always { self.now.k + erasure_count word.now ≡ self.now.domain.size
-            → result ≢ Err RsError.NoCodeword }
+        ensures refused { RefusesRightly F.field T.group self.now (length word.now) (erasure_count word.now)
+            (AgreesWith T.group T.meaning word.now) result }
     {
         self.restore_counted(alloc, word, &mut Work::new())
     }

@@ -1,8 +1,9 @@
 //! Decoders: what the restoration of words that are erased at the same places has in common.
 
-ghost use Rattle.std.specs.Prelude.{◌≡◌, ◌≢◌, ◌↔◌, ◌+◌, ◌≤◌, List, length, map, IfOk, Err};
+ghost use Rattle.std.specs.Prelude.{◌≡◌, ◌≢◌, ◌≤◌, List, length, map, IfOk, Err};
 ghost use Rattle.ark_math.specs.Transform.{fit, transform};
 ghost use Rattle.rs_code.specs.Codeword.{AgreesElsewhere, IsCodeword, mark_count};
+ghost use Rattle.rs_code.specs.Refusals.{RefusesRightly};
 
 use crate::error::RsError;
 use crate::part::{fill_spaced, fold};
@@ -49,7 +50,7 @@ impl<F: FftField, D: EvaluationDomain<F>> DomainDecoder<F, D> {
     /// The codeword that has the word's values at the places that aren't erased; what the word has at the others isn't
     /// looked at. There is at most one such codeword. `WrongLength` exactly for another number of places than the code's,
     /// judged before memory is asked for; `NoCodeword` where no codeword has these values, which can't be where exactly
-    /// `n - k` places are erased.
+    /// `n - k` places are erased; never `TooManyErased`, since a decoder has at most `n - k` erased places.
     pub fn restore<T: DomainCoeff<F>>(&self, alloc: Global, word: &[T]) -> Result<Vec<T>, RsError>
         ensures codeword { IfOk result (λ c. IsCodeword F.field T.group self.now.code.domain self.now.code.k
             (map T.meaning c.items)) }
@@ -59,14 +60,9 @@ impl<F: FftField, D: EvaluationDomain<F>> DomainDecoder<F, D> {
             → IsCodeword F.field T.group self.now.code.domain self.now.code.k other
             → AgreesElsewhere T.group self.now.erased (map T.meaning word.now) other
             → other ≡ map T.meaning c.items) }
-        ensures wrong_length { (result ≡ Err RsError.WrongLength)
-            ↔ (length word.now ≢ self.now.code.domain.size) }
-        ensures too_many_erased { result ≢ Err RsError.TooManyErased }
-        ensures no_codeword { (result ≡ Err RsError.NoCodeword) → (other : List T.Meaning)
-            → IsCodeword F.field T.group self.now.code.domain self.now.code.k other
-            → AgreesElsewhere T.group self.now.erased (map T.meaning word.now) other → ⊥ }
-        ensures always { self.now.code.k + mark_count self.now.erased ≡ self.now.code.domain.size
-            → result ≢ Err RsError.NoCodeword }
+        ensures refused { RefusesRightly F.field T.group self.now.code (length word.now)
+            (mark_count self.now.erased) (AgreesElsewhere T.group self.now.erased (map T.meaning word.now)) result }
+        ensures never_too_many { result ≢ Err RsError.TooManyErased }
     {
         self.restore_counted(alloc, word, &mut Work::new())
     }
@@ -88,14 +84,9 @@ impl<F: FftField, D: EvaluationDomain<F>> DomainDecoder<F, D> {
             → AgreesElsewhere T.group self.now.erased (map T.meaning word.now)
             (transform F.field T.group self.now.code.domain other)
             → fit T.group other self.now.code.k ≡ map T.meaning m.items) }
-        ensures wrong_length { (result ≡ Err RsError.WrongLength)
-            ↔ (length word.now ≢ self.now.code.domain.size) }
-        ensures too_many_erased { result ≢ Err RsError.TooManyErased }
-        ensures no_codeword { (result ≡ Err RsError.NoCodeword) → (other : List T.Meaning)
-            → IsCodeword F.field T.group self.now.code.domain self.now.code.k other
-            → AgreesElsewhere T.group self.now.erased (map T.meaning word.now) other → ⊥ }
-        ensures always { self.now.code.k + mark_count self.now.erased ≡ self.now.code.domain.size
-            → result ≢ Err RsError.NoCodeword }
+        ensures refused { RefusesRightly F.field T.group self.now.code (length word.now)
+            (mark_count self.now.erased) (AgreesElsewhere T.group self.now.erased (map T.meaning word.now)) result }
+        ensures never_too_many { result ≢ Err RsError.TooManyErased }
     {
         let mut items = self.interpolated(alloc, word, &mut Work::new())?;
         scale_by_exponents(items.as_mut_slice(), &mut Work::new());

@@ -1,7 +1,6 @@
 //! What codewords tell, stated as contracts of functions that callers may cite: they promise nothing but their contracts.
 
-ghost use Rattle.std.specs.Prelude.{◌≡◌, ◌≢◌, ℕ, ◌+◌, ◌-◌, ◌<◌, ◌≤◌, Bool, List, Some, None, get_or, length};
-ghost use Rattle.ark_math.specs.Domain.{Kind};
+ghost use Rattle.std.specs.Prelude.{◌≡◌, ◌≢◌, ◌+◌, ◌-◌, ◌<◌, ◌≤◌, Bool, List, Some, None, get_or, length};
 ghost use Rattle.ark_math.specs.Domain.Kind.{radix2};
 ghost use Rattle.ark_math.specs.Module.{item};
 ghost use Rattle.rs_code.specs.Codeword.{AgreesBut, AgreesElsewhere, AgreesWith, IsCodeword, erasure_count};

@@ -1,5 +1,10 @@
 //! Erasure codes over the domains of `ark_poly`: Reed-Solomon codes, whose words come back from any of their places that
-//! are as many as the message's items.
+//! are as many as the message's items (maximum distance separable).
+//!
+//! A codeword is the values of the polynomial whose coefficients are the message, the message times a Vandermonde matrix. So
+//! the code is not systematic: the items of a message do not stand among the places of its codeword, and `message` of a
+//! decoder gives them back. Erasures are restored; errors, values that are wrong at places that nobody knows, are not
+//! corrected, and are noticed only as far as no codeword agrees.
 #![tactic(auto)]
 
 mod code;
@@ -11,7 +16,6 @@ mod marks;
 mod part;
 mod product;
 mod restore;
-mod sorted;
 mod turns;
 
 pub use code::{Code, DomainCode};
