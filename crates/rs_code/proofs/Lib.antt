@@ -12,6 +12,7 @@ pub mod PairedValues
 pub mod Parts
 pub mod Places
 pub mod QuarterTurns
+pub mod Refused
 pub mod Restored
 pub mod Sizes
 pub mod SortedRoots

@@ -1,5 +1,5 @@
 -- What the steps of a restoration give.
-use Rattle.std.proofs.Common.{◌≡◌, ◌≢◌, ℕ, ◌+◌, ◌<◌, ◌≤◌, Bool, true, false, List, length, get_or, sym, ◌∙◌, ap, ap₂, refl, arith, ⊎_elim, subst}
+use Rattle.std.proofs.Common.{◌≡◌, ◌≢◌, ℕ, ◌+◌, ◌<◌, ◌≤◌, Bool, true, false, List, length, map, get_or, sym, ◌∙◌, ap, ap₂, refl, arith, ⊎_elim, subst}
 use Rattle.std.proofs.lemmas.Bool.{cases_lt}
 use Rattle.std.proofs.lemmas.List.{ext_get_or, get_or_past}
 use Rattle.ark_math.specs.Field.{FieldOn, IsField, power, natural}
@@ -18,6 +18,16 @@ use Rattle.rs_code.proofs.Locators.{value, value-same, IsShort, by_factors-short
 use Rattle.rs_code.proofs.Lost.{located-lost, located-kept, lost-length}
 use Rattle.rs_code.proofs.Divided.{divided, scale_cancel}
 use Rattle.rs_code.proofs.Places.{unmarked_within}
+
+-- values that are weighed by copies of the marks and the factors
+pub weighed_by : {F M X : Type 0} (K : FieldOn F) (V : ModuleOn F M) (m : X → M) (marks copied_marks : List Bool) (w copied_w : List F) (word copied_word values : List X) (n : ℕ) →
+    copied_marks ≡ marks → copied_w ≡ w → copied_word ≡ word → length copied_marks ≡ n →
+    ((i : ℕ) → i < length copied_marks → item V (map m values) i ≡ weighed V (get_or copied_marks i true) (of_list K copied_w i) (item V (map m copied_word) i)) →
+    (i : ℕ) → i < n → item V (map m values) i ≡ weighed V (get_or marks i true) (of_list K w i) (item V (map m word) i)
+weighed_by K V m marks copied_marks w copied_w word copied_word values n marks_are w_is word_is long each i l =
+    each i (omega (arith, l, long))
+    ∙ ap (λ x. weighed V (get_or x i true) (of_list K copied_w i) (item V (map m copied_word) i)) marks_are
+    ∙ ap₂ (λ x y. weighed V (get_or marks i true) (of_list K x i) (item V (map m y) i)) w_is word_is
 
 module _ {F M : Type 0} {K : FieldOn F} {V : ModuleOn F M} (N : IsField K) (L : IsModule K V) (d : Domain F) where
   -- ---- transforms as values

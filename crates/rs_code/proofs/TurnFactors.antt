@@ -12,32 +12,47 @@ use Rattle.ark_math.specs.BitReversal.{reversed}
 use Rattle.ark_math.proofs.Numbers.BitReversal.{reversed_below}
 use Rattle.ark_math.proofs.Numbers.PowersOfTwo.{pow_twice}
 use Rattle.rs_code.specs.Locator.{lost, located, slope, IsFactor}
-use Rattle.rs_code.specs.Turns.{AreMadeBelow, AreSorted, HoldValues, IsMadeOf, IsTableOf, Sorted, Values, at_turn, erased_from, kept_from, product_of_eight, turn_place}
+use Rattle.rs_code.specs.Turns.{AreAtTurns, AreMadeBelow, AreSorted, HoldValues, IsFactorFrom, IsMadeOf, IsTableOf, Sorted, Values, at_turn, erased_from, kept_from, product_of_eight, turn_place}
+use Rattle.rs_code.specs.declared.turns.AtTurns.{AtTurns}
+use Rattle.rs_code.specs.declared.turns.PlaceValues.{PlaceValues}
 use Rattle.rs_code.proofs.TableOrder.{turn_element, turn_fourth, turn_place_less, turn_square}
 use Rattle.rs_code.proofs.TurnedPlaces.{eight_same, element-square, element-fourth, erased-place, kept-place}
-
--- four values a quarter turn on
-pub next_turn : {X : Type 0} {f g : X × X × X × X} {s t u v : X} → g ≡ (f.1, f.2, f.3, f.0) → f ≡ (s, t, u, v) → g ≡ (t, u, v, s)
-next_turn e h = e ∙ ap (λ f. (f.1, f.2, f.3, f.0)) h
 
 after_list : {X : Type 0} (xs ys : List X) (i j : ℕ) (z : X) → i ≡ length xs + j → get_or (xs ++ ys) i z ≡ get_or ys j z
 after_list xs ys i j z e = ap (λ t. get_or (xs ++ ys) t z) e ∙ get_or-append-add xs ys j z
 
--- the values of an index's four, from a turn on
-abbrev pub values_from : {F : Type 0} → FieldOn F → ℕ → ℕ → List F → F × F × F × F
-values_from K k t xs = (at_turn K xs k t, at_turn K xs k (t + 1), at_turn K xs k (t + 2), at_turn K xs k (t + 3))
+module _ {F : Type 0} (K : FieldOn F) where
+  -- a list's values from the place ahead on
+  pub turned-values : (v : List F) (k t : ℕ) (a b : AtTurns F) → AreAtTurns K v k t a → b.here ≡ a.ahead → b.ahead ≡ a.over → b.over ≡ a.back → b.back ≡ a.here → AreAtTurns K v k (t + 1) b
+  turned-values v k t a b are here ahead over back =
+      let second : t + 2 ≡ t + 1 + 1 = omega arith in
+      let third : t + 3 ≡ t + 1 + 2 = omega arith in
+      let whole : t % 4 ≡ (t + 1 + 3) % 4 = omega arith in
+      record {
+        here_is = here ∙ are.ahead_is;
+        ahead_is = ahead ∙ are.over_is ∙ ap (at_turn K v k) second;
+        over_is = over ∙ are.back_is ∙ ap (at_turn K v k) third;
+        back_is = back ∙ are.here_is ∙ ap (λ s. of_list K v (4 * k + turn_place s)) whole;
+      }
+
+  pub opposite-ahead : (v : List F) (k t : ℕ) → of_list K v (2 * k + t % 2) ≡ of_list K v (2 * k + (t + 1 + 1) % 2)
+  opposite-ahead v k t = let same : t % 2 ≡ (t + 1 + 1) % 2 = omega arith in ap (λ s. of_list K v (2 * k + s)) same
+
+  -- what is multiplied gives the factor
+  pub factor-from : (p : PlaceValues F) (mark : Bool) (y : F) →
+      (mark ≡ true → y ≡ product_of_eight K p.none p.opposite_ahead p.one.back p.one.over p.one.ahead p.two.over p.two.ahead p.three.ahead) →
+      (mark ≡ false → y ≡ product_of_eight K p.all p.opposite p.one.here p.two.here p.two.back p.three.here p.three.back p.three.over) →
+      IsFactorFrom K p mark y
+  factor-from p mark y erased kept v k t are =
+      let f = are.one_are in
+      let g = are.two_are in
+      let h = are.three_are in
+      record {
+        kept = λ e. kept e ∙ eight_same K are.all_is are.opposite_is f.here_is g.here_is g.back_is h.here_is h.back_is h.over_is;
+        erased = λ e. erased e ∙ eight_same K are.none_is are.ahead_is f.back_is f.over_is f.ahead_is g.over_is g.ahead_is h.ahead_is;
+      }
 
 module _ {F : Type 0} (K : FieldOn F) (v : Values F) where
-  pub made_of : (k t : ℕ) (mark : Bool) (y a n here other : F) (f g h : F × F × F × F) →
-      a ≡ of_list K v.all k → n ≡ of_list K v.none k → here ≡ of_list K v.opposite (2 * k + t % 2) → other ≡ of_list K v.opposite (2 * k + (t + 1) % 2) →
-      f ≡ values_from K k t v.one → g ≡ values_from K k t v.two → h ≡ values_from K k t v.three →
-      (mark ≡ true → y ≡ product_of_eight K n other f.3 f.2 f.1 g.2 g.1 h.1) → (mark ≡ false → y ≡ product_of_eight K a here f.0 g.0 g.3 h.0 h.3 h.2) →
-      IsMadeOf K v k t mark y
-  made_of k t mark y a n here other f g h a_is n_is here_is other_is f_is g_is h_is erased kept = record {
-    kept = λ e. kept e ∙ eight_same K a_is here_is (ap (λ v. v.0) f_is) (ap (λ v. v.0) g_is) (ap (λ v. v.3) g_is) (ap (λ v. v.0) h_is) (ap (λ v. v.3) h_is) (ap (λ v. v.2) h_is);
-    erased = λ e. erased e ∙ eight_same K n_is other_is (ap (λ v. v.3) f_is) (ap (λ v. v.2) f_is) (ap (λ v. v.1) f_is) (ap (λ v. v.2) g_is) (ap (λ v. v.1) g_is) (ap (λ v. v.1) h_is);
-  }
-
   module _ (fours : List ℕ) (marks : List Bool) where
     abbrev made_at : ℕ → ℕ → F → Type 0
     made_at t j y = IsMadeOf K v (get_or fours j 0) t (get_or marks (t * length fours + j) true) y

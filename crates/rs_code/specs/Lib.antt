@@ -3,4 +3,5 @@ pub mod Code
 pub mod Codeword
 pub mod Cost
 pub mod Locator
+pub mod Refusals
 pub mod Turns

@@ -7,6 +7,8 @@ use Rattle.ark_math.specs.Multilinear.{product_below}
 use Rattle.ark_math.specs.Univariate.{of_list}
 use Rattle.ark_blocks.specs.Blocks.{AreReversed, IsPowerOfTwo, element_of, size_of}
 use Rattle.rs_code.specs.Locator.{located, lost}
+use Rattle.rs_code.specs.declared.turns.AtTurns.{AtTurns}
+use Rattle.rs_code.specs.declared.turns.PlaceValues.{PlaceValues}
 
 -- which of four places are marked
 pub record Four : Type 0 where
@@ -219,6 +221,31 @@ pub record HoldValues {F : Type 0} (K : FieldOn F) (table : List F) (q : ℕ) (s
   pub opposite_is : (i : ℕ) → i < 2 * q → of_list K v.opposite i ≡ located K s.opposite (element_of K table i)
   pub all_is : (i : ℕ) → i < q → of_list K v.all i ≡ K.times (located K s.all (element_of K table i)) s.erased_scale
   pub none_is : (i : ℕ) → i < q → of_list K v.none i ≡ K.times (located K s.none (element_of K table i)) (K.times s.kept_scale inverse)
+
+-- a list's values at the place t quarter turns after the first of the four of index k, and at its own turns
+pub record AreAtTurns {F : Type 0} (K : FieldOn F) (v : List F) (k t : ℕ) (a : AtTurns F) : Type 0 where
+  pub here_is : a.here ≡ at_turn K v k t
+  pub ahead_is : a.ahead ≡ at_turn K v k (t + 1)
+  pub over_is : a.over ≡ at_turn K v k (t + 2)
+  pub back_is : a.back ≡ at_turn K v k (t + 3)
+
+-- all values that a place's factor is made of
+pub record ArePlaceValues {F : Type 0} (K : FieldOn F) (v : Values F) (k t : ℕ) (p : PlaceValues F) : Type 0 where
+  pub one_are : AreAtTurns K v.one k t p.one
+  pub two_are : AreAtTurns K v.two k t p.two
+  pub three_are : AreAtTurns K v.three k t p.three
+  pub opposite_is : p.opposite ≡ of_list K v.opposite (2 * k + t % 2)
+  pub ahead_is : p.opposite_ahead ≡ of_list K v.opposite (2 * k + (t + 1) % 2)
+  pub all_is : p.all ≡ of_list K v.all k
+  pub none_is : p.none ≡ of_list K v.none k
+
+-- q has the values of the place a quarter turn ahead of that of p
+abbrev pub IsPlaceAhead : {F : Type 0} → FieldOn F → PlaceValues F → PlaceValues F → Type 0
+IsPlaceAhead {F} K p q = (v : Values F) (k t : ℕ) → ArePlaceValues K v k t p → ArePlaceValues K v k (t + 1) q
+
+-- y is the factor of the place, which may be marked, by its values
+abbrev pub IsFactorFrom : {F : Type 0} → FieldOn F → PlaceValues F → Bool → F → Type 0
+IsFactorFrom {F} K p mark y = (v : Values F) (k t : ℕ) → ArePlaceValues K v k t p → IsMadeOf K v k t mark y
 
 -- the factors of the first n places of a quarter, t turns after the first one, are put in a list
 pub record AreMadeBelow {F : Type 0} (K : FieldOn F) (v : Values F) (fours : List ℕ) (marks : List Bool) (t n : ℕ) (factors : List F) : Type 0 where

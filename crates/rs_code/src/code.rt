@@ -5,6 +5,7 @@ ghost use Rattle.std.specs.Prelude.{IfSome, IsNone, IfOk, IfErr, Err};
 ghost use Rattle.ark_math.specs.Domain.{Kind, HasNoSize};
 ghost use Rattle.ark_math.specs.Transform.{transform};
 ghost use Rattle.rs_code.specs.Codeword.{AgreesWith, IsCodeword, erasure_count, mark_count};
+ghost use Rattle.rs_code.specs.Refusals.{RefusesRightly};
 
 use crate::decoder::DomainDecoder;
 use crate::error::RsError;
@@ -158,15 +159,8 @@ impl<F: FftField, D: EvaluationDomain<F>> DomainCode<F, D> {
             → AgreesWith T.group T.meaning word.now other → other ≡ map T.meaning c.items) }
         ensures len { IfOk result (λ c. length word.now ≡ self.now.domain.size) }
         ensures few { IfOk result (λ c. erasure_count word.now ≤ self.now.domain.size - self.now.k) }
-        ensures wrong_length { (result ≡ Err RsError.WrongLength) ↔ (length word.now ≢ self.now.domain.size) }
-        ensures too_many_erased { (result ≡ Err RsError.TooManyErased)
-            ↔ (length word.now ≡ self.now.domain.size)
-            × (self.now.domain.size - self.now.k < erasure_count word.now) }
-        ensures no_codeword { (result ≡ Err RsError.NoCodeword) → (other : List T.Meaning)
-            → IsCodeword F.field T.group self.now.domain self.now.k other
-            → AgreesWith T.group T.meaning word.now other → ⊥ }
-        ensures always { self.now.k + erasure_count word.now ≡ self.now.domain.size
-            → result ≢ Err RsError.NoCodeword }
+        ensures refused { RefusesRightly F.field T.group self.now (length word.now) (erasure_count word.now)
+            (AgreesWith T.group T.meaning word.now) result }
     {
         self.restore_counted(alloc, word, &mut Work::new())
     }

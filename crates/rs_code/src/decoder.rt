@@ -1,8 +1,9 @@
 //! Decoders: what the restoration of words that are erased at the same places has in common.
 
-ghost use Rattle.std.specs.Prelude.{◌≡◌, ◌≢◌, ◌↔◌, ◌+◌, ◌≤◌, List, length, map, IfOk, Err};
+ghost use Rattle.std.specs.Prelude.{◌≡◌, ◌≢◌, ◌≤◌, List, length, map, IfOk, Err};
 ghost use Rattle.ark_math.specs.Transform.{fit, transform};
 ghost use Rattle.rs_code.specs.Codeword.{AgreesElsewhere, IsCodeword, mark_count};
+ghost use Rattle.rs_code.specs.Refusals.{RefusesRightly};
 
 use crate::error::RsError;
 use crate::part::{fill_spaced, fold};
@@ -59,14 +60,9 @@ impl<F: FftField, D: EvaluationDomain<F>> DomainDecoder<F, D> {
             → IsCodeword F.field T.group self.now.code.domain self.now.code.k other
             → AgreesElsewhere T.group self.now.erased (map T.meaning word.now) other
             → other ≡ map T.meaning c.items) }
-        ensures wrong_length { (result ≡ Err RsError.WrongLength)
-            ↔ (length word.now ≢ self.now.code.domain.size) }
-        ensures too_many_erased { result ≢ Err RsError.TooManyErased }
-        ensures no_codeword { (result ≡ Err RsError.NoCodeword) → (other : List T.Meaning)
-            → IsCodeword F.field T.group self.now.code.domain self.now.code.k other
-            → AgreesElsewhere T.group self.now.erased (map T.meaning word.now) other → ⊥ }
-        ensures always { self.now.code.k + mark_count self.now.erased ≡ self.now.code.domain.size
-            → result ≢ Err RsError.NoCodeword }
+        ensures refused { RefusesRightly F.field T.group self.now.code (length word.now)
+            (mark_count self.now.erased) (AgreesElsewhere T.group self.now.erased (map T.meaning word.now)) result }
+        ensures never_too_many { result ≢ Err RsError.TooManyErased }
     {
         self.restore_counted(alloc, word, &mut Work::new())
     }
@@ -88,14 +84,9 @@ impl<F: FftField, D: EvaluationDomain<F>> DomainDecoder<F, D> {
             → AgreesElsewhere T.group self.now.erased (map T.meaning word.now)
             (transform F.field T.group self.now.code.domain other)
             → fit T.group other self.now.code.k ≡ map T.meaning m.items) }
-        ensures wrong_length { (result ≡ Err RsError.WrongLength)
-            ↔ (length word.now ≢ self.now.code.domain.size) }
-        ensures too_many_erased { result ≢ Err RsError.TooManyErased }
-        ensures no_codeword { (result ≡ Err RsError.NoCodeword) → (other : List T.Meaning)
-            → IsCodeword F.field T.group self.now.code.domain self.now.code.k other
-            → AgreesElsewhere T.group self.now.erased (map T.meaning word.now) other → ⊥ }
-        ensures always { self.now.code.k + mark_count self.now.erased ≡ self.now.code.domain.size
-            → result ≢ Err RsError.NoCodeword }
+        ensures refused { RefusesRightly F.field T.group self.now.code (length word.now)
+            (mark_count self.now.erased) (AgreesElsewhere T.group self.now.erased (map T.meaning word.now)) result }
+        ensures never_too_many { result ≢ Err RsError.TooManyErased }
     {
         let mut items = self.interpolated(alloc, word, &mut Work::new())?;
         scale_by_exponents(items.as_mut_slice(), &mut Work::new());

@@ -16,7 +16,6 @@ mod marks;
 mod part;
 mod product;
 mod restore;
-mod sorted;
 mod turns;
 
 pub use code::{Code, DomainCode};

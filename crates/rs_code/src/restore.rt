@@ -13,6 +13,7 @@ ghost use Rattle.ark_math.specs.Univariate.{of_list};
 ghost use Rattle.rs_code.specs.Codeword.{AgreesElsewhere, AgreesWith, IsCodeword, erasure_count, mark_count};
 ghost use Rattle.rs_code.specs.Cost.{GrowsWithin};
 ghost use Rattle.rs_code.specs.Locator.{by_factors, euler, filled, lost, weighed};
+ghost use Rattle.rs_code.specs.Refusals.{RefusesRightly};
 
 use crate::code::DomainCode;
 use crate::decoder::DomainDecoder;
@@ -40,15 +41,8 @@ impl<F: FftField, D: EvaluationDomain<F>> DomainCode<F, D> {
             → AgreesWith T.group T.meaning word.now other → other ≡ map T.meaning c.items) }
         ensures len { IfOk result (λ c. length word.now ≡ self.now.domain.size) }
         ensures few { IfOk result (λ c. erasure_count word.now ≤ self.now.domain.size - self.now.k) }
-        ensures wrong_length { (result ≡ Err RsError.WrongLength) ↔ (length word.now ≢ self.now.domain.size) }
-        ensures too_many_erased { (result ≡ Err RsError.TooManyErased)
-            ↔ (length word.now ≡ self.now.domain.size)
-            × (self.now.domain.size - self.now.k < erasure_count word.now) }
-        ensures no_codeword { (result ≡ Err RsError.NoCodeword) → (other : List T.Meaning)
-            → IsCodeword F.field T.group self.now.domain self.now.k other
-            → AgreesWith T.group T.meaning word.now other → ⊥ }
-        ensures always { self.now.k + erasure_count word.now ≡ self.now.domain.size
-            → result ≢ Err RsError.NoCodeword }
+        ensures refused { RefusesRightly F.field T.group self.now (length word.now) (erasure_count word.now)
+            (AgreesWith T.group T.meaning word.now) result }
         ensures cost { GrowsWithin F.adicity self.now.domain 3 (5 * self.now.domain.size) work.old work.new }
     {
         if word.len() != self.domain.size() {
@@ -80,14 +74,9 @@ impl<F: FftField, D: EvaluationDomain<F>> DomainDecoder<F, D> {
             → IsCodeword F.field T.group self.now.code.domain self.now.code.k other
             → AgreesElsewhere T.group self.now.erased (map T.meaning word.now) other
             → other ≡ map T.meaning c.items) }
-        ensures wrong_length { (result ≡ Err RsError.WrongLength)
-            ↔ (length word.now ≢ self.now.code.domain.size) }
-        ensures too_many_erased { result ≢ Err RsError.TooManyErased }
-        ensures no_codeword { (result ≡ Err RsError.NoCodeword) → (other : List T.Meaning)
-            → IsCodeword F.field T.group self.now.code.domain self.now.code.k other
-            → AgreesElsewhere T.group self.now.erased (map T.meaning word.now) other → ⊥ }
-        ensures always { self.now.code.k + mark_count self.now.erased ≡ self.now.code.domain.size
-            → result ≢ Err RsError.NoCodeword }
+        ensures refused { RefusesRightly F.field T.group self.now.code (length word.now)
+            (mark_count self.now.erased) (AgreesElsewhere T.group self.now.erased (map T.meaning word.now)) result }
+        ensures never_too_many { result ≢ Err RsError.TooManyErased }
         ensures cost { GrowsWithin F.adicity self.now.code.domain 3 (5 * self.now.code.domain.size)
             work.old work.new }
     {
@@ -121,14 +110,9 @@ impl<F: FftField, D: EvaluationDomain<F>> DomainDecoder<F, D> {
             → (i : ℕ) → item T.group (map T.meaning u.items) i ≡ by_factors F.field T.group
             (lost F.field self.now.code.domain self.now.erased) (item T.group m) i) }
         ensures len { IfOk result (λ u. length u.items ≡ self.now.code.domain.size) }
-        ensures wrong_length { (result ≡ Err RsError.WrongLength)
-            ↔ (length word.now ≢ self.now.code.domain.size) }
-        ensures too_many_erased { result ≢ Err RsError.TooManyErased }
-        ensures no_codeword { (result ≡ Err RsError.NoCodeword) → (other : List T.Meaning)
-            → IsCodeword F.field T.group self.now.code.domain self.now.code.k other
-            → AgreesElsewhere T.group self.now.erased (map T.meaning word.now) other → ⊥ }
-        ensures always { self.now.code.k + mark_count self.now.erased ≡ self.now.code.domain.size
-            → result ≢ Err RsError.NoCodeword }
+        ensures refused { RefusesRightly F.field T.group self.now.code (length word.now)
+            (mark_count self.now.erased) (AgreesElsewhere T.group self.now.erased (map T.meaning word.now)) result }
+        ensures never_too_many { result ≢ Err RsError.TooManyErased }
         ensures cost { GrowsWithin F.adicity self.now.code.domain 1 (2 * self.now.code.domain.size)
             work.old work.new }
     {

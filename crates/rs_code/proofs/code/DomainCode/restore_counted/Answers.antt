@@ -1,9 +1,11 @@
-use Rattle.std.proofs.Common.{◌≡◌, ◌+◌, ◌*◌, map, unwrap_or, subst, subst₂, sym, ap, ap₂, ◌∙◌}
+use Rattle.std.proofs.Common.{◌≡◌, ◌*◌, length, map, unwrap_or, subst, subst₂, sym, ap, ◌∙◌}
+use Rattle.std.proofs.lemmas.List.{length-map}
 use Rattle.std.specs.Prelude.{is_none}
 use Rattle.ark_math.proofs.Outcomes.Results.{IfOk_more}
 use Rattle.rs_code.specs.Codeword.{IsCodeword, AgreesElsewhere, mark_count}
 use Rattle.rs_code.specs.Cost.{GrowsWithin}
 use Rattle.rs_code.proofs.Places.{agrees-with, agrees-elsewhere, mark_count-none}
+use Rattle.rs_code.proofs.Refused.{refused_same}
 use Rattle.rs_code.proofs.Spent.{nothing_within}
 use Rattle.rs_code.proofs.code.DomainCode.restore_counted.Goals as goal
 
@@ -62,26 +64,13 @@ returns-clause-only g c =
     (subst₂ (λ e y. AgreesElsewhere V e (map m y) other) (sym marks) (sym values) (agrees-elsewhere V m word c.zero.result other agrees)))
     c.restore_counted.ensures.only
 
-pub returns-clause-no_codeword : goal.returns-clause-no_codeword
-returns-clause-no_codeword g c = λ is_none_such other is agrees.
-    let K = g.F.Field.field in
+pub returns-clause-refused : goal.returns-clause-refused
+returns-clause-refused g c =
     let V = g.T.DomainCoeff.group in
     let m = g.T.DomainCoeff.meaning in
     let word = c.args.word.now in
     let marks : c.in_ok-decoder.decoder.erased ≡ map is_none word = c.in_ok-decoder.ensures.erased ∙ c.deref.ensures.value ∙ c.in_ok-erased_places.ensures in
     let values : c.deref-2.result.now ≡ map (λ p. unwrap_or p c.zero.result) word = c.deref-2.ensures.value ∙ c.in_ok-values.ensures in
-    c.restore_counted.ensures.no_codeword is_none_such other
-    (subst (λ r. IsCodeword K V r.domain r.k other) (sym c.in_ok-decoder.ensures.code) is)
-    (subst₂ (λ e y. AgreesElsewhere V e (map m y) other) (sym marks) (sym values) (agrees-elsewhere V m word c.zero.result other agrees))
-
-pub returns-clause-always : goal.returns-clause-always
-returns-clause-always g c = λ full is_none_such.
-    let word = c.args.word.now in
-    let code = c.in_ok-decoder.ensures.code in
-    let marks : c.in_ok-decoder.decoder.erased ≡ map is_none word = c.in_ok-decoder.ensures.erased ∙ c.deref.ensures.value ∙ c.in_ok-erased_places.ensures in
-    c.restore_counted.ensures.always
-    (ap₂ (λ r e. r.k + mark_count e) code marks
-    ∙ ap (λ t. c.args.self.now.k + t) (mark_count-none word)
-    ∙ full
-    ∙ sym (ap (λ r. r.domain.size) code))
-    is_none_such
+    refused_same g.F.Field.field V c.restore_counted.result _ _ _ _ _ _ _ _ c.in_ok-decoder.ensures.code (ap length values ∙ length-map word _) (ap mark_count marks ∙ mark_count-none word)
+    (λ other agrees. subst₂ (λ e y. AgreesElsewhere V e (map m y) other) (sym marks) (sym values) (agrees-elsewhere V m word c.zero.result other agrees))
+    c.restore_counted.ensures.refused

@@ -1,15 +1,17 @@
-use Rattle.std.proofs.Common.{◌≡◌, ◌+◌, ◌-◌, ◌*◌, ◌<◌, ◌≤◌, ℕ, true, length, map, get_or, take, drop, subst, ap, sym, ◌∙◌, arith, true≢false}
+use Rattle.std.proofs.Common.{◌≡◌, ◌+◌, ◌-◌, ◌*◌, ◌≤◌, ℕ, List, Err, length, map, take, drop, subst, ap, sym, refl, ◌∙◌, arith, true≢false}
 use Rattle.std.proofs.lemmas.List.{get_or_past, length-map}
 use Rattle.ark_math.specs.Module.{item}
-use Rattle.ark_math.specs.Univariate.{of_list}
 use Rattle.ark_math.specs.Transform.{transform, IsInverse, IsOnlyInverse}
 use Rattle.ark_math.proofs.Lists.Lists.{written_back, tail}
 use Rattle.ark_math.proofs.Domains.LawfulDomains.{lawful_domain, order}
 use Rattle.rs_code.specs.Codeword.{AgreesElsewhere, IsCodeword, mark_count}
 use Rattle.rs_code.specs.Cost.{GrowsWithin}
-use Rattle.rs_code.specs.Locator.{by_factors, lost, weighed}
+use Rattle.rs_code.specs.Locator.{by_factors, lost}
+use Rattle.rs_code.specs.Refusals.{RefusesRightly}
+use Rattle.rs_code.specs.declared.error.RsError.TheVariants.{NoCodeword}
 use Rattle.rs_code.proofs.Places.{zeros_from, zeros_dropped}
-use Rattle.rs_code.proofs.Restored.{codeword-from_rest, interpolated-items, interpolated-rest}
+use Rattle.rs_code.proofs.Refused.{refused_values}
+use Rattle.rs_code.proofs.Restored.{codeword-from_rest, interpolated-items, interpolated-rest, weighed_by}
 use Rattle.rs_code.proofs.Spent.{none_within, nothing_within, inverse_within, scalings_within, within_more}
 use Rattle.rs_code.proofs.decoder.DomainDecoder.interpolated.Goals as goal
 
@@ -42,8 +44,8 @@ returns-in_err-ifft_counted-clause-cost g c =
     (subst (λ v. GrowsWithin s d 1 (2 * d.size) w v) (sym c.in_err-ifft_counted.ensures.uncounted)
     (within_more s base d 0 1 _ (2 * d.size) w _ first (omega arith) (omega arith)))
 
-pub returns-then-not-are_zeros-clause-no_codeword : goal.returns-then-not-are_zeros-clause-no_codeword
-returns-then-not-are_zeros-clause-no_codeword g c = λ _ other is agrees.
+pub returns-then-not-are_zeros-clause-refused : goal.returns-then-not-are_zeros-clause-refused
+returns-then-not-are_zeros-clause-refused g c =
     let K = g.F.Field.field in
     let N = g.met.F.Field.field_laws in
     let V = g.T.DomainCoeff.group in
@@ -61,38 +63,24 @@ returns-then-not-are_zeros-clause-no_codeword g c = λ _ other is agrees.
     let v = map m c.weigh.new.values in
     let u = map m c.ifft_counted.new.evals.items in
     let back = written_back c.weigh.new.values _ _ (omega (arith, c.weigh.auto.values, c.as_mut_slice.ensures.len)) in
-    let weighing : (i : ℕ) → i < d.size → item V v i ≡ weighed V (get_or marks i true) (of_list K factors i) (item V y i) = λ i l.
-    c.weigh.ensures.values i (omega (arith, l, places))
-    ∙ ap (λ x. weighed V (get_or x i true) (of_list K c.deref-2.result.now i) (item V (map m c.as_mut_slice.result.now) i)) c.deref.ensures.value
-    ∙ ap (λ x. weighed V (get_or marks i true) (of_list K x i) (item V (map m c.as_mut_slice.result.now) i)) c.deref-2.ensures.value
-    ∙ ap (λ x. weighed V (get_or marks i true) (of_list K factors i) (item V (map m x) i)) copied in
+    let weighing = weighed_by K V m marks _ factors _ c.args.word.now _ c.weigh.new.values d.size c.deref.ensures.value c.deref-2.ensures.value copied places c.weigh.ensures.values in
     let only : IsOnlyInverse K V d v u = subst (λ x. IsOnlyInverse K V d (map m x) u) back c.in_ok-ifft_counted.ensures.only in
     let end : c.product_len.result ≡ k + mark_count marks =
     c.product_len.ensures.len ∙ sym (ap (λ r. r.code.k + mark_count r.erased) c.self.view_is) in
-    let rest = interpolated-rest N g.met.T.DomainCoeff.module_laws d (order (lawful_domain N g.met.F.FftField.roots_law code.lawful)) code.lawful.offset_not_zero marks k c.self.invariant.len c.self.invariant.few
-    factors y v u c.self.invariant.factors_are (length-map c.weigh.new.values m ∙ first) weighing only other
-    (subst (λ r. IsCodeword K V r.code.domain r.code.k other) (sym c.self.view_is) is)
-    (subst (λ r. AgreesElsewhere V r.erased y other) (sym c.self.view_is) agrees) in
+    let second : length u ≡ d.size = c.in_ok-ifft_counted.ensures.inverse.size in
+    let rest : (other : List g.T.DomainCoeff.Meaning) → IsCodeword K V d k other → AgreesElsewhere V marks y other → (i : ℕ) → k + mark_count marks ≤ i → item V u i ≡ V.zero =
+    interpolated-rest N g.met.T.DomainCoeff.module_laws d (order (lawful_domain N g.met.F.FftField.roots_law code.lawful)) code.lawful.offset_not_zero marks k c.self.invariant.len c.self.invariant.few
+    factors y v u c.self.invariant.factors_are (length-map c.weigh.new.values m ∙ first) weighing only in
+    let some : ((i : ℕ) → k + mark_count marks ≤ i → item V u i ≡ V.zero) → ⊥ = λ none.
     let read : (i : ℕ) → c.product_len.result ≤ i → item V (map m c.deref-3.result.now) i ≡ V.zero = λ i l.
-    ap (λ x. item V (map m x) i) c.deref-3.ensures.value ∙ rest i (omega (arith, l, end)) in
+    ap (λ x. item V (map m x) i) c.deref-3.ensures.value ∙ none i (omega (arith, l, end)) in
     let all : (i : ℕ) → item V (map m (take (length c.deref-3.result.now - c.product_len.result) (drop c.product_len.result c.deref-3.result.now))) i ≡ V.zero =
     subst (λ x. (i : ℕ) → item V (map m x) i ≡ V.zero) (sym (tail c.deref-3.result.now c.product_len.result)) (zeros_dropped m V.zero c.deref-3.result.now c.product_len.result read) in
-    absurd (true≢false (sym (c.are_zeros.ensures.1 all) ∙ c.if-not-are_zeros.true))
-
-pub returns-then-not-are_zeros-clause-always : goal.returns-then-not-are_zeros-clause-always
-returns-then-not-are_zeros-clause-always g c = λ full _.
-    let V = g.T.DomainCoeff.group in
-    let m = g.T.DomainCoeff.meaning in
-    let d = g.D.EvaluationDomain.domain c.self.inside.domain in
-    let u = c.ifft_counted.new.evals.items in
-    let second : length u ≡ d.size = sym (length-map u m) ∙ c.in_ok-ifft_counted.ensures.inverse.size in
-    let end : c.product_len.result ≡ d.size =
-    c.product_len.ensures.len ∙ full ∙ sym (ap (λ r. r.code.domain.size) c.self.view_is) in
-    let read : (i : ℕ) → c.product_len.result ≤ i → item V (map m c.deref-3.result.now) i ≡ V.zero = λ i l.
-    ap (λ x. item V (map m x) i) c.deref-3.ensures.value ∙ get_or_past (map m u) i V.zero (omega (arith, l, end, second, length-map u m)) in
-    let all : (i : ℕ) → item V (map m (take (length c.deref-3.result.now - c.product_len.result) (drop c.product_len.result c.deref-3.result.now))) i ≡ V.zero =
-    subst (λ x. (i : ℕ) → item V (map m x) i ≡ V.zero) (sym (tail c.deref-3.result.now c.product_len.result)) (zeros_dropped m V.zero c.deref-3.result.now c.product_len.result read) in
-    true≢false (sym (c.are_zeros.ensures.1 all) ∙ c.if-not-are_zeros.true)
+    true≢false (sym (c.are_zeros.ensures.1 all) ∙ c.if-not-are_zeros.true) in
+    subst (λ r. RefusesRightly K V r.code (length c.args.word.now) (mark_count r.erased) (AgreesElsewhere V r.erased y) (Err NoCodeword)) c.self.view_is
+    (refused_values K V _ (record { domain = d; k = k }) (length c.args.word.now) (mark_count marks) (AgreesElsewhere V marks y) refl word c.self.invariant.few
+    (λ full. some (λ i l. get_or_past u i V.zero (omega (arith, l, full, second))))
+    (λ other is agrees. some (rest other is agrees)))
 
 pub returns-then-not-are_zeros-clause-cost : goal.returns-then-not-are_zeros-clause-cost
 returns-then-not-are_zeros-clause-cost g c =
@@ -145,11 +133,7 @@ returns-clause-message g c =
     let v = map m c.weigh.new.values in
     let u = map m c.ifft_counted.new.evals.items in
     let back = written_back c.weigh.new.values _ _ (omega (arith, c.weigh.auto.values, c.as_mut_slice.ensures.len)) in
-    let weighing : (i : ℕ) → i < d.size → item V v i ≡ weighed V (get_or marks i true) (of_list K factors i) (item V y i) = λ i l.
-    c.weigh.ensures.values i (omega (arith, l, places))
-    ∙ ap (λ x. weighed V (get_or x i true) (of_list K c.deref-2.result.now i) (item V (map m c.as_mut_slice.result.now) i)) c.deref.ensures.value
-    ∙ ap (λ x. weighed V (get_or marks i true) (of_list K x i) (item V (map m c.as_mut_slice.result.now) i)) c.deref-2.ensures.value
-    ∙ ap (λ x. weighed V (get_or marks i true) (of_list K factors i) (item V (map m x) i)) copied in
+    let weighing = weighed_by K V m marks _ factors _ c.args.word.now _ c.weigh.new.values d.size c.deref.ensures.value c.deref-2.ensures.value copied places c.weigh.ensures.values in
     let end : c.product_len.result ≡ k + mark_count marks =
     c.product_len.ensures.len ∙ sym (ap (λ r. r.code.k + mark_count r.erased) c.self.view_is) in
     let inverse : IsInverse K V d v u = subst (λ x. IsInverse K V d (map m x) u) back c.in_ok-ifft_counted.ensures.inverse in
@@ -184,11 +168,7 @@ returns-clause-product g c = λ message short agrees i.
     let v = map m c.weigh.new.values in
     let u = map m c.ifft_counted.new.evals.items in
     let back = written_back c.weigh.new.values _ _ (omega (arith, c.weigh.auto.values, c.as_mut_slice.ensures.len)) in
-    let weighing : (i : ℕ) → i < d.size → item V v i ≡ weighed V (get_or marks i true) (of_list K factors i) (item V y i) = λ i l.
-    c.weigh.ensures.values i (omega (arith, l, places))
-    ∙ ap (λ x. weighed V (get_or x i true) (of_list K c.deref-2.result.now i) (item V (map m c.as_mut_slice.result.now) i)) c.deref.ensures.value
-    ∙ ap (λ x. weighed V (get_or marks i true) (of_list K x i) (item V (map m c.as_mut_slice.result.now) i)) c.deref-2.ensures.value
-    ∙ ap (λ x. weighed V (get_or marks i true) (of_list K factors i) (item V (map m x) i)) copied in
+    let weighing = weighed_by K V m marks _ factors _ c.args.word.now _ c.weigh.new.values d.size c.deref.ensures.value c.deref-2.ensures.value copied places c.weigh.ensures.values in
     let only : IsOnlyInverse K V d v u = subst (λ x. IsOnlyInverse K V d (map m x) u) back c.in_ok-ifft_counted.ensures.only in
     interpolated-items N g.met.T.DomainCoeff.module_laws d (order (lawful_domain N g.met.F.FftField.roots_law code.lawful)) code.lawful.offset_not_zero marks k c.self.invariant.len c.self.invariant.few
     factors y v u c.self.invariant.factors_are (length-map c.weigh.new.values m ∙ first) weighing only message

@@ -1,4 +1,4 @@
-use Rattle.std.proofs.Common.{◌≡◌, ◌*◌, ◌<◌, ◌≤◌, ℕ, List, true, false, length, map, get_or, subst, ap, sym, ◌∙◌, arith}
+use Rattle.std.proofs.Common.{◌≡◌, ◌*◌, ◌<◌, ◌≤◌, ℕ, List, true, false, length, map, get_or, subst, ap, sym, ◌∙◌, refl, arith}
 use Rattle.std.proofs.lemmas.List.{length-map}
 use Rattle.ark_math.specs.Module.{item}
 use Rattle.ark_math.specs.Univariate.{of_list}
@@ -43,50 +43,6 @@ fill-requires-clause-len g c =
     ∙ ap length c.in_ok-fft_counted.ensures.transform
     ∙ transform-length g.F.Field.field g.T.DomainCoeff.group d _
     ∙ sym (ap length c.deref.ensures.value ∙ c.self.invariant.len)
-
-pub returns-clause-codeword : goal.returns-clause-codeword
-returns-clause-codeword g c =
-    let K = g.F.Field.field in
-    let N = g.met.F.Field.field_laws in
-    let V = g.T.DomainCoeff.group in
-    let m = g.T.DomainCoeff.meaning in
-    let d = g.D.EvaluationDomain.domain c.self.inside.domain in
-    let k = c.self.inside.k in
-    let marks = c.self.inside.erased.items in
-    let factors = c.self.inside.factors.items in
-    let code = c.self.invariant.code in
-    let y = map m c.args.word.now in
-    let u = map m c.in_ok-values.values.items in
-    let t = map m c.scale_by_exponents.new.coeffs in
-    let last = map m c.fill.new.values in
-    let second : length c.in_ok-values.values.items ≡ d.size = c.in_ok-values.ensures.len ∙ sym (ap (λ r. r.code.domain.size) c.self.view_is) in
-    let lowered_back = written_back c.scale_by_exponents.new.coeffs _ _ (omega (arith, c.scale_by_exponents.auto.coeffs, c.as_mut_slice.ensures.len)) in
-    let lowering : (i : ℕ) → i < d.size → item V t i ≡ euler K V (item V u) i = λ i l.
-    c.scale_by_exponents.ensures.coefficients i (omega (arith, l, ap length c.as_mut_slice.ensures.value, second))
-    ∙ ap (λ x. euler K V (item V (map m x)) i) c.as_mut_slice.ensures.value in
-    let transformed : map m c.as_mut_slice-2.result.now ≡ transform K V d t =
-    ap (map m) c.as_mut_slice-2.ensures.value ∙ c.in_ok-fft_counted.ensures.transform ∙ ap (λ x. transform K V d (map m x)) lowered_back in
-    let whole : length last ≡ d.size =
-    length-map c.fill.new.values m ∙ c.fill.auto.values ∙ sym (length-map c.as_mut_slice-2.result.now m) ∙ ap length transformed ∙ transform-length K V d t in
-    let filling : (i : ℕ) → i < d.size → item V last i ≡ filled V (get_or marks i true) (of_list K factors i) (item V y i) (item V (transform K V d t) i) = λ i l.
-    c.fill.ensures.values i (omega (arith, l, ap length c.deref.ensures.value, c.self.invariant.len))
-    ∙ ap (λ x. filled V (get_or x i true) (of_list K c.deref-2.result.now i) (item V y i) (item V (map m c.as_mut_slice-2.result.now) i)) c.deref.ensures.value
-    ∙ ap (λ x. filled V (get_or marks i true) (of_list K x i) (item V y i) (item V (map m c.as_mut_slice-2.result.now) i)) c.deref-2.ensures.value
-    ∙ ap (λ x. filled V (get_or marks i true) (of_list K factors i) (item V y i) (item V x i)) transformed in
-    let filled_back = written_back c.fill.new.values _ _ (omega (arith, c.fill.auto.values, c.as_mut_slice-2.ensures.len)) in
-    let same : (message : List g.T.DomainCoeff.Meaning) → length message ≤ k → AgreesElsewhere V marks y (transform K V d message) → transform K V d message ≡ last = λ message short agrees.
-    restored N g.met.T.DomainCoeff.module_laws d (order (lawful_domain N g.met.F.FftField.roots_law code.lawful)) code.lawful.offset_not_zero marks k c.self.invariant.len c.self.invariant.few
-    factors y u t last message c.self.invariant.factors_are short agrees
-    (λ i. c.in_ok-values.ensures.product message
-    (subst (λ r. length message ≤ r.code.k) c.self.view_is short)
-    (subst (λ r. AgreesElsewhere V r.erased y (transform K V r.code.domain message)) c.self.view_is agrees) i
-    ∙ ap (λ r. by_factors K V (lost K r.code.domain r.erased) (item V message) i) (sym c.self.view_is))
-    lowering whole filling in
-    let found = c.in_ok-values.ensures.message in
-    let short : length found.0 ≤ k = subst (λ r. length found.0 ≤ r.code.k) (sym c.self.view_is) found.1 in
-    let agrees : AgreesElsewhere V marks y (transform K V d found.0) = subst (λ r. AgreesElsewhere V r.erased y (transform K V r.code.domain found.0)) (sym c.self.view_is) found.2 in
-    subst (λ x. IsCodeword K V c.args.self.now.code.domain c.args.self.now.code.k x) (ap (map m) (sym filled_back))
-    (subst (λ r. IsCodeword K V r.code.domain r.code.k last) c.self.view_is (found.0, short, sym (same found.0 short agrees)))
 
 pub returns-clause-agrees : goal.returns-clause-agrees
 returns-clause-agrees g c = λ i e.
@@ -141,6 +97,13 @@ returns-clause-only g c = λ other is agrees.
     own.2
     ∙ same own.0 own.1 (subst (AgreesElsewhere V marks y) own.2 (subst (λ r. AgreesElsewhere V r.erased y other) (sym c.self.view_is) agrees))
     ∙ ap (map m) (sym filled_back)
+
+-- the codeword that there is is what comes
+pub returns-clause-codeword : goal.returns-clause-codeword
+returns-clause-codeword g c =
+    let found = c.in_ok-values.ensures.message in
+    let codeword = transform g.F.Field.field g.T.DomainCoeff.group c.args.self.now.code.domain found.0 in
+    (found.0, found.1, sym (returns-clause-only g c codeword (found.0, found.1, refl) found.2))
 
 pub returns-clause-cost : goal.returns-clause-cost
 returns-clause-cost g c =

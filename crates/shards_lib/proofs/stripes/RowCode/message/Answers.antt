@@ -24,9 +24,9 @@ refused-requires g c =
     let other = has_codeword K N g.F.FftField.root k self.n d self.over (omega (arith, fits, room)) self.differ
     c.args.decoder.now.erased kept.0 kept.1 kept.2 kept.3 (map (lanes K) c.args.word.now) in
     only_memory c.in-Err.error
-    (λ e. c.message.ensures.wrong_length.0 (c.in-Err.is ∙ e) (c.requires.len ∙ ap (λ x. x.domain.size) (sym c.requires.code)))
-    (λ e. c.message.ensures.too_many_erased (c.in-Err.is ∙ e))
-    (λ e. c.message.ensures.no_codeword (c.in-Err.is ∙ e) other.0
+    (λ e. c.message.ensures.refused.wrong_length.0 (c.in-Err.is ∙ e) (c.requires.len ∙ ap (λ x. x.domain.size) (sym c.requires.code)))
+    (λ e. c.message.ensures.never_too_many (c.in-Err.is ∙ e))
+    (λ e. c.message.ensures.refused.no_codeword (c.in-Err.is ∙ e) other.0
     (subst (λ x. IsCodeword K (lanewise (itself K)) x.domain x.k other.0) (sym c.requires.code) other.1) other.2)
 
 pub returns-in-Ok-clause-len : goal.returns-in-Ok-clause-len

@@ -11,7 +11,7 @@ use Rattle.rs_code.proofs.TurnedPlaces.{four_read}
 use Rattle.rs_code.proofs.TableOrder.{four_below, row_element, turn_element}
 use Rattle.rs_code.proofs.QuarterTurns.{sorted-all, sorted-more, sorted-none}
 use Rattle.rs_code.proofs.SortedRoots.{finished-more, finished_same, other-roots, pushed-length, pushed-roots}
-use Rattle.rs_code.proofs.sorted.sorted_by_turns.Goals as goal
+use Rattle.rs_code.proofs.turns.sorted.sorted_by_turns.Goals as goal
 
 pub overflow_mul-fours : goal.overflow_mul-fours
 overflow_mul-fours g c =
@@ -87,7 +87,7 @@ returns g c = λ d one order table.
     let N = g.met.F.Field.field_laws in
     let marks = c.args.erased.now in
     let lists = c.loop-j.lists in
-    let a = c.apart-none.result in
+    let a = c.apart-roots.result in
     let q = length c.args.fours.now in
     let w = element K d q in
     let l = c.requires.power.0 in
@@ -101,8 +101,8 @@ returns g c = λ d one order table.
     c.element-2.ensures ∙ ap (element_of K c.args.table.now) second
     ∙ turn_element K N d one c.args.table.now table l levels 0 (omega (arith, some, q_is)) 1 (omega arith) q (omega (arith, q_is)) (omega (arith, whole, some)) in
     let same : c.finish.result ≡ finished_from K w lists =
-    c.finish.ensures ∙ ap (λ t. finished K t a.0.items a.1.items a.2.items a.3.items a.4.items a.5.items) turn
-    ∙ finished_same K N w c.apart-none.ensures.none c.apart-none.ensures.one c.apart-none.ensures.two c.apart-none.ensures.three c.apart-none.ensures.all c.apart-none.ensures.opposite in
+    c.finish.ensures ∙ ap (λ t. finished K t a.none.items a.one.items a.two.items a.three.items a.all.items a.opposite.items) turn
+    ∙ finished_same K N w c.apart-roots.ensures.none c.apart-roots.ensures.one c.apart-roots.ensures.two c.apart-roots.ensures.three c.apart-roots.ensures.all c.apart-roots.ensures.opposite in
     subst (AreSorted K d q marks) (sym same)
     (sorted-all K N d q order one whole some marks (finished_from K w lists) (c.requires.len ∙ table.size)
     (subst (λ i. AreSortedBelow K d q marks i (finished_from K w lists)) end (c.loop-j.invariant.sorted d one order table)))

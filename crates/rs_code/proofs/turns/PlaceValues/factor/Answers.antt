@@ -1,11 +1,14 @@
 use Rattle.std.proofs.Common.{◌∙◌}
 use Rattle.rs_code.proofs.TurnedPlaces.{eight_same}
-use Rattle.rs_code.proofs.turns.factor_of.Goals as goal
+use Rattle.rs_code.proofs.TurnFactors.{factor-from}
+use Rattle.rs_code.proofs.turns.PlaceValues.factor.Goals as goal
 
-pub returns-clause-erased : goal.returns-clause-erased
-returns-clause-erased g c = λ e.
-    c.product.ensures
-    ∙ eight_same g.F.Field.field
+pub returns : goal.returns
+returns g c =
+    let K = g.F.Field.field in
+    factor-from K c.args.self c.args.erased c.product.result
+    (λ e. c.product.ensures
+    ∙ eight_same K
     (c.chosen.ensures.marked e)
     (c.chosen-2.ensures.marked e)
     (c.chosen-3.ensures.marked e)
@@ -13,12 +16,9 @@ returns-clause-erased g c = λ e.
     (c.chosen-5.ensures.marked e)
     (c.chosen-6.ensures.marked e)
     (c.chosen-7.ensures.marked e)
-    (c.chosen-8.ensures.marked e)
-
-pub returns-clause-kept : goal.returns-clause-kept
-returns-clause-kept g c = λ e.
-    c.product.ensures
-    ∙ eight_same g.F.Field.field
+    (c.chosen-8.ensures.marked e))
+    (λ e. c.product.ensures
+    ∙ eight_same K
     (c.chosen.ensures.unmarked e)
     (c.chosen-2.ensures.unmarked e)
     (c.chosen-3.ensures.unmarked e)
@@ -26,4 +26,4 @@ returns-clause-kept g c = λ e.
     (c.chosen-5.ensures.unmarked e)
     (c.chosen-6.ensures.unmarked e)
     (c.chosen-7.ensures.unmarked e)
-    (c.chosen-8.ensures.unmarked e)
+    (c.chosen-8.ensures.unmarked e))

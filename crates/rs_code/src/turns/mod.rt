@@ -6,19 +6,22 @@
 //! nor an inversion is needed. Both products have a part for each pattern of erased places among four, which one polynomial
 //! gives by its values at turns of `x`: so no more than `n / 4` roots are multiplied, however the places are erased.
 //!
-//! This module and `sorted` are a faster way and nothing else: with them, restoring half of 4096 places takes the time of
-//! some 8 transforms in place of 13. Who wants the plain way alone deletes both, with their proofs and the lemmas that only
-//! those use, and lets `factors` of `locator.rt` call `factors_by_slopes` always: the rest stays proved.
+//! This module is a faster way and nothing else: with it, restoring half of 4096 places takes the time of some 8
+//! transforms in place of 13. Who wants the plain way alone deletes it, with `proofs/turns` and the lemmas that only those
+//! proofs use, and lets `factors` of `locator.rt` call `factors_by_slopes` always: the rest stays proved.
+
+mod sorted;
 
 ghost use Rattle.std.specs.Prelude.{◌≡◌, ℕ, ◌+◌, ◌*◌, ◌^◌, ◌<◌, ◌≤◌, true, false, length, get_or, IfOk};
 ghost use Rattle.ark_blocks.specs.Blocks.{IsPowerOfTwo, element_of, size_of};
 ghost use Rattle.ark_math.specs.BitReversal.{reversed};
 ghost use Rattle.ark_math.specs.Univariate.{of_list};
 ghost use Rattle.rs_code.specs.Locator.{AreFactors, located};
-ghost use Rattle.rs_code.specs.Turns.{AreForFours, AreWithin, HoldValues, IsMadeOf, IsTableOf, at_turn, product_of_eight};
+ghost use Rattle.rs_code.specs.Turns.{AreAtTurns, AreForFours, ArePlaceValues, AreWithin, HoldValues, IsFactorFrom, IsMadeOf};
+ghost use Rattle.rs_code.specs.Turns.{IsPlaceAhead, IsTableOf, product_of_eight};
 
 use crate::product::values_over;
-use crate::sorted::{Sorted, sorted_by_turns};
+use crate::turns::sorted::{Sorted, sorted_by_turns};
 use ark_base::{FftField, Field};
 use ark_blocks::BlockRoots;
 use ark_blocks::items::scale_each;
@@ -161,136 +164,130 @@ fn fill<F: Field>(factors: &mut [F], erased: &[bool], fours: &[usize], values: &
         (get_or erased.now (t * length fours.now + j) true)
         (of_list F.field factors.new (t * length fours.now + j)) }
 {
-    let one = values.one.as_slice();
-    let two = values.two.as_slice();
-    let three = values.three.as_slice();
-    let opposite = values.opposite.as_slice();
-    let all = values.all.as_slice();
-    let none = values.none.as_slice();
     let quarter = fours.len();
     let (first, rest) = factors.split_at_mut(quarter);
     let (second, rest) = rest.split_at_mut(quarter);
     let (third, fourth) = rest.split_at_mut(quarter);
     for j in 0..quarter {
-        let k = fours[j];
-        let (own, other_own) = (all[k], none[k]);
-        let (here, other) = (opposite[2 * k], opposite[2 * k + 1]);
-        let ones = four_at(one, k);
-        let twos = four_at(two, k);
-        let threes = four_at(three, k);
-        first[j] = turn_factor(erased[j], own, other_own, here, other, ones, twos, threes);
-        let (ones, twos, threes) = (turned(ones), turned(twos), turned(threes));
-        second[j] = turn_factor(
-            erased[j + quarter],
-            own,
-            other_own,
-            other,
-            here,
-            ones,
-            twos,
-            threes,
-        );
-        let (ones, twos, threes) = (turned(ones), turned(twos), turned(threes));
-        third[j] = turn_factor(
-            erased[j + quarter + quarter],
-            own,
-            other_own,
-            here,
-            other,
-            ones,
-            twos,
-            threes,
-        );
-        let (ones, twos, threes) = (turned(ones), turned(twos), turned(threes));
-        fourth[j] = turn_factor(
-            erased[j + quarter + quarter + quarter],
-            own,
-            other_own,
-            other,
-            here,
-            ones,
-            twos,
-            threes,
-        );
+        let place = PlaceValues::at(values, fours[j]);
+        first[j] = place.factor(erased[j]);
+        let place = place.turned();
+        second[j] = place.factor(erased[j + quarter]);
+        let place = place.turned();
+        third[j] = place.factor(erased[j + quarter + quarter]);
+        let place = place.turned();
+        fourth[j] = place.factor(erased[j + quarter + quarter + quarter]);
     }
 }
 
-// The values at the four of this index, each a quarter turn after the last.
-#[inline(always)]
-fn four_at<F: Field>(values: &[F], k: usize) -> (F, F, F, F)
-    requires { 4 * k + 3 < length values.now }
-    ensures { result ≡ (
-      at_turn F.field values.now k 0,
-      at_turn F.field values.now k 1,
-      at_turn F.field values.now k 2,
-      at_turn F.field values.now k 3,
-    ) }
-{
-    (
-        values[4 * k],
-        values[4 * k + 2],
-        values[4 * k + 1],
-        values[4 * k + 3],
-    )
+// A polynomial's values at a place and at its quarter turns: one ahead, half a turn over, and one back.
+#[derive(Clone, Copy)]
+struct AtTurns<F: Field> {
+    here: F,
+    ahead: F,
+    over: F,
+    back: F,
 }
 
-// The same from the second one on.
-#[inline(always)]
-fn turned<F: Field>(four: (F, F, F, F)) -> (F, F, F, F)
-    ensures { result ≡ (four.1, four.2, four.3, four.0) }
-{
-    (four.1, four.2, four.3, four.0)
+impl<F: Field> AtTurns<F> {
+    // Those of the first of the four places of this index.
+    #[inline(always)]
+    fn at(values: &[F], k: usize) -> Self
+        requires { 4 * k + 3 < length values.now }
+        ensures { AreAtTurns F.field values.now k 0 result }
+    {
+        AtTurns {
+            here: values[4 * k],
+            ahead: values[4 * k + 2],
+            over: values[4 * k + 1],
+            back: values[4 * k + 3],
+        }
+    }
+
+    // Those of the place a quarter turn ahead.
+    #[inline(always)]
+    fn turned(self) -> Self
+        ensures here { result.here ≡ self.ahead }
+        ensures ahead { result.ahead ≡ self.over }
+        ensures over { result.over ≡ self.back }
+        ensures back { result.back ≡ self.here }
+    {
+        AtTurns {
+            here: self.ahead,
+            ahead: self.over,
+            over: self.back,
+            back: self.here,
+        }
+    }
 }
 
-// The factor of a place, from the values at it and at its turns.
-#[inline(always)]
-fn turn_factor<F: Field>(
-    mark: bool,
+// What the factor of a place is a product of: the values over each sorted list, at the place and at its turns.
+#[derive(Clone, Copy)]
+struct PlaceValues<F: Field> {
+    one: AtTurns<F>,
+    two: AtTurns<F>,
+    three: AtTurns<F>,
+    // Those over squares, at the place's and at that of the place a quarter turn ahead.
+    opposite: F,
+    opposite_ahead: F,
+    // Those over fourth powers, which turns leave as they are.
     all: F,
     none: F,
-    opposite: F,
-    other: F,
-    one: (F, F, F, F),
-    two: (F, F, F, F),
-    three: (F, F, F, F),
-) -> F
-    ensures erased { mark ≡ true → result ≡ product_of_eight F.field none other one.3 one.2 one.1 two.2 two.1
-        three.1 }
-    ensures kept { mark ≡ false → result ≡ product_of_eight F.field all opposite one.0 two.0 two.3 three.0 three.3
-        three.2 }
-{
-    factor_of(
-        mark,
-        (none, other, one.3, one.2, one.1, two.2, two.1, three.1),
-        (
-            all, opposite, one.0, two.0, two.3, three.0, three.3, three.2,
-        ),
-    )
 }
 
-// The factor of a place, from what is multiplied at an erased one, and at a kept one. Each value is chosen of two
-// that are there already, and the products come after, so that no branch waits for a mark.
-#[inline(always)]
-fn factor_of<F: Field>(
-    mark: bool,
-    erased: (F, F, F, F, F, F, F, F),
-    kept: (F, F, F, F, F, F, F, F),
-) -> F
-    ensures erased { mark ≡ true → result ≡ product_of_eight F.field erased.0 erased.1 erased.2 erased.3 erased.4
-        erased.5 erased.6 erased.7 }
-    ensures kept { mark ≡ false → result ≡ product_of_eight F.field kept.0 kept.1 kept.2 kept.3 kept.4 kept.5
-        kept.6 kept.7 }
-{
-    product((
-        chosen(mark, erased.0, kept.0),
-        chosen(mark, erased.1, kept.1),
-        chosen(mark, erased.2, kept.2),
-        chosen(mark, erased.3, kept.3),
-        chosen(mark, erased.4, kept.4),
-        chosen(mark, erased.5, kept.5),
-        chosen(mark, erased.6, kept.6),
-        chosen(mark, erased.7, kept.7),
-    ))
+impl<F: Field> PlaceValues<F> {
+    // Those of the first of the four places of this index.
+    #[inline(always)]
+    fn at(values: &Values<F>, k: usize) -> Self
+        requires len { (q : ℕ) × AreForFours q values.now × (k < q) }
+        ensures { ArePlaceValues F.field values.now k 0 result }
+    {
+        let opposite = values.opposite.as_slice();
+        PlaceValues {
+            one: AtTurns::at(&values.one, k),
+            two: AtTurns::at(&values.two, k),
+            three: AtTurns::at(&values.three, k),
+            opposite: opposite[2 * k],
+            opposite_ahead: opposite[2 * k + 1],
+            all: values.all[k],
+            none: values.none[k],
+        }
+    }
+
+    // Those of the place a quarter turn ahead.
+    #[inline(always)]
+    fn turned(self) -> Self
+        ensures { IsPlaceAhead F.field self result }
+    {
+        PlaceValues {
+            one: self.one.turned(),
+            two: self.two.turned(),
+            three: self.three.turned(),
+            opposite: self.opposite_ahead,
+            opposite_ahead: self.opposite,
+            all: self.all,
+            none: self.none,
+        }
+    }
+
+    // The factor of the place, which may be erased. Each value is chosen of two that are there already, and the products
+    // come after, so that no branch waits for a mark.
+    #[inline(always)]
+    fn factor(self, erased: bool) -> F
+        ensures { IsFactorFrom F.field self erased result }
+    {
+        let (one, two, three) = (self.one, self.two, self.three);
+        product((
+            chosen(erased, self.none, self.all),
+            chosen(erased, self.opposite_ahead, self.opposite),
+            chosen(erased, one.back, one.here),
+            chosen(erased, one.over, two.here),
+            chosen(erased, one.ahead, two.back),
+            chosen(erased, two.over, three.here),
+            chosen(erased, two.ahead, three.back),
+            chosen(erased, three.ahead, three.over),
+        ))
+    }
 }
 
 // The first where there is a mark, else the second: a select, as both are there.

@@ -2,7 +2,7 @@ use Rattle.std.proofs.Common.{◌≡◌, ℕ, ◌≤◌, length}
 use Rattle.ark_math.specs.Root.{HasOrder}
 use Rattle.ark_math.specs.Domain.{Domain, element}
 use Rattle.rs_code.specs.Turns.{AreSortedBelow, IsTableOf, finished_from, roots_of}
-use Rattle.rs_code.proofs.sorted.sorted_by_turns.Given as goal
+use Rattle.rs_code.proofs.turns.sorted.sorted_by_turns.Given as goal
 
 abbrev pub invariant-loop-j : goal.invariant-loop-j
 invariant-loop-j g l =

@@ -1,7 +1,7 @@
 use Rattle.std.proofs.Common.{◌≡◌, ℕ, ◌+◌, ◌*◌, ◌<◌, Bool, true, false, get_or, if◌then◌else◌, sym, ap₂, refl, subst, arith}
-use Rattle.rs_code.specs.declared.sorted.TheConstants.{ROWS}
+use Rattle.rs_code.specs.declared.turns.sorted.TheConstants.{ROWS}
 use Rattle.rs_code.specs.Turns.{Four, in_row, turn_place, turned}
-use Rattle.rs_code.proofs.sorted.row.Goals as goal
+use Rattle.rs_code.proofs.turns.sorted.row.Goals as goal
 
 record IsRow (m : Four) (r : ℕ × ℕ) : Type 0 where
   row : turned (turn_place r.1) m ≡ in_row r.0

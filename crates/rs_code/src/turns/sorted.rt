@@ -93,8 +93,8 @@ pub fn sorted_by_turns<F: FftField>(
         );
         lists[pattern].push(table.element(4 * fours[j] + place))?;
     }
-    let (none, one, two, three, all, opposite) = apart(lists);
-    Ok(finish(table.element(2), none, one, two, three, all, opposite))
+    let roots = apart(lists);
+    Ok(finish(table.element(2), roots))
 }
 
 // A list for each pattern, with room for so many roots.
@@ -131,33 +131,52 @@ fn bit(mark: bool) -> usize
     if mark { 1 } else { 0 }
 }
 
-// The lists by themselves.
-fn apart<F: Field>(lists: [Vec<F>; 6]) -> (Vec<F>, Vec<F>, Vec<F>, Vec<F>, Vec<F>, Vec<F>)
-    ensures none { result.0.items ≡ roots_of lists 0 }
-    ensures one { result.1.items ≡ roots_of lists 1 }
-    ensures two { result.2.items ≡ roots_of lists 2 }
-    ensures three { result.3.items ≡ roots_of lists 3 }
-    ensures all { result.4.items ≡ roots_of lists 4 }
-    ensures opposite { result.5.items ≡ roots_of lists 5 }
-{
-    let [none, one, two, three, all, opposite] = lists;
-    (none, one, two, three, all, opposite)
-}
-
-// What the roots of each pattern give; a quarter turn is told.
-fn finish<F: Field>(
-    turn: F,
+// Roots by the pattern of their fours: how many places in a row are erased from the root on, or two that are opposite.
+#[derive(Drop)]
+struct RootsByPattern<F: Field> {
     none: Vec<F>,
     one: Vec<F>,
     two: Vec<F>,
     three: Vec<F>,
     all: Vec<F>,
     opposite: Vec<F>,
-) -> Sorted<F>
-    requires turns { length two.items + length three.items < 2 ^ 64 }
-    requires signs { length one.items + length three.items + length opposite.items < 2 ^ 64 }
-    ensures { result ≡ finished F.field turn none.items one.items two.items three.items all.items opposite.items }
+}
+
+// The list of each pattern by its name.
+fn apart<F: Field>(lists: [Vec<F>; 6]) -> RootsByPattern<F>
+    ensures none { result.none.items ≡ roots_of lists 0 }
+    ensures one { result.one.items ≡ roots_of lists 1 }
+    ensures two { result.two.items ≡ roots_of lists 2 }
+    ensures three { result.three.items ≡ roots_of lists 3 }
+    ensures all { result.all.items ≡ roots_of lists 4 }
+    ensures opposite { result.opposite.items ≡ roots_of lists 5 }
 {
+    let [none, one, two, three, all, opposite] = lists;
+    RootsByPattern {
+        none,
+        one,
+        two,
+        three,
+        all,
+        opposite,
+    }
+}
+
+// What the roots of each pattern give; a quarter turn is told.
+fn finish<F: Field>(turn: F, roots: RootsByPattern<F>) -> Sorted<F>
+    requires turns { length roots.two.items + length roots.three.items < 2 ^ 64 }
+    requires signs { length roots.one.items + length roots.three.items + length roots.opposite.items < 2 ^ 64 }
+    ensures { result ≡ finished F.field turn roots.none.items roots.one.items roots.two.items roots.three.items
+        roots.all.items roots.opposite.items }
+{
+    let RootsByPattern {
+        none,
+        one,
+        two,
+        three,
+        all,
+        opposite,
+    } = roots;
     let power = turn.pow((two.len() + three.len()) as u64);
     let erased_scale = signed(three.len(), power);
     let kept_scale = signed(one.len() + three.len() + opposite.len(), power);
