@@ -1,2 +1,2 @@
 -- What transforms cost, from the definition.
-mod Costs
+mod Counted

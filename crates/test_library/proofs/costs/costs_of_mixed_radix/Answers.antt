@@ -1,6 +1,6 @@
 use Rattle.std.specs.Prelude.{refl}
 use Rattle.std.proofs.Common.{arith}
-use Rattle.test_library.proofs.Costs.{of_thirds}
+use Rattle.test_library.proofs.Counted.{of_thirds}
 use Rattle.test_library.proofs.costs.costs_of_mixed_radix.Goals as goal
 
 pub returns-clause-six : goal.returns-clause-six

@@ -1,7 +1,7 @@
 use Rattle.std.specs.Prelude.{refl}
 use Rattle.ark_math.specs.Cost.{forward, inverse}
 use Rattle.ark_math.proofs.Domains.Sizes.{log_of_power}
-use Rattle.test_library.proofs.Costs.{of_radix2, none_of_none}
+use Rattle.test_library.proofs.Counted.{of_radix2, none_of_none}
 use Rattle.test_library.proofs.costs.costs_of_radix2.Goals as goal
 
 pub returns-clause-one : goal.returns-clause-one
