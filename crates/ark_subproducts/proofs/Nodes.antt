@@ -108,6 +108,10 @@ module _ {F : Type 0} (K : FieldOn F) (N : IsField K) where
   blocks-whole roots count points (Few p) h = h.whole
   blocks-whole roots count points (Halves' p a low v b high w) h = h.0
 
+  -- as its list of coefficients shows it
+  pub blocks-listed : (roots : List F) (count : ℕ) (points : List F) (t u : Tree (FewProducts F) (List F) (Vec F Global)) (coeffs : List F) → IsBlockTreeOver K roots count points t → u ≡ t → coeffs ≡ whole_of_blocks u → of_list K coeffs ≡ nodes K points
+  blocks-listed roots count points t u coeffs h same is = ap (of_list K) is ∙ blocks-whole roots count points u (subst (IsBlockTreeOver K roots count points) (sym same) h)
+
   -- and products for any number of points
   pub tree-whole : (points : List F) (t : Tree (Leaf F) (List F) Unit) → IsTreeOver K points t → of_list K (whole t) ≡ nodes K points
   tree-whole points (Few (Plain p)) h = h

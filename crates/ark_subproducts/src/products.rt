@@ -14,8 +14,8 @@ use ark_univariate::DenseUVPolynomial;
 use ark_univariate::univariate::DensePolynomial;
 use std::alloc::{AllocError, Global};
 
-// Up to so many points are multiplied in without transforms.
-const FEW_POINTS: usize = 40;
+// Up to so many factors x - z are multiplied without transforms.
+const FEW_FACTORS: usize = 40;
 
 // At most so many coefficients of a product come back below the others, as far as it has more than values.
 const MOST_PAST: usize = 512;
@@ -45,7 +45,7 @@ pub fn product_over<F: FftField>(
     ensures product { IfOk result (λ p. of_list F.field p ≡ nodes F.field points.now) }
     ensures memory { IsOkUnless result PolyError.Memory }
 {
-    if points.len() <= FEW_POINTS {
+    if points.len() <= FEW_FACTORS {
         return Ok(DensePolynomial::from_coefficients_vec(product_of_few(alloc, points)?));
     }
     if let Some(table) = BlockRoots::new(alloc, points.len())? {
@@ -84,7 +84,7 @@ fn product<F: FftField>(
     ensures begun { IfOk result (λ p. (n : ℕ) → 64 ≤ n → count ≤ n
         → IsBegun F.field table.now n p.0.items p.1) }
 {
-    if points.len() <= FEW_POINTS {
+    if points.len() <= FEW_FACTORS {
         return Ok((product_of_few(alloc, points)?, None));
     }
     let half = points.len() / 2;

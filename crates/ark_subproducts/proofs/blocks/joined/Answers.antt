@@ -6,7 +6,7 @@ use Rattle.ark_blocks.proofs.Runs.{values-product}
 use Rattle.ark_math.specs.Univariate.{of_list, product}
 use Rattle.ark_math.specs.Nodes.{nodes}
 use Rattle.ark_subproducts.specs.Tree.{IsBlockTreeOver}
-use Rattle.ark_subproducts.proofs.Nodes.{blocks-whole, nodes-halves, nodes-length}
+use Rattle.ark_subproducts.proofs.Nodes.{blocks-listed, nodes-halves, nodes-length}
 use Rattle.ark_subproducts.proofs.TableProducts.{begun_from_half}
 use Rattle.ark_subproducts.proofs.blocks.joined.Goals as goal
 
@@ -18,9 +18,7 @@ extended-requires-clause-begun g c =
     let half = length points / 2 in
     let front = take half points in
     let coeffs = c.coeffs.result.now in
-    let is : of_list K coeffs ≡ nodes K front =
-    ap (of_list K) (c.coeffs.ensures.same ∙ c.product.ensures)
-    ∙ blocks-whole K N c.args.blocks.now (c.args.count / 2) front c.deref.result.now (subst (IsBlockTreeOver K c.args.blocks.now (c.args.count / 2) front) (sym c.deref.ensures) c.requires.low) in
+    let is : of_list K coeffs ≡ nodes K front = blocks-listed K N c.args.blocks.now (c.args.count / 2) front _ c.deref.result.now coeffs c.requires.low c.deref.ensures (c.coeffs.ensures.same ∙ c.product.ensures) in
     begun_from_half K c.args.blocks.now coeffs c.args.low.1 c.args.count (nodes K front) (omega (arith, c.requires.many, c.requires.room)) c.requires.power
     (omega (arith, nodes-length K N front coeffs c.coeffs.ensures.trimmed is, length-take-le half points (omega arith), c.requires.room)) is c.requires.low_values
 
@@ -32,9 +30,7 @@ extended-requires-2-clause-begun g c =
     let half = length points / 2 in
     let back = drop half points in
     let coeffs = c.coeffs-2.result.now in
-    let is : of_list K coeffs ≡ nodes K back =
-    ap (of_list K) (c.coeffs-2.ensures.same ∙ c.product-2.ensures)
-    ∙ blocks-whole K N c.args.blocks.now (c.args.count / 2) back c.deref-2.result.now (subst (IsBlockTreeOver K c.args.blocks.now (c.args.count / 2) back) (sym c.deref-2.ensures) c.requires.high) in
+    let is : of_list K coeffs ≡ nodes K back = blocks-listed K N c.args.blocks.now (c.args.count / 2) back _ c.deref-2.result.now coeffs c.requires.high c.deref-2.ensures (c.coeffs-2.ensures.same ∙ c.product-2.ensures) in
     begun_from_half K c.args.blocks.now coeffs c.args.high.1 c.args.count (nodes K back) (omega (arith, c.requires.many, c.requires.room)) c.requires.power
     (omega (arith, nodes-length K N back coeffs c.coeffs-2.ensures.trimmed is, length-drop half points, two_halves c.args.count (omega (arith, c.requires.many, c.requires.room)) c.requires.power, c.requires.room)) is c.requires.high_values
 
@@ -47,13 +43,7 @@ coefficients-requires-clause-left g c =
     let roots = c.args.blocks.now in
     let part = c.args.count / 2 in
     let front = take half points in
-    let back = drop half points in
-    let left : of_list K c.coeffs-left.result.now ≡ nodes K front =
-    ap (of_list K) (c.coeffs-left.ensures.same ∙ c.product-3.ensures)
-    ∙ blocks-whole K N roots part front c.deref-5.result.now (subst (IsBlockTreeOver K roots part front) (sym c.deref-5.ensures) c.requires.low) in
-    let right : of_list K c.coeffs-right.result.now ≡ nodes K back =
-    ap (of_list K) (c.coeffs-right.ensures.same ∙ c.product-4.ensures)
-    ∙ blocks-whole K N roots part back c.deref-6.result.now (subst (IsBlockTreeOver K roots part back) (sym c.deref-6.ensures) c.requires.high) in
+    let left : of_list K c.coeffs-left.result.now ≡ nodes K front = blocks-listed K N roots part front _ c.deref-5.result.now c.coeffs-left.result.now c.requires.low c.deref-5.ensures (c.coeffs-left.ensures.same ∙ c.product-3.ensures) in
     omega (arith, nodes-length K N front c.coeffs-left.result.now c.coeffs-left.ensures.trimmed left)
 
 pub coefficients-requires-clause-right : goal.coefficients-requires-clause-right
@@ -64,14 +54,8 @@ coefficients-requires-clause-right g c =
     let half = length points / 2 in
     let roots = c.args.blocks.now in
     let part = c.args.count / 2 in
-    let front = take half points in
     let back = drop half points in
-    let left : of_list K c.coeffs-left.result.now ≡ nodes K front =
-    ap (of_list K) (c.coeffs-left.ensures.same ∙ c.product-3.ensures)
-    ∙ blocks-whole K N roots part front c.deref-5.result.now (subst (IsBlockTreeOver K roots part front) (sym c.deref-5.ensures) c.requires.low) in
-    let right : of_list K c.coeffs-right.result.now ≡ nodes K back =
-    ap (of_list K) (c.coeffs-right.ensures.same ∙ c.product-4.ensures)
-    ∙ blocks-whole K N roots part back c.deref-6.result.now (subst (IsBlockTreeOver K roots part back) (sym c.deref-6.ensures) c.requires.high) in
+    let right : of_list K c.coeffs-right.result.now ≡ nodes K back = blocks-listed K N roots part back _ c.deref-6.result.now c.coeffs-right.result.now c.requires.high c.deref-6.ensures (c.coeffs-right.ensures.same ∙ c.product-4.ensures) in
     omega (arith, nodes-length K N back c.coeffs-right.result.now c.coeffs-right.ensures.trimmed right)
 
 pub coefficients-requires-clause-few : goal.coefficients-requires-clause-few
@@ -82,14 +66,8 @@ coefficients-requires-clause-few g c =
     let half = length points / 2 in
     let roots = c.args.blocks.now in
     let part = c.args.count / 2 in
-    let front = take half points in
     let back = drop half points in
-    let left : of_list K c.coeffs-left.result.now ≡ nodes K front =
-    ap (of_list K) (c.coeffs-left.ensures.same ∙ c.product-3.ensures)
-    ∙ blocks-whole K N roots part front c.deref-5.result.now (subst (IsBlockTreeOver K roots part front) (sym c.deref-5.ensures) c.requires.low) in
-    let right : of_list K c.coeffs-right.result.now ≡ nodes K back =
-    ap (of_list K) (c.coeffs-right.ensures.same ∙ c.product-4.ensures)
-    ∙ blocks-whole K N roots part back c.deref-6.result.now (subst (IsBlockTreeOver K roots part back) (sym c.deref-6.ensures) c.requires.high) in
+    let right : of_list K c.coeffs-right.result.now ≡ nodes K back = blocks-listed K N roots part back _ c.deref-6.result.now c.coeffs-right.result.now c.requires.high c.deref-6.ensures (c.coeffs-right.ensures.same ∙ c.product-4.ensures) in
     let values = ap length c.deref-7.ensures.value ∙ c.in_ok-values.ensures.len ∙ ap length c.deref-3.ensures.value ∙ c.in_ok-low_values.ensures.values.len in
     omega (arith, nodes-length K N back c.coeffs-right.result.now c.coeffs-right.ensures.trimmed right, values, length-drop half points, c.requires.many, c.requires.room)
 
@@ -103,12 +81,8 @@ coefficients-requires-clause-room g c =
     let part = c.args.count / 2 in
     let front = take half points in
     let back = drop half points in
-    let left : of_list K c.coeffs-left.result.now ≡ nodes K front =
-    ap (of_list K) (c.coeffs-left.ensures.same ∙ c.product-3.ensures)
-    ∙ blocks-whole K N roots part front c.deref-5.result.now (subst (IsBlockTreeOver K roots part front) (sym c.deref-5.ensures) c.requires.low) in
-    let right : of_list K c.coeffs-right.result.now ≡ nodes K back =
-    ap (of_list K) (c.coeffs-right.ensures.same ∙ c.product-4.ensures)
-    ∙ blocks-whole K N roots part back c.deref-6.result.now (subst (IsBlockTreeOver K roots part back) (sym c.deref-6.ensures) c.requires.high) in
+    let left : of_list K c.coeffs-left.result.now ≡ nodes K front = blocks-listed K N roots part front _ c.deref-5.result.now c.coeffs-left.result.now c.requires.low c.deref-5.ensures (c.coeffs-left.ensures.same ∙ c.product-3.ensures) in
+    let right : of_list K c.coeffs-right.result.now ≡ nodes K back = blocks-listed K N roots part back _ c.deref-6.result.now c.coeffs-right.result.now c.requires.high c.deref-6.ensures (c.coeffs-right.ensures.same ∙ c.product-4.ensures) in
     let values = ap length c.deref-7.ensures.value ∙ c.in_ok-values.ensures.len ∙ ap length c.deref-3.ensures.value ∙ c.in_ok-low_values.ensures.values.len in
     let low = nodes-length K N front c.coeffs-left.result.now c.coeffs-left.ensures.trimmed left in
     let high = nodes-length K N back c.coeffs-right.result.now c.coeffs-right.ensures.trimmed right in
@@ -129,18 +103,10 @@ returns g c =
     let part = c.args.count / 2 in
     let front = take half points in
     let back = drop half points in
-    let left : of_list K c.coeffs-left.result.now ≡ nodes K front =
-    ap (of_list K) (c.coeffs-left.ensures.same ∙ c.product-3.ensures)
-    ∙ blocks-whole K N roots part front c.deref-5.result.now (subst (IsBlockTreeOver K roots part front) (sym c.deref-5.ensures) c.requires.low) in
-    let right : of_list K c.coeffs-right.result.now ≡ nodes K back =
-    ap (of_list K) (c.coeffs-right.ensures.same ∙ c.product-4.ensures)
-    ∙ blocks-whole K N roots part back c.deref-6.result.now (subst (IsBlockTreeOver K roots part back) (sym c.deref-6.ensures) c.requires.high) in
-    let low_is : of_list K c.coeffs.result.now ≡ nodes K front =
-    ap (of_list K) (c.coeffs.ensures.same ∙ c.product.ensures)
-    ∙ blocks-whole K N roots part front c.deref.result.now (subst (IsBlockTreeOver K roots part front) (sym c.deref.ensures) c.requires.low) in
-    let high_is : of_list K c.coeffs-2.result.now ≡ nodes K back =
-    ap (of_list K) (c.coeffs-2.ensures.same ∙ c.product-2.ensures)
-    ∙ blocks-whole K N roots part back c.deref-2.result.now (subst (IsBlockTreeOver K roots part back) (sym c.deref-2.ensures) c.requires.high) in
+    let left : of_list K c.coeffs-left.result.now ≡ nodes K front = blocks-listed K N roots part front _ c.deref-5.result.now c.coeffs-left.result.now c.requires.low c.deref-5.ensures (c.coeffs-left.ensures.same ∙ c.product-3.ensures) in
+    let right : of_list K c.coeffs-right.result.now ≡ nodes K back = blocks-listed K N roots part back _ c.deref-6.result.now c.coeffs-right.result.now c.requires.high c.deref-6.ensures (c.coeffs-right.ensures.same ∙ c.product-4.ensures) in
+    let low_is : of_list K c.coeffs.result.now ≡ nodes K front = blocks-listed K N roots part front _ c.deref.result.now c.coeffs.result.now c.requires.low c.deref.ensures (c.coeffs.ensures.same ∙ c.product.ensures) in
+    let high_is : of_list K c.coeffs-2.result.now ≡ nodes K back = blocks-listed K N roots part back _ c.deref-2.result.now c.coeffs-2.result.now c.requires.high c.deref-2.ensures (c.coeffs-2.ensures.same ∙ c.product-2.ensures) in
     let V : AreValuesFrom K x 0 count (nodes K front) low = subst (λ a. AreValuesFrom K x 0 count a low) low_is c.in_ok-low_values.ensures.values in
     let W : AreValuesFrom K x 0 count (nodes K back) high = subst (λ a. AreValuesFrom K x 0 count a high) high_is c.in_ok-high_values.ensures.values in
     let len : length all ≡ count = c.in_ok-values.ensures.len ∙ ap length c.deref-3.ensures.value ∙ V.len in
