@@ -31,6 +31,3 @@ at_width P a b c d e f g h n =
 
 pub width_positive : (n : ℕ) → 0 < width_of n
 width_positive = at_width (λ w. 0 < w) (lit< tt) (lit< tt) (lit< tt) (lit< tt) (lit< tt) (lit< tt) (lit< tt) (lit< tt)
-
-pub width_within : (n : ℕ) → width_of n < 9
-width_within = at_width (λ w. w < 9) (lit< tt) (lit< tt) (lit< tt) (lit< tt) (lit< tt) (lit< tt) (lit< tt) (lit< tt)

@@ -1,3 +1,4 @@
--- What code answers: tests that decide a fact, results.
+-- What code answers: tests that decide a fact, results, values that are drawn one after another.
 pub mod Results
 pub mod Tests
+pub mod Draws

@@ -21,6 +21,7 @@ pub mod Multilinear
 pub mod AtPoints
 pub mod Forms
 pub mod Outcome
+pub mod Draws
 pub mod Prime
 pub mod Generator
 pub mod Format

@@ -1,6 +1,5 @@
 -- Lemmas of this crate: a secret and what its shares tell of it, sums of sharings, and what a caller needs of some of the
 -- shares.
-mod Draws
 pub mod Secrets
 pub mod Some
 pub mod Sums

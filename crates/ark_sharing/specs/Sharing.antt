@@ -13,11 +13,6 @@ pub record IsSharing {F : Type 0} (K : FieldOn F) (k : ℕ) (secret : F) (a : �
 abbrev pub AreShares : {F : Type 0} → FieldOn F → (ℕ → F) → List (F × F) → Type 0
 AreShares K a shares = HasValues K (length shares) (x_of K shares) (y_of K shares) a
 
--- the values come one after another, each as `draws` says of the state that the one before it left
-abbrev pub AreDrawn : {F S : Type 0} → (S → F → S → Type 0) → S → List F → S → Type 0
-AreDrawn draws old [] new = old ≡ new
-AreDrawn {S = S} draws old (value ∷ values) new = (next : S) × draws old value next × AreDrawn draws next values new
-
 -- a is a sharing of the secret, and has these shares
 abbrev pub IsSharingWith : {F : Type 0} → FieldOn F → ℕ → F → List (F × F) → (ℕ → F) → Type 0
 IsSharingWith K k secret shares a = IsSharing K k secret a × AreShares K a shares

@@ -5,7 +5,8 @@ ghost use Rattle.std.specs.Prelude.{Err, IfErr, IfOk, OnOk, IsTrue, IsOkUnless};
 ghost use Rattle.ark_math.specs.Outcome.{IsOkUnlessEither};
 ghost use Rattle.ark_math.specs.Univariate.{of_list};
 ghost use Rattle.ark_math.specs.AtPoints.{AreDifferent, HasRepeated};
-ghost use Rattle.ark_sharing.specs.Sharing.{AreDrawn, AreNotZero, AreShares, HasZero, IsSharing};
+ghost use Rattle.ark_math.specs.Draws.{AreDrawn};
+ghost use Rattle.ark_sharing.specs.Sharing.{AreNotZero, AreShares, HasZero, IsSharing};
 
 use crate::error::SharingError;
 use ark_base::Field;

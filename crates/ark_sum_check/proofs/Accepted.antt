@@ -3,12 +3,13 @@ use Rattle.std.proofs.Common.{◌≡◌, ◌≢◌, ◌⊎◌, inl, inr, ℕ, ze
 use Rattle.std.proofs.lemmas.List.{append-nil, length-map}
 use Rattle.ark_math.specs.Field.{FieldOn, IsField, minus, natural}
 use Rattle.ark_math.specs.Univariate.{IsBelow, IsValue, difference, nothing, of_list}
+use Rattle.ark_math.proofs.Outcomes.Draws.{AreDrawn-push}
 use Rattle.ark_math.proofs.Algebra.Solve.{nought, ◌⊖◌}
 use Rattle.ark_math.proofs.Algebra.Ring.{ring2_by}
 use Rattle.ark_math.proofs.Polynomials.Univariate.{IsBelow-more, difference-below}
 use Rattle.ark_math.proofs.Polynomials.UnivariateValues.{one_value, value-difference, value-nothing}
 use Rattle.ark_sum_check.specs.Cube.{bound_to, cube_sum, product_value, round_value}
-use Rattle.ark_sum_check.specs.Rounds.{AddsUp, AreAccepted, AreDrawn, AreTrueRounds, HasUnlucky, IsRefusedAt, IsRound, IsSound, IsTrueRound, IsUnlucky, challenges}
+use Rattle.ark_sum_check.specs.Rounds.{AddsUp, AreAccepted, AreChallenged, AreTrueRounds, HasUnlucky, IsRefusedAt, IsRound, IsSound, IsTrueRound, IsUnlucky, challenges}
 use Rattle.ark_sum_check.specs.declared.round.Round.{Round}
 use Rattle.ark_sum_check.proofs.TrueRounds.{cube_sum-halves, cube_sum-none, natural-one, product_value-cons, true_polynomial}
 
@@ -169,6 +170,5 @@ pub length-challenges : {F : Type 0} (rs : List (Round F)) → length (challenge
 length-challenges rs = length-map rs (λ r. r.challenge)
 
 -- one more challenge
-pub AreDrawn-push : {F C : Type 0} (gives : C → List F → F → C → Type 0) (a : C) (rs : List (Round F)) (b : C) (values : List F) (r : Round F) (c : C) → AreDrawn gives a rs b → gives b values r.challenge c → values ≡ r.values.items → AreDrawn gives a (rs ++ r ∷ []) c
-AreDrawn-push gives a [] b values r c h g e = (c, subst (λ vs. gives a vs r.challenge c) e (subst (λ s. gives s values r.challenge c) (sym h) g), refl)
-AreDrawn-push gives a (u ∷ us) b values r c h g e = (h.0, h.1, AreDrawn-push gives h.0 us b values r c h.2 g e)
+pub AreChallenged-push : {F C : Type 0} (gives : C → List F → F → C → Type 0) (a : C) (rs : List (Round F)) (b : C) (values : List F) (r : Round F) (c : C) → AreChallenged gives a rs b → gives b values r.challenge c → values ≡ r.values.items → AreChallenged gives a (rs ++ r ∷ []) c
+AreChallenged-push gives a rs b values r c h g e = AreDrawn-push (λ now s next. gives now s.values.items s.challenge next) a rs b r c h (subst (λ vs. gives b vs r.challenge c) e g)

@@ -1,6 +1,7 @@
 -- The rounds of a sum-check. The first round binds the first variable, and so on.
 use Rattle.std.specs.Prelude.{◌≡◌, ◌≢◌, ◌⊎◌, ℕ, suc, zero, List, [], ◌∷◌, ◌++◌, ◌+◌, ◌<◌, ◌≤◌, length, map}
 use Rattle.ark_math.specs.Field.{FieldOn, natural}
+use Rattle.ark_math.specs.Draws.{AreDrawn}
 use Rattle.ark_math.specs.Univariate.{IsBelow, IsValue, difference, nothing, of_list}
 use Rattle.ark_sum_check.specs.Cube.{bound_to, cube_sum, product_value, round_value}
 use Rattle.ark_sum_check.specs.declared.round.Round.{Round}
@@ -45,9 +46,8 @@ abbrev pub challenges : {F : Type 0} → List (Round F) → List F
 challenges rs = map (λ r. r.challenge) rs
 
 -- rounds whose challenges came one after the other, each for its round's values, from one state of a challenger to another
-abbrev pub AreDrawn : {F C : Type 0} → (C → List F → F → C → Type 0) → C → List (Round F) → C → Type 0
-AreDrawn gives c [] end = c ≡ end
-AreDrawn {C = C} gives c (r ∷ rs) end = (next : C) × gives c r.values.items r.challenge next × AreDrawn gives next rs end
+abbrev pub AreChallenged : {F C : Type 0} → (C → List F → F → C → Type 0) → C → List (Round F) → C → Type 0
+AreChallenged gives c rs end = AreDrawn (λ now r next. gives now r.values.items r.challenge next) c rs end
 
 -- ---- true rounds
 

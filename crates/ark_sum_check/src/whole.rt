@@ -3,7 +3,7 @@
 ghost use Rattle.std.specs.Prelude.{◌≡◌, List, length, IfOk, IsOkUnless, ⊤};
 ghost use Rattle.ark_sum_check.specs.Cube.{cube_sum, product_value};
 ghost use Rattle.ark_sum_check.specs.Provers.{factor_of, tables_of, variables_of};
-ghost use Rattle.ark_sum_check.specs.Rounds.{AreAccepted, AreDrawn, AreTrueRounds, challenges};
+ghost use Rattle.ark_sum_check.specs.Rounds.{AreAccepted, AreChallenged, AreTrueRounds, challenges};
 
 use crate::error::SumCheckError;
 use crate::prover::Prover;
@@ -38,7 +38,7 @@ pub fn prove<F: Field, C: Challenger<F>>(
         (cube_sum F.field (variables_of prover) (tables_of F.field prover)) rounds.items
         (product_value F.field (tables_of F.field prover) (challenges rounds.items))) }
     ensures drawn { IfOk result (λ rounds.
-        AreDrawn C.challenge_gives challenger.old rounds.items challenger.new) }
+        AreChallenged C.challenge_gives challenger.old rounds.items challenger.new) }
     ensures memory { IsOkUnless result SumCheckError.Memory }
 {
     // There is a factor, so a round has two values at least.
@@ -68,7 +68,7 @@ pub fn prove_sparse<F: Field, C: Challenger<F>>(
         (cube_sum F.field prover.variables (factor_of F.field prover)) rounds.items
         (product_value F.field (factor_of F.field prover) (challenges rounds.items))) }
     ensures drawn { IfOk result (λ rounds.
-        AreDrawn C.challenge_gives challenger.old rounds.items challenger.new) }
+        AreChallenged C.challenge_gives challenger.old rounds.items challenger.new) }
     ensures memory { IsOkUnless result SumCheckError.Memory }
 {
     let mut left = prover;

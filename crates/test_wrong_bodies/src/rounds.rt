@@ -3,7 +3,7 @@
 ghost use Rattle.std.specs.Prelude.{◌≡◌, ◌<◌, IfOk, true};
 ghost use Rattle.ark_sum_check.specs.Cube.{bound_to};
 ghost use Rattle.ark_sum_check.specs.Provers.{tables_of, variables_of};
-ghost use Rattle.ark_sum_check.specs.Rounds.{AreDrawn, IsRound};
+ghost use Rattle.ark_sum_check.specs.Rounds.{AreChallenged, IsRound};
 
 use ark_base::Field;
 use ark_sum_check::{Challenger, Prover, Round, SumCheckError, Verifier, prove};
@@ -35,7 +35,7 @@ pub fn all_rounds<F: Field, C: Challenger<F>>(
     prover: Prover<F>,
     challenger: &mut C,
 ) -> Result<Vec<Round<F>>, SumCheckError>
-    ensures { IfOk result (λ rounds. AreDrawn C.challenge_gives challenger.old rounds.items challenger.new) }
+    ensures { IfOk result (λ rounds. AreChallenged C.challenge_gives challenger.old rounds.items challenger.new) }
 {
     prove(alloc, prover, challenger)
 }

@@ -2,7 +2,8 @@
 
 ghost use Rattle.std.specs.Prelude.{◌≡◌, ◌+◌, List, ◌∷◌, length, IfOk};
 ghost use Rattle.ark_math.specs.Univariate.{of_list};
-ghost use Rattle.ark_sharing.specs.Sharing.{AreDrawn, AreNotZero, AreShares};
+ghost use Rattle.ark_math.specs.Draws.{AreDrawn};
+ghost use Rattle.ark_sharing.specs.Sharing.{AreNotZero, AreShares};
 
 use ark_base::Field;
 use ark_sharing::{SharingError, share, share_with};

@@ -2,7 +2,6 @@
 use Rattle.std.proofs.Common.{◌≡◌, ℕ, zero, suc, ◌+◌, ◌-◌, ◌*◌, ◌/◌, ◌%◌, ◌^◌, ◌<◌, ◌≤◌, sym, ◌∙◌, ap, subst, ⊎_elim, refl, arith}
 use Rattle.std.proofs.lemmas.Bool.{cases_lt}
 use Rattle.std.proofs.lemmas.Nat.{pow_pos}
-use Rattle.std.specs.Int.{reverse_bits_onto}
 use Rattle.std.proofs.lemmas.Bool.Decides.{nat_tests}
 use Rattle.ark_math.specs.BitReversal.{reversed}
 use Rattle.ark_math.proofs.Numbers.PowersOfTwo.{pow_twice}
@@ -98,13 +97,3 @@ reversed_lowest k q l =
     let r : q % 2 ≡ 1 = omega arith in
     ap (reversed (suc k)) e ∙ (reversed_odd k (q / 2) b ∙ rw r (omega arith)))
     (cases_lt (q % 2) 1)
-
--- what std's `reverse_bits` does, bit by bit, is this
-pub reverse_bits_onto-is : (k n a : ℕ) → n < 2 ^ k → reverse_bits_onto k n a ≡ a * 2 ^ k + reversed k n
-unfolding reverse_bits_onto
-reverse_bits_onto-is zero n a l = omega arith
-reverse_bits_onto-is (suc k) n a l =
-    let h : reverse_bits_onto k (n / 2) (a * 2 + n % 2) ≡ (a * 2 + n % 2) * 2 ^ k + reversed k (n / 2) = reverse_bits_onto-is k (n / 2) (a * 2 + n % 2) (omega (arith, pow_twice k)) in
-    let r = reversed_lowest k n l in
-    let twice : a * 2 ^ suc k ≡ a * 2 ^ k + a * 2 ^ k = rw (pow_twice k) (omega arith) in
-    h ∙ omega arith

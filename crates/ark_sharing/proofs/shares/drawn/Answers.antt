@@ -1,6 +1,6 @@
 use Rattle.std.proofs.Common.{◌∷◌, [], length, length-append, ap, sym, subst, arith}
-use Rattle.ark_sharing.specs.Sharing.{AreDrawn}
-use Rattle.ark_sharing.proofs.Draws.{AreDrawn-push}
+use Rattle.ark_math.specs.Draws.{AreDrawn}
+use Rattle.ark_math.proofs.Outcomes.Draws.{AreDrawn-push}
 use Rattle.ark_sharing.proofs.shares.drawn.Goals as goal
 
 pub loop-preserved : goal.loop-preserved

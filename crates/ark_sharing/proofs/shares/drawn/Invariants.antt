@@ -1,5 +1,5 @@
 use Rattle.std.proofs.Common.{◌≡◌, length}
-use Rattle.ark_sharing.specs.Sharing.{AreDrawn}
+use Rattle.ark_math.specs.Draws.{AreDrawn}
 use Rattle.ark_sharing.proofs.shares.drawn.Given as goal
 
 abbrev pub invariant-loop : goal.invariant-loop

@@ -1,7 +1,8 @@
 use Rattle.std.proofs.Common.{◌≡◌, ◌+◌, ◌∷◌, length, ap, sym, subst, arith}
 use Rattle.std.proofs.lemmas.Result.{IfOk-weaker}
 use Rattle.ark_math.specs.Univariate.{of_list}
-use Rattle.ark_sharing.specs.Sharing.{AreDrawn, IsSharing}
+use Rattle.ark_math.specs.Draws.{AreDrawn}
+use Rattle.ark_sharing.specs.Sharing.{IsSharing}
 use Rattle.ark_sharing.proofs.Secrets.{sharing_of_list}
 use Rattle.ark_sharing.proofs.shares.share.Goals as goal
 

@@ -1,9 +1,9 @@
 use Rattle.std.proofs.Common.{◌≡◌, ◌-◌, ◌<◌, ◌∷◌, [], ◌++◌, length, length-append, sym, ap, ◌∙◌, subst, arith}
 use Rattle.ark_sum_check.specs.Cube.{cube_sum, product_value}
 use Rattle.ark_sum_check.specs.Provers.{tables_of, variables_of}
-use Rattle.ark_sum_check.specs.Rounds.{AreAccepted, AreDrawn, IsTrueRound, challenges}
+use Rattle.ark_sum_check.specs.Rounds.{AreAccepted, AreChallenged, IsTrueRound, challenges}
 use Rattle.ark_sum_check.specs.declared.round.Round.{Round}
-use Rattle.ark_sum_check.proofs.Accepted.{AreDrawn-push, AreTrueSoFar, AreTrueSoFar-end, AreTrueSoFar-more, length-bound_to, true_accepted}
+use Rattle.ark_sum_check.proofs.Accepted.{AreChallenged-push, AreTrueSoFar, AreTrueSoFar-end, AreTrueSoFar-more, length-bound_to, true_accepted}
 use Rattle.ark_sum_check.proofs.whole.prove.Goals as goal
 
 pub returns-clause-accepted : goal.returns-clause-accepted
@@ -40,6 +40,6 @@ variables-preserved g c =
           (subst (λ n. AreTrueSoFar K (length ts) ts (rs ++ r ∷ []) n vs) (sym c.bind.ensures.variables)
           (AreTrueSoFar-more K (length ts) ts rs r (variables_of c.variables.left) us vs some (subst (λ d. IsTrueRound K d (variables_of c.variables.left - 1) us r.values.items) v.factors c.in_ok-values.ensures.truth) c.bind.ensures.tables v.truth));
       drawn =
-          subst (λ ss. AreDrawn gives c.args.challenger.now ss c.challenge-challenge.new.self) (sym items)
-          (AreDrawn-push gives c.args.challenger.now rs c.variables.challenger c.deref.result.now r c.challenge-challenge.new.self v.drawn c.challenge-challenge.ensures c.deref.ensures.value);
+          subst (λ ss. AreChallenged gives c.args.challenger.now ss c.challenge-challenge.new.self) (sym items)
+          (AreChallenged-push gives c.args.challenger.now rs c.variables.challenger c.deref.result.now r c.challenge-challenge.new.self v.drawn c.challenge-challenge.ensures c.deref.ensures.value);
     }

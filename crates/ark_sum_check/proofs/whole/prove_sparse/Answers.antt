@@ -1,9 +1,9 @@
 use Rattle.std.proofs.Common.{◌≡◌, ◌<◌, ◌∷◌, [], ◌++◌, length, length-append, sym, ap, subst, arith}
 use Rattle.ark_sum_check.specs.Cube.{cube_sum, product_value}
 use Rattle.ark_sum_check.specs.Provers.{factor_of}
-use Rattle.ark_sum_check.specs.Rounds.{AreAccepted, AreDrawn, challenges}
+use Rattle.ark_sum_check.specs.Rounds.{AreAccepted, AreChallenged, challenges}
 use Rattle.ark_sum_check.specs.declared.round.Round.{Round}
-use Rattle.ark_sum_check.proofs.Accepted.{AreDrawn-push, AreTrueSoFar, AreTrueSoFar-end, AreTrueSoFar-more, true_accepted}
+use Rattle.ark_sum_check.proofs.Accepted.{AreChallenged-push, AreTrueSoFar, AreTrueSoFar-end, AreTrueSoFar-more, true_accepted}
 use Rattle.ark_sum_check.proofs.whole.prove_sparse.Goals as goal
 
 pub returns-clause-accepted : goal.returns-clause-accepted
@@ -38,6 +38,6 @@ variables-preserved g c =
           (subst (λ n. AreTrueSoFar K 1 ts (rs ++ r ∷ []) n vs) (sym c.bind.ensures.variables)
           (AreTrueSoFar-more K 1 ts rs r c.variables.left.variables us vs some c.in_ok-sums.ensures.truth c.bind.ensures.tables v.truth));
       drawn =
-          subst (λ ss. AreDrawn gives c.args.challenger.now ss c.challenge-challenge.new.self) (sym items)
-          (AreDrawn-push gives c.args.challenger.now rs c.variables.challenger c.deref.result.now r c.challenge-challenge.new.self v.drawn c.challenge-challenge.ensures c.deref.ensures.value);
+          subst (λ ss. AreChallenged gives c.args.challenger.now ss c.challenge-challenge.new.self) (sym items)
+          (AreChallenged-push gives c.args.challenger.now rs c.variables.challenger c.deref.result.now r c.challenge-challenge.new.self v.drawn c.challenge-challenge.ensures c.deref.ensures.value);
     }

@@ -1,6 +1,6 @@
 use Rattle.std.proofs.Common.{◌≡◌, ◌+◌, length}
 use Rattle.ark_sum_check.specs.Provers.{factor_of}
-use Rattle.ark_sum_check.specs.Rounds.{AreDrawn}
+use Rattle.ark_sum_check.specs.Rounds.{AreChallenged}
 use Rattle.ark_sum_check.proofs.Accepted.{AreTrueSoFar}
 use Rattle.ark_sum_check.proofs.whole.prove_sparse.Given as goal
 
@@ -10,7 +10,7 @@ invariant-variables g l =
     record {
       count : length l.rounds.items + l.left.variables ≡ l.fn.prover.variables;
       truth : AreTrueSoFar K 1 (factor_of K l.fn.prover) l.rounds.items l.left.variables (factor_of K l.left);
-      drawn : AreDrawn g.C.Challenger.challenge_gives l.fn.challenger l.rounds.items l.challenger;
+      drawn : AreChallenged g.C.Challenger.challenge_gives l.fn.challenger l.rounds.items l.challenger;
     }
 
 abbrev pub decreases-variables : goal.decreases-variables
