@@ -11,6 +11,7 @@ use crate::items::{multiply_places, scale_each, subtract};
 use crate::table::BlockRoots;
 use ark_traits::{FftField, Field};
 use std::alloc::{AllocError, Global};
+use std::ops::Range;
 
 impl<F: FftField> BlockRoots<F> {
     /// The values at the first `count` elements of the polynomial with these coefficients, of which there are no
@@ -24,7 +25,7 @@ impl<F: FftField> BlockRoots<F> {
     {
         let mut values = Vec::with_capacity(alloc, count)?;
         let len = coeffs.len().next_power_of_two();
-        push_blocks(&mut values, coeffs, &self.roots, 0, count / len, len)?;
+        push_blocks(&mut values, coeffs, &self.roots, 0..count / len, len)?;
         Ok(values)
     }
 
@@ -59,7 +60,7 @@ impl<F: FftField> BlockRoots<F> {
     {
         let len = values.len();
         values.reserve(count - len)?;
-        match push_blocks(values, coeffs, &self.roots, 1, count / len, len) {
+        match push_blocks(values, coeffs, &self.roots, 1..count / len, len) {
             Ok(()) => Ok(()),
             Err(refused) => {
                 values.truncate(len);
@@ -116,31 +117,29 @@ impl<F: FftField> BlockRoots<F> {
     }
 }
 
-// Adds the values, at the elements of the blocks of `len` from `first` to before `end`, of the polynomial with these
-// coefficients.
+// Adds the values, at the elements of these blocks of `len`, of the polynomial with these coefficients.
 fn push_blocks<F: Field>(
     values: &mut Vec<F>,
     coeffs: &[F],
     roots: &[F],
-    first: usize,
-    end: usize,
+    blocks: Range<usize>,
     len: usize,
 ) -> Result<(), AllocError>
     requires power { IsPowerOfTwo len }
     requires few { length coeffs.now ≤ len + len }
-    requires start { length values.old.items ≡ first * len }
-    requires order { first ≤ end }
-    requires within { end * len ≤ length roots.now + length roots.now }
+    requires start { length values.old.items ≡ blocks.start * len }
+    requires order { blocks.start ≤ blocks.end }
+    requires within { blocks.end * len ≤ length roots.now + length roots.now }
     requires fits { length roots.now + length roots.now < 2 ^ 64 }
-    ensures len { OnOk result (length values.new.items ≡ end * len) }
+    ensures len { OnOk result (length values.new.items ≡ blocks.end * len) }
     ensures before { take (length values.old.items) values.new.items ≡ values.old.items }
     ensures values { OnOk result ((x : ℕ → F) → AreRoots F.field x roots.now
-        → ((i : ℕ) → i < first * len → of_list F.field values.old.items i
+        → ((i : ℕ) → i < blocks.start * len → of_list F.field values.old.items i
         ≡ value_below F.field (len + len) (of_list F.field coeffs.now) (x i))
-        → (i : ℕ) → i < end * len → of_list F.field values.new.items i
+        → (i : ℕ) → i < blocks.end * len → of_list F.field values.new.items i
         ≡ value_below F.field (len + len) (of_list F.field coeffs.now) (x i)) }
 {
-    for block in first..end {
+    for block in blocks.start..blocks.end {
         push_block(values, coeffs, roots, block, len)?;
     }
     Ok(())

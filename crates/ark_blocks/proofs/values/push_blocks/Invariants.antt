@@ -10,6 +10,6 @@ invariant-loop-block g l =
       len : length l.values.items ≡ l.block * l.len;
       before : take (length l.initial.values.items) l.values.items ≡ l.initial.values.items;
       done : (x : ℕ → g.row.F.Denot) → AreRoots K x l.roots
-          → ((i : ℕ) → i < l.first * l.len → of_list K l.initial.values.items i ≡ value_below K (l.len + l.len) (of_list K l.coeffs) (x i))
+          → ((i : ℕ) → i < l.fn.blocks.start * l.len → of_list K l.initial.values.items i ≡ value_below K (l.len + l.len) (of_list K l.coeffs) (x i))
           → (i : ℕ) → i < l.block * l.len → of_list K l.values.items i ≡ value_below K (l.len + l.len) (of_list K l.coeffs) (x i);
     }
