@@ -12,8 +12,8 @@ use ark_traits::Field;
 // Above so many levels each half is taken for itself, so that it is near at hand.
 const FEW_LEVELS: u32 = 16;
 
-/// Puts the coefficients of a polynomial, times two for each level, in the place of its values at the elements of a
-/// block.
+// Puts the coefficients of a polynomial, times two for each level, in the place of its values at the elements of a
+// block.
 pub(crate) fn backward<F: Field>(values: &mut [F], inverses: &[F], block: usize, levels: u32)
     requires size { length values.old ≡ 2 ^ levels }
     requires within { suc block * 2 ^ levels ≤ length inverses.now + length inverses.now }

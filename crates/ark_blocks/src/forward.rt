@@ -12,7 +12,7 @@ use ark_traits::Field;
 // Above so many levels each half is taken for itself, so that it is near at hand.
 const FEW_LEVELS: u32 = 16;
 
-/// Puts the values at the elements of a block of so many items in the place of a polynomial's coefficients.
+// Puts the values at the elements of a block of so many items in the place of a polynomial's coefficients.
 pub(crate) fn forward<F: Field>(values: &mut [F], roots: &[F], block: usize, levels: u32)
     requires size { length values.old ≡ 2 ^ levels }
     requires within { suc block * 2 ^ levels ≤ length roots.now + length roots.now }
@@ -126,7 +126,7 @@ fn butterflies<F: Field>(low: &mut [F], high: &mut [F], root: F)
     }
 }
 
-/// Butterflies across two halves whose root is one.
+// Butterflies across two halves whose root is one.
 pub(crate) fn sums_and_differences<F: Field>(low: &mut [F], high: &mut [F])
     requires same { length low.old ≡ length high.old }
     ensures low_len { length low.new ≡ length low.old }

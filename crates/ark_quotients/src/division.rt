@@ -65,7 +65,7 @@ impl<'a, F: Field> Coefficients<'a, F> {
     }
 }
 
-/// What a division takes of its divisor, which isn't zero.
+// What a division takes of its divisor, which isn't zero.
 #[derive_where(Clone, Copy; F)]
 struct Divisor<'a, F: Field> {
     /// The degree.

@@ -9,7 +9,7 @@ ghost use Rattle.ark_sum_check.specs.Provers.{AreRising};
 
 use ark_traits::Field;
 
-/// The sums of the values at even and at odd indices.
+// The sums of the values at even and at odd indices.
 pub(crate) fn sums_of_sides<F: Field>(entries: &[(usize, F)]) -> (F, F)
     ensures zero { (half : ℕ) → All (λ e. e.0 < 2 * half) entries.now → result.0
         ≡ sum_below (itself F.field) half (λ c. of_pairs F.field entries.now (2 * c + 0)) }
@@ -78,8 +78,8 @@ fn bind_in_place<F: Field>(entries: &mut [(usize, F)], x: F) -> usize
     kept
 }
 
-/// Binds the first variable to `x`: an entry's index is halved, and neighbours whose indices are one then are
-/// merged.
+// Binds the first variable to `x`: an entry's index is halved, and neighbours whose indices are one then are
+// merged.
 pub(crate) fn bind_entries<F: Field>(entries: &mut Vec<(usize, F)>, x: F)
     ensures values { of_pairs F.field entries.new.items
         ≡ fixed F.field (of_pairs F.field entries.old.items) (x ∷ []) }

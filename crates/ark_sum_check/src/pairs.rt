@@ -11,7 +11,7 @@ use crate::error::SumCheckError;
 use ark_traits::Field;
 use std::alloc::Global;
 
-/// The round of two factors by their tables, with 2^m corners left after it.
+// The round of two factors by their tables, with 2^m corners left after it.
 pub(crate) fn round_of_two<F: Field>(
     alloc: Global,
     left: &[F],

@@ -10,7 +10,7 @@ ghost use Rattle.ark_sum_check.specs.Lists.{as_tables};
 
 use ark_traits::Field;
 
-/// The product of the values at an index.
+// The product of the values at an index.
 pub(crate) fn product_of_values<F: Field>(tables: &[Vec<F>], index: usize) -> F
     requires { All (λ t. index < length t.items) tables.now }
     ensures { result ≡ product_at F.field (as_tables F.field tables.now) index }
@@ -51,8 +51,8 @@ fn product_of_bound<F: Field>(tables: &[Vec<F>], corner: usize, x: F) -> F
     product
 }
 
-/// The sum of the products at the corners where the first variable is zero, or where it is one, as `side`
-/// says.
+// The sum of the products at the corners where the first variable is zero, or where it is one, as `side`
+// says.
 pub(crate) fn sum_of_side<F: Field>(tables: &[Vec<F>], half: usize, side: usize) -> F
     requires few { half ≤ 2 ^ 62 }
     requires side { side < 2 }
@@ -67,7 +67,7 @@ pub(crate) fn sum_of_side<F: Field>(tables: &[Vec<F>], half: usize, side: usize)
     sum
 }
 
-/// The sum of the products at all corners once the first variable is bound to `x`.
+// The sum of the products at all corners once the first variable is bound to `x`.
 pub(crate) fn sum_of_bound<F: Field>(tables: &[Vec<F>], half: usize, x: F) -> F
     requires few { half ≤ 2 ^ 62 }
     requires whole { All (λ t. length t.items ≡ 2 * half) tables.now }
@@ -106,7 +106,7 @@ fn bind_first<F: Field>(table: &mut Vec<F>, half: usize, x: F)
     table.truncate(half);
 }
 
-/// Binds the first variable of each table to `x`.
+// Binds the first variable of each table to `x`.
 pub(crate) fn bind_each<F: Field>(tables: &mut [Vec<F>], half: usize, x: F)
     requires few { half ≤ 2 ^ 62 }
     requires whole { All (λ t. length t.items ≡ 2 * half) tables.old }

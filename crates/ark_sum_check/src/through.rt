@@ -43,8 +43,8 @@ fn value_in_place<F: Field>(partials: &mut [F], x: F) -> Result<F, SumCheckError
     Ok(partials[0])
 }
 
-/// The value at `x` of the polynomial of degree below the number of values that has these values at 0, 1 and
-/// so on.
+// The value at `x` of the polynomial of degree below the number of values that has these values at 0, 1 and
+// so on.
 pub(crate) fn value_through<F: Field>(alloc: Global, values: &[F], x: F) -> Result<F, SumCheckError>
     requires not_empty { 0 < length values.now }
     ensures value { IfOk result (λ y. IsValueThrough F.field values.now x y) }

@@ -57,10 +57,10 @@ impl<F: Counted> Benchmark for ThroughPoints<F> {
     }
 }
 
-/// How many secrets are shared in a call.
+// How many secrets are shared in a call.
 const SECRETS: u64 = 10_000;
 
-/// How many shares give a secret back.
+// How many shares give a secret back.
 const THRESHOLD: usize = 3;
 
 /// Secrets, each in a share for each point, and the sum of the last shares.

@@ -91,7 +91,7 @@ impl<'a, R: Print + Clock> Reporter<'a, R> {
         Ok(())
     }
 
-    /// The nanoseconds of a call in the quickest batch.
+    // The nanoseconds of a call in the quickest batch.
     fn least<B: Benchmark>(&self, benchmark: &mut B) -> anyhow::Result<u64> {
         let once = self.batch(benchmark, 1)?;
         let calls = (BATCH_NANOS / once.max(1)).clamp(1, 1_000_000);
@@ -102,7 +102,7 @@ impl<'a, R: Print + Clock> Reporter<'a, R> {
         Ok(least)
     }
 
-    /// The nanoseconds of some calls.
+    // The nanoseconds of some calls.
     fn batch<B: Benchmark>(&self, benchmark: &mut B, calls: u64) -> anyhow::Result<u64> {
         let start = Instant::now(self.rt)?;
         for _ in 0..calls {

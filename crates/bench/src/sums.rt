@@ -16,7 +16,7 @@ pub struct TwoFactors<F: Field> {
     pub right: Vec<F>,
 }
 
-/// Challenges that are the sums of the rounds' values.
+// Challenges that are the sums of the rounds' values.
 #[derive(Drop)]
 struct Sums;
 

@@ -110,7 +110,7 @@ fn main(rt: HostRuntime) -> anyhow::Result<()> {
     print_protocols(&rt, alloc)
 }
 
-/// The values over the coset with this offset, for values over the domain with as many elements.
+// The values over the coset with this offset, for values over the domain with as many elements.
 fn on_coset<F: FftField>(alloc: Global, offset: F, values: &[F]) -> Result<Vec<F>, PolyError> {
     let domain = Radix2EvaluationDomain::new(values.len()).ok_or(PolyError::NoDomain)?;
     if domain.size() != values.len() {
@@ -119,7 +119,7 @@ fn on_coset<F: FftField>(alloc: Global, offset: F, values: &[F]) -> Result<Vec<F
     values_on_coset(alloc, &domain, offset, values)
 }
 
-/// The value at zero of the polynomial with these values over the coset with this offset.
+// The value at zero of the polynomial with these values over the coset with this offset.
 fn at_zero<F: FftField>(alloc: Global, offset: F, values: &[F]) -> Result<F, PolyError> {
     let coset = Radix2EvaluationDomain::new_coset(values.len(), offset).ok_or(PolyError::NoDomain)?;
     if coset.size() != values.len() {
@@ -128,7 +128,7 @@ fn at_zero<F: FftField>(alloc: Global, offset: F, values: &[F]) -> Result<F, Pol
     interpolated_value(alloc, coset, Vec::from_slice(alloc, values)?, F::zero())
 }
 
-/// Twice the first polynomial and three times the second one, by their coefficients.
+// Twice the first polynomial and three times the second one, by their coefficients.
 fn twice_and_thrice<F: Field>(alloc: Global, left: &[F], right: &[F]) -> Result<Vec<F>, PolyError> {
     let left = DensePolynomial::from_coefficients_slice(alloc, left)?;
     let right = DensePolynomial::from_coefficients_slice(alloc, right)?;
@@ -136,7 +136,7 @@ fn twice_and_thrice<F: Field>(alloc: Global, left: &[F], right: &[F]) -> Result<
     Ok(Vec::from_slice(alloc, both.coeffs())?)
 }
 
-/// The value at a point, and the coefficients of the quotient that shows it.
+// The value at a point, and the coefficients of the quotient that shows it.
 fn opened_at<F: Field>(alloc: Global, coeffs: &[F], point: F) -> Result<Vec<F>, PolyError> {
     let polynomial = DensePolynomial::from_coefficients_slice(alloc, coeffs)?;
     let (value, quotient) = opening(alloc, &polynomial, point)?;
@@ -146,7 +146,7 @@ fn opened_at<F: Field>(alloc: Global, coeffs: &[F], point: F) -> Result<Vec<F>, 
     Ok(opened)
 }
 
-/// Four items over sixteen elements, and back.
+// Four items over sixteen elements, and back.
 fn over_sixteen<F: FftField>(alloc: Global, items: [F; 4]) -> Result<Vec<F>, PolyError> {
     let [first, second, third, fourth] = items;
     let mut items = vec![in alloc; first, second, third, fourth]?;
@@ -158,7 +158,7 @@ fn over_sixteen<F: FftField>(alloc: Global, items: [F; 4]) -> Result<Vec<F>, Pol
     Ok(items)
 }
 
-/// The codeword over 433 whose first three values are given.
+// The codeword over 433 whose first three values are given.
 fn three_of_eighteen(alloc: Global, given: [F433; 3]) -> Result<Vec<F433>, RsError> {
     let mut word = [None; 18];
     let [first, second, third] = given;
@@ -168,7 +168,7 @@ fn three_of_eighteen(alloc: Global, given: [F433; 3]) -> Result<Vec<F433>, RsErr
     restored_of_eighteen(alloc, &word, &mut Work::new())
 }
 
-/// Of a table of two variables, the two numbers of the first round, the next claim, and the value at the drawn point.
+// Of a table of two variables, the two numbers of the first round, the next claim, and the value at the drawn point.
 fn round<F: Field>(alloc: Global, values: [F; 4], drawn: [F; 2]) -> Result<[F; 4], PolyError> {
     let table = DenseMultilinearExtension::from_evaluations_slice(alloc, 2, &values)?;
     let [first, second] = drawn;
@@ -179,7 +179,7 @@ fn round<F: Field>(alloc: Global, values: [F; 4], drawn: [F; 2]) -> Result<[F; 4
     Ok([low, high, claim, last])
 }
 
-/// How much each value of a table of two variables counts at a point.
+// How much each value of a table of two variables counts at a point.
 fn counts_at<F: Field>(alloc: Global, point: [F; 2]) -> Result<Vec<F>, PolyError> {
     let [first, second] = point;
     let point = vec![in alloc; first, second]?;
@@ -190,7 +190,7 @@ fn counts_at<F: Field>(alloc: Global, point: [F; 2]) -> Result<Vec<F>, PolyError
     Ok(counts)
 }
 
-/// The points of the curve over a mixed domain.
+// The points of the curve over a mixed domain.
 fn curve<F: FftField>(alloc: Global, coeffs: &[Point<F>]) -> Result<Vec<Point<F>>, PolyError> {
     let domain = MixedRadixEvaluationDomain::new(coeffs.len()).ok_or(PolyError::NoDomain)?;
     points_of_curve(alloc, &domain, coeffs)
@@ -227,14 +227,14 @@ fn print_polynomials(rt: &impl Print, alloc: Global) -> anyhow::Result<()> {
     )
 }
 
-/// The message's eight values, of which three are left.
+// The message's eight values, of which three are left.
 fn held<F: FftField>(alloc: Global, message: &[F]) -> anyhow::Result<Vec<F>> {
     let code = Code::new(message.len(), 8).ok_or(PolyError::NoDomain)?;
     let lost = [true, false, true, true, false, false, true, true];
     Ok(lost_and_restored(alloc, &code, message, &lost)?)
 }
 
-/// What comes back of the message's eight values where the sixth one is this.
+// What comes back of the message's eight values where the sixth one is this.
 fn with_sixth<F: FftField>(alloc: Global, message: &[F], sixth: F) -> anyhow::Result<Vec<F>> {
     let code = Code::new(message.len(), 8).ok_or(PolyError::NoDomain)?;
     let mut word = Vec::with_capacity(alloc, 8)?;
@@ -247,14 +247,14 @@ fn with_sixth<F: FftField>(alloc: Global, message: &[F], sixth: F) -> anyhow::Re
     Ok(restored_if_right(alloc, &code, &word, 5)?)
 }
 
-/// The value at a point of the polynomial with these coefficients, from its bytes.
+// The value at a point of the polynomial with these coefficients, from its bytes.
 fn from_bytes<F: Field>(alloc: Global, coeffs: &[F], point: F) -> Result<F, CallError> {
     let polynomial = DensePolynomial::from_coefficients_slice(alloc, coeffs)?;
     let bytes = save(&polynomial, Vec::new(alloc))?;
     value_of_saved(alloc, &bytes, point)
 }
 
-/// The polynomial that is loaded from a file in which this one was saved.
+// The polynomial that is loaded from a file in which this one was saved.
 fn through_file<F: Field>(
     rt: &impl Files,
     alloc: Global,
@@ -279,7 +279,7 @@ fn print_saved(rt: &(impl Print + Files), alloc: Global) -> anyhow::Result<()> {
     Ok(())
 }
 
-/// The values of the polynomial with these terms over four elements.
+// The values of the polynomial with these terms over four elements.
 fn over_four<F: FftField>(alloc: Global, terms: &[(usize, F)]) -> Result<Vec<F>, PolyError> {
     let domain = Radix2EvaluationDomain::new(4).ok_or(PolyError::NoDomain)?;
     let values = values_of_terms(alloc, domain, terms)?;

@@ -83,7 +83,7 @@ fn print_sum_checks(rt: &impl Print, alloc: Global) -> anyhow::Result<()> {
     print_verdict(rt, 23, verdict)
 }
 
-/// The same rounds of a true claim and of a false one, with the product's value at the challenges.
+// The same rounds of a true claim and of a false one, with the product's value at the challenges.
 fn print_answers(rt: &impl Print, alloc: Global) -> anyhow::Result<()> {
     let left = [1, 2, 3, 4].map(F65537::from);
     let right = [5, 6, 7, 8].map(F65537::from);
@@ -99,7 +99,7 @@ fn print_answers(rt: &impl Print, alloc: Global) -> anyhow::Result<()> {
     Ok(())
 }
 
-/// The value of a factor of two variables at the challenges.
+// The value of a factor of two variables at the challenges.
 fn value_at<F: Field>(alloc: Global, table: &[F; 4], rounds: &[Round<F>]) -> Result<F, PolyError>
     requires { length rounds.now ≡ 2 }
 {
@@ -111,7 +111,7 @@ fn value_at<F: Field>(alloc: Global, table: &[F; 4], rounds: &[Round<F>]) -> Res
     extension.evaluate(alloc, &challenges)
 }
 
-/// Whether two sharings of one secret give the first point different shares, as drawn coefficients do.
+// Whether two sharings of one secret give the first point different shares, as drawn coefficients do.
 fn differs_when_drawn_again<F: Field, R: CryptoRng>(
     alloc: Global,
     secret: F,
@@ -126,7 +126,7 @@ fn differs_when_drawn_again<F: Field, R: CryptoRng>(
     }
 }
 
-/// Challenges that were drawn before, the next one last; zero once they are spent.
+// Challenges that were drawn before, the next one last; zero once they are spent.
 #[derive(Drop)]
 struct Drawn<F> {
     left: Vec<F>,
@@ -141,7 +141,7 @@ impl<F: Field> Challenger<F> for Drawn<F> {
     }
 }
 
-/// The prover of two factors of two variables.
+// The prover of two factors of two variables.
 fn two_factors<F: Field>(
     alloc: Global,
     left: &[F; 4],
@@ -155,7 +155,7 @@ fn two_factors<F: Field>(
     Ok(Prover::new(2, tables))
 }
 
-/// The prover of a factor of forty variables by its three entries.
+// The prover of a factor of forty variables by its three entries.
 fn three_entries<F: Field>(alloc: Global) -> Result<SparseProver<F>, SumCheckError> {
     let mut entries = Vec::with_capacity(alloc, 3)?;
     entries.push((0, F::from(5)))?;

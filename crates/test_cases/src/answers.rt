@@ -38,8 +38,8 @@ pub fn over_field<T: FieldAnswers>(alloc: Global, words: &[String]) -> Answer {
     }
 }
 
-/// The answer over a prime field. What names a field that is none of its parameters is dear to check, so that this is
-/// said once for all moduli.
+// The answer over a prime field. What names a field that is none of its parameters is dear to check, so that this is
+// said once for all moduli.
 fn over_prime<T: FieldAnswers, M: PrimeModulus>(alloc: Global, words: &[String]) -> Answer {
     T::answer_over::<PrimeField<M>>(alloc, words)
 }
@@ -60,14 +60,14 @@ pub fn answer_lines<T: Answers, R: Input + Print + AllocGlobal + Env>(rt: &R) ->
     }
 }
 
-/// The first argument after the program's name.
+// The first argument after the program's name.
 fn argument<R: Env + AllocGlobal>(rt: &R) -> io::Result<Option<String>> {
     let mut all = env::args(rt)?;
     let _name = all.next();
     Ok(all.next())
 }
 
-/// Makes the answer to a line, once more where memory was refused, and writes it.
+// Makes the answer to a line, once more where memory was refused, and writes it.
 fn answered_alone<T: Answers, R: Print + AllocGlobal>(rt: &R, line: &str) -> u8 {
     let alloc = rt.alloc();
     let Ok(words) = words_of(alloc, line, '\t') else {
@@ -82,12 +82,12 @@ fn answered_alone<T: Answers, R: Print + AllocGlobal>(rt: &R, line: &str) -> u8 
     }
 }
 
-/// Tells what watches the requests for memory where an answer begins and ends.
+// Tells what watches the requests for memory where an answer begins and ends.
 fn mark<R: Print>(rt: &R, line: &[u8]) {
     let _ = rt.write_all(line);
 }
 
-/// Writes an answer, and gives the status that was meant for it.
+// Writes an answer, and gives the status that was meant for it.
 fn written<R: Print + AllocGlobal>(rt: &R, answer: Answer, status: u8) -> u8 {
     let Ok(text) = text_of_answer(rt.alloc(), answer) else {
         return 2;
@@ -111,7 +111,7 @@ fn write_answer<T: Answers, R: Print + AllocGlobal>(rt: &R, line: &str) -> io::R
     println!(rt; "{answer}")
 }
 
-/// The answer to a line.
+// The answer to a line.
 fn answer_to_line<T: Answers>(alloc: Global, line: &str) -> Result<String, AllocError> {
     if line.starts_with('#') {
         return line.to_string(alloc);
@@ -119,7 +119,7 @@ fn answer_to_line<T: Answers>(alloc: Global, line: &str) -> Result<String, Alloc
     text_of_answer(alloc, T::answer(alloc, &words_of(alloc, line, '\t')?))
 }
 
-/// The answer, or the refusal's number and name.
+// The answer, or the refusal's number and name.
 fn text_of_answer(alloc: Global, answer: Answer) -> Result<String, AllocError> {
     match answer {
         Ok(answer) => Ok(answer),

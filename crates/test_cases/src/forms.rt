@@ -47,7 +47,7 @@ pub fn answer<F: Numbered, P: Polynomial<F>, S: Form<F, P>>(
     }
 }
 
-/// The answer to an operation on one.
+// The answer to an operation on one.
 fn answer_of_one<F: Field, P: Polynomial<F>, S: Form<F, P>>(
     alloc: Global,
     form: &S,
@@ -65,7 +65,7 @@ fn answer_of_one<F: Field, P: Polynomial<F>, S: Form<F, P>>(
     }
 }
 
-/// The degree, and whether it is zero.
+// The degree, and whether it is zero.
 fn shape<F: Field, P: Polynomial<F>>(alloc: Global, p: &P) -> Answer {
     let degree = text_of_numbers(alloc, &[p.degree() as u64]);
     joined(alloc, degree, ",", text_of_flags(alloc, &[p.is_zero()]))
@@ -100,7 +100,7 @@ fn added_scaled<F: Field, P: Polynomial<F>, S: Form<F, P>>(
     form.text(alloc, &sum)
 }
 
-/// The answer to an operation on two.
+// The answer to an operation on two.
 fn answer_of_two<F: Field, P: Polynomial<F>, S: Form<F, P>>(
     alloc: Global,
     form: &S,
@@ -136,7 +136,7 @@ fn subtracted<F: Field, P: Polynomial<F>>(alloc: Global, p: &P, q: &P) -> Result
     Ok(difference)
 }
 
-/// Whether both are equal, and whether their hashes are.
+// Whether both are equal, and whether their hashes are.
 fn compared<F: Field, P: Polynomial<F>>(alloc: Global, p: &P, q: &P) -> Answer {
     text_of_flags(alloc, &[p == q, hash_of(p) == hash_of(q)])
 }

@@ -55,7 +55,7 @@ pub fn terms_of<F: Numbered>(alloc: Global, word: &str) -> Result<Vec<(usize, F)
     Ok(terms)
 }
 
-/// The term that the word spells: degree, colon, coefficient.
+// The term that the word spells: degree, colon, coefficient.
 fn term<F: Numbered>(word: &str) -> (usize, F) {
     let (degree, coefficient) = word.split_once(':').unwrap_or(("", ""));
     (size(degree), element(coefficient))
@@ -74,7 +74,7 @@ pub fn table_of<F: Numbered>(
     Ok((entries.len().trailing_zeros() as usize, entries))
 }
 
-/// The elements whose numbers stand between commas, each after its place.
+// The elements whose numbers stand between commas, each after its place.
 fn with_places<F: Numbered>(alloc: Global, word: &str) -> Result<Vec<(usize, F)>, AllocError> {
     let values = elements::<F>(alloc, word)?;
     let mut entries = Vec::new(alloc);

@@ -9,7 +9,7 @@ use test_cases::answers::{Answer, Answers, answer_lines};
 use test_cases::stopping::StopWriter;
 use test_cases::words::{number, told, words_of};
 
-/// After how many bytes at most a writer fails.
+// After how many bytes at most a writer fails.
 const MOST: usize = 200;
 
 struct CommandAnswers;
@@ -34,7 +34,7 @@ impl Answers for CommandAnswers {
     }
 }
 
-/// What `check` writes for the rows, which stand between bars.
+// What `check` writes for the rows, which stand between bars.
 fn checked(alloc: Global, field: u64, rows: &str) -> Answer {
     let mut all = Vec::new(alloc);
     if !rows.is_empty() {
@@ -54,18 +54,18 @@ fn checked(alloc: Global, field: u64, rows: &str) -> Answer {
     written(alloc, &text, status)
 }
 
-/// A writer that fails once, after so many bytes.
+// A writer that fails once, after so many bytes.
 fn stopping(alloc: Global, room: usize) -> Result<IoSink<StopWriter>, AllocError> {
     let taken = Vec::with_capacity(alloc, room)?;
     Ok(IoSink::new(StopWriter::new(room, taken)))
 }
 
-/// Whether it holds just these bytes, and was not asked to write more.
+// Whether it holds just these bytes, and was not asked to write more.
 fn holds(out: IoSink<StopWriter>, bytes: &[u8]) -> bool {
     out.into_inner().stopped_after(bytes)
 }
 
-/// A row for `check`: words between spaces, an equals sign and a text.
+// A row for `check`: words between spaces, an equals sign and a text.
 fn words_and_text(alloc: Global, row: &str) -> Result<(Vec<String>, String), AllocError> {
     let (words, text) = row.split_once('=').unwrap_or((row, ""));
     Ok((
@@ -74,7 +74,7 @@ fn words_and_text(alloc: Global, row: &str) -> Result<(Vec<String>, String), All
     ))
 }
 
-/// The text with a semicolon after each line but the last, and a status that is not zero.
+// The text with a semicolon after each line but the last, and a status that is not zero.
 fn written(alloc: Global, bytes: &[u8], status: u8) -> Answer {
     let text = str::from_utf8(bytes).unwrap_or("no text");
     let text = text.strip_suffix('\n').unwrap_or(text);

@@ -64,7 +64,7 @@ fn of_domain<F: FftField, D: EvaluationDomain<F>>(
     answer_of::<D>(alloc, bytes, modes)
 }
 
-/// A domain, and a list of elements, as a word over it.
+// A domain, and a list of elements, as a word over it.
 fn of_pair<F: FftField, D: EvaluationDomain<F>>(
     alloc: Global,
     modes: &str,

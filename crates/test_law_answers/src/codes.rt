@@ -29,7 +29,7 @@ pub fn answer<F: Numbered>(alloc: Global, words: &[String]) -> Answer {
     }
 }
 
-/// The codeword of a message.
+// The codeword of a message.
 fn encoded<F: Numbered>(alloc: Global, code: &Code<F>, arguments: &[String]) -> Answer {
     let [message] = arguments else {
         return no_case(alloc);
@@ -38,7 +38,7 @@ fn encoded<F: Numbered>(alloc: Global, code: &Code<F>, arguments: &[String]) -> 
     text_of_result(alloc, code.encode(alloc, &message))
 }
 
-/// The codeword that a word comes from, by the code and by a decoder.
+// The codeword that a word comes from, by the code and by a decoder.
 fn restored<F: Numbered>(alloc: Global, code: &Code<F>, arguments: &[String]) -> Answer {
     let [word] = arguments else {
         return no_case(alloc);
@@ -53,7 +53,7 @@ fn restored<F: Numbered>(alloc: Global, code: &Code<F>, arguments: &[String]) ->
     }
 }
 
-/// The word whose places stand between commas.
+// The word whose places stand between commas.
 fn word_of<F: Numbered>(alloc: Global, text: &str) -> Result<Vec<Option<F>>, AllocError> {
     let mut word = Vec::new(alloc);
     if !text.is_empty() {
@@ -85,7 +85,7 @@ pub fn by_decoder<F: FftField, T: DomainCoeff<F>>(
     code.decoder(alloc, &erased)?.restore(alloc, &values)
 }
 
-/// The values, or the refusal.
+// The values, or the refusal.
 fn text_of_result<F: Numbered>(alloc: Global, outcome: Result<Vec<F>, RsError>) -> Answer {
     match outcome {
         Ok(values) => text_of(alloc, &values),

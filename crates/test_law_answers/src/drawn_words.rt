@@ -7,14 +7,14 @@ use test_cases::answers::Answer;
 use test_cases::words::{no_case, number, told};
 use test_types::numbered::Numbered;
 
-/// Numbers by a linear congruence.
+// Numbers by a linear congruence.
 #[derive(Drop)]
 struct Draws {
     state: u64,
 }
 
 impl Draws {
-    /// A number below the bound, or zero.
+    // A number below the bound, or zero.
     fn below(&mut self, bound: usize) -> usize {
         self.state = self
             .state
@@ -38,7 +38,7 @@ pub fn answer_of_drawn<F: Numbered>(alloc: Global, code: &Code<F>, arguments: &[
     told(alloc, "all restored")
 }
 
-/// Whether a drawn message's codeword comes back, for each number of erased places, and another is refused.
+// Whether a drawn message's codeword comes back, for each number of erased places, and another is refused.
 fn is_well<F: Numbered>(
     alloc: Global,
     code: &Code<F>,
@@ -71,7 +71,7 @@ fn is_well<F: Numbered>(
     Ok(comes && refuses(alloc, code, &word, RsError::TooManyErased))
 }
 
-/// The word of which nothing is erased.
+// The word of which nothing is erased.
 fn whole<F: FftField>(alloc: Global, codeword: &[F]) -> Result<Vec<Option<F>>, AllocError> {
     let mut word = Vec::new(alloc);
     for value in codeword {
@@ -80,7 +80,7 @@ fn whole<F: FftField>(alloc: Global, codeword: &[F]) -> Result<Vec<Option<F>>, A
     Ok(word)
 }
 
-/// Erases a drawn place that isn't erased, or the next such one, if any.
+// Erases a drawn place that isn't erased, or the next such one, if any.
 fn erase_one<F: FftField>(word: &mut [Option<F>], draws: &mut Draws) {
     let from = draws.below(word.len());
     if !erase_from(word, from) {
@@ -88,7 +88,7 @@ fn erase_one<F: FftField>(word: &mut [Option<F>], draws: &mut Draws) {
     }
 }
 
-/// Erases the first place from there on that isn't erased, and tells whether there was one.
+// Erases the first place from there on that isn't erased, and tells whether there was one.
 fn erase_from<F: FftField>(word: &mut [Option<F>], from: usize) -> bool {
     for place in 0..word.len() {
         if let Some(value) = word.get_mut(place) {
@@ -113,8 +113,8 @@ fn comes_back<F: FftField>(
     }
 }
 
-/// Whether the word with a wrong value at that place, where it isn't erased, is refused: more values are left than a
-/// message has.
+// Whether the word with a wrong value at that place, where it isn't erased, is refused: more values are left than a
+// message has.
 fn is_refused_at<F: FftField>(
     alloc: Global,
     code: &Code<F>,

@@ -72,7 +72,7 @@ fn at_corner<F: Numbered, E: MultilinearExtension<F>>(
     one(alloc, value_at_corner(alloc, p, index)?)
 }
 
-/// The value of the only multilinear polynomial with this table.
+// The value of the only multilinear polynomial with this table.
 fn only<F: Numbered, E: MultilinearExtension<F>>(alloc: Global, p: &E, point: &str) -> Answer {
     let point = elements(alloc, point)?;
     if point.len() != p.num_vars() {
@@ -81,7 +81,7 @@ fn only<F: Numbered, E: MultilinearExtension<F>>(alloc: Global, p: &E, point: &s
     one(alloc, only_multilinear(alloc, p, &point)?)
 }
 
-/// The value at the whole point, and that with the first variables bound.
+// The value at the whole point, and that with the first variables bound.
 fn bound<F: Numbered, E: MultilinearExtension<F>>(
     alloc: Global,
     p: &E,
@@ -97,7 +97,7 @@ fn bound<F: Numbered, E: MultilinearExtension<F>>(
     text_of_numbers(alloc, &[at_once.number(), bound.number()])
 }
 
-/// The value at the exchanged point, and that of the exchanged table.
+// The value at the exchanged point, and that of the exchanged table.
 fn exchanged<F: Numbered, E: MultilinearExtension<F>>(
     alloc: Global,
     p: &E,

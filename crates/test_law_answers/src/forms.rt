@@ -15,7 +15,7 @@ use test_cases::words::{
 };
 use test_types::numbered::Numbered;
 
-/// A quotient and a remainder, where there are any.
+// A quotient and a remainder, where there are any.
 type Division<F> = Option<(DensePolynomial<F>, DensePolynomial<F>)>;
 
 /// The answer to a law and two words.
@@ -91,14 +91,14 @@ fn answer_of_sparse<F: Numbered>(
     }
 }
 
-/// The values at a point, of the dense form and of the sparse one.
+// The values at a point, of the dense form and of the sparse one.
 fn values<F: Numbered>(alloc: Global, sparse: &SparsePolynomial<F>, point: F) -> Answer {
     let dense = DensePolynomial::from_sparse(alloc, sparse)?;
     let (of_dense, of_sparse) = values_of_both_forms(alloc, &dense, sparse, point)?;
     text_of_numbers(alloc, &[of_dense.number(), of_sparse.number()])
 }
 
-/// The values over a domain, of the dense form, of the sparse one and of either.
+// The values over a domain, of the dense form, of the sparse one and of either.
 fn all_values<F: Numbered, D: EvaluationDomain<F>>(
     alloc: Global,
     sparse: &SparsePolynomial<F>,
@@ -118,7 +118,7 @@ fn all_values<F: Numbered, D: EvaluationDomain<F>>(
     joined(alloc, text_of(alloc, of_dense.evals()), ";", others)
 }
 
-/// The quotient and the remainder by terms and by coefficients.
+// The quotient and the remainder by terms and by coefficients.
 fn divided<F: Numbered>(
     alloc: Global,
     dividend: &SparsePolynomial<F>,
@@ -141,7 +141,7 @@ fn divided<F: Numbered>(
     )
 }
 
-/// The quotient and the remainder, where there are any.
+// The quotient and the remainder, where there are any.
 fn text_of_division<F: Numbered>(alloc: Global, division: &Division<F>) -> Answer {
     match division {
         Some((quotient, remainder)) => joined(

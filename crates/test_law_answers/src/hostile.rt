@@ -4,8 +4,8 @@ use ark_base::{CanonicalDeserialize, CanonicalSerialize, Compress, IoSink, Seria
 use std::alloc::Global;
 use test_cases::answers::Answer;
 
-/// How many readings ended in each way, and the sum over all of them of the reading's number times the number of its
-/// end: 1 where a value is read, 2 for `InvalidData` and 3 for `IoError`.
+// How many readings ended in each way, and the sum over all of them of the reading's number times the number of its
+// end: 1 where a value is read, 2 for `InvalidData` and 3 for `IoError`.
 #[derive(Clone, Copy)]
 struct Tally {
     read: u64,
@@ -51,7 +51,7 @@ impl Tally {
     }
 }
 
-/// How a reading ended.
+// How a reading ended.
 #[derive(Clone, Copy)]
 enum End {
     Read,
@@ -71,7 +71,7 @@ impl End {
     }
 }
 
-/// How reading the bytes ends.
+// How reading the bytes ends.
 fn end_of<T: CanonicalSerialize + CanonicalDeserialize>(
     alloc: Global,
     bytes: &[u8],
@@ -87,7 +87,7 @@ fn end_of<T: CanonicalSerialize + CanonicalDeserialize>(
     }
 }
 
-/// Whether writing the value gives the bytes up to those that are left.
+// Whether writing the value gives the bytes up to those that are left.
 fn is_given_back<T: CanonicalSerialize>(
     alloc: Global,
     value: &T,
@@ -103,7 +103,7 @@ fn is_given_back<T: CanonicalSerialize>(
         && bytes.len() - written.len().min(bytes.len()) == left
 }
 
-/// The tallies of both modes.
+// The tallies of both modes.
 fn both_tallies(alloc: Global, short: Tally, full: Tally) -> Answer {
     let (short, full) = (short.text(alloc)?, full.text(alloc)?);
     Ok(format!(in alloc; "{short}|{full}")?)
@@ -161,7 +161,7 @@ pub fn drawn<T: CanonicalSerialize + CanonicalDeserialize>(alloc: Global, seed: 
     both_tallies(alloc, short, full)
 }
 
-/// A linear congruence, of which the high bits are drawn.
+// A linear congruence, of which the high bits are drawn.
 #[derive(Drop)]
 struct Draws {
     state: u64,
@@ -176,7 +176,7 @@ impl Draws {
         self.state >> 56
     }
 
-    /// Half of the bytes are zero, a quarter below four, and the others any.
+    // Half of the bytes are zero, a quarter below four, and the others any.
     fn byte(&mut self) -> u8 {
         let drawn = self.next();
         match drawn {
@@ -186,7 +186,7 @@ impl Draws {
         }
     }
 
-    /// Up to 40 bytes.
+    // Up to 40 bytes.
     fn bytes(&mut self, alloc: Global) -> Result<Vec<u8>, std::alloc::AllocError> {
         let mut bytes = Vec::new(alloc);
         for _ in 0..self.next() % 41 {

@@ -42,7 +42,7 @@ impl Answers for LawAnswers {
     }
 }
 
-/// The answer on bytes of an element of a large field, whose order is the first word: modes, and bytes in hex.
+// The answer on bytes of an element of a large field, whose order is the first word: modes, and bytes in hex.
 fn of_large(alloc: Global, field: &str, words: &[String]) -> Answer {
     match field {
         "2013265921" => of_element::<BabyBearModulus>(alloc, words),

@@ -37,7 +37,7 @@ pub fn restored_pairs<F: Numbered>(alloc: Global, code: &Code<F>, arguments: &[S
     }
 }
 
-/// The pairs, and none for each erased place.
+// The pairs, and none for each erased place.
 fn places_of<F: Numbered>(alloc: Global, text: &str) -> Result<Vec<Option<Lanes<F>>>, AllocError> {
     let mut places = Vec::new(alloc);
     if !text.is_empty() {
@@ -49,7 +49,7 @@ fn places_of<F: Numbered>(alloc: Global, text: &str) -> Result<Vec<Option<Lanes<
     Ok(places)
 }
 
-/// The pairs, or the refusal.
+// The pairs, or the refusal.
 fn text_of_result<F: Numbered>(alloc: Global, outcome: Result<Vec<Lanes<F>>, RsError>) -> Answer {
     match outcome {
         Ok(pairs) => text_of_pairs(alloc, &pairs),

@@ -33,7 +33,7 @@ pub fn answer<F: Numbered>(alloc: Global, words: &[String]) -> Answer {
     }
 }
 
-/// The answer to a call with a polynomial and points, or with points and values.
+// The answer to a call with a polynomial and points, or with points and values.
 fn answer_of_two<F: Numbered>(alloc: Global, name: &str, list: Vec<F>, other: &[F]) -> Answer {
     match name {
         "evaluate_at" | "naive_evaluate_at" | "values_and_back" => {
@@ -69,7 +69,7 @@ fn of_pairs<F: Numbered>(alloc: Global, name: &str, pairs: &[(F, F)]) -> Answer 
     }
 }
 
-/// The quotient by x - z, and the value at z.
+// The quotient by x - z, and the value at z.
 fn divided<F: Numbered>(alloc: Global, coeffs: Vec<F>, point: F) -> Answer {
     let p = DensePolynomial::from_coefficients_vec(coeffs);
     let (quotient, value) = divide_by_linear(alloc, &p, point)?;
@@ -81,7 +81,7 @@ fn divided<F: Numbered>(alloc: Global, coeffs: Vec<F>, point: F) -> Answer {
     )
 }
 
-/// The elements of a run, or those whose numbers stand between commas.
+// The elements of a run, or those whose numbers stand between commas.
 fn run_or_list<F: Numbered>(alloc: Global, word: &str) -> Result<Vec<F>, AllocError> {
     let Some((first, end)) = word.split_once('~') else {
         return elements(alloc, word);
@@ -110,7 +110,7 @@ fn text_of_outcome<F: Numbered>(alloc: Global, outcome: Result<Vec<F>, PointsErr
     }
 }
 
-/// The refusal of memory, or the number and the name of another.
+// The refusal of memory, or the number and the name of another.
 fn refused(alloc: Global, error: PointsError) -> Answer {
     match error {
         PointsError::Memory => Err(PolyError::Memory),

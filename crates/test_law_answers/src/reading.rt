@@ -28,7 +28,7 @@ pub fn answer_of<T: CanonicalSerialize + CanonicalDeserialize>(
     }
 }
 
-/// The bytes from one mode to the other and back, or the refusal.
+// The bytes from one mode to the other and back, or the refusal.
 fn there_and_back<T: CanonicalSerialize + CanonicalDeserialize>(
     alloc: Global,
     bytes: &[u8],
@@ -41,9 +41,9 @@ fn there_and_back<T: CanonicalSerialize + CanonicalDeserialize>(
     }
 }
 
-/// What reading the bytes says and writing gives back, and how many bytes are left. From the slice itself and byte by
-/// byte the same comes, and each beginning of the bytes that were taken is refused with `IoError`, whether the source
-/// ends or fails there; else the answer says so.
+// What reading the bytes says and writing gives back, and how many bytes are left. From the slice itself and byte by
+// byte the same comes, and each beginning of the bytes that were taken is refused with `IoError`, whether the source
+// ends or fails there; else the answer says so.
 fn answer_in_modes<T: CanonicalSerialize + CanonicalDeserialize>(
     alloc: Global,
     bytes: &[u8],
@@ -72,7 +72,7 @@ fn answer_in_modes<T: CanonicalSerialize + CanonicalDeserialize>(
     Ok(format!(in alloc; "{given}|{left}")?)
 }
 
-/// The answer to one mode, or to two.
+// The answer to one mode, or to two.
 fn outcome<T: CanonicalSerialize + CanonicalDeserialize, S: Source>(
     alloc: Global,
     source: &mut S,
@@ -84,7 +84,7 @@ fn outcome<T: CanonicalSerialize + CanonicalDeserialize, S: Source>(
     }
 }
 
-/// The mode that the word names.
+// The mode that the word names.
 fn mode_of(word: &str) -> Compress {
     if word == "yes" {
         Compress::Yes
@@ -93,7 +93,7 @@ fn mode_of(word: &str) -> Compress {
     }
 }
 
-/// What `recompress` writes, and its refusal after that.
+// What `recompress` writes, and its refusal after that.
 fn recompressed<T: CanonicalSerialize + CanonicalDeserialize, S: Source>(
     alloc: Global,
     source: &mut S,
@@ -109,7 +109,7 @@ fn recompressed<T: CanonicalSerialize + CanonicalDeserialize, S: Source>(
     }
 }
 
-/// The spellings of what is read, full and short, or the refusal.
+// The spellings of what is read, full and short, or the refusal.
 fn read_and_written<T: CanonicalSerialize + CanonicalDeserialize, S: Source>(
     alloc: Global,
     source: &mut S,
@@ -125,8 +125,8 @@ fn read_and_written<T: CanonicalSerialize + CanonicalDeserialize, S: Source>(
     }
 }
 
-/// Whether so many of the bytes are refused with `IoError`, in the mode that is read, where they end and where reading
-/// fails once after them, and the others aren't asked for.
+// Whether so many of the bytes are refused with `IoError`, in the mode that is read, where they end and where reading
+// fails once after them, and the others aren't asked for.
 fn is_unfinished<T: CanonicalDeserialize>(
     alloc: Global,
     bytes: &[u8],
@@ -149,8 +149,8 @@ fn is_io_error<T: Drop>(read: Result<T, SerializationError>) -> bool {
     }
 }
 
-/// The bytes that writing gives, as text. A writer that fails after some of them holds just these, and the answer is
-/// `IoError`; else the answer says so.
+// The bytes that writing gives, as text. A writer that fails after some of them holds just these, and the answer is
+// `IoError`; else the answer says so.
 fn spelling_of<T: CanonicalSerialize>(alloc: Global, value: &T, mode: Compress) -> Answer {
     let mut sink = IoSink::new(Vec::new(alloc));
     let written = value.serialize_with_mode(&mut sink, mode);
@@ -166,8 +166,8 @@ fn spelling_of<T: CanonicalSerialize>(alloc: Global, value: &T, mode: Compress) 
     text_of(alloc, &bytes)
 }
 
-/// Whether just these bytes are written where the writer fails once after them, it isn't asked again, and the answer is
-/// `IoError`.
+// Whether just these bytes are written where the writer fails once after them, it isn't asked again, and the answer is
+// `IoError`.
 fn stops_at<T: CanonicalSerialize>(
     alloc: Global,
     value: &T,

@@ -22,7 +22,7 @@ pub fn answer_of_dense<F: Numbered>(alloc: Global, words: &[String]) -> Answer {
     }
 }
 
-/// The quotient, the remainder and the value, with semicolons between them.
+// The quotient, the remainder and the value, with semicolons between them.
 fn divided_at<F: Numbered>(alloc: Global, p: &DensePolynomial<F>, point: F) -> Answer {
     let (quotient, remainder, value) = division_at_point(alloc, p, point)?;
     let rest = joined(

@@ -25,7 +25,7 @@ pub fn answer_by_values<F: Numbered>(alloc: Global, words: &[String]) -> Answer 
     }
 }
 
-/// The tables one after the other.
+// The tables one after the other.
 fn concat<F: Numbered>(alloc: Global, tables: &[String]) -> Answer {
     let mut parts: Vec<DenseMultilinearExtension<F>> = Vec::new(alloc);
     for table in tables {
@@ -53,7 +53,7 @@ fn answer_of_table<F: Numbered>(
     }
 }
 
-/// The answer of what this form alone has with one word, and else of what both have.
+// The answer of what this form alone has with one word, and else of what both have.
 fn answer_with_word<F: Numbered>(
     alloc: Global,
     name: &str,
@@ -69,7 +69,7 @@ fn answer_with_word<F: Numbered>(
     }
 }
 
-/// The table that a call gave.
+// The table that a call gave.
 fn shown<F: Numbered>(
     alloc: Global,
     given: Result<DenseMultilinearExtension<F>, PolyError>,
@@ -139,14 +139,14 @@ fn answer_about_entries<F: Numbered>(
     }
 }
 
-/// The starts of two windows of variables, and their length.
+// The starts of two windows of variables, and their length.
 type Windows = (usize, usize, usize);
 
 fn windows(a: &str, b: &str, k: &str) -> Windows {
     (size(a), size(b), size(k))
 }
 
-/// The answer of what both forms have, and else of what all polynomials have.
+// The answer of what both forms have, and else of what all polynomials have.
 fn answer<F: Numbered, E: MultilinearExtension<F>, S: Form<F, E>>(
     alloc: Global,
     form: &S,
@@ -188,7 +188,7 @@ fn fixed<F: Numbered, E: MultilinearExtension<F>, S: Form<F, E>>(
     kept(alloc, form, p.fix_variables(alloc, &point))
 }
 
-/// Whether windows of variables fit, and what their exchange gives.
+// Whether windows of variables fit, and what their exchange gives.
 fn with_windows<F: Field, E: MultilinearExtension<F>, S: Form<F, E>>(
     alloc: Global,
     form: &S,

@@ -11,7 +11,7 @@ use test_cases::forms::{self, Form, kept};
 use test_cases::words::{element, elements, no_case, no_fit, size};
 use test_types::numbered::Numbered;
 
-/// Polynomials by their terms.
+// Polynomials by their terms.
 struct ByTerms;
 
 impl<F: Numbered> Form<F, SparsePolynomial<F, SparseTerm>> for ByTerms {
@@ -46,7 +46,7 @@ fn terms_of<F: Numbered>(alloc: Global, list: &str) -> Result<Vec<(F, SparseTerm
     Ok(terms)
 }
 
-/// The polynomial with these terms, whose variables are below the number; zero where one isn't.
+// The polynomial with these terms, whose variables are below the number; zero where one isn't.
 fn from_terms<F: Field>(
     alloc: Global,
     num_vars: usize,
@@ -70,7 +70,7 @@ pub fn answer<F: Numbered>(alloc: Global, words: &[String]) -> Answer {
     }
 }
 
-/// The polynomial that copies of its terms make.
+// The polynomial that copies of its terms make.
 fn copied<F: Numbered>(alloc: Global, p: &SparsePolynomial<F, SparseTerm>) -> Answer {
     let (num_vars, terms) = (p.num_vars(), p.terms());
     if !terms.iter().all(|term| term.1.is_within(num_vars)) {

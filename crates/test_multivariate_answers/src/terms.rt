@@ -49,7 +49,7 @@ pub fn push_term(text: &mut String, term: &SparseTerm) -> Result<(), AllocError>
     Ok(())
 }
 
-/// The answer to an operation on the term alone.
+// The answer to an operation on the term alone.
 fn answer_of_one(alloc: Global, name: &str, term: &SparseTerm) -> Answer {
     match name {
         "text" => text(alloc, term),
@@ -67,7 +67,7 @@ fn text(alloc: Global, term: &SparseTerm) -> Answer {
     Ok(text)
 }
 
-/// The degree, and whether the term has no variable.
+// The degree, and whether the term has no variable.
 fn degree(alloc: Global, term: &SparseTerm) -> Answer {
     let degree = text_of_numbers(alloc, &[term.degree() as u64]);
     joined(
@@ -78,7 +78,7 @@ fn degree(alloc: Global, term: &SparseTerm) -> Answer {
     )
 }
 
-/// The sizes that a call gave, with commas between them.
+// The sizes that a call gave, with commas between them.
 fn text_of_sizes(alloc: Global, given: Result<Vec<usize>, PolyError>) -> Answer {
     let sizes = given?;
     let mut numbers = Vec::new(alloc);
@@ -96,7 +96,7 @@ fn value<F: Numbered>(alloc: Global, term: &SparseTerm, point: &str) -> Answer {
     one(alloc, term.evaluate(&point))
 }
 
-/// The order, and whether both are equal and have one hash.
+// The order, and whether both are equal and have one hash.
 fn compared(alloc: Global, s: &SparseTerm, other: &str) -> Answer {
     let t = &term_of(alloc, other)?;
     let order = debug(alloc, &s.cmp(t));

@@ -29,7 +29,7 @@ pub enum Answered<F: FftField> {
     NoCall,
 }
 
-/// The table for the number of this name.
+// The table for the number of this name.
 fn table_named<F: FftField>(
     alloc: Global,
     words: &[String],
@@ -85,8 +85,8 @@ impl<F: Numbered> Call for OfBlocks<F> {
 }
 
 impl<F: Numbered> OfBlocks<F> {
-    /// Makes a call with values at the elements of the smaller table, of which the other one has twice as many at
-    /// least.
+    // Makes a call with values at the elements of the smaller table, of which the other one has twice as many at
+    // least.
     fn from_values(&mut self, alloc: Global, name: &str) -> Result<Answered<F>, PolyError> {
         let len = self.smaller.size();
         if self.values.len() != len || len > self.table.size() / 2 || self.coeffs.len() > len {
@@ -102,7 +102,7 @@ impl<F: Numbered> OfBlocks<F> {
         }
     }
 
-    /// The values at all elements of the table.
+    // The values at all elements of the table.
     fn all_values(&self, alloc: Global) -> Result<Answered<F>, PolyError> {
         let size = self.table.size();
         if self.coeffs.len() > size {
@@ -111,7 +111,7 @@ impl<F: Numbered> OfBlocks<F> {
         list_of(self.table.values(alloc, &self.coeffs, size))
     }
 
-    /// Makes the call with values and coefficients as two lists of values, each twice as long as the smaller table.
+    // Makes the call with values and coefficients as two lists of values, each twice as long as the smaller table.
     fn upper_half(&self, alloc: Global) -> Result<Answered<F>, PolyError> {
         let (half, len) = (self.smaller.size(), self.values.len());
         let is_twice = len % 2 == 0 && len / 2 == half;
@@ -125,7 +125,7 @@ impl<F: Numbered> OfBlocks<F> {
     }
 }
 
-/// Whether both have the same elements.
+// Whether both have the same elements.
 fn are_same<F: FftField>(table: &BlockRoots<F>, other: &BlockRoots<F>) -> bool {
     let size = table.size();
     if other.size() != size {

@@ -108,7 +108,7 @@ impl<T: CanonicalSerialize + CanonicalDeserialize> Call for OfBytes<T> {
 }
 
 impl<T: CanonicalSerialize + CanonicalDeserialize> OfBytes<T> {
-    /// Makes a call that writes to the room.
+    // Makes a call that writes to the room.
     fn written(&mut self, alloc: Global, name: &str) -> Result<Answered<T>, PolyError> {
         let Some(room) = self.room.take() else {
             return Ok(Answered::NoCall);
@@ -137,7 +137,7 @@ impl<T: CanonicalSerialize + CanonicalDeserialize> OfBytes<T> {
     }
 }
 
-/// The mode that the word names.
+// The mode that the word names.
 fn mode_of(word: &str) -> Compress {
     if word == "yes" {
         Compress::Yes
@@ -146,7 +146,7 @@ fn mode_of(word: &str) -> Compress {
     }
 }
 
-/// The value that was read.
+// The value that was read.
 fn value_read<T>(read: Result<T, SerializationError>) -> Result<Answered<T>, PolyError> {
     match read {
         Ok(value) => Ok(Answered::Value(value)),
@@ -154,7 +154,7 @@ fn value_read<T>(read: Result<T, SerializationError>) -> Result<Answered<T>, Pol
     }
 }
 
-/// The bytes that came back.
+// The bytes that came back.
 fn bytes_back<T>(
     lists: Result<(Vec<u8>, Vec<u8>), SerializationError>,
 ) -> Result<Answered<T>, PolyError> {
@@ -164,7 +164,7 @@ fn bytes_back<T>(
     }
 }
 
-/// A refusal of memory, or the answer that another refusal is.
+// A refusal of memory, or the answer that another refusal is.
 fn refused<T>(error: SerializationError) -> Result<Answered<T>, PolyError> {
     if error == SerializationError::Memory {
         return Err(PolyError::Memory);
@@ -172,7 +172,7 @@ fn refused<T>(error: SerializationError) -> Result<Answered<T>, PolyError> {
     Ok(Answered::Refused(error))
 }
 
-/// The bytes of the full mode.
+// The bytes of the full mode.
 fn spelling_of<T: CanonicalSerialize>(alloc: Global, value: &T) -> Answer {
     let mut sink = IoSink::new(Vec::new(alloc));
     match value.serialize_uncompressed(&mut sink) {

@@ -117,12 +117,12 @@ impl<F: Numbered> Call for OfDecoder<F> {
     }
 }
 
-/// The code of the numbers `k` and `n`.
+// The code of the numbers `k` and `n`.
 fn code_of<F: FftField>(words: &[String]) -> Result<Code<F>, PolyError> {
     Code::new(size_named(words, "k"), size_named(words, "n")).ok_or(PolyError::NoDomain)
 }
 
-/// The word whose places stand between commas, `_` for an erased one.
+// The word whose places stand between commas, `_` for an erased one.
 fn word_of<F: Numbered>(alloc: Global, text: &str) -> Result<Vec<Option<F>>, AllocError> {
     let mut word = Vec::new(alloc);
     if !text.is_empty() {
@@ -146,7 +146,7 @@ fn erased_places<F: FftField>(alloc: Global, word: &[Option<F>]) -> Result<Vec<b
     Ok(erased)
 }
 
-/// The values, or the refusal; that of memory as every other call's.
+// The values, or the refusal; that of memory as every other call's.
 fn outcome_of<F: FftField>(outcome: Result<Vec<F>, RsError>) -> Result<Answered<F>, PolyError> {
     match outcome {
         Ok(values) => Ok(Answered::Values(values)),

@@ -13,7 +13,7 @@ use test_cases::words::{elements, no_case, no_fit, text_of, text_of_flags, text_
 use test_types::nothing::Nothing;
 use test_types::numbered::Numbered;
 
-/// As many items as an array can have, and a list.
+// As many items as an array can have, and a list.
 const MOST: usize = usize::MAX;
 
 const MOST_LISTED: usize = usize::MAX / 2;
@@ -100,7 +100,7 @@ impl<F: Numbered, D: EvaluationDomain<F>> Call for OverDomain<F, D> {
 }
 
 impl<F: Numbered, D: EvaluationDomain<F>> OverDomain<F, D> {
-    /// The products by places.
+    // The products by places.
     fn products(&self, alloc: Global) -> Result<Answered<F, D>, PolyError> {
         if self.list.len() != self.other.len() {
             return Ok(Answered::NoFit);
@@ -111,18 +111,18 @@ impl<F: Numbered, D: EvaluationDomain<F>> OverDomain<F, D> {
         )
     }
 
-    /// How many values as many items as there can be have, which take no room.
+    // How many values as many items as there can be have, which take no room.
     fn of_nothings(&self, alloc: Global) -> Result<Answered<F, D>, PolyError> {
         Ok(Answered::Number(of_items::<F, D, MOST>(alloc, &self.domain)?))
     }
 
-    /// How many values a list of as many has.
+    // How many values a list of as many has.
     fn of_listed_nothings(&self, alloc: Global) -> Result<Answered<F, D>, PolyError> {
         let count = of_listed_items::<F, D, MOST_LISTED>(alloc, &self.domain)?;
         Ok(Answered::Number(count))
     }
 
-    /// Makes a call that changes a list.
+    // Makes a call that changes a list.
     fn transform(&mut self, alloc: Global, name: &str) -> Result<Answered<F, D>, PolyError> {
         match name {
             "fft_in_place" => list_changed(self.domain.fft_in_place(alloc, &mut self.list)),
@@ -142,7 +142,7 @@ impl<F: Numbered, D: EvaluationDomain<F>> OverDomain<F, D> {
         }
     }
 
-    /// Makes a call that takes no memory.
+    // Makes a call that takes no memory.
     fn without_memory(&mut self, name: &str) -> Answered<F, D> {
         match name {
             "new" => Answered::Domain(D::new(self.index)),
@@ -164,7 +164,7 @@ impl<F: Numbered, D: EvaluationDomain<F>> OverDomain<F, D> {
         }
     }
 
-    /// Makes a further one.
+    // Makes a further one.
     fn without_memory_too(&mut self, name: &str) -> Answered<F, D> {
         match name {
             "compute_size_of_domain" => {
@@ -202,7 +202,7 @@ impl<F: Numbered, D: EvaluationDomain<F>> OverDomain<F, D> {
         Answered::Number(self.domain.reindex_by_subdomain(self.part, self.index))
     }
 
-    /// Whether what is drawn is not in the domain.
+    // Whether what is drawn is not in the domain.
     fn is_sample_outside(&self) -> Answered<F, D> {
         let mut rng = Pcg64::new(48, 1);
         let sample = self.domain.sample_element_outside_domain(&mut rng, 1000);
@@ -227,7 +227,7 @@ fn pairs_answer<F: FftField, D>(
     Ok(Answered::Pairs(made?))
 }
 
-/// The coefficients of the filter, up to the highest.
+// The coefficients of the filter, up to the highest.
 fn filter_of<F: FftField, D: EvaluationDomain<F>>(
     alloc: Global,
     domain: &D,
@@ -237,7 +237,7 @@ fn filter_of<F: FftField, D: EvaluationDomain<F>>(
     Ok(Answered::Elements(Vec::from_slice(alloc, filter.coeffs())?))
 }
 
-/// The domain that is read from its own bytes, whose only refusal is that of memory.
+// The domain that is read from its own bytes, whose only refusal is that of memory.
 fn read_back<F: FftField, D: EvaluationDomain<F>>(
     alloc: Global,
     domain: &D,
@@ -258,7 +258,7 @@ fn pairs_changed<F: FftField, D>(done: Result<(), PolyError>) -> Result<Answered
     Ok(Answered::PairList)
 }
 
-/// How many values so many items without size have.
+// How many values so many items without size have.
 fn of_items<F: FftField, D: EvaluationDomain<F>, const N: usize>(
     alloc: Global,
     domain: &D,
@@ -267,7 +267,7 @@ fn of_items<F: FftField, D: EvaluationDomain<F>, const N: usize>(
     Ok(domain.fft(alloc, &items)?.len())
 }
 
-/// How many values a list of so many items without size has. It is not dropped, which takes a step an item.
+// How many values a list of so many items without size has. It is not dropped, which takes a step an item.
 fn of_listed_items<F: FftField, D: EvaluationDomain<F>, const N: usize>(
     alloc: Global,
     domain: &D,
@@ -277,7 +277,7 @@ fn of_listed_items<F: FftField, D: EvaluationDomain<F>, const N: usize>(
     Ok(domain.fft(alloc, &items)?.len())
 }
 
-/// Both lists, and their items side by side.
+// Both lists, and their items side by side.
 fn lists_named<F: Numbered>(
     alloc: Global,
     words: &[String],
@@ -288,7 +288,7 @@ fn lists_named<F: Numbered>(
     Ok((list, other, pairs))
 }
 
-/// The items of both lists side by side.
+// The items of both lists side by side.
 fn pairs_of<F: Numbered>(
     alloc: Global,
     first: &str,
@@ -302,7 +302,7 @@ fn pairs_of<F: Numbered>(
     Ok(pairs)
 }
 
-/// The first and the second element of each pair in turn.
+// The first and the second element of each pair in turn.
 fn text_of_pairs<F: Numbered>(alloc: Global, pairs: &[Lanes<F>]) -> Answer {
     let mut elements = Vec::new(alloc);
     for pair in pairs {
@@ -312,7 +312,7 @@ fn text_of_pairs<F: Numbered>(alloc: Global, pairs: &[Lanes<F>]) -> Answer {
     text_of(alloc, &elements)
 }
 
-/// The size and the offset.
+// The size and the offset.
 fn text_of_domain<F: Numbered, D: EvaluationDomain<F>>(alloc: Global, domain: Option<D>) -> Answer {
     match domain {
         Some(domain) => {
@@ -325,7 +325,7 @@ fn text_of_domain<F: Numbered, D: EvaluationDomain<F>>(alloc: Global, domain: Op
     }
 }
 
-/// The element, where there is one.
+// The element, where there is one.
 fn text_of_option<F: Numbered>(alloc: Global, element: Option<F>) -> Answer {
     match element {
         Some(element) => text_of_numbers(alloc, &[element.number()]),

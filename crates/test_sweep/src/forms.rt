@@ -77,7 +77,7 @@ impl<F: Numbered, P: Kind<F>> Call for OfForm<F, P> {
     }
 }
 
-/// Makes a call that changes its receiver.
+// Makes a call that changes its receiver.
 fn in_place<F: Field, P: Polynomial<F>>(
     alloc: Global,
     given: &mut OfForm<F, P>,
@@ -100,7 +100,7 @@ fn in_place<F: Field, P: Polynomial<F>>(
     }
 }
 
-/// The polynomial that is read from its own bytes, whose only refusal is that of memory.
+// The polynomial that is read from its own bytes, whose only refusal is that of memory.
 fn read_back<F: Field, P: Polynomial<F>>(
     alloc: Global,
     p: &P,

@@ -58,7 +58,7 @@ impl Answers for Sweep {
     }
 }
 
-/// How the call that the words name ends.
+// How the call that the words name ends.
 fn ended<R: Print>(
     alloc: Global,
     watched: Option<&R>,
@@ -76,7 +76,7 @@ fn ended<R: Print>(
     }
 }
 
-/// How a call of any form ends.
+// How a call of any form ends.
 fn over_any<F: Numbered, R: Print>(
     alloc: Global,
     watched: Option<&R>,
@@ -110,7 +110,7 @@ fn over_any<F: Numbered, R: Print>(
     }
 }
 
-/// How a call ends that is made over a field with a small subgroup too.
+// How a call ends that is made over a field with a small subgroup too.
 fn over_mixed<F: Numbered, R: Print>(
     alloc: Global,
     watched: Option<&R>,
@@ -128,7 +128,7 @@ fn over_mixed<F: Numbered, R: Print>(
     }
 }
 
-/// How a call ends that is made over a field with large subgroups too.
+// How a call ends that is made over a field with large subgroups too.
 fn over_general<F: Numbered, R: Print>(
     alloc: Global,
     watched: Option<&R>,
@@ -147,7 +147,7 @@ fn over_general<F: Numbered, R: Print>(
     }
 }
 
-/// Makes the call that the line names, writes its answer, and gives the status.
+// Makes the call that the line names, writes its answer, and gives the status.
 fn answered_alone<R: Print + AllocGlobal>(rt: &R, line: &str) -> u8 {
     let alloc = rt.alloc();
     let Ok(words) = words_of(alloc, line, '\t') else {
@@ -161,7 +161,7 @@ fn answered_alone<R: Print + AllocGlobal>(rt: &R, line: &str) -> u8 {
     }
 }
 
-/// The status, where the answer could be written.
+// The status, where the answer could be written.
 fn written<R: Print>(rt: &R, answer: &str, status: u8) -> u8 {
     match println!(rt; "{answer}") {
         Ok(()) => status,

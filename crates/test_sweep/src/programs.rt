@@ -8,7 +8,7 @@ use std::alloc::{AllocError, Global};
 use test_cases::answers::Answer;
 use test_cases::words::{number, told, words_of};
 
-/// The line of refused memory.
+// The line of refused memory.
 const REFUSED: &[u8] = b"error 1: Memory\n";
 
 /// The words of a command, rows and a field's order for the check, room for what is written, and a text that was cut
@@ -78,7 +78,7 @@ impl Call for OfProgram {
     }
 }
 
-/// The rows between bars: words between spaces, a point and the text that is expected.
+// The rows between bars: words between spaces, a point and the text that is expected.
 fn rows_of(alloc: Global, word: &str) -> Result<Vec<(Vec<String>, String)>, AllocError> {
     let mut rows = Vec::new(alloc);
     if !word.is_empty() {

@@ -42,7 +42,7 @@ pub enum Answered<F: Field> {
     NoCall,
 }
 
-/// A term and a table.
+// A term and a table.
 fn forms_named<F: Numbered>(
     alloc: Global,
     words: &[String],
@@ -52,7 +52,7 @@ fn forms_named<F: Numbered>(
     Ok((term, dense))
 }
 
-/// Values, and a point.
+// Values, and a point.
 fn lists_named<F: Numbered>(
     alloc: Global,
     words: &[String],
@@ -120,7 +120,7 @@ impl<F: Numbered> Call for OfSeveral<F> {
 }
 
 impl<F: Numbered> OfSeveral<F> {
-    /// Makes a call of terms.
+    // Makes a call of terms.
     fn of_terms(&self, name: &str) -> Result<Answered<F>, PolyError> {
         match name {
             "clone" => term_of(copied(&self.term)),
@@ -131,7 +131,7 @@ impl<F: Numbered> OfSeveral<F> {
         }
     }
 
-    /// Makes a call of tables by all values.
+    // Makes a call of tables by all values.
     fn of_dense(&mut self, alloc: Global, name: &str) -> Result<Answered<F>, PolyError> {
         match name {
             "mul_assign" => in_place(self.dense.mul_assign(alloc, self.factor)),
@@ -158,7 +158,7 @@ impl<F: Numbered> OfSeveral<F> {
         Answered::DenseInPlace
     }
 
-    /// Draws a table by its entries.
+    // Draws a table by its entries.
     fn of_sparse(&self, alloc: Global, name: &str) -> Result<Answered<F>, PolyError> {
         match name {
             "rand" => flag_of(is_drawn::<F, SparseMultilinearExtension<F>>(alloc, self.number)),
@@ -192,14 +192,14 @@ fn in_place<F: Field>(done: Result<(), PolyError>) -> Result<Answered<F>, PolyEr
     Ok(Answered::DenseInPlace)
 }
 
-/// Draws a polynomial of degree two.
+// Draws a polynomial of degree two.
 fn drawn_polynomial<F: Field>(alloc: Global, num_vars: usize) -> Result<Answered<F>, PolyError> {
     let mut rng = Pcg64::new(48, 1);
     let drawn = SparsePolynomial::<F, SparseTerm>::rand(alloc, 2, num_vars, &mut rng)?;
     Ok(Answered::Flag(!drawn.terms().is_empty()))
 }
 
-/// Draws a table of half as many entries as there are places.
+// Draws a table of half as many entries as there are places.
 fn drawn_with_entries<F: Field>(alloc: Global, num_vars: usize) -> Result<Answered<F>, PolyError> {
     if num_vars >= 64 {
         return Ok(Answered::NoFit);
@@ -216,7 +216,7 @@ fn drawn_with_entries<F: Field>(alloc: Global, num_vars: usize) -> Result<Answer
     Ok(Answered::Flag(drawn.is_some()))
 }
 
-/// Whether one of so many variables is drawn.
+// Whether one of so many variables is drawn.
 fn is_drawn<F: Field, E: MultilinearExtension<F>>(
     alloc: Global,
     num_vars: usize,

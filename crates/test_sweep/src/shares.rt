@@ -30,7 +30,7 @@ pub enum Answered<F: FftField> {
     NoCall,
 }
 
-/// Each point with the value at its place.
+// Each point with the value at its place.
 fn shares_of<F: FftField>(
     alloc: Global,
     points: &[F],
@@ -98,7 +98,7 @@ impl<F: Numbered> Call for OfShares<F> {
     }
 }
 
-/// A refusal of memory, or the answer that another refusal is.
+// A refusal of memory, or the answer that another refusal is.
 fn refused<F: FftField>(error: SharingError) -> Result<Answered<F>, PolyError> {
     match error {
         SharingError::Memory => Err(PolyError::Memory),

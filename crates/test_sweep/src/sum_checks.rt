@@ -35,7 +35,7 @@ pub enum Answered<F: FftField> {
     NoCall,
 }
 
-/// A challenger whose challenges are all one.
+// A challenger whose challenges are all one.
 #[derive(Drop)]
 struct Always<F> {
     challenge: F,
@@ -47,7 +47,7 @@ impl<F: Field> Challenger<F> for Always<F> {
     }
 }
 
-/// The lists that stand between bars.
+// The lists that stand between bars.
 fn lists_of<F: Numbered>(alloc: Global, word: &str) -> Result<Vec<Vec<F>>, AllocError> {
     let mut lists = Vec::new(alloc);
     if !word.is_empty() {
@@ -58,7 +58,7 @@ fn lists_of<F: Numbered>(alloc: Global, word: &str) -> Result<Vec<Vec<F>>, Alloc
     Ok(lists)
 }
 
-/// The rounds with these values, each with the challenge.
+// The rounds with these values, each with the challenge.
 fn rounds_of<F: Numbered>(
     alloc: Global,
     word: &str,
@@ -140,7 +140,7 @@ impl<F: Numbered> Call for OfSumChecks<F> {
 }
 
 impl<F: Numbered> OfSumChecks<F> {
-    /// Makes a call of a prover of copies of the factors.
+    // Makes a call of a prover of copies of the factors.
     fn of_tables(&self, alloc: Global, name: &str) -> Result<Answered<F>, PolyError> {
         let mut tables = Vec::new(alloc);
         for table in &self.tables {
@@ -161,7 +161,7 @@ impl<F: Numbered> OfSumChecks<F> {
         }
     }
 
-    /// Makes a call of a prover of copies of the entries.
+    // Makes a call of a prover of copies of the entries.
     fn of_entries(&self, alloc: Global, name: &str) -> Result<Answered<F>, PolyError> {
         let (num_vars, entries) = (self.entries.0, Vec::from_slice(alloc, &self.entries.1)?);
         if num_vars >= 64 {
@@ -185,7 +185,7 @@ impl<F: Numbered> OfSumChecks<F> {
         }
     }
 
-    /// The first round, as the verifier takes it.
+    // The first round, as the verifier takes it.
     fn taken(&mut self, alloc: Global) -> Result<Answered<F>, PolyError> {
         let Some(round) = self.rounds.first() else {
             return Ok(Answered::NoFit);
@@ -217,7 +217,7 @@ fn rounds_answer<F: FftField>(
     }
 }
 
-/// A refusal of memory, or the answer that another refusal is.
+// A refusal of memory, or the answer that another refusal is.
 fn refused<F: FftField>(error: SumCheckError) -> Result<Answered<F>, PolyError> {
     match error {
         SumCheckError::Memory => Err(PolyError::Memory),
@@ -234,7 +234,7 @@ fn are_same<F: Field>(rounds: &[Round<F>], others: &[Round<F>]) -> bool {
     rounds.len() == others.len()
 }
 
-/// The values of each round, with a bar between rounds.
+// The values of each round, with a bar between rounds.
 fn text_of_rounds<F: Numbered>(alloc: Global, rounds: &[Round<F>]) -> Answer {
     let mut text = String::new(alloc);
     for (i, round) in rounds.iter().enumerate() {

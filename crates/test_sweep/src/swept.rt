@@ -61,7 +61,7 @@ pub fn attempt<C: Call, R: Print>(
     }
 }
 
-/// Makes the call again.
+// Makes the call again.
 fn again<C: Call>(alloc: Global, mut given: C, name: &str) -> Result<Ended, PolyError> {
     let answer = match given.call(alloc, name) {
         Ok(answered) => given.text(alloc, &answered)?,
@@ -70,12 +70,12 @@ fn again<C: Call>(alloc: Global, mut given: C, name: &str) -> Result<Ended, Poly
     Ok(Ended::AnsweredAgain(answer))
 }
 
-/// The refusal's number and name.
+// The refusal's number and name.
 fn refusal_text(alloc: Global, error: PolyError) -> Answer {
     Ok(format!(in alloc; "error {}: {error}", error as u32)?)
 }
 
-/// Tells what watches the requests for memory where a call begins and ends.
+// Tells what watches the requests for memory where a call begins and ends.
 fn mark<R: Print>(watched: Option<&R>, line: &[u8]) {
     if let Some(rt) = watched {
         let _ = rt.write_all(line);

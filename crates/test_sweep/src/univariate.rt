@@ -39,7 +39,7 @@ pub enum Answered<F: FftField> {
     NoCall,
 }
 
-/// The values of this name over the domain: zeros without a word.
+// The values of this name over the domain: zeros without a word.
 fn values_named<F: Numbered, D: EvaluationDomain<F>>(
     alloc: Global,
     domain: D,
@@ -52,7 +52,7 @@ fn values_named<F: Numbered, D: EvaluationDomain<F>>(
     Ok(Evaluations::from_vec_and_domain(values, domain))
 }
 
-/// The values of both names.
+// The values of both names.
 fn both_values_named<F: Numbered, D: EvaluationDomain<F>>(
     alloc: Global,
     domain: D,
@@ -63,7 +63,7 @@ fn both_values_named<F: Numbered, D: EvaluationDomain<F>>(
     Ok((values, divisors))
 }
 
-/// The sparse polynomial, and the list.
+// The sparse polynomial, and the list.
 fn lists_named<F: Numbered>(
     alloc: Global,
     words: &[String],
@@ -129,7 +129,7 @@ impl<F: Numbered, D: EvaluationDomain<F>> Call for OfOne<F, D> {
 }
 
 impl<F: Numbered, D: EvaluationDomain<F>> OfOne<F, D> {
-    /// Makes a call of dense polynomials.
+    // Makes a call of dense polynomials.
     fn of_dense(&mut self, alloc: Global, name: &str) -> Result<Answered<F>, PolyError> {
         match name {
             "add_assign_sparse" => in_place(
@@ -159,7 +159,7 @@ impl<F: Numbered, D: EvaluationDomain<F>> OfOne<F, D> {
         }
     }
 
-    /// Makes a call of sparse polynomials.
+    // Makes a call of sparse polynomials.
     fn of_sparse(&self, alloc: Global, name: &str) -> Result<Answered<F>, PolyError> {
         let held = DenseOrSparsePolynomial::from(&self.sparse);
         match name {
@@ -175,7 +175,7 @@ impl<F: Numbered, D: EvaluationDomain<F>> OfOne<F, D> {
         }
     }
 
-    /// The values that are read from their own bytes, whose only refusal is that of memory.
+    // The values that are read from their own bytes, whose only refusal is that of memory.
     fn read_back(&self, alloc: Global) -> Result<Answered<F>, PolyError> {
         match values_read_back(alloc, &self.values, Compress::No) {
             Ok(read) => Ok(Answered::Flag(read == self.values)),
@@ -189,7 +189,7 @@ impl<F: Numbered, D: EvaluationDomain<F>> OfOne<F, D> {
         Ok(Answered::Flag(drawn.is_some_and(|p| p.coeffs().len() > self.number)))
     }
 
-    /// Makes a call that changes values over a domain.
+    // Makes a call that changes values over a domain.
     fn values_in_place(&mut self, alloc: Global, name: &str) -> Result<Answered<F>, PolyError> {
         if is_changed(alloc, name, &mut self.values, &self.divisors)? {
             Ok(Answered::ValuesInPlace)
@@ -223,8 +223,8 @@ fn sparse_of<F: FftField>(
     Ok(Answered::Sparse(made?))
 }
 
-/// Makes a call that changes the first values, where they are over one domain, and tells whether there is one of this
-/// name.
+// Makes a call that changes the first values, where they are over one domain, and tells whether there is one of this
+// name.
 fn is_changed<F: FftField, D: EvaluationDomain<F>>(
     alloc: Global,
     name: &str,

@@ -9,7 +9,7 @@ use ark_base::{DomainCoeff, Zero};
 use std::alloc::AllocError;
 use std::ops::{Add, AddAssign, MulAssign, Sub, SubAssign};
 
-/// How many products an element can remember.
+// How many products an element can remember.
 const ROOM: usize = 256;
 
 /// A set of products, each by the numbers of its two factors.

@@ -8,7 +8,7 @@ use rand_pcg::Pcg64;
 use std::alloc::{AllocError, Global};
 use test_types::trials::drawn_elements;
 
-/// How often the last coefficient may be drawn.
+// How often the last coefficient may be drawn.
 const TRIES: usize = 1000;
 
 /// A form of polynomials.

@@ -54,7 +54,7 @@ pub fn inverse<F: FftField, D: EvaluationDomain<F>>(domain: &D, values: &mut [F]
     D::distribute_powers_and_mul_by_const(values, domain.coset_offset_inv(), domain.size_inv());
 }
 
-/// Pairs first, then fours, and so on, over items in the order of their indices' bits read backwards.
+// Pairs first, then fours, and so on, over items in the order of their indices' bits read backwards.
 fn passes<F: Field>(items: &mut [F], root: F) {
     let len = items.len();
     if len < 2 {
@@ -71,7 +71,7 @@ fn passes<F: Field>(items: &mut [F], root: F) {
     }
 }
 
-/// Exchanges the items whose indices' bits are each other's read backwards.
+// Exchanges the items whose indices' bits are each other's read backwards.
 fn reorder<F: Field>(items: &mut [F]) {
     let len = items.len();
     for i in 0..len {
@@ -82,7 +82,7 @@ fn reorder<F: Field>(items: &mut [F]) {
     }
 }
 
-/// Joins two halves of a block by the powers of a root.
+// Joins two halves of a block by the powers of a root.
 fn join<F: Field>(block: &mut [F], root: F) {
     let half = block.len() / 2;
     let (lo, hi) = block.split_at_mut(half);

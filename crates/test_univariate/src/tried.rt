@@ -9,7 +9,7 @@ use std::test::Fail;
 use test_types::numbered::Numbered;
 use test_types::trials::{FieldTrial, Prime, over_field};
 
-/// What is tried over any field.
+// What is tried over any field.
 #[derive(Clone, Copy)]
 enum OverField {
     DrawsByTheirTries,
@@ -81,7 +81,7 @@ fn products_and_quotients(rt: HostRuntime) -> Result<(), Fail> {
     Ok(())
 }
 
-/// What is tried over domains of any field and kind.
+// What is tried over domains of any field and kind.
 #[derive(Clone, Copy)]
 enum OverDomain<'a> {
     /// What domains of these sizes give at points of a field of so many elements.

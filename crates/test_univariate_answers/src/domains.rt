@@ -51,7 +51,7 @@ pub fn coset<F: Numbered, D: EvaluationDomain<F>>(
     D::new_coset(size(num_coeffs), element(offset)).ok_or(PolyError::NoDomain)
 }
 
-/// The answer to an operation on the domain alone.
+// The answer to an operation on the domain alone.
 fn answer_of_all<F: Numbered, D: EvaluationDomain<F>>(
     alloc: Global,
     domain: D,
@@ -67,7 +67,7 @@ fn answer_of_all<F: Numbered, D: EvaluationDomain<F>>(
     }
 }
 
-/// The answer to an operation with an index, a point or a list.
+// The answer to an operation with an index, a point or a list.
 fn answer_with_word<F: Numbered, D: EvaluationDomain<F>>(
     alloc: Global,
     domain: D,
@@ -89,7 +89,7 @@ fn answer_with_word<F: Numbered, D: EvaluationDomain<F>>(
     }
 }
 
-/// The answer to an operation with another domain of the kind.
+// The answer to an operation with another domain of the kind.
 fn answer_of_part<F: Numbered, D: EvaluationDomain<F>>(
     alloc: Global,
     domain: D,
@@ -127,8 +127,8 @@ fn filter_at<F: Numbered, D: EvaluationDomain<F>>(
     option(alloc, domain.evaluate_filter_polynomial(&part, point))
 }
 
-/// What a domain keeps, in this order: the size, the exponent of two in it, the size as an element and its inverse, the
-/// root and its inverse, the offset, its inverse and its power.
+// What a domain keeps, in this order: the size, the exponent of two in it, the size as an element and its inverse, the
+// root and its inverse, the offset, its inverse and its power.
 fn fields<F: Numbered, D: EvaluationDomain<F>>(alloc: Global, domain: D) -> Answer {
     text_of_numbers(
         alloc,
@@ -154,7 +154,7 @@ fn all_elements<F: Numbered, D: EvaluationDomain<F>>(alloc: Global, domain: D) -
     text_of(alloc, &all)
 }
 
-/// The list that a call gave.
+// The list that a call gave.
 fn shown<F: Numbered>(alloc: Global, given: Result<Vec<F>, PolyError>) -> Answer {
     text_of(alloc, &given?)
 }
@@ -169,7 +169,7 @@ fn ifft<F: Numbered, D: EvaluationDomain<F>>(alloc: Global, domain: D, word: &st
     shown(alloc, domain.ifft(alloc, &values))
 }
 
-/// The transform of pairs, of which one list has the first parts and the other the second ones.
+// The transform of pairs, of which one list has the first parts and the other the second ones.
 fn lanes<F: Numbered, D: EvaluationDomain<F>>(
     alloc: Global,
     domain: D,
@@ -193,7 +193,7 @@ fn side_by_side<F: Numbered>(
     Ok(pairs)
 }
 
-/// The first parts of pairs, and the second ones.
+// The first parts of pairs, and the second ones.
 fn text_of_pairs<F: Numbered>(alloc: Global, pairs: &[Lanes<F>]) -> Answer {
     let mut first = Vec::new(alloc);
     let mut second = Vec::new(alloc);
@@ -204,7 +204,7 @@ fn text_of_pairs<F: Numbered>(alloc: Global, pairs: &[Lanes<F>]) -> Answer {
     joined(alloc, text_of(alloc, &first), " ", text_of(alloc, &second))
 }
 
-/// All indices in the order that has those of the part's elements first.
+// All indices in the order that has those of the part's elements first.
 fn reindexed<F: FftField, D: EvaluationDomain<F>>(alloc: Global, domain: D, part: D) -> Answer {
     let mut order = Vec::new(alloc);
     if part.size() != 0 && domain.size() % part.size() == 0 {

@@ -41,12 +41,12 @@ pub fn held<'a, F: Numbered>(
     }
 }
 
-/// The answer of one that is held.
+// The answer of one that is held.
 fn answer_of_held<F: Numbered>(alloc: Global, name: &str, word: &str) -> Answer {
     answer_of_one(alloc, name, &held::<F>(alloc, word)?)
 }
 
-/// The answer of one that is lent.
+// The answer of one that is lent.
 fn answer_of_lent<F: Numbered>(alloc: Global, name: &str, word: &str) -> Answer {
     match word.strip_prefix('s') {
         Some(terms) => lent_sparse::<F>(alloc, name, terms),
@@ -85,13 +85,13 @@ fn into_sparse<F: Numbered>(alloc: Global, p: &DenseOrSparsePolynomial<'_, F>) -
     shown_sparse(alloc, p.clone()?.into_sparse(alloc))
 }
 
-/// The degree, and whether it is zero.
+// The degree, and whether it is zero.
 fn shape<F: Field>(alloc: Global, p: &DenseOrSparsePolynomial<'_, F>) -> Answer {
     let degree = text_of_numbers(alloc, &[p.degree() as u64]);
     joined(alloc, degree, ",", text_of_flags(alloc, &[p.is_zero()]))
 }
 
-/// The quotient and the remainder by another polynomial, or the value at a point.
+// The quotient and the remainder by another polynomial, or the value at a point.
 fn answer_with_word<F: Numbered>(alloc: Global, name: &str, word: &str, other: &str) -> Answer {
     let p = held::<F>(alloc, word)?;
     match name {

@@ -20,7 +20,7 @@ pub fn answer<F: Numbered>(alloc: Global, words: &[String]) -> Answer {
     }
 }
 
-/// The answer to an operation on one word.
+// The answer to an operation on one word.
 fn answer_of_one<F: Numbered>(alloc: Global, name: &str, word: &str) -> Answer {
     match name {
         "of" => one(alloc, element::<F>(word)),
@@ -32,7 +32,7 @@ fn answer_of_one<F: Numbered>(alloc: Global, name: &str, word: &str) -> Answer {
     }
 }
 
-/// The answer to an operation on two words.
+// The answer to an operation on two words.
 fn answer_of_two<F: Numbered>(alloc: Global, name: &str, first: &str, second: &str) -> Answer {
     match name {
         "power" => one(alloc, element::<F>(first).pow(number(second))),
@@ -56,12 +56,12 @@ fn adicity(alloc: Global, k: u64, n: u64) -> Answer {
     text_of_numbers(alloc, &[u64::from(k_adicity(k.max(2), n))])
 }
 
-/// Whether the first element is zero, is one, is less than the second, and equals it.
+// Whether the first element is zero, is one, is less than the second, and equals it.
 fn tests<F: FftField>(alloc: Global, x: F, y: F) -> Answer {
     text_of_flags(alloc, &[x.is_zero(), x.is_one(), x < y, x == y])
 }
 
-/// How `Debug` writes the first element, and the pair of both.
+// How `Debug` writes the first element, and the pair of both.
 fn text<F: FftField>(alloc: Global, x: F, y: F) -> Answer {
     joined(
         alloc,
@@ -71,8 +71,8 @@ fn text<F: FftField>(alloc: Global, x: F, y: F) -> Answer {
     )
 }
 
-/// Zero, the default and one; then the generator, the exponent of two and the root for it; and then the odd base, its
-/// exponent and the root for both, where there is one.
+// Zero, the default and one; then the generator, the exponent of two and the root for it; and then the odd base, its
+// exponent and the root for both, where there is one.
 fn constants<F: Numbered>(alloc: Global) -> Answer {
     let units = [F::zero().number(), F::default().number(), F::one().number()];
     let units = text_of_numbers(alloc, &units);
@@ -102,7 +102,7 @@ fn even_constants<F: Numbered>(alloc: Global) -> Answer {
     )
 }
 
-/// The sum, the difference and the product, each by value and in place, the square, and the opposite of the first.
+// The sum, the difference and the product, each by value and in place, the square, and the opposite of the first.
 fn operators<F: Numbered>(alloc: Global, x: F, y: F) -> Answer {
     let mut sum = x;
     sum += y;

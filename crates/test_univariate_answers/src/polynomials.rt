@@ -78,7 +78,7 @@ fn dense_from_slice<F: Numbered>(alloc: Global, word: &str) -> Answer {
     )
 }
 
-/// The answer to an operation with one word.
+// The answer to an operation with one word.
 fn dense_with_word<F: Numbered>(
     alloc: Global,
     name: &str,
@@ -95,7 +95,7 @@ fn dense_with_word<F: Numbered>(
     }
 }
 
-/// The product or quotient with a dense polynomial.
+// The product or quotient with a dense polynomial.
 fn with_dense<F: Numbered>(
     alloc: Global,
     name: &str,
@@ -111,7 +111,7 @@ fn with_dense<F: Numbered>(
     }
 }
 
-/// The sum or difference with a sparse polynomial.
+// The sum or difference with a sparse polynomial.
 fn with_sparse<F: Numbered>(
     alloc: Global,
     name: &str,
@@ -125,7 +125,7 @@ fn with_sparse<F: Numbered>(
     }
 }
 
-/// The sum or difference with a sparse polynomial, in place.
+// The sum or difference with a sparse polynomial, in place.
 fn in_place<F: Numbered>(alloc: Global, name: &str, p: &DensePolynomial<F>, word: &str) -> Answer {
     let q = Sparse.of(alloc, word)?;
     let mut p = p.clone()?;

@@ -46,7 +46,7 @@ fn over<F: Numbered, D: EvaluationDomain<F>>(alloc: Global, words: &[String]) ->
     }
 }
 
-/// The answer to an operation on one polynomial, or on values alone.
+// The answer to an operation on one polynomial, or on values alone.
 fn answer_of_one<F: Numbered, D: EvaluationDomain<F>>(
     alloc: Global,
     domain: D,
@@ -63,7 +63,7 @@ fn answer_of_one<F: Numbered, D: EvaluationDomain<F>>(
     }
 }
 
-/// The values that a call gave.
+// The values that a call gave.
 fn shown<F: Numbered, D: EvaluationDomain<F>>(
     alloc: Global,
     given: Result<Evaluations<F, D>, PolyError>,
@@ -71,7 +71,7 @@ fn shown<F: Numbered, D: EvaluationDomain<F>>(
     text_of(alloc, given?.evals())
 }
 
-/// The values, of which the domain has as many elements.
+// The values, of which the domain has as many elements.
 fn values_over<F: Numbered, D: EvaluationDomain<F>>(
     alloc: Global,
     domain: D,
@@ -120,7 +120,7 @@ fn of_either<F: Numbered, D: EvaluationDomain<F>>(alloc: Global, domain: D, word
     )
 }
 
-/// The product with the vanishing polynomial, or the quotient and the remainder by it.
+// The product with the vanishing polynomial, or the quotient and the remainder by it.
 fn by_vanishing<F: Numbered, D: EvaluationDomain<F>>(
     alloc: Global,
     domain: D,
@@ -143,7 +143,7 @@ fn divided_by_vanishing<F: Numbered, D: EvaluationDomain<F>>(
     text_of_both(alloc, &quotient, &remainder)
 }
 
-/// The answer to an operation on values alone.
+// The answer to an operation on values alone.
 fn of_values<F: Numbered, D: EvaluationDomain<F>>(
     alloc: Global,
     name: &str,
@@ -158,7 +158,7 @@ fn of_values<F: Numbered, D: EvaluationDomain<F>>(
     }
 }
 
-/// The answer to an operation on values with an index, a factor or other values.
+// The answer to an operation on values with an index, a factor or other values.
 fn answer_with_word<F: Numbered, D: EvaluationDomain<F>>(
     alloc: Global,
     domain: D,
@@ -174,7 +174,7 @@ fn answer_with_word<F: Numbered, D: EvaluationDomain<F>>(
     }
 }
 
-/// The answer to an operation on two values at each place.
+// The answer to an operation on two values at each place.
 fn with_values<F: Numbered, D: EvaluationDomain<F>>(
     alloc: Global,
     name: &str,
@@ -216,7 +216,7 @@ fn replaced<F: Numbered, D: EvaluationDomain<F>>(
     text_of(alloc, values.evals())
 }
 
-/// What an operation makes of two values at each place.
+// What an operation makes of two values at each place.
 fn by_places<F: Numbered, D: EvaluationDomain<F>>(
     alloc: Global,
     name: &str,
@@ -234,7 +234,7 @@ fn by_places<F: Numbered, D: EvaluationDomain<F>>(
     }
 }
 
-/// Makes a call with other values that changes the first ones.
+// Makes a call with other values that changes the first ones.
 fn change<F: Numbered, D: EvaluationDomain<F>>(
     alloc: Global,
     name: &str,
@@ -252,7 +252,7 @@ fn change<F: Numbered, D: EvaluationDomain<F>>(
     Ok(())
 }
 
-/// Whether the values are equal to those over another domain, and whether their hashes are.
+// Whether the values are equal to those over another domain, and whether their hashes are.
 fn compared<F: Numbered, D: EvaluationDomain<F>>(
     alloc: Global,
     domain: D,

@@ -14,7 +14,7 @@ use ark_traits::{Field, PolyError};
 use std::alloc::Global;
 use std::cmp::Ordering;
 
-/// The greatest total degree of the terms, 0 where there are none.
+// The greatest total degree of the terms, 0 where there are none.
 pub(crate) fn degree_of_terms<F: Field, T: Term>(terms: &[(F, T)]) -> usize
     requires { AreRising F.field T.cmp terms.now }
     ensures { IsTotalDegree F.field (of_listed F.field T.listed terms.now) result }
@@ -26,7 +26,7 @@ pub(crate) fn degree_of_terms<F: Field, T: Term>(terms: &[(F, T)]) -> usize
     degree
 }
 
-/// The value at a point that has an item for each variable.
+// The value at a point that has an item for each variable.
 pub(crate) fn value_of_terms<F: Field, T: Term>(terms: &[(F, T)], point: &[F]) -> F
     requires { All (λ c. IsWithin (length point.now) (T.listed c.1)) terms.now }
     ensures { IsValueAt F.field (of_listed F.field T.listed terms.now) point.now result }
@@ -59,7 +59,7 @@ fn push_term<F: Field, T: Term>(
     Ok(())
 }
 
-/// The least term of two lists, with its coefficient in their sum, and what is left of them.
+// The least term of two lists, with its coefficient in their sum, and what is left of them.
 #[derive(Drop)]
 struct Least<'a, F, T> {
     coefficient: F,
@@ -117,8 +117,8 @@ fn least_term<'a, F: Field, T: Term>(
     }
 }
 
-/// The sum of terms and a multiple of others, without zeros. One pass over both lists, and room for both at
-/// once.
+// The sum of terms and a multiple of others, without zeros. One pass over both lists, and room for both at
+// once.
 pub(crate) fn sum_of_terms<F: Field, T: Term>(
     alloc: Global,
     left: &[(F, T)],
@@ -164,7 +164,7 @@ fn take_like<F: Field, T: Term>(terms: &mut Vec<(F, T)>, term: &T) -> F
     }
 }
 
-/// The sums of like terms that aren't zero, of terms in any order. One sort, and then one pass.
+// The sums of like terms that aren't zero, of terms in any order. One sort, and then one pass.
 pub(crate) fn gathered_terms<F: Field, T: Term>(
     alloc: Global,
     terms: Vec<(F, T)>,

@@ -10,7 +10,7 @@ use std::alloc::{AllocError, Global};
 use test_types::sums::value;
 use test_types::trials::drawn_elements;
 
-/// The starts of two windows of variables, and their length.
+// The starts of two windows of variables, and their length.
 type Windows = (usize, usize, usize);
 
 const WINDOWS: [Windows; 6] = [

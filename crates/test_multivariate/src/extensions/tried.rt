@@ -7,7 +7,7 @@ use std::test::Fail;
 use test_types::numbered::Numbered;
 use test_types::trials::{FieldTrial, Prime, over_field};
 
-/// What is tried over any field.
+// What is tried over any field.
 #[derive(Clone, Copy, Debug)]
 enum Tried {
     BoundAtOnceAndOneAtATime,

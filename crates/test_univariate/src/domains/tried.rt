@@ -9,7 +9,7 @@ use std::test::Fail;
 use test_types::numbered::Numbered;
 use test_types::trials::Prime;
 
-/// What is tried over domains of any field and kind.
+// What is tried over domains of any field and kind.
 #[derive(Clone, Copy)]
 enum Tried<'a> {
     /// Against plain sums, at each of these sizes.
