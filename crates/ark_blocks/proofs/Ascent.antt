@@ -10,7 +10,7 @@ use Rattle.ark_blocks.specs.Blocks.{AreReversed, AreInverseRoots}
 use Rattle.ark_blocks.proofs.BlockParts.{pair_back}
 use Rattle.ark_blocks.proofs.Elements.{power_of_block}
 use Rattle.ark_blocks.proofs.Joined.{by_halves, named_within, pow_half}
-use Rattle.ark_blocks.proofs.Splits.{value_by_strides, value_of_one, value_of_same}
+use Rattle.ark_blocks.proofs.Callers.Splits.{value_by_strides, value_of_one, value_of_same}
 use Rattle.ark_blocks.proofs.Undone.{two}
 
 -- blocks of twice as many items

@@ -8,7 +8,7 @@ use Rattle.ark_math.proofs.Algebra.Powers.{power-add}
 use Rattle.ark_math.proofs.Polynomials.UnivariateValues.{value_below-scaled}
 use Rattle.ark_blocks.specs.Blocks.{AreReversed, AreInverseRoots}
 use Rattle.ark_blocks.proofs.Elements.{power_of_block}
-use Rattle.ark_blocks.proofs.Splits.{value_by_strides, value_of_same}
+use Rattle.ark_blocks.proofs.Callers.Splits.{value_by_strides, value_of_same}
 use Rattle.ark_blocks.proofs.Undone.{two, two_back}
 
 module _ {F : Type 0} (K : FieldOn F) (x : ℕ → F) where

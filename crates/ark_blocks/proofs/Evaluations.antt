@@ -12,8 +12,8 @@ use Rattle.ark_math.proofs.Polynomials.UnivariateLists.{of_list-past}
 use Rattle.ark_math.proofs.Polynomials.UnivariateValues.{value_is, value_below-added, value_below-difference, value_below-scaled}
 use Rattle.ark_math.proofs.Polynomials.UnivariateProducts.{value-product}
 use Rattle.ark_blocks.specs.Blocks.{AreReversed, AreValuesFrom, IsPowerOfTwo}
-use Rattle.ark_blocks.proofs.Runs.{power_at_block, power_at_first, power_at_next, first_item, first_values}
-use Rattle.ark_blocks.proofs.Splits.{value_by_halves, value_of_same, value_split}
+use Rattle.ark_blocks.proofs.Callers.Runs.{power_at_block, power_at_first, power_at_next, first_item, first_values}
+use Rattle.ark_blocks.proofs.Callers.Splits.{value_by_halves, value_of_same, value_split}
 
 module _ {F : Type 0} (K : FieldOn F) (N : IsField K) where
   -- what a butterfly back multiplies by

@@ -4,7 +4,7 @@ use Rattle.ark_math.specs.Field.{FieldOn, IsField}
 use Rattle.ark_math.specs.Univariate.{of_list, value_below}
 use Rattle.ark_blocks.specs.Blocks.{AreReversed, AreTurned}
 use Rattle.ark_blocks.proofs.Elements.{root_of_low, second_of_low, root_of_high, second_of_high}
-use Rattle.ark_blocks.proofs.Splits.{first_turned, second_turned, third_turned, fourth_turned, value_of_one}
+use Rattle.ark_blocks.proofs.Callers.Splits.{first_turned, second_turned, third_turned, fourth_turned, value_of_one}
 
 -- of the same items and roots
 turned_same : {F : Type 0} (K : FieldOn F) {t u v a b c d e f g h t' u' v' a' b' c' d' e' f' g' h' : F} → AreTurned K t u v a b c d e f g h → t ≡ t' → u ≡ u' → v ≡ v' → a ≡ a' → b ≡ b' → c ≡ c' → d ≡ d' → e' ≡ e → f' ≡ f → g' ≡ g → h' ≡ h → AreTurned K t' u' v' a' b' c' d' e' f' g' h'

@@ -10,7 +10,7 @@ use Rattle.ark_math.proofs.Algebra.Ring.{ring3}
 use Rattle.ark_blocks.specs.Blocks.{AreReversed}
 use Rattle.ark_blocks.proofs.Elements.{power_of_block}
 use Rattle.ark_blocks.proofs.Joined.{back_item, by_blocks, front_item, outside_item, own_item, pow_half}
-use Rattle.ark_blocks.proofs.Splits.{value_by_strides, value_of_same}
+use Rattle.ark_blocks.proofs.Callers.Splits.{value_by_strides, value_of_same}
 
 module _ {F : Type 0} (K : FieldOn F) (N : IsField K) (n : ℕ) (x : ℕ → F) (R : AreReversed K n x) (b : ℕ) where
   -- two coefficients become the values at a block's two elements

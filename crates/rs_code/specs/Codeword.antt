@@ -1,5 +1,5 @@
 -- Codewords, and words with places erased.
-use Rattle.std.specs.Prelude.{◌≡◌, ◌≢◌, ℕ, ◌≤◌, Bool, true, false, List, length, Option, Some, None, get_or, count_by, is_none}
+use Rattle.std.specs.Prelude.{◌≡◌, ◌≢◌, ℕ, ◌≤◌, ◌-◌, ◌++◌, Bool, true, false, List, length, Option, Some, None, get_or, count_by, is_none, replicate}
 use Rattle.ark_math.specs.Field.{FieldOn}
 use Rattle.ark_math.specs.Module.{ModuleOn, item}
 use Rattle.ark_math.specs.Domain.{Domain}
@@ -28,3 +28,7 @@ AgreesElsewhere V marks word c = (i : ℕ) → get_or marks i true ≡ false →
 -- how many places are marked
 abbrev pub mark_count : List Bool → ℕ
 mark_count marks = count_by (λ mark. mark) marks
+
+-- all of n places marked but the first k
+abbrev pub after_first : ℕ → ℕ → List Bool
+after_first k n = replicate k false ++ replicate (n - k) true

@@ -16,6 +16,7 @@ mod marks;
 mod part;
 mod product;
 mod restore;
+mod systematic;
 mod turns;
 
 pub use code::{Code, DomainCode};

@@ -3,7 +3,7 @@ use Rattle.std.proofs.lemmas.List.{get_or_read}
 use Rattle.ark_math.specs.Univariate.{of_list, value_below}
 use Rattle.ark_blocks.proofs.Joined.{half_len, half_within, halves_within, pow_fourth, pow_half, quarter_len}
 use Rattle.ark_blocks.proofs.Levels.{blocks_joined, halves_joined, pair_values}
-use Rattle.ark_blocks.proofs.Splits.{value_of_one}
+use Rattle.ark_blocks.proofs.Callers.Splits.{value_of_one}
 use Rattle.ark_blocks.proofs.forward.+forward.Goals as goal
 
 pub halve-requires-clause-even : goal.halve-requires-clause-even

@@ -2,7 +2,7 @@ use Rattle.std.proofs.Common.{◌≡◌, ◌+◌, ◌*◌, ◌-◌, ◌/◌, ◌
 use Rattle.ark_math.specs.Univariate.{of_list, value_below}
 use Rattle.ark_blocks.proofs.Joined.{blocks_within, half_len, pow_fourth, pow_half}
 use Rattle.ark_blocks.proofs.Levels.{level_down}
-use Rattle.ark_blocks.proofs.Splits.{value_of_one}
+use Rattle.ark_blocks.proofs.Callers.Splits.{value_of_one}
 use Rattle.ark_blocks.proofs.forward.down_to_fours.Goals as goal
 
 pub loop-level-init : goal.loop-level-init

@@ -3,7 +3,7 @@ use Rattle.std.proofs.lemmas.List.{get_or-drop, length-append}
 use Rattle.ark_math.specs.Univariate.{of_list, value_below}
 use Rattle.ark_math.proofs.Lists.Lists.{written_back}
 use Rattle.ark_blocks.proofs.Evaluations.{value_at_block}
-use Rattle.ark_blocks.proofs.Padded.{item_behind, item_of_back, item_of_front, log_is, padded_behind}
+use Rattle.ark_blocks.proofs.Callers.Padded.{item_behind, item_of_back, item_of_front, log_is, padded_behind}
 use Rattle.ark_blocks.proofs.values.push_block.Goals as goal
 
 pub overflow_add-start : goal.overflow_add-start

@@ -4,8 +4,8 @@ use Rattle.ark_math.specs.Univariate.{of_list}
 use Rattle.ark_math.proofs.Polynomials.Univariate.{IsBelow-more}
 use Rattle.ark_math.proofs.Polynomials.UnivariateLists.{of_list-below}
 use Rattle.ark_blocks.specs.Blocks.{AreRoots, IsPowerOfTwo, element_of}
-use Rattle.ark_blocks.proofs.Padded.{whole_blocks}
-use Rattle.ark_blocks.proofs.Runs.{first_item, first_values}
+use Rattle.ark_blocks.proofs.Callers.Padded.{whole_blocks}
+use Rattle.ark_blocks.proofs.Callers.Runs.{first_item, first_values}
 use Rattle.ark_blocks.proofs.table.BlockRoots.extend.Goals as goal
 
 pub returns-in-Ok-clause-values : goal.returns-in-Ok-clause-values

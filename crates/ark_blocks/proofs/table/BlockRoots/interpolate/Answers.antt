@@ -1,7 +1,7 @@
 use Rattle.std.proofs.Common.{◌≡◌, ◌<◌, ◌^◌, length, sym, ap₂, ◌∙◌, subst}
 use Rattle.ark_blocks.specs.Blocks.{AreInverseRoots, AreValuesFrom, element_of}
 use Rattle.ark_blocks.proofs.Evaluations.{at_first_block, halved, same_polynomial}
-use Rattle.ark_blocks.proofs.Padded.{log_is}
+use Rattle.ark_blocks.proofs.Callers.Padded.{log_is}
 use Rattle.ark_blocks.proofs.table.BlockRoots.interpolate.Goals as goal
 
 pub backward-requires-clause-size : goal.backward-requires-clause-size

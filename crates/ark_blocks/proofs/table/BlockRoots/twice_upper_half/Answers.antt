@@ -5,8 +5,8 @@ use Rattle.ark_math.specs.Univariate.{of_list, product, value_below}
 use Rattle.ark_math.proofs.Lists.Lists.{written_back}
 use Rattle.ark_blocks.specs.Blocks.{AreTables, AreInverseRoots, AreRoots, AreValuesFrom, element_of, size_of}
 use Rattle.ark_blocks.proofs.Evaluations.{halved, turned, turned_values, upper_values}
-use Rattle.ark_blocks.proofs.Padded.{item_from, log_is}
-use Rattle.ark_blocks.proofs.Splits.{value_of_same}
+use Rattle.ark_blocks.proofs.Callers.Padded.{item_from, log_is}
+use Rattle.ark_blocks.proofs.Callers.Splits.{value_of_same}
 use Rattle.ark_blocks.proofs.table.BlockRoots.twice_upper_half.Goals as goal
 
 pub backward-requires-clause-size : goal.backward-requires-clause-size

@@ -10,7 +10,7 @@ use Rattle.ark_math.proofs.Polynomials.UnivariateValues.{value_is, one_value, va
 use Rattle.ark_math.proofs.Polynomials.UnivariateProducts.{value-product}
 use Rattle.ark_blocks.specs.Blocks.{AreReversed, AreValuesFrom, IsPowerOfTwo}
 use Rattle.ark_blocks.proofs.Elements.{power_of_block}
-use Rattle.ark_blocks.proofs.Splits.{value_by_halves, value_of_same}
+use Rattle.ark_blocks.proofs.Callers.Splits.{value_by_halves, value_of_same}
 
 module _ {F : Type 0} (K : FieldOn F) (N : IsField K) where
   -- at the elements of a block, as many as a power of two, that power is the element that the block is named by
