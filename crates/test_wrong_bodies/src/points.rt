@@ -3,10 +3,10 @@
 ghost use Rattle.std.specs.Prelude.{◌≡◌, length, IfOk};
 ghost use Rattle.ark_math.specs.Linear.{constant, linear_factor};
 ghost use Rattle.ark_math.specs.Univariate.{added, of_list, product};
-ghost use Rattle.ark_math.specs.AtPoints.{AreDifferent, HasValues};
+ghost use Rattle.ark_math.specs.AtPoints.{AreDifferent};
 
-use ark_base::{FftField, Field, PolyError};
-use ark_points::{PointsError, divide_by_linear, evaluate_at, weights_at};
+use ark_base::{Field, PolyError};
+use ark_points::{PointsError, divide_by_linear, weights_at};
 use ark_poly::univariate::DensePolynomial;
 use std::alloc::Global;
 
@@ -20,18 +20,6 @@ pub fn opened<F: Field>(
         (product F.field (of_list F.field p.0) (linear_factor F.field point)) (constant F.field p.1)) }
 {
     divide_by_linear(alloc, polynomial, point)
-}
-
-/// The values at points, in their order.
-pub fn values_at<F: FftField>(
-    alloc: Global,
-    polynomial: &DensePolynomial<F>,
-    points: &[F],
-) -> Result<Vec<F>, PolyError>
-    ensures values { IfOk result (λ v. HasValues F.field (length points.now) (of_list F.field points.now)
-        (of_list F.field v.items) (of_list F.field polynomial.now)) }
-{
-    evaluate_at(alloc, polynomial, points)
 }
 
 /// How much the value at each of the points counts at `tau`.

@@ -6,7 +6,7 @@ ghost use Rattle.ark_math.specs.Draws.{AreDrawn};
 ghost use Rattle.ark_sharing.specs.Sharing.{AreNotZero, AreShares};
 
 use ark_base::Field;
-use ark_sharing::{SharingError, share, share_with};
+use ark_sharing::{SharingError, share};
 use rand::CryptoRng;
 use std::alloc::Global;
 
@@ -36,16 +36,4 @@ pub fn shared_by_draws<F: Field, R: CryptoRng>(
         × AreShares F.field (of_list F.field (secret ∷ coeffs)) shares.items) }
 {
     share(alloc, secret, k, points, generator)
-}
-
-/// Shares of a secret by coefficients of the caller's own.
-pub fn shared_with<F: Field>(
-    alloc: Global,
-    secret: F,
-    coeffs: &[F],
-    points: &[F],
-) -> Result<Vec<(F, F)>, SharingError>
-    ensures { IfOk result (λ shares. AreShares F.field (of_list F.field (secret ∷ coeffs.now)) shares.items) }
-{
-    share_with(alloc, secret, coeffs, points)
 }
