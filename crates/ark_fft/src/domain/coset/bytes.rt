@@ -1,5 +1,5 @@
-//! Cosets in bytes: nine of their fields, or size and offset. The exponent of the odd base follows from the size, and is
-//! in neither.
+//! Cosets in bytes: nine of their fields, or size and offset. The exponent of the odd base follows from the size, and
+//! is in neither.
 
 ghost use Rattle.std.specs.Prelude.{◌≡◌};
 ghost use Rattle.ark_fft.specs.CosetBytes.{all_fields, Finds};
