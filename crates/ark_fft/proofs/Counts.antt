@@ -17,9 +17,6 @@ itself i = omega arith
 pub below_is_within : (m n : ℕ) → m < n → m ≤ n
 below_is_within m n below = omega arith
 
-pub same_is_within : (m n : ℕ) → m ≡ n → m ≤ n
-same_is_within m n e = omega arith
-
 pub one_less : (m n : ℕ) → m ≤ n → m - 1 ≤ n - 1
 one_less m n within = omega arith
 

@@ -11,8 +11,9 @@ use Rattle.ark_math.proofs.Algebra.Sums.{sum_below-same}
 use Rattle.ark_math.proofs.Lists.Lists.{read_front, read_back, written_same, written_other}
 use Rattle.ark_traits.proofs.Cost.{grows_twice}
 use Rattle.ark_math.specs.BitReversal.{reversed}
-use Rattle.ark_fft.specs.Halves.{AreLevels, IsHalfTable}
+use Rattle.ark_fft.specs.Halves.{AreLevels}
 use Rattle.ark_fft.proofs.Halving.{one_level_to, four_items}
+use Rattle.ark_fft.proofs.Levels.{IsButterfly, AreReversed, IsSplitLevel}
 use Rattle.ark_math.proofs.Numbers.PowersOfTwo.{pow_twice}
 
 -- as many items as blocks of four have
@@ -108,7 +109,7 @@ module _ {M X : Type 0} (m : X → M) (z : M) (xs : List X) (n : ℕ) (a b c d :
       ∙ written_other m z xs n k a ne0
 
 -- the parts of a place: its block of four, and the place in it
-pub in_block : (p : ℕ) → 4 * (p / 4) + p % 4 ≡ p
+in_block : (p : ℕ) → 4 * (p / 4) + p % 4 ≡ p
 in_block p = omega arith
 
 module _ {F M X : Type 0} {K : FieldOn F} {V : ModuleOn F M} (N : IsField K) (L : IsModule K V) (m : X → M) where
@@ -120,9 +121,13 @@ module _ {F M X : Type 0} {K : FieldOn F} {V : ModuleOn F M} (N : IsField K) (L 
   pub same_block : (v : F) (xs ys : List X) (r s q : ℕ) → ((b : ℕ) → b < 4 → item V (map m xs) (4 * r + b) ≡ item V (map m ys) (4 * s + b)) → of_block v xs r q ≡ of_block v ys s q
   same_block v xs ys r s q same = sum_below-same V 4 _ _ (λ b l. ap (V.scale (power K (power K v (reversed 2 q)) b)) (same b l))
 
-  -- one level above blocks of four: the butterflies make lo1 and hi1 of both halves, and the levels below lo2 and hi2
-  pub level_of_blocks : (n : ℕ) (w : F) (twiddles : List F) (xs lo hi lo1 hi1 lo2 hi2 : List X) → IsHalfTable K w twiddles → 2 < n → length twiddles ≡ 2 ^ (n - 1) → xs ≡ lo ++ hi → length lo ≡ 2 ^ (n - 1) → length lo2 ≡ 2 ^ (n - 1) → ((i : ℕ) → i < length lo → item V (map m lo1) i ≡ V.plus (item V (map m lo) i) (item V (map m hi) i)) → ((i : ℕ) → i < length lo → item V (map m hi1) i ≡ V.scale (get_or twiddles i K.zero) (V.plus (item V (map m lo) i) (V.negated (item V (map m hi) i)))) → ((p : ℕ) → p < 2 ^ (n - 1) → of_block (power K (power K w 2) (2 ^ (n - 1 - 2))) lo2 (p / 4) (p % 4) ≡ dft_at K V (2 ^ (n - 1)) (power K w 2) (item V (map m lo1)) (reversed (n - 1) p)) → ((p : ℕ) → p < 2 ^ (n - 1) → of_block (power K (power K w 2) (2 ^ (n - 1 - 2))) hi2 (p / 4) (p % 4) ≡ dft_at K V (2 ^ (n - 1)) (power K w 2) (item V (map m hi1)) (reversed (n - 1) p)) → (p : ℕ) → p < 2 ^ n → of_block (power K w (2 ^ (n - 2))) (lo2 ++ hi2) (p / 4) (p % 4) ≡ dft_at K V (2 ^ n) w (item V (map m xs)) (reversed n p)
-  level_of_blocks n w twiddles xs lo hi lo1 hi1 lo2 hi2 t some len joins len_lo len_lo2 sums differences of_lo of_hi p l =
+  -- the transform at w of 2 ^ n items of f is that of these blocks, each at its own root
+  abbrev pub AreReversedBlocks : ℕ → F → (ℕ → M) → List X → Type 0
+  AreReversedBlocks n w f xs = AreReversed K V n w f (λ p. of_block (power K w (2 ^ (n - 2))) xs (p / 4) (p % 4))
+
+  -- one level above blocks of four: the levels below make lo2 and hi2 of what its butterflies made
+  pub level_of_blocks : (n : ℕ) (w : F) (twiddles : List F) (xs lo hi lo1 hi1 lo2 hi2 : List X) → IsSplitLevel K V m n w twiddles xs lo hi lo1 hi1 → 2 < n → length lo2 ≡ 2 ^ (n - 1) → AreReversedBlocks (n - 1) (power K w 2) (item V (map m lo1)) lo2 → AreReversedBlocks (n - 1) (power K w 2) (item V (map m hi1)) hi2 → AreReversedBlocks n w (item V (map m xs)) (lo2 ++ hi2)
+  level_of_blocks n w twiddles xs lo hi lo1 hi1 lo2 hi2 level some len_lo2 of_lo of_hi =
       let j = n - 1 - 2 in
       let next : suc j ≡ n - 2 = omega arith in
       let twice : 2 * 2 ^ j ≡ 2 ^ (n - 2) = omega (arith, pow_twice j) ∙ ap (λ u. 2 ^ u) next in
@@ -130,7 +135,7 @@ module _ {F M X : Type 0} {K : FieldOn F} {V : ModuleOn F M} (N : IsField K) (L 
       let size : 2 ^ (n - 1) ≡ 4 * 2 ^ j = fours (n - 1) (omega arith) in
       let there : (u : ℕ) → of_block (power K w (2 ^ (n - 2))) (lo2 ++ hi2) (u / 4) (u % 4) ≡ of_block (power K (power K w 2) (2 ^ j)) (lo2 ++ hi2) (u / 4) (u % 4) = λ u.
       ap (λ v. of_block v (lo2 ++ hi2) (u / 4) (u % 4)) root in
-      one_level_to N L m n w twiddles xs lo hi lo1 hi1 (λ u. of_block (power K w (2 ^ (n - 2))) (lo2 ++ hi2) (u / 4) (u % 4)) t (omega arith) len joins len_lo sums differences
+      one_level_to N L m n w twiddles xs lo hi lo1 hi1 (λ u. of_block (power K w (2 ^ (n - 2))) (lo2 ++ hi2) (u / 4) (u % 4)) level
       (λ u b. there u ∙ (same_block (power K (power K w 2) (2 ^ j)) (lo2 ++ hi2) lo2 (u / 4) (u / 4) (u % 4) (λ e s. read_front m V.zero lo2 hi2 (4 * (u / 4) + e) (omega (arith, b, s, size, len_lo2))) ∙ of_lo u b))
       (λ u b.
       let block : (2 ^ (n - 1) + u) / 4 ≡ 2 ^ j + u / 4 = omega (arith, size) in
@@ -141,10 +146,9 @@ module _ {F M X : Type 0} {K : FieldOn F} {V : ModuleOn F M} (N : IsField K) (L 
       ∙ (same_block (power K (power K w 2) (2 ^ j)) (lo2 ++ hi2) hi2 (2 ^ j + u / 4) (u / 4) (u % 4)
       (λ e s. ap (item V (map m (lo2 ++ hi2))) (where_from e) ∙ read_back m V.zero lo2 hi2 (2 ^ (n - 1)) (4 * (u / 4) + e) len_lo2)
       ∙ of_hi u b)))
-      p l
 
   -- four items are one block
-  pub one_block_of_four : (n : ℕ) (w : F) (xs : List X) → n ≡ 2 → (p : ℕ) → p < 2 ^ n → of_block (power K w (2 ^ (n - 2))) xs (p / 4) (p % 4) ≡ dft_at K V (2 ^ n) w (item V (map m xs)) (reversed n p)
+  pub one_block_of_four : (n : ℕ) (w : F) (xs : List X) → n ≡ 2 → AreReversedBlocks n w (item V (map m xs)) xs
   one_block_of_four n w xs is p l =
       let b : p < 4 = rw is at l in
       let block : p / 4 ≡ 0 = omega (arith, b) in
@@ -153,22 +157,29 @@ module _ {F M X : Type 0} {K : FieldOn F} {V : ModuleOn F M} (N : IsField K) (L 
       (ap (λ v. of_block v xs (p / 4) (p % 4)) (N.times_one w) ∙ ap₂ (of_block w xs) block place)
 
   -- the blocks' own transforms make the whole one
-  pub blocks_transformed : (n : ℕ) (w : F) (old mid now : List X) → ((p : ℕ) → p < 2 ^ n → of_block (power K w (2 ^ (n - 2))) mid (p / 4) (p % 4) ≡ dft_at K V (2 ^ n) w (item V (map m old)) (reversed n p)) → 2 ≤ n → ((r q : ℕ) → r < 2 ^ (n - 2) → q < 4 → item V (map m now) (4 * r + q) ≡ of_block (power K w (2 ^ (n - 2))) mid r q) → (p : ℕ) → p < 2 ^ n → item V (map m now) p ≡ dft_at K V (2 ^ n) w (item V (map m old)) (reversed n p)
+  pub blocks_transformed : (n : ℕ) (w : F) (old mid now : List X) → AreReversedBlocks n w (item V (map m old)) mid → 2 ≤ n → ((r q : ℕ) → r < 2 ^ (n - 2) → q < 4 → item V (map m now) (4 * r + q) ≡ of_block (power K w (2 ^ (n - 2))) mid r q) → AreReversed K V n w (item V (map m old)) (item V (map m now))
   blocks_transformed n w old mid now above le blocks p l =
       ap (item V (map m now)) (sym (in_block p)) ∙ (blocks (p / 4) (p % 4) (omega (arith, l, fours n le)) (omega arith) ∙ above p l)
 
+  -- a block's four items by two levels of butterflies: their places' items before, those between the levels, and those after
+  pub record AreFour (tables : List F) (old : ℕ → M) (a b c d e f g h : X) : Type 0 where
+    pub evens : IsButterfly V (get_or tables 0 K.zero) (old 0) (old 2) (m a) (m c)
+    pub odds : IsButterfly V (get_or tables 1 K.zero) (old 1) (old 3) (m b) (m d)
+    pub front : IsButterfly V (get_or tables 2 K.zero) (m a) (m b) (m e) (m f)
+    pub back : IsButterfly V (get_or tables 2 K.zero) (m c) (m d) (m g) (m h)
+
   -- a block's four items, written over what they were
-  pub block_written : (w : F) (tables : List F) (xs : List X) (r : ℕ) (a b c d e f g h : X) → AreLevels K w 2 tables → length tables ≡ 4 → (inside : 4 * r + 3 < length xs) → m a ≡ V.plus (item V (map m xs) (4 * r)) (item V (map m xs) (4 * r + 2)) → m b ≡ V.plus (item V (map m xs) (4 * r + 1)) (item V (map m xs) (4 * r + 3)) → m c ≡ V.scale (get_or tables 0 K.zero) (V.plus (item V (map m xs) (4 * r)) (V.negated (item V (map m xs) (4 * r + 2)))) → m d ≡ V.scale (get_or tables 1 K.zero) (V.plus (item V (map m xs) (4 * r + 1)) (V.negated (item V (map m xs) (4 * r + 3)))) → m e ≡ V.plus (m a) (m b) → m f ≡ V.scale (get_or tables 2 K.zero) (V.plus (m a) (V.negated (m b))) → m g ≡ V.plus (m c) (m d) → m h ≡ V.scale (get_or tables 2 K.zero) (V.plus (m c) (V.negated (m d))) → (q : ℕ) → q < 4 → item V (map m (four_written m V.zero xs (4 * r) e f g h inside)) (4 * r + q) ≡ of_block w xs r q
-  block_written w tables xs r a b c d e f g h levels len inside of_a of_b of_c of_d of_e of_f of_g of_h q l =
-      let old = item V (map m xs) in
+  pub block_written : (w : F) (tables : List F) (xs : List X) (r : ℕ) (a b c d e f g h : X) → AreLevels K w 2 tables → length tables ≡ 4 → (inside : 4 * r + 3 < length xs) → AreFour tables (λ j. item V (map m xs) (4 * r + j)) a b c d e f g h → (q : ℕ) → q < 4 → item V (map m (four_written m V.zero xs (4 * r) e f g h inside)) (4 * r + q) ≡ of_block w xs r q
+  block_written w tables xs r a b c d e f g h levels len inside four =
       let here : 4 * r + 0 ≡ 4 * r = omega arith in
-      let start : old (4 * r) ≡ old (4 * r + 0) = ap old (sym here) in
       let now = four_written m V.zero xs (4 * r) e f g h inside in
-      four_items N L w tables (λ j. old (4 * r + j)) (λ j. item V (map m now) (4 * r + j)) (m a) (m b) (m c) (m d) levels len
-      (of_a ∙ ap (λ x. V.plus x (old (4 * r + 2))) start) of_b
-      (of_c ∙ ap (λ x. V.scale (get_or tables 0 K.zero) (V.plus x (V.negated (old (4 * r + 2))))) start) of_d
-      (ap (item V (map m now)) here ∙ (written_first m V.zero xs (4 * r) e f g h inside ∙ of_e))
-      (written_second m V.zero xs (4 * r) e f g h inside ∙ of_f)
-      (written_third m V.zero xs (4 * r) e f g h inside ∙ of_g)
-      (written_fourth m V.zero xs (4 * r) e f g h inside ∙ of_h)
-      q l
+      four_items N L w tables (λ j. item V (map m xs) (4 * r + j)) (λ j. item V (map m now) (4 * r + j)) (m a) (m b) (m c) (m d) levels len
+      four.evens four.odds
+      (record {
+        sum = ap (item V (map m now)) here ∙ written_first m V.zero xs (4 * r) e f g h inside ∙ four.front.sum;
+        difference = written_second m V.zero xs (4 * r) e f g h inside ∙ four.front.difference;
+      })
+      (record {
+        sum = written_third m V.zero xs (4 * r) e f g h inside ∙ four.back.sum;
+        difference = written_fourth m V.zero xs (4 * r) e f g h inside ∙ four.back.difference;
+      })

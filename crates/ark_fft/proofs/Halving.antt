@@ -11,6 +11,7 @@ use Rattle.ark_math.specs.Module.{ModuleOn, IsModule, sum_below, item}
 use Rattle.ark_math.proofs.Transforms.Places.{dft_at}
 use Rattle.ark_math.specs.BitReversal.{reversed}
 use Rattle.ark_fft.specs.Halves.{IsHalfTable, AreLevels}
+use Rattle.ark_fft.proofs.Levels.{IsButterfly, same_butterfly, AreReversed, AreTransformed, IsSplitLevel}
 use Rattle.ark_math.proofs.Algebra.Groups.{zero_plus}
 use Rattle.ark_math.proofs.Lists.Lists.{read_front, read_back, read_order}
 use Rattle.ark_math.proofs.Algebra.Powers.{power-add, power-mul, power_comm, negated_one_even, negated_one_odd, half_of_order}
@@ -29,10 +30,6 @@ few_levels n l =
 -- a shifted one is a power
 pub shifted : (k : ℕ) → k < 64 → 1 * 2 ^ k % 18446744073709551616 ≡ 2 ^ k
 shifted k l = mod-eq_of_lt (omega (arith, pow-lt l)) ∙ one-mul (2 ^ k)
-
-pub some_level : (n size : ℕ) → size ≡ 2 ^ n → 1 < size → 0 < n
-some_level zero size is l = absurd (omega arith)
-some_level (suc n) size is l = omega arith
 
 pub one_item : (n size : ℕ) → size ≡ 2 ^ n → size ≤ 1 → n ≡ 0
 one_item zero size is l = refl
@@ -119,20 +116,20 @@ module _ {F M : Type 0} {K : FieldOn F} {V : ModuleOn F M} (N : IsField K) (L : 
       ∙ ap (V.scale (power K y j)) (sym (e j l))))
 
   -- the transform at w, in reversed order, from those of the sums and of the differences at w ^ 2
-  level_at : (k : ℕ) (w : F) (f g h r : ℕ → M) → power K w (2 ^ k) ≡ K.negated K.one → ((j : ℕ) → j < 2 ^ k → g j ≡ V.plus (f j) (f (2 ^ k + j))) → ((j : ℕ) → j < 2 ^ k → h j ≡ V.scale (power K w j) (V.plus (f j) (V.negated (f (2 ^ k + j))))) → ((p : ℕ) → p < 2 ^ k → r p ≡ dft_at K V (2 ^ k) (power K w 2) g (reversed k p)) → ((p : ℕ) → p < 2 ^ k → r (2 ^ k + p) ≡ dft_at K V (2 ^ k) (power K w 2) h (reversed k p)) → (p : ℕ) → Half k p → r p ≡ dft_at K V (2 ^ suc k) w f (reversed (suc k) p)
-  level_at k w f g h r half sums differences of_lo of_hi _ (low p l) =
+  level_at : (k : ℕ) (w : F) (f g h r : ℕ → M) → power K w (2 ^ k) ≡ K.negated K.one → ((j : ℕ) → j < 2 ^ k → IsButterfly V (power K w j) (f j) (f (2 ^ k + j)) (g j) (h j)) → AreReversed K V k (power K w 2) g r → AreReversed K V k (power K w 2) h (λ p. r (2 ^ k + p)) → (p : ℕ) → Half k p → r p ≡ dft_at K V (2 ^ suc k) w f (reversed (suc k) p)
+  level_at k w f g h r half butterflies of_lo of_hi _ (low p l) =
       let halves : 2 ^ k + 2 ^ k ≡ 2 ^ suc k = omega (arith, pow_twice k) in
       of_lo p l
-      ∙ (sym (at_even (2 ^ k) w f g (reversed k p) half sums)
+      ∙ (sym (at_even (2 ^ k) w f g (reversed k p) half (λ j b. (butterflies j b).sum))
       ∙ ap₂ (λ n i. dft_at K V n w f i) halves (sym (reversed_low k p l)))
-  level_at k w f g h r half sums differences of_lo of_hi _ (high p l) =
+  level_at k w f g h r half butterflies of_lo of_hi _ (high p l) =
       let halves : 2 ^ k + 2 ^ k ≡ 2 ^ suc k = omega (arith, pow_twice k) in
       of_hi p l
-      ∙ (sym (at_odd (2 ^ k) w f h (reversed k p) half differences)
+      ∙ (sym (at_odd (2 ^ k) w f h (reversed k p) half (λ j b. (butterflies j b).difference))
       ∙ ap₂ (λ n i. dft_at K V n w f i) halves (sym (reversed_high k p (2 ^ k + p) refl)))
 
   -- one item is its own transform
-  pub no_level : (n : ℕ) (w : F) (f : ℕ → M) → n ≡ 0 → (p : ℕ) → p < 2 ^ n → f p ≡ dft_at K V (2 ^ n) w f (reversed n p)
+  pub no_level : (n : ℕ) (w : F) (f : ℕ → M) → n ≡ 0 → AreReversed K V n w f f
   no_level n w f e p l =
       let b : p < 2 ^ 0 = rw e at l in
       let z : p ≡ 0 = omega arith in
@@ -140,8 +137,8 @@ module _ {F M : Type 0} {K : FieldOn F} {V : ModuleOn F M} (N : IsField K) (L : 
       (ap f z ∙ sym (zero_plus L (V.scale K.one (f 0)) ∙ L.one_scale (f 0)))
 
   -- two items: their sum, and their difference, which the table's first power, one, multiplies
-  pub one_pair : (n : ℕ) (w : F) (tables : List F) (f r : ℕ → M) → AreLevels K w n tables → n ≡ 1 → length tables ≡ 2 ^ n → r 0 ≡ V.plus (f 0) (f 1) → r 1 ≡ V.scale (get_or tables 0 K.zero) (V.plus (f 0) (V.negated (f 1))) → (p : ℕ) → p < 2 ^ n → r p ≡ dft_at K V (2 ^ n) w f (reversed n p)
-  one_pair n w tables f r levels one len sum difference =
+  pub one_pair : (n : ℕ) (w : F) (tables : List F) (f r : ℕ → M) → AreLevels K w n tables → n ≡ 1 → length tables ≡ 2 ^ n → IsButterfly V (get_or tables 0 K.zero) (f 0) (f 1) (r 0) (r 1) → AreReversed K V n w f r
+  one_pair n w tables f r levels one len butterfly =
       let t : IsHalfTable K w (take 1 tables) = (subst (λ k. AreLevels K w k tables) one levels).0 in
       let len1 : length tables ≡ 2 ^ 1 = subst (λ k. length tables ≡ 2 ^ k) one len in
       let len_first : length (take 1 tables) ≡ 1 = length-take-le 1 tables (omega (arith, len1)) in
@@ -149,15 +146,17 @@ module _ {F M : Type 0} {K : FieldOn F} {V : ModuleOn F M} (N : IsField K) (L : 
       let g : ℕ → M = λ j. V.plus (f j) (f (1 + j)) in
       let h : ℕ → M = λ j. V.scale (power K w j) (V.plus (f j) (V.negated (f (1 + j)))) in
       let first : get_or tables 0 K.zero ≡ K.one = sym (get_or-take 1 tables 0 K.zero (omega arith)) ∙ t.powers 0 (omega (arith, len_first)) in
-      let at_lo : (p : ℕ) → p < 1 → r p ≡ g p = λ p l. let z : p ≡ 0 = omega arith in subst (λ k. r k ≡ g k) (sym z) sum in
-      let at_hi : (p : ℕ) → p < 1 → r (1 + p) ≡ h p = λ p l. let z : p ≡ 0 = omega arith in subst (λ k. r (1 + k) ≡ h k) (sym z) (difference ∙ ap (λ x. V.scale x (V.plus (f 0) (V.negated (f 1)))) first) in
-      subst (λ k. (p : ℕ) → p < 2 ^ k → r p ≡ dft_at K V (2 ^ k) w f (reversed k p)) (sym one)
+      let pair = same_butterfly V first refl refl butterfly in
+      let at_lo : (p : ℕ) → p < 1 → r p ≡ g p = λ p l. let z : p ≡ 0 = omega arith in subst (λ k. r k ≡ g k) (sym z) pair.sum in
+      let at_hi : (p : ℕ) → p < 1 → r (1 + p) ≡ h p = λ p l. let z : p ≡ 0 = omega arith in subst (λ k. r (1 + k) ≡ h k) (sym z) pair.difference in
+      subst (λ k. AreReversed K V k w f r) (sym one)
       (λ p l.
-      level_at 0 w f g h r half (λ j b. refl) (λ j b. refl) (λ q b. at_lo q b ∙ no_level 0 (power K w 2) g refl q b) (λ q b. at_hi q b ∙ no_level 0 (power K w 2) h refl q b) p (half_of 0 p l))
+      level_at 0 w f g h r half (λ j b. record { sum = refl; difference = refl })
+      (λ q b. at_lo q b ∙ no_level 0 (power K w 2) g refl q b) (λ q b. at_hi q b ∙ no_level 0 (power K w 2) h refl q b) p (half_of 0 p l))
 
   -- four items: the butterflies across their halves, and then those of two pairs
-  pub four_items : (w : F) (tables : List F) (f r : ℕ → M) (a b c d : M) → AreLevels K w 2 tables → length tables ≡ 4 → a ≡ V.plus (f 0) (f 2) → b ≡ V.plus (f 1) (f 3) → c ≡ V.scale (get_or tables 0 K.zero) (V.plus (f 0) (V.negated (f 2))) → d ≡ V.scale (get_or tables 1 K.zero) (V.plus (f 1) (V.negated (f 3))) → r 0 ≡ V.plus a b → r 1 ≡ V.scale (get_or tables 2 K.zero) (V.plus a (V.negated b)) → r 2 ≡ V.plus c d → r 3 ≡ V.scale (get_or tables 2 K.zero) (V.plus c (V.negated d)) → (p : ℕ) → p < 4 → r p ≡ dft_at K V 4 w f (reversed 2 p)
-  four_items w tables f r a b c d levels len of_a of_b of_c of_d r0 r1 r2 r3 p l =
+  pub four_items : (w : F) (tables : List F) (f r : ℕ → M) (a b c d : M) → AreLevels K w 2 tables → length tables ≡ 4 → IsButterfly V (get_or tables 0 K.zero) (f 0) (f 2) a c → IsButterfly V (get_or tables 1 K.zero) (f 1) (f 3) b d → IsButterfly V (get_or tables 2 K.zero) a b (r 0) (r 1) → IsButterfly V (get_or tables 2 K.zero) c d (r 2) (r 3) → AreReversed K V 2 w f r
+  four_items w tables f r a b c d levels len first second front back p l =
       let t : IsHalfTable K w (take 2 tables) = levels.0 in
       let rest = drop 2 tables in
       let len_first : length (take 2 tables) ≡ 2 = length-take-le 2 tables (omega (arith, len)) in
@@ -168,41 +167,39 @@ module _ {F M : Type 0} {K : FieldOn F} {V : ModuleOn F M} (N : IsField K) (L : 
       let g : ℕ → M = first_or a b in
       let h : ℕ → M = first_or c d in
       level_at 1 w f g h r half
-      (λ j s. of_two (λ i. g i ≡ V.plus (f i) (f (2 + i))) of_a of_b j s)
-      (λ j s. of_two (λ i. h i ≡ V.scale (power K w i) (V.plus (f i) (V.negated (f (2 + i)))))
-      (of_c ∙ ap (λ x. V.scale x (V.plus (f 0) (V.negated (f 2)))) (entry 0 (omega arith)))
-      (of_d ∙ ap (λ x. V.scale x (V.plus (f 1) (V.negated (f 3)))) (entry 1 (omega arith))) j s)
-      (λ q s. one_pair 1 (power K w 2) rest g r levels.1 refl len_rest r0 (r1 ∙ ap (λ x. V.scale x (V.plus a (V.negated b))) next) q s)
-      (λ q s. one_pair 1 (power K w 2) rest h (λ i. r (2 + i)) levels.1 refl len_rest r2 (r3 ∙ ap (λ x. V.scale x (V.plus c (V.negated d))) next) q s)
+      (λ j s. of_two (λ i. IsButterfly V (power K w i) (f i) (f (2 + i)) (g i) (h i)) (same_butterfly V (entry 0 (omega arith)) refl refl first) (same_butterfly V (entry 1 (omega arith)) refl refl second) j s)
+      (one_pair 1 (power K w 2) rest g r levels.1 refl len_rest (same_butterfly V next refl refl front))
+      (one_pair 1 (power K w 2) rest h (λ i. r (2 + i)) levels.1 refl len_rest (same_butterfly V next refl refl back))
       p (half_of 1 p l)
 
 module _ {F M X : Type 0} {K : FieldOn F} {V : ModuleOn F M} (N : IsField K) (L : IsModule K V) (m : X → M) where
-  -- one level, on lists: xs is lo and hi, and the butterflies make them lo1 and hi1, whose transforms are known
-  pub one_level_to : (n : ℕ) (w : F) (twiddles : List F) (xs lo hi lo1 hi1 : List X) (r : ℕ → M) → IsHalfTable K w twiddles → 0 < n → length twiddles ≡ 2 ^ (n - 1) → xs ≡ lo ++ hi → length lo ≡ 2 ^ (n - 1) → ((i : ℕ) → i < length lo → item V (map m lo1) i ≡ V.plus (item V (map m lo) i) (item V (map m hi) i)) → ((i : ℕ) → i < length lo → item V (map m hi1) i ≡ V.scale (get_or twiddles i K.zero) (V.plus (item V (map m lo) i) (V.negated (item V (map m hi) i)))) → ((p : ℕ) → p < 2 ^ (n - 1) → r p ≡ dft_at K V (2 ^ (n - 1)) (power K w 2) (item V (map m lo1)) (reversed (n - 1) p)) → ((p : ℕ) → p < 2 ^ (n - 1) → r (2 ^ (n - 1) + p) ≡ dft_at K V (2 ^ (n - 1)) (power K w 2) (item V (map m hi1)) (reversed (n - 1) p)) → (p : ℕ) → p < 2 ^ n → r p ≡ dft_at K V (2 ^ n) w (item V (map m xs)) (reversed n p)
-  one_level_to n w twiddles xs lo hi lo1 hi1 r t pos len joins len_lo sums differences of_lo of_hi p l =
+  -- one level, on lists, where the transforms of what the butterflies made are known
+  pub one_level_to : (n : ℕ) (w : F) (twiddles : List F) (xs lo hi lo1 hi1 : List X) (r : ℕ → M) → IsSplitLevel K V m n w twiddles xs lo hi lo1 hi1 → AreReversed K V (n - 1) (power K w 2) (item V (map m lo1)) r → AreReversed K V (n - 1) (power K w 2) (item V (map m hi1)) (λ p. r (2 ^ (n - 1) + p)) → AreReversed K V n w (item V (map m xs)) r
+  one_level_to n w twiddles xs lo hi lo1 hi1 r level of_lo of_hi p l =
       let k = n - 1 in
+      let pos = level.some in
+      let len = level.enough in
+      let len_lo = level.len_lo in
       let suc_k : suc k ≡ n = omega arith in
       let any : 0 < length twiddles = omega (arith, len, pow_pos k) in
-      let half : power K w (2 ^ k) ≡ K.negated K.one = sym (ap (power K w) len) ∙ t.half any in
+      let half : power K w (2 ^ k) ≡ K.negated K.one = sym (ap (power K w) len) ∙ level.table.half any in
       let old = item V (map m xs) in
-      let front : (i : ℕ) → i < 2 ^ k → item V (map m lo) i ≡ old i = λ i b. sym (ap (λ u. item V (map m u) i) joins ∙ read_front m V.zero lo hi i (omega arith)) in
-      let back : (i : ℕ) → item V (map m hi) i ≡ old (2 ^ k + i) = λ i. sym (ap (λ u. item V (map m u) (2 ^ k + i)) joins ∙ read_back m V.zero lo hi (2 ^ k) i len_lo) in
+      let front : (i : ℕ) → i < 2 ^ k → item V (map m lo) i ≡ old i = λ i b. sym (ap (λ u. item V (map m u) i) level.halves ∙ read_front m V.zero lo hi i (omega arith)) in
+      let back : (i : ℕ) → item V (map m hi) i ≡ old (2 ^ k + i) = λ i. sym (ap (λ u. item V (map m u) (2 ^ k + i)) level.halves ∙ read_back m V.zero lo hi (2 ^ k) i len_lo) in
       subst (λ u. r p ≡ dft_at K V (2 ^ u) w old (reversed u p)) suc_k
       (level_at N L k w old (item V (map m lo1)) (item V (map m hi1)) r half
-      (λ i b. sums i (omega arith) ∙ ap₂ V.plus (front i b) (back i))
-      (λ i b. differences i (omega arith) ∙ ap₂ V.scale (t.powers i (omega (arith, b, len))) (ap₂ (λ x y. V.plus x (V.negated y)) (front i b) (back i)))
+      (λ i b. same_butterfly V (level.table.powers i (omega (arith, b, len))) (front i b) (back i) (level.butterflies i (omega arith)))
       of_lo of_hi p (half_of k p (rw suc_k l)))
 
   -- and the levels below make them lo2 and hi2
-  pub one_level : (n : ℕ) (w : F) (twiddles : List F) (xs lo hi lo1 hi1 lo2 hi2 : List X) → IsHalfTable K w twiddles → 0 < n → length twiddles ≡ 2 ^ (n - 1) → xs ≡ lo ++ hi → length lo ≡ 2 ^ (n - 1) → length lo2 ≡ 2 ^ (n - 1) → ((i : ℕ) → i < length lo → item V (map m lo1) i ≡ V.plus (item V (map m lo) i) (item V (map m hi) i)) → ((i : ℕ) → i < length lo → item V (map m hi1) i ≡ V.scale (get_or twiddles i K.zero) (V.plus (item V (map m lo) i) (V.negated (item V (map m hi) i)))) → ((p : ℕ) → p < 2 ^ (n - 1) → item V (map m lo2) p ≡ dft_at K V (2 ^ (n - 1)) (power K w 2) (item V (map m lo1)) (reversed (n - 1) p)) → ((p : ℕ) → p < 2 ^ (n - 1) → item V (map m hi2) p ≡ dft_at K V (2 ^ (n - 1)) (power K w 2) (item V (map m hi1)) (reversed (n - 1) p)) → (p : ℕ) → p < 2 ^ n → item V (map m (lo2 ++ hi2)) p ≡ dft_at K V (2 ^ n) w (item V (map m xs)) (reversed n p)
-  one_level n w twiddles xs lo hi lo1 hi1 lo2 hi2 t pos len joins len_lo len_lo2 sums differences of_lo of_hi p l =
-      one_level_to n w twiddles xs lo hi lo1 hi1 (item V (map m (lo2 ++ hi2))) t pos len joins len_lo sums differences
+  pub one_level : (n : ℕ) (w : F) (twiddles : List F) (xs lo hi lo1 hi1 lo2 hi2 : List X) → IsSplitLevel K V m n w twiddles xs lo hi lo1 hi1 → length lo2 ≡ 2 ^ (n - 1) → AreReversed K V (n - 1) (power K w 2) (item V (map m lo1)) (item V (map m lo2)) → AreReversed K V (n - 1) (power K w 2) (item V (map m hi1)) (item V (map m hi2)) → AreReversed K V n w (item V (map m xs)) (item V (map m (lo2 ++ hi2)))
+  one_level n w twiddles xs lo hi lo1 hi1 lo2 hi2 level len_lo2 of_lo of_hi =
+      one_level_to n w twiddles xs lo hi lo1 hi1 (item V (map m (lo2 ++ hi2))) level
       (λ q b. read_front m V.zero lo2 hi2 q (omega arith) ∙ of_lo q b)
       (λ q b. read_back m V.zero lo2 hi2 (2 ^ (n - 1)) q len_lo2 ∙ of_hi q b)
-      p l
 
   -- all levels, their order restored
-  pub all_levels : (n : ℕ) (w : F) (old mid now : List X) → length mid ≡ 2 ^ n → length now ≡ 2 ^ n → ((p : ℕ) → p < 2 ^ n → item V (map m mid) p ≡ dft_at K V (2 ^ n) w (item V (map m old)) (reversed n p)) → ((p : ℕ) (d : X) → p < 2 ^ n → get_or now p d ≡ get_or mid (reversed n p) d) → (i : ℕ) → i < 2 ^ n → item V (map m now) i ≡ dft_at K V (2 ^ n) w (item V (map m old)) i
+  pub all_levels : (n : ℕ) (w : F) (old mid now : List X) → length mid ≡ 2 ^ n → length now ≡ 2 ^ n → AreReversed K V n w (item V (map m old)) (item V (map m mid)) → ((p : ℕ) (d : X) → p < 2 ^ n → get_or now p d ≡ get_or mid (reversed n p) d) → AreTransformed K V (2 ^ n) (2 ^ n) w (item V (map m old)) (item V (map m now))
   all_levels n w old mid now of_mid of_now halves order i l =
       read_order m V.zero (reversed n) mid now
       (λ q c. let d : q < 2 ^ n = omega arith in let e = reversed_below n q d in omega arith)

@@ -15,6 +15,7 @@ use Rattle.ark_math.proofs.Lists.Lists.{read_front, read_back, read_order}
 use Rattle.ark_math.proofs.Algebra.Powers.{power-add, power-mul, power_comm, negated_one_even}
 use Rattle.ark_math.proofs.Algebra.Regrouped.{sum_below-past}
 use Rattle.ark_fft.proofs.Halving.{count_levels}
+use Rattle.ark_fft.proofs.Levels.{IsJoin, same_join, AreTransformed, IsJoinedLevel}
 use Rattle.ark_math.proofs.Numbers.BitReversal.{Half, low, high, half_of, reversed_low, reversed_high, reversed_below}
 use Rattle.ark_math.proofs.Numbers.PowersOfTwo.{pow_pred}
 use Rattle.ark_math.proofs.Algebra.Ring.{module1_2}
@@ -119,11 +120,11 @@ module _ {F M : Type 0} {K : FieldOn F} {V : ModuleOn F M} (N : IsField K) (L : 
       ∙ module1_2 N L (λ x a b. (a ⊞ (negative unit ⊗ x) • b, a ⊟ x • b)) refl (power K w i) _ _)
 
   -- the sums at w from those of the even and the odd items at w ^ 2
-  joined_at : (k m : ℕ) (w : F) (c f g r : ℕ → M) → power K w (2 ^ k) ≡ K.negated K.one → ((p : ℕ) → p < 2 ^ k → f p ≡ dft_at K V m (power K w 2) (λ j. c (2 * j + 0)) p) → ((p : ℕ) → p < 2 ^ k → g p ≡ dft_at K V m (power K w 2) (λ j. c (2 * j + 1)) p) → ((p : ℕ) → p < 2 ^ k → r p ≡ V.plus (f p) (V.scale (power K w p) (g p))) → ((p : ℕ) → p < 2 ^ k → r (2 ^ k + p) ≡ V.plus (f p) (V.negated (V.scale (power K w p) (g p)))) → (p : ℕ) → Half k p → r p ≡ dft_at K V (2 * m) w c p
-  joined_at k m w c f g r half evens odds sums differences _ (low p l) =
-      sums p l ∙ (ap₂ (λ x y. V.plus x (V.scale (power K w p) y)) (evens p l) (odds p l) ∙ sym (joined m w c p))
-  joined_at k m w c f g r half evens odds sums differences _ (high p l) =
-      differences p l ∙ (ap₂ (λ x y. V.plus x (V.negated (V.scale (power K w p) y))) (evens p l) (odds p l) ∙ sym (joined_opposite m (2 ^ k) w c p half))
+  joined_at : (k n : ℕ) (w : F) (c f g r : ℕ → M) → power K w (2 ^ k) ≡ K.negated K.one → AreTransformed K V (2 ^ k) n (power K w 2) (λ j. c (2 * j + 0)) f → AreTransformed K V (2 ^ k) n (power K w 2) (λ j. c (2 * j + 1)) g → ((p : ℕ) → p < 2 ^ k → IsJoin V (power K w p) (f p) (g p) (r p) (r (2 ^ k + p))) → (p : ℕ) → Half k p → r p ≡ dft_at K V (2 * n) w c p
+  joined_at k n w c f g r half evens odds joins _ (low p l) =
+      (same_join V refl (evens p l) (odds p l) (joins p l)).sum ∙ sym (joined n w c p)
+  joined_at k n w c f g r half evens odds joins _ (high p l) =
+      (same_join V refl (evens p l) (odds p l) (joins p l)).difference ∙ sym (joined_opposite n (2 ^ k) w c p half)
 
 module _ {F M X : Type 0} {K : FieldOn F} {V : ModuleOn F M} (N : IsField K) (L : IsModule K V) (m : X → M) where
   -- the list has the items c 0, c 1, .. of 2 ^ e in the reversed order, each in a block of its own
@@ -145,23 +146,29 @@ module _ {F M X : Type 0} {K : FieldOn F} {V : ModuleOn F M} (N : IsField K) (L 
       ∙ (blocks (2 ^ (n - 1) + p) b ∙ ap c (blocks_back n e some within p))
 
   -- one level, on lists: the halves are transformed to lo and hi, and joined to lo1 and hi1
-  pub joined_level : (n e : ℕ) (w : F) (twiddles : List F) (c : ℕ → M) (lo hi lo1 hi1 : List X) → IsHalfTable K w twiddles → 0 < e → e ≤ n → length twiddles ≡ 2 ^ (n - 1) → length lo ≡ 2 ^ (n - 1) → length lo1 ≡ 2 ^ (n - 1) → ((p : ℕ) → p < 2 ^ (n - 1) → item V (map m lo) p ≡ dft_at K V (2 ^ (e - 1)) (power K w 2) (λ j. c (2 * j + 0)) p) → ((p : ℕ) → p < 2 ^ (n - 1) → item V (map m hi) p ≡ dft_at K V (2 ^ (e - 1)) (power K w 2) (λ j. c (2 * j + 1)) p) → ((i : ℕ) → i < length lo → item V (map m lo1) i ≡ V.plus (item V (map m lo) i) (V.scale (get_or twiddles i K.zero) (item V (map m hi) i))) → ((i : ℕ) → i < length lo → item V (map m hi1) i ≡ V.plus (item V (map m lo) i) (V.negated (V.scale (get_or twiddles i K.zero) (item V (map m hi) i)))) → (p : ℕ) → p < 2 ^ n → item V (map m (lo1 ++ hi1)) p ≡ dft_at K V (2 ^ e) w c p
-  joined_level n e w twiddles c lo hi lo1 hi1 t some within len_twiddles len_lo len_lo1 evens odds sums differences p l =
+  pub joined_level : (n e : ℕ) (w : F) (twiddles : List F) (c : ℕ → M) (lo hi lo1 hi1 : List X) → IsJoinedLevel K V m n e w twiddles lo hi lo1 hi1 → AreTransformed K V (2 ^ (n - 1)) (2 ^ (e - 1)) (power K w 2) (λ j. c (2 * j + 0)) (item V (map m lo)) → AreTransformed K V (2 ^ (n - 1)) (2 ^ (e - 1)) (power K w 2) (λ j. c (2 * j + 1)) (item V (map m hi)) → AreTransformed K V (2 ^ n) (2 ^ e) w c (item V (map m (lo1 ++ hi1)))
+  joined_level n e w twiddles c lo hi lo1 hi1 level evens odds p l =
       let k = n - 1 in
-      let pos : 0 < n = omega arith in
+      let some = level.some in
+      let within = level.within in
+      let enough = level.enough in
+      let len_lo = level.len_lo in
+      let len_lo1 = level.len_lo1 in
       let suc_k : suc k ≡ n = omega arith in
-      let any : 0 < length twiddles = omega (arith, len_twiddles, pow_pos k) in
-      let half : power K w (2 ^ k) ≡ K.negated K.one = sym (ap (power K w) len_twiddles) ∙ t.half any in
+      let any : 0 < length twiddles = omega (arith, enough, pow_pos k) in
+      let half : power K w (2 ^ k) ≡ K.negated K.one = sym (ap (power K w) enough) ∙ level.table.half any in
       let size : 2 * 2 ^ (e - 1) ≡ 2 ^ e = omega (arith, pow_pred e some) in
-      let entry : (i : ℕ) → i < 2 ^ k → get_or twiddles i K.zero ≡ power K w i = λ i b. t.powers i (omega (arith, b, len_twiddles)) in
+      let join = λ (q : ℕ) (b : q < 2 ^ k). same_join V (level.table.powers q (omega (arith, b, enough))) refl refl (level.butterflies q (omega (arith, b, len_lo))) in
       joined_at N L k (2 ^ (e - 1)) w c (item V (map m lo)) (item V (map m hi)) (item V (map m (lo1 ++ hi1))) half evens odds
-      (λ q b. read_front m V.zero lo1 hi1 q (omega arith) ∙ (sums q (omega arith) ∙ ap (λ u. V.plus (item V (map m lo) q) (V.scale u (item V (map m hi) q))) (entry q b)))
-      (λ q b. read_back m V.zero lo1 hi1 (2 ^ k) q len_lo1 ∙ (differences q (omega arith) ∙ ap (λ u. V.plus (item V (map m lo) q) (V.negated (V.scale u (item V (map m hi) q)))) (entry q b)))
+      (λ q b. record {
+        sum = read_front m V.zero lo1 hi1 q (omega arith) ∙ (join q b).sum;
+        difference = read_back m V.zero lo1 hi1 (2 ^ k) q len_lo1 ∙ (join q b).difference;
+      })
       p (half_of k p (rw suc_k l))
       ∙ ap (λ u. dft_at K V u w c p) size
 
   -- one item, in each place, is its own transform
-  pub one_block : (n e : ℕ) (w : F) (xs : List X) (c : ℕ → M) → e ≡ 0 → AreBlocks n e xs c → (p : ℕ) → p < 2 ^ n → item V (map m xs) p ≡ dft_at K V (2 ^ e) w c p
+  pub one_block : (n e : ℕ) (w : F) (xs : List X) (c : ℕ → M) → e ≡ 0 → AreBlocks n e xs c → AreTransformed K V (2 ^ n) (2 ^ e) w c (item V (map m xs))
   one_block n e w xs c none blocks p l =
       blocks p l
       ∙ (ap (λ t. c (reversed t (p / 2 ^ (n - e)))) none
@@ -263,20 +270,27 @@ module _ {F : Type 0} (K : FieldOn F) (N : IsField K) where
       } in
       subst (λ k. AreLevels K (power K w 2) k tables) same (levels_of_size n (size / 2) (power K w 2) tables h len halved seconds)
 
+  -- every second item of a table is put in front of it, and each item after its half is that at twice the place
+  pub record ArePacked (table halved tables : List F) : Type 0 where
+    pub len : length tables ≡ length table
+    pub evens : (k : ℕ) → k < length table / 2 → get_or halved k K.zero ≡ get_or table (2 * k) K.zero
+    pub first : (k : ℕ) → k < length table / 2 → get_or tables k K.zero ≡ get_or halved k K.zero
+    pub seconds : (k : ℕ) → k < length table / 2 → get_or tables (length table / 2 + k) K.zero ≡ get_or tables (2 * k) K.zero
+
   -- the tables that take the place of a table of twiddles: every second one of it, and every second one of these, and so on
-  pub packed_levels : (n : ℕ) (w : F) (table halved tables : List F) → length table ≡ 2 ^ n → length halved ≡ length table → length tables ≡ length table → IsHalfTable K w table → ((k : ℕ) → k < length table / 2 → get_or halved k K.zero ≡ get_or table (2 * k) K.zero) → ((k : ℕ) → k < length table / 2 → get_or tables k K.zero ≡ get_or halved k K.zero) → ((k : ℕ) → k < length table / 2 → get_or tables (length table / 2 + k) K.zero ≡ get_or tables (2 * k) K.zero) → AreLevels K (power K w 2) n tables
-  packed_levels n w table halved tables is len_halved len t evens first seconds =
+  pub packed_levels : (n : ℕ) (w : F) (table halved tables : List F) → length table ≡ 2 ^ n → IsHalfTable K w table → ArePacked table halved tables → AreLevels K (power K w 2) n tables
+  packed_levels n w table halved tables is t packed =
       let h = length table / 2 in
-      let size : length table ≡ length table = refl in
+      let len = packed.len in
       let len_front : length (take h tables) ≡ h = length-take-le h tables (omega (arith, len)) in
       let front : IsHalfTable K (power K w 2) (take h tables) = record {
         powers = λ i b.
             let c : i < h = omega (arith, b, len_front) in
-            get_or-take h tables i K.zero c ∙ first i c ∙ evens i c ∙ t.powers (2 * i) (omega (arith, c)) ∙ power-mul K N w 2 i;
+            get_or-take h tables i K.zero c ∙ packed.first i c ∙ packed.evens i c ∙ t.powers (2 * i) (omega (arith, c)) ∙ power-mul K N w 2 i;
         half = λ b.
             ap (power K (power K w 2)) len_front
             ∙ sym (power-mul K N w 2 h)
             ∙ ap (power K w) (even_power n (length table) is (omega (arith, b, len_front)))
             ∙ t.half (omega (arith, b, len_front));
       } in
-      levels_of_size n (length table) (power K w 2) tables is len front seconds
+      levels_of_size n (length table) (power K w 2) tables is len front packed.seconds

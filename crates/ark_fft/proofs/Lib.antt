@@ -1,4 +1,4 @@
--- Lemmas of the kernels, over plain lists and tables: the transform by halves (Butterflies, Halving, Fours, Carries, Places, Joining, Radix2, Short), by parts (Split, Parts, Blocks, Mixed), what their loops count (Counts), the iterator over a domain (Yielded), and what reading a domain gives (DomainReading).
+-- Lemmas of the kernels, over plain lists and tables: the transform by halves (Levels, Butterflies, Halving, Fours, Carries, Places, Joining, Radix2, Short), its inverse (Inverse), by parts (Split, Parts, Blocks, Mixed), what their loops count (Counts), the iterator over a domain (Yielded), and what reading a domain gives (DomainReading).
 pub mod Blocks
 pub mod Butterflies
 pub mod Carries
@@ -6,7 +6,9 @@ pub mod Counts
 pub mod DomainReading
 pub mod Fours
 pub mod Halving
+pub mod Inverse
 pub mod Joining
+pub mod Levels
 pub mod Mixed
 pub mod Parts
 pub mod Places

@@ -3,7 +3,7 @@ use Rattle.std.proofs.Common.{◌≡◌, ℕ, zero, suc, ◌+◌, ◌*◌, ◌-�
 use Rattle.std.proofs.lemmas.List.{length-map}
 use Rattle.std.proofs.lemmas.Nat.{div-mul-add, mul-lt}
 use Rattle.std.proofs.Math.Nat.{pow-suc, pow-zero}
-use Rattle.ark_math.specs.Field.{FieldOn, IsField, power, natural}
+use Rattle.ark_math.specs.Field.{FieldOn, IsField, power}
 use Rattle.ark_math.specs.Module.{ModuleOn, IsModule, item}
 use Rattle.ark_math.specs.Root.{Adicity, HasOrder, Splits, odd_base}
 use Rattle.ark_math.specs.Domain.{Domain, mixed_radix}
@@ -14,12 +14,12 @@ use Rattle.ark_math.specs.BitReversal.{reversed}
 use Rattle.ark_fft.specs.Halves.{ArePowers, AreLevels}
 use Rattle.ark_fft.proofs.Joining.{levels_of_size}
 use Rattle.ark_fft.proofs.Halving.{no_level}
+use Rattle.ark_fft.proofs.Levels.{AreReversed, AreTransformed, IsTransformed}
+use Rattle.ark_fft.proofs.Inverse.{AreInverses, IsScaledBack, inverse_of_sums}
 use Rattle.ark_fft.specs.Mixed.{IsPowerTable, mixed_counts}
 use Rattle.ark_fft.specs.Scalings.{GrowsByScalings}
-use Rattle.ark_math.proofs.Transforms.Inverses.{is_inverse}
 use Rattle.ark_math.proofs.Roots.Orthogonal.{order_of_inverse}
 use Rattle.ark_math.proofs.Algebra.Powers.{half_of_order, power-mul}
-use Rattle.ark_math.proofs.Algebra.Sums.{sum_below-same}
 use Rattle.ark_math.proofs.Transforms.Transforms.{AreShifted, is_transform}
 use Rattle.ark_math.proofs.Numbers.BitReversal.{reversed_below, reversed_twice}
 use Rattle.ark_math.proofs.Lists.Lists.{read_order}
@@ -73,7 +73,7 @@ even_levels K N w size twos part tables is some order len first seconds =
     seconds
 
 module _ {F M X : Type 0} {K : FieldOn F} {V : ModuleOn F M} (N : IsField K) (L : IsModule K V) (m : X → M) where
-  pub even_transformed : (n size : ℕ) (v : F) (old mid now : List X) → size ≡ 2 ^ n → length mid ≡ size → length now ≡ size → ((p : ℕ) → p < 2 ^ n → item V (map m mid) p ≡ dft_at K V (2 ^ n) v (item V (map m old)) (reversed n p)) → ((p : ℕ) (d : X) → p < 2 ^ n → get_or now p d ≡ get_or mid (reversed n p) d) → (p : ℕ) → p < size → item V (map m now) p ≡ dft_at K V size v (item V (map m old)) p
+  pub even_transformed : (n size : ℕ) (v : F) (old mid now : List X) → size ≡ 2 ^ n → length mid ≡ size → length now ≡ size → AreReversed K V n v (item V (map m old)) (item V (map m mid)) → ((p : ℕ) (d : X) → p < 2 ^ n → get_or now p d ≡ get_or mid (reversed n p) d) → AreTransformed K V size size v (item V (map m old)) (item V (map m now))
   even_transformed n size v old mid now is of_mid of_now halves order p l =
       let b : p < 2 ^ n = omega arith in
       let r : reversed n p < 2 ^ n = reversed_below n p b in
@@ -96,7 +96,7 @@ module _ {F M X : Type 0} {K : FieldOn F} {V : ModuleOn F M} (N : IsField K) (L 
       ∙ ap (λ t. dft_at K V t v (item V (map m xs)) p) (sym is))
 
 -- a level's steps, and those of the levels below it
-pub level_steps : (l q o size : ℕ) → 0 < q → 0 < o → size ≡ 2 ^ l * q ^ o → q * ((o - 1) * (size / q / q)) + size / q ≡ o * (size / q)
+level_steps : (l q o size : ℕ) → 0 < q → 0 < o → size ≡ 2 ^ l * q ^ o → q * ((o - 1) * (size / q / q)) + size / q ≡ o * (size / q)
 level_steps l q zero size pos some e = absurd (omega arith)
 level_steps l q (suc zero) size pos some e =
     let z : suc zero - 1 ≡ 0 = omega arith in
@@ -134,7 +134,7 @@ no_part_counted q x y w =
     grows_twice (none_grown w) (none_grown w) products none no_steps
 
 -- the butterflies of q parts of n items are those of q * n items
-pub level_butterflies : (l q n x : ℕ) → n ≡ 2 ^ l * x → q * (l * n / 2) ≡ l * (q * n) / 2
+level_butterflies : (l q n x : ℕ) → n ≡ 2 ^ l * x → q * (l * n / 2) ≡ l * (q * n) / 2
 level_butterflies zero q n x e =
     let a : 0 * n ≡ 0 = omega arith in
     let b : 0 * (q * n) ≡ 0 = omega arith in
@@ -150,7 +150,7 @@ level_butterflies (suc l) q n x e =
     ∙ ((let z : q * (suc l * h) ≡ suc l * (q * h) = omega arith in z)
     ∙ (sym (div-mul-add (suc l * (q * h)) 2 0 pos) ∙ ap (λ t. t / 2) (sym b))))
 
-pub level_joins : (l q o size : ℕ) → 0 < q → 0 < o → size ≡ 2 ^ l * q ^ o → q * (l * (size / q) / 2) ≡ l * size / 2
+level_joins : (l q o size : ℕ) → 0 < q → 0 < o → size ≡ 2 ^ l * q ^ o → q * (l * (size / q) / 2) ≡ l * size / 2
 level_joins l q o size pos some e =
     level_butterflies l q (size / q) (q ^ (o - 1)) (part_size l q o size pos some e)
     ∙ ap (λ t. l * t / 2) (sym (parts_whole l q o size pos some e))
@@ -176,9 +176,9 @@ power_butterflies (suc k) size e =
 module _ {F M X : Type 0} {K : FieldOn F} {V : ModuleOn F M} (N : IsField K) (L : IsModule K V) (m : X → M) where
   -- what the kernel makes of a list, with this table and tables of the levels
   abbrev pub AreSums : (F → Type 0) → List F → List X → List X → Type 0
-  AreSums AreTables table old now = (w : F) → IsPowerTable K w table → AreTables w → (i : ℕ) → i < length old → item V (map m now) i ≡ dft_at K V (length old) (power K w 1) (item V (map m old)) i
+  AreSums AreTables table old now = (w : F) → IsPowerTable K w table → AreTables w → IsTransformed K V m (power K w 1) old now
 
-  sums_at : (AreTables : F → Type 0) (n : ℕ) (w : F) (table : List F) (old now : List X) → HasOrder K w n → ArePowers K w n table → AreTables w → length old ≡ n → AreSums AreTables table old now → (i : ℕ) → i < n → item V (map m now) i ≡ dft_at K V n w (item V (map m old)) i
+  sums_at : (AreTables : F → Type 0) (n : ℕ) (w : F) (table : List F) (old now : List X) → HasOrder K w n → ArePowers K w n table → AreTables w → length old ≡ n → AreSums AreTables table old now → AreTransformed K V n n w (item V (map m old)) (item V (map m now))
   sums_at AreTables n w table old now order t levels size sums i l =
       let is : IsPowerTable K w table = record { powers = λ k b. t.powers k (omega (arith, t.len)); order = subst (HasOrder K w) (sym t.len) order } in
       sums w is levels i (omega arith)
@@ -191,14 +191,10 @@ module _ {F M X : Type 0} {K : FieldOn F} {V : ModuleOn F M} (N : IsField K) (L 
         is_transform N L d (map m old) (map m now) (item V (map m mid)) shifted (length-map now m ∙ of_now)
         (sums_at AreTables d.size d.root table mid now order t levels of_mid sums)
 
-    pub backward : (v p f : F) (table : List F) (old fitted mid now : List X) → K.times d.root v ≡ K.one → K.times d.offset p ≡ K.one → K.times (natural K d.size) f ≡ K.one → ArePowers K v d.size table → AreTables v → length fitted ≡ d.size → length now ≡ d.size → ((j : ℕ) → j < d.size → item V (map m fitted) j ≡ item V (map m old) j) → AreSums AreTables table fitted mid → ((j : ℕ) → j < d.size → item V (map m now) j ≡ V.scale (K.times f (power K p j)) (item V (map m mid) j)) → IsInverse K V d (map m old) (map m now)
-    backward v p f table old fitted mid now root offset size t levels of_fitted of_now fit sums scaled =
-        is_inverse N L d v p f order root offset size (map m old) (map m now) (length-map now m ∙ of_now)
-        (λ j l.
-        scaled j l
-        ∙ ap (V.scale (K.times f (power K p j)))
-        (sums_at AreTables d.size v table fitted mid (order_of_inverse K N d.root v d.size order root) t levels of_fitted sums j l
-        ∙ sum_below-same V d.size _ _ (λ k b. ap (V.scale (power K (power K v j) k)) (fit k b))))
+    pub backward : (v p f : F) (table : List F) (old fitted mid now : List X) → AreInverses K d v p f → ArePowers K v d.size table → AreTables v → IsScaledBack K V m d p f old fitted mid now → AreSums AreTables table fitted mid → IsInverse K V d (map m old) (map m now)
+    backward v p f table old fitted mid now inverses t levels back sums =
+        inverse_of_sums N L m d order v p f old fitted mid now inverses back
+        (sums_at AreTables d.size v table fitted mid (order_of_inverse K N d.root v d.size order inverses.of_root) t levels back.len_fitted sums)
 
 -- all parts, and the joins after them
 pub all_counted : {before between after : Counts} (r q l o size : ℕ) → 0 < q → 0 < o → size ≡ 2 ^ l * q ^ o → r ≡ q →

@@ -100,10 +100,20 @@ module _ {F M : Type 0} {K : FieldOn F} {V : ModuleOn F M} (L : IsModule K V) wh
       (sum_below-same V n _ _ (λ k b. ap (λ u. V.scale (power K t k) (f (u * m + i))) (let e : q - (n + 1) + suc k ≡ q - n + k = omega arith in e)))
       ∙ ap (λ u. V.plus (V.scale t (sum_below V n (λ k. V.scale (power K t k) (f ((q - n + k) * m + i))))) (f (u * m + i))) first))
 
+-- the powers of w, of which those of a list of size items, in q parts of n items each, are each s-th one
+pub record IsStepTable {F : Type 0} (K : FieldOn F) (w : F) (table : List F) (q n s size : ℕ) : Type 0 where
+  pub powers : IsPowerTable K w table
+  pub len : length table ≡ q * (n * s)
+  pub whole : size ≡ q * n
+  pub some : 0 < s
+
 module _ {F M : Type 0} {K : FieldOn F} {V : ModuleOn F M} (N : IsField K) (L : IsModule K V) where
   -- a step of the table's roots is the splitting law's
-  pub joined_is : (w : F) (table : List F) (q m s size : ℕ) (f c : ℕ → M) (j i : ℕ) → IsPowerTable K w table → length table ≡ q * (m * s) → size ≡ q * m → 0 < s → j < q → i < m → ((r : ℕ) → r < q → f (r * m + i) ≡ dft_at K V m (power K w (s * q)) (λ k. c (q * k + r)) i) → joined K V table q m s f j i ≡ dft_at K V size (power K w s) c (j * m + i)
-  joined_is w table q m s size f c j i t len is pos jl il parts =
+  pub joined_is : (w : F) (table : List F) (q m s size : ℕ) (f c : ℕ → M) (j i : ℕ) → IsStepTable K w table q m s size → j < q → i < m → ((r : ℕ) → r < q → f (r * m + i) ≡ dft_at K V m (power K w (s * q)) (λ k. c (q * k + r)) i) → joined K V table q m s f j i ≡ dft_at K V size (power K w s) c (j * m + i)
+  joined_is w table q m s size f c j i stepped jl il parts =
+      let t = stepped.powers in
+      let len = stepped.len in
+      let pos = stepped.some in
       let v = power K w s in
       let one : power K v (q * m) ≡ K.one = sym (power-mul K N w s (q * m)) ∙ (ap (power K w) (let e : s * (q * m) ≡ q * (m * s) = omega arith in e ∙ sym len) ∙ t.order.one) in
       let a : get_or table (j * (m * s)) K.zero ≡ power K v (j * m) =
@@ -115,4 +125,4 @@ module _ {F M : Type 0} {K : FieldOn F} {V : ModuleOn F M} (N : IsField K) (L : 
       ap (λ u. V.scale (power K u r) (V.scale (get_or table (r * i * s) K.zero) (f (r * m + i)))) a
       ∙ (ap (λ u. V.scale (power K (power K v (j * m)) r) (V.scale u (f (r * m + i)))) b
       ∙ ap (λ u. V.scale (power K (power K v (j * m)) r) (V.scale (power K v (r * i)) u)) (parts r l ∙ ap (λ u. dft_at K V m u (λ k. c (q * k + r)) i) (power-mul K N w s q))))
-      ∙ (sym (join_at N L q m v c j i one) ∙ ap (λ u. dft_at K V u v c (j * m + i)) (sym is))
+      ∙ (sym (join_at N L q m v c j i one) ∙ ap (λ u. dft_at K V u v c (j * m + i)) (sym stepped.whole))

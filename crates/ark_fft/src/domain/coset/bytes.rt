@@ -1,5 +1,5 @@
-//! Cosets in bytes: nine of their fields, or size and offset. The exponent of the odd base follows from the size, and is in
-//! neither.
+//! Cosets in bytes: nine of their fields, or size and offset. The exponent of the odd base follows from the size, and
+//! is in neither.
 
 ghost use Rattle.std.specs.Prelude.{◌≡◌};
 ghost use Rattle.ark_fft.specs.CosetBytes.{all_fields, Finds};
@@ -12,8 +12,8 @@ use ark_bytes::{
 use ark_traits::FftField;
 use std::alloc::Global;
 
-/// What a coset is spelled as in full: the size and its exponent of two; the size as an element and its inverse, the root
-/// and its inverse; the offset, its inverse, and its power to the size.
+/// What a coset is spelled as in full: the size and its exponent of two; the size as an element and its inverse, the
+/// root and its inverse; the offset, its inverse, and its power to the size.
 type Fields<F> = ((u64, u32), (((F, F), (F, F)), ((F, F), F)));
 
 impl<F: FftField> Coset<F> {

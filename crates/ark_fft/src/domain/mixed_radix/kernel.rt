@@ -114,8 +114,8 @@ fn apply_all_twiddles<F: FftField, T: DomainCoeff<F>>(
     }
 }
 
-// Row j of the whole: at each place the sum of the parts' items, times the powers of the row's root of unity, whose order
-// is the base.
+// Row j of the whole: at each place the sum of the parts' items, times the powers of the row's root of unity, whose
+// order is the base.
 fn sum_row<F: FftField, T: DomainCoeff<F>>(
     work: &mut Work,
     parts: &[T],
@@ -210,9 +210,9 @@ fn even_transform<F: FftField, T: DomainCoeff<F>>(
     }
 }
 
-// A transform of mixed radix of lists of 2 ^ levels * base ^ odds items: the powers of the whole list's root, of which a
-// list's own is the power `stride`, and the tables of all levels, if there is one, of the lists that are left once a list
-// is parted as often as its length has the base.
+// A transform of mixed radix of lists of 2 ^ levels * base ^ odds items: the powers of the whole list's root, of which
+// a list's own is the power `stride`, and the tables of all levels, if there is one, of the lists that are left once a
+// list is parted as often as its length has the base.
 #[derive(Drop)]
 struct Plan<'a, F> {
     roots: &'a [F],
@@ -273,8 +273,8 @@ fn mixed<F: FftField, T: DomainCoeff<F>>(
     }
 }
 
-// The tables of all levels of the lists that are left once a list is parted as often as its length has the odd base; none
-// where these have one item.
+// The tables of all levels of the lists that are left once a list is parted as often as its length has the odd base;
+// none where these have one item.
 fn even_tables<F: FftField>(alloc: Global, coset: &Coset<F>, root: F) -> Result<Vec<F>, AllocError>
     ensures len { IfOk result (λ t. 0 < coset.now.log_size_of_group
         → length t.items ≡ 2 ^ coset.now.log_size_of_group) }

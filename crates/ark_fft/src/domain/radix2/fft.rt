@@ -73,8 +73,8 @@ fn pair<F: FftField, T: DomainCoeff<F>>(work: &mut Work, xs: &mut [T], twiddle: 
     xs[1] = hi;
 }
 
-// The transform of four items, block r of a list, by two levels. Place i of it is left at the index that has the bits of
-// i backwards. The tables are those of both levels.
+// The transform of four items, block r of a list, by two levels. Place i of it is left at the index that has the bits
+// of i backwards. The tables are those of both levels.
 fn four<F: FftField, T: DomainCoeff<F>>(work: &mut Work, xs: &mut [T], tables: &[F], r: usize)
     requires within { 4 * r + 3 < length xs.old }
     requires whole { length tables.now ≡ 4 }
@@ -158,8 +158,8 @@ fn short_halves<F: FftField, T: DomainCoeff<F>>(
     fours(work, xs, last);
 }
 
-// The transform in place, by decimation in frequency. It is left in bit-reversed order: place i at the index that has the
-// bits of i backwards. The tables are those of all levels, the whole list's twiddle factors first.
+// The transform in place, by decimation in frequency. It is left in bit-reversed order: place i at the index that has
+// the bits of i backwards. The tables are those of all levels, the whole list's twiddle factors first.
 pub(crate) fn halves<F: FftField, T: DomainCoeff<F>>(
     work: &mut Work,
     xs: &mut [T],
@@ -604,8 +604,8 @@ fn continue_levels<F: FftField>(xs: &mut [F], half: usize)
     }
 }
 
-// The twiddle factors of all levels, of a list of n items down to lists of one: each has half as many powers of its root as its
-// lists have items.
+// The twiddle factors of all levels, of a list of n items down to lists of one: each has half as many powers of its
+// root as its lists have items.
 pub(crate) fn level_tables<F: FftField>(
     alloc: Global,
     root: F,

@@ -7,7 +7,7 @@ use Rattle.ark_math.proofs.Numbers.Factors.{part_size, parts_whole, part_positiv
 use Rattle.ark_fft.specs.Halves.{AreLevels}
 use Rattle.ark_fft.proofs.Mixed.{part_counted, no_part_counted, all_counted, parted_root, last_root}
 use Rattle.ark_fft.proofs.Counts.{positive, none_yet, ended, past, middle}
-use Rattle.ark_fft.proofs.Blocks.{block_within, part_length, sub_whole, table_size, stride_small, block_done, block_after, mixed_joined, dealt_items}
+use Rattle.ark_fft.proofs.Blocks.{block_within, part_length, sub_whole, table_size, stride_small, IsBlock, block_done, block_after, mixed_joined, dealt_items}
 use Rattle.ark_fft.proofs.domain.mixed_radix.kernel.+mixed.Goals as goal
 
 -- each part is within the list, and is not empty
@@ -144,13 +144,16 @@ loop-r-preserved g t c =
     let of_new : length c.mixed.new.xs ≡ n = c.mixed.auto.xs ∙ of_scratch in
     let b = c.args.plan.now.odds - 1 in
     let part = length (take k (drop (r0 * n) c.loop-r.scratch)) in
+    let written : IsBlock n q r0 k c.loop-r.scratch c.mixed.new.xs = record { inside = c.loop-r-test.true; whole = size; width = same; len = of_new } in
     record {
       counted = part_counted q r0 c.args.plan.now.levels b part n v.counted c.mixed.ensures.counted of_scratch;
       done = λ w table tables r i rl il.
-          block_done g.met.F.Field.field_laws g.met.T.DomainCoeff.module_laws m n q r0 k (power K w (c.args.plan.now.stride * q)) c.loop-r.scratch c.mixed.new.xs (λ r k. item V (map m c.args.xs.now) (q * k + r)) c.loop-r-test.true size same of_new (c.mixed.ensures.transformed w table (subst (λ x. AreLevels K x c.args.plan.now.levels c.args.plan.now.tables.now) (parted_root K w c.args.plan.now.stride q c.args.plan.now.odds c.if-plan-gt0.true) tables)) v.rest (v.done w table tables) r i rl il;
+          block_done g.met.F.Field.field_laws g.met.T.DomainCoeff.module_laws m n q r0 k (power K w (c.args.plan.now.stride * q)) c.loop-r.scratch c.mixed.new.xs (λ r k. item V (map m c.args.xs.now) (q * k + r)) written
+          (c.mixed.ensures.transformed w table (subst (λ x. AreLevels K x c.args.plan.now.levels c.args.plan.now.tables.now) (parted_root K w c.args.plan.now.stride q c.args.plan.now.odds c.if-plan-gt0.true) tables))
+          v.rest (v.done w table tables) r i rl il;
       rest = λ r i l rl il.
           let after = past r0 r l in
-          block_after m V.zero n q r0 k c.loop-r.scratch c.mixed.new.xs r i c.loop-r-test.true size same of_new after.0 ∙ v.rest r i after.1 rl il;
+          block_after m V.zero n q r0 k c.loop-r.scratch c.mixed.new.xs r i written after.0 ∙ v.rest r i after.1 rl il;
     }
 
 pub join-requires-clause-parts_size : goal.join-requires-clause-parts_size
@@ -190,7 +193,8 @@ returns-after-loop-r-clause-transformed g t c = λ w table tables i l.
     let end = ended c.loop-r.r q c.loop-r.auto.r-end c.loop-r-test.false in
     let whole = parts_whole c.args.plan.now.levels q c.args.plan.now.odds len pos c.if-plan-gt0.true c.requires.plan.size in
     let size = table_size len c.args.plan.now.stride (length c.args.plan.now.roots.now) q n c.requires.plan.whole whole in
-    mixed_joined g.met.F.Field.field_laws g.met.T.DomainCoeff.module_laws g.T.DomainCoeff.meaning w c.args.plan.now.roots.now q n c.args.plan.now.stride len c.args.xs.now c.loop-r.scratch c.join.new.whole table size whole c.requires.plan.stride_not_zero
+    mixed_joined g.met.F.Field.field_laws g.met.T.DomainCoeff.module_laws g.T.DomainCoeff.meaning w c.args.plan.now.roots.now q n c.args.plan.now.stride len c.args.xs.now c.loop-r.scratch c.join.new.whole
+    (record { powers = table; len = size; whole = whole; some = c.requires.plan.stride_not_zero })
     (λ r i rl il. c.loop-r.invariant.done w table tables r i (subst (λ k. r < k) (sym end) rl) il) c.join.ensures.joined i l
 
 -- no part is left to deal out

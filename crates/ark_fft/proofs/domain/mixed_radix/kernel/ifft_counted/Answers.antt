@@ -44,8 +44,15 @@ returns-clause-inverse g c =
     subst (λ k. AreLevels K (power K t.group_gen_inv k) t.log_size_of_group c.as_slice-2.result.now) base
     (subst (AreLevels K _ t.log_size_of_group) (sym c.as_slice-2.ensures.value) (c.in_ok-tables.ensures.levels inverse_order)) in
     let is_inverse : IsInverse K V d (map m old) (map m now) =
-    backward g.met.F.Field.field_laws g.met.T.DomainCoeff.module_laws m d order (λ w. AreLevels K (power K w (1 * q ^ t.odd_exponent)) t.log_size_of_group c.as_slice-2.result.now) t.group_gen_inv t.offset_inv t.size_inv c.as_slice.result.now old fitted c.mixed.new.xs now root_inverse offset_inverse size_inverse table tables size_fitted size_now fit c.mixed.ensures.transformed
-    (λ j l. c.scale_by_powers.ensures.items j (subst (λ k. j < k) (sym size_mid) l)) in
+    backward g.met.F.Field.field_laws g.met.T.DomainCoeff.module_laws m d order (λ w. AreLevels K (power K w (1 * q ^ t.odd_exponent)) t.log_size_of_group c.as_slice-2.result.now) t.group_gen_inv t.offset_inv t.size_inv c.as_slice.result.now old fitted c.mixed.new.xs now
+    (record { of_root = root_inverse; of_offset = offset_inverse; of_size = size_inverse }) table tables
+    (record {
+      len_fitted = size_fitted;
+      len_now = size_now;
+      fit = fit;
+      scaled = λ j l. c.scale_by_powers.ensures.items j (subst (λ k. j < k) (sym size_mid) l);
+    })
+    c.mixed.ensures.transformed in
     subst (λ u. IsInverse K V d (map m old) (map m u)) (sym (written_back now _ _ (size_now ∙ sym c.in_ok-table.ensures.len))) is_inverse
 
 pub returns-clause-cost : goal.returns-clause-cost

@@ -1,13 +1,11 @@
-use Rattle.std.proofs.Common.{refl, ◌≡◌, ◌≢◌, ℕ, map, length, get_or, ◌+◌, ◌-◌, ◌*◌, ◌^◌, ◌<◌, ap, sym, ◌∙◌, arith, subst, ⊎_elim}
+use Rattle.std.proofs.Common.{refl, ◌≡◌, ◌≢◌, ℕ, map, ◌+◌, ◌-◌, ◌*◌, ◌<◌, ap, sym, ◌∙◌, arith, subst, ⊎_elim}
 use Rattle.std.proofs.lemmas.Bool.{cases_eq}
-use Rattle.std.proofs.lemmas.List.{get_or_read}
 use Rattle.ark_math.specs.Cost.{Counts, GrowsBy, counts}
-use Rattle.ark_math.specs.Field.{power}
 use Rattle.ark_fft.specs.Mixed.{joined}
-use Rattle.ark_math.specs.Module.{item, sum_below}
+use Rattle.ark_math.specs.Module.{item}
 use Rattle.ark_traits.proofs.Cost.{none_grown, grows_twice}
-use Rattle.ark_fft.proofs.Counts.{below_is_within, positive, none_below, none_yet, ended, not_last, no_places}
-use Rattle.ark_fft.proofs.Parts.{leap_below, joined_twisted, rows_less}
+use Rattle.ark_fft.proofs.Counts.{positive, none_below, none_yet, ended, not_last, no_places}
+use Rattle.ark_fft.proofs.Parts.{joined_twisted, rows_less}
 use Rattle.ark_fft.proofs.domain.mixed_radix.kernel.join.Goals as goal
 
 all_rows : {before after : Counts} (j q m : ℕ) → 1 < q → j ≡ q → GrowsBy (counts ((q - 1) * m + j * ((q - 1) * m)) 0 m) before after → GrowsBy (counts ((q * q - 1) * m) 0 m) before after

@@ -1,5 +1,6 @@
 use Rattle.std.proofs.Common.{rules, arith, ◌≡◌, ◌-◌, ◌^◌, ◌/◌, ◌<◌, ◌∙◌, sym, length}
 use Rattle.ark_fft.proofs.Fours.{level_of_blocks, one_block_of_four}
+use Rattle.ark_fft.proofs.Levels.{IsSplitLevel}
 use Rattle.ark_fft.proofs.Joining.{front_half, back_half, next_levels, no_count, split_count}
 use Rattle.ark_fft.proofs.Counts.{itself}
 use Rattle.ark_fft.proofs.domain.radix2.fft.+down_to_fours.Goals as goal
@@ -73,8 +74,17 @@ returns-then-levels-gt2-clause-sums g t c = λ w levels p l.
     let n2 : length c.down_to_fours.new.xs ≡ 2 ^ (n - 1) = c.down_to_fours.auto.xs ∙ (c.butterflies.auto.lo ∙ n0) in
     let half : len / 2 ≡ 2 ^ (n - 1) = sym s.ensures.front_len ∙ n0 in
     let both = next_levels g.F.Field.field n (len / 2) w c.args.tables.now r.result.0.now r.result.1.now some half r.ensures.front r.ensures.back levels in
-    level_of_blocks g.met.F.Field.field_laws g.met.T.DomainCoeff.module_laws g.T.DomainCoeff.meaning n w r.result.0.now c.args.xs.now s.result.0.now s.result.1.now c.butterflies.new.lo c.butterflies.new.hi c.down_to_fours.new.xs c.down_to_fours-then-levels-gt2.new.xs both.0 (omega arith) (r.ensures.front_len ∙ half) s.ensures.value n0 n2
-    c.butterflies.ensures.sums c.butterflies.ensures.differences (c.down_to_fours.ensures.sums _ both.1) (c.down_to_fours-then-levels-gt2.ensures.sums _ both.1) p l
+    let m = g.T.DomainCoeff.meaning in
+    let level : IsSplitLevel g.F.Field.field g.T.DomainCoeff.group m n w r.result.0.now c.args.xs.now s.result.0.now s.result.1.now c.butterflies.new.lo c.butterflies.new.hi = record {
+      some = some;
+      table = both.0;
+      enough = r.ensures.front_len ∙ half;
+      halves = s.ensures.value;
+      len_lo = n0;
+      butterflies = λ i b. record { sum = c.butterflies.ensures.sums i b; difference = c.butterflies.ensures.differences i b };
+    } in
+    level_of_blocks g.met.F.Field.field_laws g.met.T.DomainCoeff.module_laws m n w r.result.0.now c.args.xs.now s.result.0.now s.result.1.now c.butterflies.new.lo c.butterflies.new.hi c.down_to_fours.new.xs c.down_to_fours-then-levels-gt2.new.xs
+    level (omega arith) n2 (c.down_to_fours.ensures.sums _ both.1) (c.down_to_fours-then-levels-gt2.ensures.sums _ both.1) p l
 
 pub returns-then-levels-gt2-clause-counted : goal.returns-then-levels-gt2-clause-counted
 returns-then-levels-gt2-clause-counted g t c =

@@ -1,7 +1,8 @@
-use Rattle.std.proofs.Common.{rules, arith, ◌≡◌, ◌-◌, ◌^◌, ◌/◌, ◌<◌, ◌∙◌, sym, length, map, subst}
+use Rattle.std.proofs.Common.{rules, arith, ◌≡◌, ◌-◌, ◌^◌, ◌/◌, ◌<◌, ◌∙◌, sym, length, map, subst, refl}
 use Rattle.std.proofs.lemmas.List.{get_or_read}
 use Rattle.ark_math.specs.Module.{item}
 use Rattle.ark_fft.proofs.Halving.{no_level, one_level, one_pair}
+use Rattle.ark_fft.proofs.Levels.{IsSplitLevel, same_butterfly}
 use Rattle.ark_fft.proofs.Joining.{front_half, back_half, next_levels, no_count, split_count}
 use Rattle.ark_fft.proofs.Counts.{itself}
 use Rattle.ark_fft.proofs.domain.radix2.fft.+halves.Goals as goal
@@ -69,8 +70,17 @@ returns-then-levels-gt8-clause-sums g t c = λ w levels p l.
     let n2 : length c.halves.new.xs ≡ 2 ^ (n - 1) = c.halves.auto.xs ∙ (c.butterflies.auto.lo ∙ n0) in
     let half : len / 2 ≡ 2 ^ (n - 1) = sym s.ensures.front_len ∙ n0 in
     let both = next_levels g.F.Field.field n (len / 2) w c.args.tables.now r.result.0.now r.result.1.now some half r.ensures.front r.ensures.back levels in
-    one_level g.met.F.Field.field_laws g.met.T.DomainCoeff.module_laws g.T.DomainCoeff.meaning n w r.result.0.now c.args.xs.now s.result.0.now s.result.1.now c.butterflies.new.lo c.butterflies.new.hi c.halves.new.xs c.halves-then-levels-gt8.new.xs both.0 some (r.ensures.front_len ∙ half) s.ensures.value n0 n2
-    c.butterflies.ensures.sums c.butterflies.ensures.differences (c.halves.ensures.sums _ both.1) (c.halves-then-levels-gt8.ensures.sums _ both.1) p l
+    let m = g.T.DomainCoeff.meaning in
+    let level : IsSplitLevel g.F.Field.field g.T.DomainCoeff.group m n w r.result.0.now c.args.xs.now s.result.0.now s.result.1.now c.butterflies.new.lo c.butterflies.new.hi = record {
+      some = some;
+      table = both.0;
+      enough = r.ensures.front_len ∙ half;
+      halves = s.ensures.value;
+      len_lo = n0;
+      butterflies = λ i b. record { sum = c.butterflies.ensures.sums i b; difference = c.butterflies.ensures.differences i b };
+    } in
+    one_level g.met.F.Field.field_laws g.met.T.DomainCoeff.module_laws m n w r.result.0.now c.args.xs.now s.result.0.now s.result.1.now c.butterflies.new.lo c.butterflies.new.hi c.halves.new.xs c.halves-then-levels-gt8.new.xs
+    level n2 (c.halves.ensures.sums _ both.1) (c.halves-then-levels-gt8.ensures.sums _ both.1) p l
 
 pub returns-then-levels-gt8-clause-counted : goal.returns-then-levels-gt8-clause-counted
 returns-then-levels-gt8-clause-counted g t c =
@@ -93,6 +103,6 @@ returns-then-levels-eq1-clause-sums g t c = λ w levels p l.
     let m = g.T.DomainCoeff.meaning in
     let two : length c.args.tables.now ≡ 2 ^ 1 = subst (λ k. length c.args.tables.now ≡ 2 ^ k) c.if-levels-eq1.true c.requires.whole in
     let within : 0 < length c.args.tables.now = omega (arith, two) in
-    one_pair g.met.F.Field.field_laws g.met.T.DomainCoeff.module_laws c.args.levels w c.args.tables.now (item V (map m c.args.xs.now)) (item V (map m c.pair.new.xs)) levels c.if-levels-eq1.true c.requires.whole c.pair.ensures.sum
-    (subst (λ x. item V (map m c.pair.new.xs) 1 ≡ V.scale x (V.plus (item V (map m c.args.xs.now) 0) (V.negated (item V (map m c.args.xs.now) 1)))) (get_or_read c.args.tables.now _ _ within c.index-tables-0.is g.F.Field.field.zero) c.pair.ensures.difference)
+    one_pair g.met.F.Field.field_laws g.met.T.DomainCoeff.module_laws c.args.levels w c.args.tables.now (item V (map m c.args.xs.now)) (item V (map m c.pair.new.xs)) levels c.if-levels-eq1.true c.requires.whole
+    (same_butterfly V (get_or_read c.args.tables.now _ _ within c.index-tables-0.is g.F.Field.field.zero) refl refl (record { sum = c.pair.ensures.sum; difference = c.pair.ensures.difference }))
     p l

@@ -1,6 +1,7 @@
 use Rattle.std.proofs.Common.{rules, arith, ◌≡◌, ◌-◌, ◌*◌, ◌+◌, ◌/◌, ◌^◌, ◌∙◌, length, sym}
 use Rattle.ark_math.specs.Field.{power}
 use Rattle.ark_fft.proofs.Counts.{one_less}
+use Rattle.ark_fft.proofs.Levels.{IsJoinedLevel}
 use Rattle.ark_fft.proofs.Joining.{some_levels, front_half, back_half, joined_count, no_count, blocks_of_front, blocks_of_back, joined_level, one_block, next_levels}
 use Rattle.ark_fft.proofs.domain.radix2.fft.+join_halves.Goals as goal
 
@@ -77,10 +78,19 @@ returns-then-log_len-gt0-clause-sums g t c = λ w f tables blocks p l.
     let n1 : length c.join_halves.new.xs ≡ 2 ^ (n - 1) = c.join_halves.auto.xs ∙ n0 in
     let half : len / 2 ≡ 2 ^ (n - 1) = sym s.ensures.front_len ∙ n0 in
     let both = next_levels K n (len / 2) w c.args.tables.now r.result.0.now r.result.1.now (some_levels n e some within) half r.ensures.front r.ensures.back tables in
-    joined_level N L m n e w r.result.0.now f c.join_halves.new.xs c.join_halves-then-log_len-gt0.new.xs c.join_butterflies.new.lo c.join_butterflies.new.hi both.0 some within (r.ensures.front_len ∙ half) n1 (c.join_butterflies.auto.lo ∙ n1)
+    let level : IsJoinedLevel K g.T.DomainCoeff.group m n e w r.result.0.now c.join_halves.new.xs c.join_halves-then-log_len-gt0.new.xs c.join_butterflies.new.lo c.join_butterflies.new.hi = record {
+      some = some;
+      within = within;
+      table = both.0;
+      enough = r.ensures.front_len ∙ half;
+      len_lo = n1;
+      len_lo1 = c.join_butterflies.auto.lo ∙ n1;
+      butterflies = λ i b. record { sum = c.join_butterflies.ensures.sums i b; difference = c.join_butterflies.ensures.differences i b };
+    } in
+    joined_level N L m n e w r.result.0.now f c.join_halves.new.xs c.join_halves-then-log_len-gt0.new.xs c.join_butterflies.new.lo c.join_butterflies.new.hi level
     (c.join_halves.ensures.sums (power K w 2) (λ j. f (2 * j + 0)) both.1 (blocks_of_front N L m n e c.args.xs.now lo hi f some within s.ensures.value n0 blocks))
     (c.join_halves-then-log_len-gt0.ensures.sums (power K w 2) (λ j. f (2 * j + 1)) both.1 (blocks_of_back N L m n e c.args.xs.now lo hi f some within s.ensures.value n0 blocks))
-    c.join_butterflies.ensures.sums c.join_butterflies.ensures.differences p l
+    p l
 
 pub returns-then-log_len-gt0-clause-counted : goal.returns-then-log_len-gt0-clause-counted
 returns-then-log_len-gt0-clause-counted g t c =

@@ -20,13 +20,19 @@ swap_fours-requires-clause-within g c =
     let is : c.next_reversed-j.result ≡ reversed c.args.levels i = c.next_reversed-j.ensures ∙ ap (reversed c.args.levels) e in
     omega (arith, r, is)
 
--- the first block's items are those of the other one, and the other way round
-swapped : {X : Type 0} (n : ℕ) (old now new : List X) (i j b : ℕ) (d : X) → i < 2 ^ n → j ≡ reversed n i → i < j → b < 4 → ((b : ℕ) (d : X) → b < 4 → get_or new (4 * i + b) d ≡ get_or now (4 * j + b) d) → ((b : ℕ) (d : X) → b < 4 → get_or new (4 * j + b) d ≡ get_or now (4 * i + b) d) → ((k b : ℕ) (d : X) → b < 4 → k ≢ i → k ≢ j → get_or new (4 * k + b) d ≡ get_or now (4 * k + b) d) → IsRestored n (λ r. get_or old (4 * r + b) d) (λ r. get_or now (4 * r + b) d) i → IsRestored n (λ r. get_or old (4 * r + b) d) (λ r. get_or new (4 * r + b) d) (i + 1)
-swapped n old now new i j b d inside is lt two first second others held =
+-- blocks i and j of four items have each the other one's, and the others their own
+record AreSwapped {X : Type 0} (now new : List X) (i j : ℕ) : Type 0 where
+  pub first : (b : ℕ) (d : X) → b < 4 → get_or new (4 * i + b) d ≡ get_or now (4 * j + b) d
+  pub second : (b : ℕ) (d : X) → b < 4 → get_or new (4 * j + b) d ≡ get_or now (4 * i + b) d
+  pub others : (k b : ℕ) (d : X) → b < 4 → k ≢ i → k ≢ j → get_or new (4 * k + b) d ≡ get_or now (4 * k + b) d
+
+-- one more block is at its place
+swapped : {X : Type 0} (n : ℕ) (old now new : List X) (i j b : ℕ) (d : X) → i < 2 ^ n → j ≡ reversed n i → i < j → b < 4 → AreSwapped now new i j → IsRestored n (λ r. get_or old (4 * r + b) d) (λ r. get_or now (4 * r + b) d) i → IsRestored n (λ r. get_or old (4 * r + b) d) (λ r. get_or new (4 * r + b) d) (i + 1)
+swapped n old now new i j b d inside is lt two swap held =
     restored_swap n (λ r. get_or old (4 * r + b) d) (λ r. get_or now (4 * r + b) d) i inside held (λ r. get_or new (4 * r + b) d) (rw is at lt)
-    (subst (λ t. get_or new (4 * i + b) d ≡ get_or now (4 * t + b) d) is (first b d two))
-    (subst (λ t. get_or new (4 * t + b) d ≡ get_or now (4 * i + b) d) is (second b d two))
-    (λ k ni nj. others k b d two ni (subst (λ t. k ≢ t) (sym is) nj))
+    (subst (λ t. get_or new (4 * i + b) d ≡ get_or now (4 * t + b) d) is (swap.first b d two))
+    (subst (λ t. get_or new (4 * t + b) d ≡ get_or now (4 * i + b) d) is (swap.second b d two))
+    (λ k ni nj. swap.others k b d two ni (subst (λ t. k ≢ t) (sym is) nj))
 
 pub loop-i-preserved : goal.loop-i-preserved
 loop-i-preserved g c =
@@ -43,7 +49,7 @@ loop-i-preserved g c =
             let lt : i < c.next_reversed-j.result = omega (arith, w.if-i-j.true) in
             let f = w.swap_fours.ensures in
             subst (λ t. IsRestored n (λ r. get_or c.args.xs.now (4 * r + b) d) (λ r. get_or t (4 * r + b) d) (i + 1)) (sym w.xs-is)
-            (swapped n c.args.xs.now c.loop-i.xs w.swap_fours.new.xs i c.next_reversed-j.result b d inside is lt l f.first f.second f.others (held.fours b d l))
+            (swapped n c.args.xs.now c.loop-i.xs w.swap_fours.new.xs i c.next_reversed-j.result b d inside is lt l (record { first = f.first; second = f.second; others = f.others }) (held.fours b d l))
         | else-i-j w ↦
             let le : reversed n i ≤ i = rw is at w.if-i-j.false in
             subst (λ t. IsRestored n (λ r. get_or c.args.xs.now (4 * r + b) d) (λ r. get_or t (4 * r + b) d) (i + 1)) (sym w.xs-is)

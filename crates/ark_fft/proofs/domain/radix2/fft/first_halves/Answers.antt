@@ -1,5 +1,6 @@
 use Rattle.std.proofs.Common.{arith, ◌≡◌, ◌-◌, ◌^◌, ◌/◌, ◌∙◌, sym, length}
 use Rattle.ark_fft.proofs.Halving.{no_level, one_level}
+use Rattle.ark_fft.proofs.Levels.{IsSplitLevel}
 use Rattle.ark_fft.proofs.Joining.{front_half, back_half, no_count, split_count}
 use Rattle.ark_fft.proofs.Counts.{itself}
 use Rattle.ark_fft.proofs.domain.radix2.fft.first_halves.Goals as goal
@@ -48,8 +49,17 @@ returns-then-levels-gt0-clause-sums g c = λ w table p l.
     let n2 : length c.halves.new.xs ≡ 2 ^ (n - 1) = c.halves.auto.xs ∙ (c.butterflies.auto.lo ∙ n0) in
     let twiddles : length c.args.table.now ≡ 2 ^ (n - 1) = front_half n n some (itself n) (length c.args.xs.now) (length c.args.table.now) c.requires.size c.requires.half in
     let levels = c.pack_levels.ensures w (n - 1) twiddles table in
-    one_level g.met.F.Field.field_laws g.met.T.DomainCoeff.module_laws g.T.DomainCoeff.meaning n w c.args.table.now c.args.xs.now s.result.0.now s.result.1.now c.butterflies.new.lo c.butterflies.new.hi c.halves.new.xs c.halves-then-levels-gt0.new.xs table some twiddles s.ensures.value n0 n2
-    c.butterflies.ensures.sums c.butterflies.ensures.differences (c.halves.ensures.sums _ levels) (c.halves-then-levels-gt0.ensures.sums _ levels) p l
+    let m = g.T.DomainCoeff.meaning in
+    let level : IsSplitLevel g.F.Field.field g.T.DomainCoeff.group m n w c.args.table.now c.args.xs.now s.result.0.now s.result.1.now c.butterflies.new.lo c.butterflies.new.hi = record {
+      some = some;
+      table = table;
+      enough = twiddles;
+      halves = s.ensures.value;
+      len_lo = n0;
+      butterflies = λ i b. record { sum = c.butterflies.ensures.sums i b; difference = c.butterflies.ensures.differences i b };
+    } in
+    one_level g.met.F.Field.field_laws g.met.T.DomainCoeff.module_laws m n w c.args.table.now c.args.xs.now s.result.0.now s.result.1.now c.butterflies.new.lo c.butterflies.new.hi c.halves.new.xs c.halves-then-levels-gt0.new.xs
+    level n2 (c.halves.ensures.sums _ levels) (c.halves-then-levels-gt0.ensures.sums _ levels) p l
 
 pub returns-then-levels-gt0-clause-counted : goal.returns-then-levels-gt0-clause-counted
 returns-then-levels-gt0-clause-counted g c =

@@ -49,8 +49,15 @@ returns-clause-inverse g c =
     let table : ArePowers K t.group_gen_inv (t.size / 2) c.as_mut_slice.result.now =
     subst (ArePowers K t.group_gen_inv (t.size / 2)) (sym c.as_mut_slice.ensures.value) c.in_ok-table.ensures.table in
     let is_inverse : IsInverse K V d (map m old) (map m now) =
-    backward g.met.F.Field.field_laws g.met.T.DomainCoeff.module_laws m d t.log_size_of_group is_power order t.group_gen_inv t.offset_inv t.size_inv c.as_mut_slice.result.now old fitted c.in_order.new.xs now root_inverse offset_inverse size_inverse table size_fitted size_now fit c.in_order.ensures.sums
-    (λ j l. c.scale_by_powers.ensures.items j (subst (λ k. j < k) (sym size_mid) l)) in
+    backward g.met.F.Field.field_laws g.met.T.DomainCoeff.module_laws m d t.log_size_of_group is_power order t.group_gen_inv t.offset_inv t.size_inv c.as_mut_slice.result.now old fitted c.in_order.new.xs now
+    (record { of_root = root_inverse; of_offset = offset_inverse; of_size = size_inverse }) table
+    (record {
+      len_fitted = size_fitted;
+      len_now = size_now;
+      fit = fit;
+      scaled = λ j l. c.scale_by_powers.ensures.items j (subst (λ k. j < k) (sym size_mid) l);
+    })
+    c.in_order.ensures.sums in
     subst (λ u. IsInverse K V d (map m old) (map m u)) (sym (written_back now _ _ (size_now ∙ sym c.in_ok-table.ensures.len))) is_inverse
 
 pub returns-clause-cost : goal.returns-clause-cost

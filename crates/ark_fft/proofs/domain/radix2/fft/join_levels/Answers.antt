@@ -2,6 +2,7 @@ use Rattle.std.proofs.Common.{◌≡◌, arith, ◌-◌, ◌*◌, ◌+◌, ◌/�
 use Rattle.ark_math.specs.Field.{power}
 use Rattle.ark_fft.specs.Halves.{IsHalfTable}
 use Rattle.ark_fft.proofs.Counts.{one_less}
+use Rattle.ark_fft.proofs.Levels.{IsJoinedLevel}
 use Rattle.ark_fft.proofs.Joining.{some_levels, front_half, back_half, joined_count, no_count, half_table, blocks_of_front, blocks_of_back, joined_level, one_block}
 use Rattle.ark_fft.proofs.domain.radix2.fft.join_levels.Goals as goal
 
@@ -67,10 +68,19 @@ returns-then-log_len-gt0-clause-sums g c = λ f levels half blocks p l.
     let len_twiddles : length twiddles ≡ 2 ^ (n - 1) = c.fill_with_powers.auto.xs ∙ front_half n e some within (2 ^ n) tables refl c.requires.whole in
     let n0 : length lo ≡ 2 ^ (n - 1) = front_half n e some within (length c.args.xs.now) (length lo) c.requires.size s.ensures.front_len in
     let n1 : length c.join_halves.new.xs ≡ 2 ^ (n - 1) = c.join_halves.auto.xs ∙ n0 in
-    joined_level N L m n e w twiddles f c.join_halves.new.xs c.join_halves-then-log_len-gt0.new.xs c.join_butterflies.new.lo c.join_butterflies.new.hi first some within len_twiddles n1 (c.join_butterflies.auto.lo ∙ n1)
+    let level : IsJoinedLevel K g.T.DomainCoeff.group m n e w twiddles c.join_halves.new.xs c.join_halves-then-log_len-gt0.new.xs c.join_butterflies.new.lo c.join_butterflies.new.hi = record {
+      some = some;
+      within = within;
+      table = first;
+      enough = len_twiddles;
+      len_lo = n1;
+      len_lo1 = c.join_butterflies.auto.lo ∙ n1;
+      butterflies = λ i b. record { sum = c.join_butterflies.ensures.sums i b; difference = c.join_butterflies.ensures.differences i b };
+    } in
+    joined_level N L m n e w twiddles f c.join_halves.new.xs c.join_halves-then-log_len-gt0.new.xs c.join_butterflies.new.lo c.join_butterflies.new.hi level
     (c.join_halves.ensures.sums (power K w 2) (λ j. f (2 * j + 0)) levels (blocks_of_front N L m n e c.args.xs.now lo hi f some within s.ensures.value n0 blocks))
     (c.join_halves-then-log_len-gt0.ensures.sums (power K w 2) (λ j. f (2 * j + 1)) levels (blocks_of_back N L m n e c.args.xs.now lo hi f some within s.ensures.value n0 blocks))
-    c.join_butterflies.ensures.sums c.join_butterflies.ensures.differences p l
+    p l
 
 pub returns-then-log_len-gt0-clause-counted : goal.returns-then-log_len-gt0-clause-counted
 returns-then-log_len-gt0-clause-counted g c =
