@@ -55,7 +55,7 @@ impl<F: FftField> Clone for Coset<F> {
     }
 }
 
-/// The exponents of two and of the field's odd base in a supported size.
+// The exponents of two and of the field's odd base in a supported size.
 fn exponents<F: FftField>(size: u64) -> (u32, u32)
     requires { IsSupported F.adicity size }
     ensures { Splits F.adicity size result.0 result.1 }
@@ -80,7 +80,7 @@ impl<F: FftField> Coset<F> {
         Coset::of_root(size, log_size_of_group, odd_exponent, group_gen)
     }
 
-    /// The subgroup of this size, with its root.
+    // The subgroup of this size, with its root.
     fn of_root(size: u64, log_size_of_group: u32, odd_exponent: u32, group_gen: F) -> Coset<F>
         requires splits { Splits F.adicity size log_size_of_group odd_exponent }
         requires root { group_gen ≡ F.root size }

@@ -12,8 +12,8 @@ use ark_bytes::{
 use ark_traits::FftField;
 use std::alloc::Global;
 
-/// What a coset is spelled as in full: the size and its exponent of two; the size as an element and its inverse, the
-/// root and its inverse; the offset, its inverse, and its power to the size.
+// What a coset is spelled as in full: the size and its exponent of two; the size as an element and its inverse, the
+// root and its inverse; the offset, its inverse, and its power to the size.
 type Fields<F> = ((u64, u32), (((F, F), (F, F)), ((F, F), F)));
 
 impl<F: FftField> Coset<F> {
@@ -29,7 +29,7 @@ impl<F: FftField> Coset<F> {
         )
     }
 
-    /// The coset that keeps all this, and `None` where there is none.
+    // The coset that keeps all this, and `None` where there is none.
     fn of_fields(fields: &Fields<F>) -> Option<Coset<F>>
         ensures { Finds all_fields fields.now result }
     {
