@@ -21,7 +21,7 @@ use std::marker::{Model, PhantomData};
 pub type Code<F> = DomainCode<F, GeneralEvaluationDomain<F>>;
 
 /// A Reed-Solomon code: its codewords are the values, at the `n` elements of a domain, of the polynomials with at most `k`
-/// coefficients. Coefficients and values may be of any module over the field. It is not systematic.
+/// coefficients. Coefficients and values may be of any module over the field. `encode` is not systematic, and `encode_systematic` is.
 ///
 /// ```
 /// let code = Code::<F65537>::new(5, 8).ok_or(RsError::WrongLength)?; // any 5 of 8 places give a codeword back

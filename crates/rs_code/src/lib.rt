@@ -2,8 +2,8 @@
 //! are as many as the message's items (maximum distance separable).
 //!
 //! A codeword is the values of the polynomial whose coefficients are the message, the message times a Vandermonde matrix. So
-//! the code is not systematic: the items of a message do not stand among the places of its codeword, and `message` of a
-//! decoder gives them back. Erasures are restored; errors, values that are wrong at places that nobody knows, are not
+//! the items of a message do not stand among the places of its codeword, and `message` of a decoder gives them back. In
+//! systematic form, by `encode_systematic`, they are the codeword's first values. Erasures are restored; errors, values that are wrong at places that nobody knows, are not
 //! corrected, and are noticed only as far as no codeword agrees.
 #![tactic(auto)]
 
