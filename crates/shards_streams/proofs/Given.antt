@@ -1,5 +1,5 @@
 -- What sources gave.
-use Rattle.std.proofs.Common.{◌≡◌, ℕ, ◌+◌, ◌<◌, ◌≤◌, ◌^◌, List, [], ◌++◌, length, length-append, append-nil, append_assoc, ap₂, sym, ◌∙◌, subst, refl, arith, Err}
+use Rattle.std.proofs.Common.{◌≡◌, ℕ, ◌+◌, ◌<◌, ◌≤◌, ◌^◌, List, [], ◌++◌, length, length-append, append-nil, append_assoc, ap₂, sym, ◌∙◌, subst, refl, arith, Err, Option}
 use Rattle.std.specs.Io.KnownBytes.{Consumes, IsAtEnd}
 use Rattle.std.proofs.KnownBytes.{Consumes-trans}
 use Rattle.sha2.specs.Sha256.{sha256}
