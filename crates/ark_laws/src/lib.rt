@@ -7,6 +7,7 @@ mod bytes;
 mod multivariate;
 mod univariate;
 
+pub use ark_lists::tables::Exchange;
 pub use bytes::{domain_read_back, polynomial_read_back, values_read_back};
 pub use multivariate::{
     graded_order, only_multilinear, value_at_corner, values_with_bound_variables,

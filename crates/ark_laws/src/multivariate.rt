@@ -8,6 +8,7 @@ ghost use Rattle.ark_math.specs.Multilinear.{place};
 ghost use Rattle.ark_math.specs.Term.{IsAbove};
 ghost use Rattle.ark_math.specs.Multivariate.{IsValueAt};
 
+use ark_lists::tables::Exchange;
 use ark_multi::MultilinearExtension;
 use ark_multi::multivariate::{SparseTerm, Term};
 use ark_traits::{Field, PolyError};
@@ -112,27 +113,25 @@ pub fn values_with_bound_variables<F: Field, E: MultilinearExtension<F>>(
     Ok((poly.evaluate(alloc, &whole)?, rest.evaluate(alloc, others)?))
 }
 
-/// The value of a multilinear extension at a point with the `k` items from `a` on and the `k` from `b` on
-/// exchanged, and that at the point of the extension with these variables exchanged: they are equal.
+/// The value of a multilinear extension at a point with items exchanged, and that at the point of the extension
+/// with these variables exchanged: they are equal.
 ///
 /// It takes as long as twice `evaluate` and `relabel`, and memory for a point beside what these take.
 pub fn values_with_exchanged_variables<F: Field, E: MultilinearExtension<F>>(
     alloc: Global,
     poly: &E,
-    a: usize,
-    b: usize,
-    k: usize,
+    by: Exchange,
     point: &Vec<F>,
 ) -> Result<(F, F), PolyError>
-    requires windows { AreWindows (E.variables poly.now) a b k }
+    requires windows { AreWindows (E.variables poly.now) by.first by.second by.count }
     requires fits { length point.now.items ≡ E.variables poly.now }
     ensures value { IfOk result (λ y. y.0
-        ≡ extension F.field (E.table poly.now).value (exchanged F.field point.now.items a b k)) }
+        ≡ extension F.field (E.table poly.now).value (exchanged F.field point.now.items by.first by.second by.count)) }
     ensures same { IfOk result (λ y. y.1 ≡ y.0) }
     ensures memory { IsOkUnless result PolyError.Memory }
 {
-    let turned = exchanged_point(alloc, point, a, b, k)?;
-    let relabelled = poly.relabel(alloc, a, b, k)?;
+    let turned = exchanged_point(alloc, point, by)?;
+    let relabelled = poly.relabel(alloc, by.first, by.second, by.count)?;
     Ok((
         poly.evaluate(alloc, &turned)?,
         relabelled.evaluate(alloc, point)?,
@@ -140,34 +139,28 @@ pub fn values_with_exchanged_variables<F: Field, E: MultilinearExtension<F>>(
 }
 
 // The point with the items of two windows exchanged.
-fn exchanged_point<F: Field>(
-    alloc: Global,
-    point: &[F],
-    a: usize,
-    b: usize,
-    k: usize,
-) -> Result<Vec<F>, PolyError>
-    requires { AreWindows (length point.now) a b k }
-    ensures exchanged { IfOk result (λ x. x.items ≡ exchanged F.field point.now a b k) }
+fn exchanged_point<F: Field>(alloc: Global, point: &[F], by: Exchange) -> Result<Vec<F>, PolyError>
+    requires { AreWindows (length point.now) by.first by.second by.count }
+    ensures exchanged { IfOk result (λ x. x.items ≡ exchanged F.field point.now by.first by.second by.count) }
     ensures memory { IsOkUnless result PolyError.Memory }
 {
     let mut turned = Vec::with_capacity(alloc, point.len())?;
     for variable in 0..point.len() {
-        turned.push(exchanged_item(point, a, b, k, variable))?;
+        turned.push(exchanged_item(point, by, variable))?;
     }
     Ok(turned)
 }
 
 // The item that a variable gets where those of two windows are exchanged.
-fn exchanged_item<F: Field>(point: &[F], a: usize, b: usize, k: usize, variable: usize) -> F
-    requires windows { AreWindows (length point.now) a b k }
+fn exchanged_item<F: Field>(point: &[F], by: Exchange, variable: usize) -> F
+    requires windows { AreWindows (length point.now) by.first by.second by.count }
     requires within { variable < length point.now }
-    ensures { result ≡ item (itself F.field) point.now (place a b k variable) }
+    ensures { result ≡ item (itself F.field) point.now (place by.first by.second by.count variable) }
 {
-    if a <= variable && variable - a < k {
-        point[variable - a + b]
-    } else if b <= variable && variable - b < k {
-        point[variable - b + a]
+    if by.first <= variable && variable - by.first < by.count {
+        point[variable - by.first + by.second]
+    } else if by.second <= variable && variable - by.second < by.count {
+        point[variable - by.second + by.first]
     } else {
         point[variable]
     }

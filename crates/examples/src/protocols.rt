@@ -8,7 +8,7 @@ ghost use Rattle.ark_sum_check.specs.Provers.{variables_of};
 
 use crate::accepted::is_accepted;
 use crate::one_pass_opening::one_pass_opening;
-use crate::shared_sum::sum_from_shares;
+use crate::shared_sum::{SharedSecret, sum_from_shares};
 use crate::sharing::shared_and_given_back;
 use crate::sum_check_whole::{sum_check_of_entries, sum_check_whole};
 use ark_base::{F65537, Field, PolyError, PrimeField, PrimeModulus};
@@ -51,10 +51,14 @@ fn print_secret(rt: &impl Print, alloc: Global) -> anyhow::Result<()> {
     println!(rt; "drawn again, the first share is another: {differs}")?;
     let sum = sum_from_shares(
         alloc,
-        F65537::from(1234),
-        &[7, 8].map(F65537::from),
-        F65537::from(4321),
-        &[9, 10].map(F65537::from),
+        &SharedSecret {
+            secret: F65537::from(1234),
+            coeffs: &[7, 8].map(F65537::from),
+        },
+        &SharedSecret {
+            secret: F65537::from(4321),
+            coeffs: &[9, 10].map(F65537::from),
+        },
         &points,
     )?;
     println!(rt;

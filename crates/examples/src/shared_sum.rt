@@ -7,20 +7,27 @@ use ark_base::Field;
 use ark_sharing::{SharingError, reconstruct, share_with, sum_of_sharings};
 use std::alloc::{AllocError, Global};
 
-/// The sum of two secrets, each shared by coefficients of its own, from the sums of their shares alone: who holds a
-/// share of each adds the two, and neither secret is given back.
+/// A secret that is shared.
+#[derive(Clone, Copy)]
+pub struct SharedSecret<'a, F> {
+    /// The secret.
+    pub secret: F,
+    /// The coefficients that it is shared by.
+    pub coeffs: &'a [F],
+}
+
+/// The sum of two secrets from the sums of their shares alone: who holds a share of each adds the two, and neither secret
+/// is given back.
 pub fn sum_from_shares<F: Field>(
     alloc: Global,
-    left: F,
-    left_coeffs: &[F],
-    right: F,
-    right_coeffs: &[F],
+    left: &SharedSecret<'_, F>,
+    right: &SharedSecret<'_, F>,
     points: &[F],
 ) -> Result<F, SharingError>
-    ensures { IfOk result (λ sum. sum ≡ F.field.plus left right) }
+    ensures { IfOk result (λ sum. sum ≡ F.field.plus left.now.secret right.now.secret) }
 {
-    let left_shares = share_with(alloc, left, left_coeffs, points)?;
-    let right_shares = share_with(alloc, right, right_coeffs, points)?;
+    let left_shares = share_with(alloc, left.secret, left.coeffs, points)?;
+    let right_shares = share_with(alloc, right.secret, right.coeffs, points)?;
     sum_of_sharings(&left_shares, &right_shares);
     let sums = with_values_added(alloc, &left_shares, &right_shares)?;
     reconstruct(alloc, &sums)

@@ -1,4 +1,4 @@
--- What is said of rows, each on a line, and so what the program writes for `vectors`.
+-- What is said of the rows of a table of answers, each on a line, and so what the program writes for `vectors`.
 use Rattle.std.specs.Prelude.{◌≡◌, ℕ, ◌+◌, ◌<◌, ◌⊎◌, ◌↔◌, Bool, true, false, IsTrue, Option, List, [], ◌∷◌, ◌++◌, length, take, map, codes, string_bytes, vec_items, Vec, String}
 use Rattle.std.specs.List.{concat}
 use Rattle.std.specs.declared.alloc.Global.{Global}
@@ -50,7 +50,7 @@ abbrev pub lines_from : ℕ → List Bool → List (List ℕ)
 lines_from n [] = []
 lines_from n (good ∷ verdicts) = row_line_of n good ∷ lines_from (n + 1) verdicts
 
--- the lines in a row, the rows numbered from 1
+-- the lines one after another, the rows numbered from 1
 abbrev pub lines_text : List Bool → List ℕ
 lines_text verdicts = concat (lines_from 1 verdicts)
 

@@ -7,4 +7,4 @@ pub mod Outcome
 pub mod Written
 pub mod Vectors
 pub mod Check
-pub mod Rows
+pub mod Examples

@@ -1,4 +1,4 @@
--- The rows of each field: commands, and what the program writes for them.
+-- The table of answers of each field: commands, and what the program writes for them.
 use Rattle.std.specs.Prelude.{◌≡◌, ℕ, ◌⊎◌, List, [], ◌∷◌, ◌++◌, codes}
 use Rattle.polyrun_lib.specs.Lines.{ended}
 

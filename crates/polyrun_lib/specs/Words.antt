@@ -7,7 +7,7 @@ use Rattle.std.specs.Str.Parse.{IsNumeral, digits_value}
 abbrev pub comma : ℕ
 comma = 44
 
--- the words in a row, with a comma between each two
+-- the words one after another, with a comma between each two
 abbrev pub joined : List (List ℕ) → List ℕ
 joined words = join_with_byte comma words
 

@@ -1,4 +1,4 @@
-//! What is said of rows of words and texts, a line for each.
+//! What is said of the rows of a table of answers, a line for each.
 
 ghost use Rattle.std.specs.Prelude.{◌≡◌, ◌↔◌, map, IfOk, IfErr, IsTrue, string_bytes, decimal};
 ghost use Rattle.polyrun_lib.specs.Lines.{ended, refusal_line_of};
@@ -13,7 +13,7 @@ use crate::program::{answer_in, write};
 use ark_base::{PolyError, Sink};
 use std::alloc::{AllocError, Global};
 
-/// Writes a line for each row, and gives the status: 0; 1 where a row is bad, or where memory was refused;
+/// Writes a line for each row of a table of answers, and gives the status: 0; 1 where a row is bad, or where memory was refused;
 /// and 3 where the writer failed, after a beginning of the text.
 ///
 /// A row is the words after the field, and a text. Its line is its number from 1, a space, and `ok` where
@@ -31,7 +31,18 @@ pub fn check<W: Sink>(alloc: Global, field: u64, rows: &[(Vec<String>, String)],
     check_rows(alloc, field, rows, out)
 }
 
-/// A row that can be checked.
+/// A row of a table of answers, as it is checked.
+#[derive(Clone, Copy)]
+pub struct TableRow<'a> {
+    /// Its place in the table, from 1.
+    pub number: u64,
+    /// The words after the field.
+    pub words: &'a [String],
+    /// The answer to them, without the newline at its end.
+    pub text: &'a str,
+}
+
+/// What a row of a table of answers is made of.
 pub trait Checked {
     // What its words and its text spell.
     ghost shown: { Self → Row };
@@ -61,7 +72,12 @@ impl Checked for (Vec<String>, String) {
         number: u64,
         out: &mut W,
     ) -> Result<bool, u8> {
-        check_row(alloc, field, number, &self.0, self.1.as_str(), out)
+        let row = TableRow {
+            number,
+            words: &self.0,
+            text: self.1.as_str(),
+        };
+        check_row(alloc, field, &row, out)
     }
 }
 
@@ -84,24 +100,22 @@ pub fn check_rows<R: Checked, W: Sink>(alloc: Global, field: u64, rows: &[R], ou
     status
 }
 
-/// Writes the line of the row with these words and this text, and tells whether the row is good.
+/// Writes the line of a row, and tells whether the row is good.
 pub fn check_row<W: Sink>(
     alloc: Global,
     field: u64,
-    number: u64,
-    words: &[String],
-    text: &str,
+    row: &TableRow<'_>,
     out: &mut W,
 ) -> Result<bool, u8>
-    ensures line { IfOk result (HasLine (decimal field) (map string_bytes words.now, text.now) number
+    ensures line { IfOk result (HasLine (decimal field) (map string_bytes row.now.words.now, row.now.text.now) row.now.number
         (writer W.Sink out.old) (writer W.Sink out.new)) }
-    ensures end { IfErr result (EndsAt (decimal field) (map string_bytes words.now, text.now) number
+    ensures end { IfErr result (EndsAt (decimal field) (map string_bytes row.now.words.now, row.now.text.now) row.now.number
         (writer W.Sink out.old) (writer W.Sink out.new)) }
 {
-    let Ok(is_good) = is_good(alloc, field, words, text) else {
+    let Ok(is_good) = is_good(alloc, field, row.words, row.text) else {
         return Err(refuse(out));
     };
-    let Ok(line) = row_line(alloc, number, is_good) else {
+    let Ok(line) = row_line(alloc, row.number, is_good) else {
         return Err(refuse(out));
     };
     if write(out, line.as_str(), 0) == 3 {

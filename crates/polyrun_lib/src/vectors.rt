@@ -1,10 +1,10 @@
-//! The rows of each field.
+//! The table of answers of each field.
 
 ghost use Rattle.std.specs.Prelude.{◌≡◌, ℕ, List, map, IfOk, IfSome, IfNone, string_bytes, decimal};
 ghost use Rattle.polyrun_lib.specs.Vectors.{Row};
 ghost use Rattle.polyrun_lib.specs.Check.{shown_row, AsksVectors};
 
-use crate::rows::{Checked, check_row, refuse};
+use crate::rows::{Checked, TableRow, check_row, refuse};
 use ark_base::Sink;
 use std::alloc::{AllocError, Global};
 
@@ -80,7 +80,14 @@ impl Checked for Vector {
         out: &mut W,
     ) -> Result<bool, u8> {
         match owned_words(alloc, self.0) {
-            Ok(words) => check_row(alloc, field, number, &words, self.1, out),
+            Ok(words) => {
+                let row = TableRow {
+                    number,
+                    words: &words,
+                    text: self.1,
+                };
+                check_row(alloc, field, &row, out)
+            }
             Err(_) => Err(refuse(out)),
         }
     }

@@ -8,7 +8,6 @@ pub mod Locators
 pub mod Lost
 pub mod Messages
 pub mod Monic
-pub mod PairedValues
 pub mod Parts
 pub mod Places
 pub mod QuarterTurns

@@ -1,6 +1,6 @@
 //! `shards join` and `shards check`.
 
-ghost use Rattle.std.specs.Prelude.{◌≡◌, ◌≤◌, length, IfOk, IsOk};
+ghost use Rattle.std.specs.Prelude.{◌≡◌, ℕ, ◌<◌, ◌≤◌, length, get_or, IfOk, IsOk};
 ghost use Rattle.shards_format.specs.Files.{AreApart};
 ghost use Rattle.shards_format.specs.Given.{AreOfOneFile, numbers_of};
 
@@ -10,7 +10,7 @@ use crate::words::{CheckWords, JoinWords};
 use anyhow::{Context, Result, anyhow, bail};
 use ark_bytes::{IoSink, IoSource, Source};
 use shards_format::{Damage, HEADER, Header, JoinError, Piece, StripeCode, judge, places_of};
-use shards_streams::{StreamError, check_source, join_into};
+use shards_streams::{ChosenPieces, StreamError, check_source, join_into};
 use std::alloc::Global;
 use std::fs::{self, OpenFile};
 use std::io::{Eprint, Print};
@@ -81,19 +81,15 @@ pub fn join_file<C: StripeCode, R: Files + Eprint + AllocGlobal>(
     let places = judged(alloc, &code, &pieces)?;
     let mut output = Vec::new(alloc);
     output.push(String::from_str(alloc, words.file)?)?;
-    let mut sources = open_bodies(rt, alloc, &names[..code.k()])?;
+    let names = &names[..code.k()];
+    let open = OpenPieces {
+        chosen: first_needed(&code, &pieces, &places),
+        digest: pieces[0].header.digest,
+        names,
+        sources: open_bodies(rt, alloc, names)?,
+    };
     let file = create_beside(rt, alloc, words.file, words.force)?;
-    let written = write_file(
-        rt,
-        alloc,
-        &code,
-        &pieces,
-        &places,
-        &names,
-        words,
-        &mut sources,
-        file,
-    );
+    let written = write_file(rt, &code, words, open, file);
     finish(rt, alloc, &output, written)
 }
 
@@ -158,36 +154,51 @@ fn judged<C: StripeCode>(alloc: Global, code: &C, pieces: &[Piece<'_>]) -> Resul
     }
 }
 
-// Writes the file beside its name, to the end: that a disk is full may come late.
-fn write_file<C: StripeCode, R: Files + Eprint>(
-    rt: &R,
-    alloc: Global,
+// The first of the pieces, as many as are needed.
+fn first_needed<'a, C: StripeCode>(
     code: &C,
     pieces: &[Piece<'_>],
-    places: &[usize],
-    names: &[&str],
-    words: &JoinWords<'_>,
-    sources: &mut [IoSource<R::File>],
-    output: R::File,
-) -> Result<()>
+    places: &'a [usize],
+) -> ChosenPieces<'a>
     requires places { places.now ≡ numbers_of pieces.now }
     requires one_file { AreOfOneFile (C.k_of code.now) (C.n_of code.now) pieces.now }
     requires apart { AreApart places.now }
     requires enough { C.k_of code.now ≤ length pieces.now }
-    requires sources { length sources.old ≡ C.k_of code.now }
+    ensures places { length result.places.now ≡ C.k_of code.now }
+    ensures below { (a : ℕ) → a < length result.places.now → get_or result.places.now a 0 < C.n_of code.now }
 {
-    let k = code.k();
-    let header = pieces[0].header;
+    ChosenPieces {
+        places: &places[..code.k()],
+        file_len: pieces[0].header.len as usize,
+    }
+}
+
+// The pieces that a file is joined of, with what they are read from, past their headers.
+#[derive(Drop)]
+struct OpenPieces<'a, F> {
+    chosen: ChosenPieces<'a>,
+    // That of the file, as the pieces have it.
+    digest: [u8; 32],
+    names: &'a [&'a str],
+    sources: Vec<IoSource<F>>,
+}
+
+// Writes the file beside its name, to the end: that a disk is full may come late.
+fn write_file<C: StripeCode, R: Files + Eprint + AllocGlobal>(
+    rt: &R,
+    code: &C,
+    words: &JoinWords<'_>,
+    open: OpenPieces<'_, R::File>,
+    output: R::File,
+) -> Result<()>
+    requires places { length open.chosen.places.now ≡ C.k_of code.now }
+    requires below { (a : ℕ) → a < length open.chosen.places.now → get_or open.chosen.places.now a 0 < C.n_of code.now }
+    requires sources { length open.sources.items ≡ C.k_of code.now }
+{
+    let mut sources = open.sources;
     let mut sink = Watched::new(IoSink::new(output), rt, words.progress, "joined");
-    match join_into(
-        alloc,
-        code,
-        &places[..k],
-        header.len as usize,
-        sources,
-        &mut sink,
-    ) {
-        Ok(digest) if digest == header.digest => {
+    match join_into(rt.alloc(), code, &open.chosen, &mut sources, &mut sink) {
+        Ok(digest) if digest == open.digest => {
             let file = sink.into_inner().into_inner();
             file.sync_all()
                 .context(format_args!("writing {}", words.file))
@@ -195,7 +206,7 @@ fn write_file<C: StripeCode, R: Files + Eprint>(
         Ok(_) => bail!("the pieces do not give the file"),
         Err(StreamError::Read(i)) => bail!(
             "reading {} failed",
-            names.get(i).copied().unwrap_or("a piece")
+            open.names.get(i).copied().unwrap_or("a piece")
         ),
         Err(StreamError::Write(_)) => bail!("writing {} failed", words.file),
         Err(error) => bail!("{error}"),

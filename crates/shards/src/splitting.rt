@@ -9,7 +9,7 @@ use crate::words::SplitWords;
 use anyhow::{Context, Result, anyhow, bail};
 use ark_bytes::{IoSink, IoSource};
 use shards_format::StripeCode;
-use shards_streams::{PieceWriter, StreamError, digest_of, split_into};
+use shards_streams::{FileDigest, PieceWriter, StreamError, digest_of, split_into};
 use std::alloc::Global;
 use std::fs::{self, OpenFile};
 use std::io::{Eprint, Write};
@@ -32,10 +32,13 @@ pub fn split_file<C: StripeCode, R: Files + Eprint + AllocGlobal>(
         refuse_present(rt, alloc, name, words.force)?;
     }
     let state = state_of(rt, words.file)?;
-    let (len, digest) = digest_of_file(rt, alloc, words)?;
+    let file = digest_of_file(rt, alloc, words)?;
     fs::create_dir_all(rt, words.folder).context(format_args!("making {}", words.folder))?;
-    let writers = new_writers(rt, alloc, &names, words.force)?;
-    let written = write_pieces(rt, alloc, &code, len, &digest, words, &names, writers);
+    let pieces = PieceFiles {
+        names: &names,
+        writers: new_writers(rt, alloc, &names, words.force)?,
+    };
+    let written = write_pieces(rt, &code, &file, words, pieces);
     let written = match written {
         Ok(()) => refuse_changed(rt, words.file, state),
         Err(error) => Err(error),
@@ -79,9 +82,7 @@ fn digest_of_file<R: Files + Eprint>(
     rt: &R,
     alloc: Global,
     words: &SplitWords<'_>,
-) -> Result<(usize, [u8; 32])>
-    ensures { IfOk result (λ found. found.0 < 2 ^ 62) }
-{
+) -> Result<FileDigest> {
     let mut source = open_watched(rt, words, "digested")?;
     match digest_of(alloc, &mut source) {
         Ok(found) => Ok(found),
@@ -108,30 +109,27 @@ fn reading_failed(file: &str, error: StreamError) -> anyhow::Error {
     }
 }
 
+// The files of the pieces, in the order of their names, with nothing written yet.
+#[derive(Drop)]
+struct PieceFiles<'a, F: Write + Drop> {
+    names: &'a [String],
+    writers: Vec<PieceWriter<IoSink<F>>>,
+    ghost new: { (i : ℕ) (d : _) → i < length writers.items → HasHashed (get_or writers.items i d) [] },
+}
+
 // Writes the pieces beside their names, to the end: that a disk is full may come late.
-fn write_pieces<C: StripeCode, R: Files + Eprint>(
+fn write_pieces<C: StripeCode, R: Files + Eprint + AllocGlobal>(
     rt: &R,
-    alloc: Global,
     code: &C,
-    len: usize,
-    digest: &[u8; 32],
+    file: &FileDigest,
     words: &SplitWords<'_>,
-    names: &[String],
-    mut writers: Vec<PieceWriter<IoSink<R::File>>>,
+    pieces: PieceFiles<'_, R::File>,
 ) -> Result<()>
-    requires len { len < 2 ^ 62 }
-    requires writers { length writers.items ≡ C.n_of code.now }
-    requires new { (i : ℕ) (d : _) → i < length writers.items → HasHashed (get_or writers.items i d) [] }
+    requires writers { length pieces.writers.items ≡ C.n_of code.now }
 {
+    let PieceFiles { names, mut writers } = pieces;
     let mut source = open_watched(rt, words, "split")?;
-    match split_into(
-        alloc,
-        code,
-        len,
-        digest,
-        &mut source,
-        writers.as_mut_slice(),
-    ) {
+    match split_into(rt.alloc(), code, file, &mut source, writers.as_mut_slice()) {
         Ok(()) => sync_all(writers, names),
         Err(StreamError::Write(i)) => bail!("writing {} failed", name_at(names, i)),
         Err(error) => Err(reading_failed(words.file, error)),

@@ -10,9 +10,6 @@ use Rattle.shards_format.specs.Stripes.{item, stripe, stripes, numbers_at, Numbe
 
 -- ---- products
 
-pub below_product : (a b m n : ℕ) → a ≤ m → b ≤ n → a * b ≤ m * n
-below_product a b m n h l = grind arith
-
 -- place s of row i, of n rows of so many
 pub row_place : (i s n count : ℕ) → i < n → s < count → i * count + s < n * count
 row_place i s n count h l = grind arith
@@ -28,21 +25,21 @@ stripes_room k len h = grind arith
 
 -- ---- bytes and items
 
-pub same_bytes : (xs ys : List ℕ) (j : ℕ) → ((i : ℕ) → get_or xs i 0 < 256) → ((i : ℕ) → get_or ys i 0 < 256) → item xs j ≡ item ys j → (get_or xs (2 * j) 0 ≡ get_or ys (2 * j) 0) × (get_or xs (2 * j + 1) 0 ≡ get_or ys (2 * j + 1) 0)
+same_bytes : (xs ys : List ℕ) (j : ℕ) → ((i : ℕ) → get_or xs i 0 < 256) → ((i : ℕ) → get_or ys i 0 < 256) → item xs j ≡ item ys j → (get_or xs (2 * j) 0 ≡ get_or ys (2 * j) 0) × (get_or xs (2 * j + 1) 0 ≡ get_or ys (2 * j + 1) 0)
 same_bytes xs ys j small few e =
     let a : get_or xs (2 * j) 0 < 256 = small (2 * j) in
     let b : get_or ys (2 * j) 0 < 256 = few (2 * j) in
     (omega arith, omega arith)
 
 -- what holds at both places of each pair holds at each place
-pub by_pairs : (P : ℕ → Type 0) (n : ℕ) → ((j : ℕ) → j < n → P (2 * j)) → ((j : ℕ) → j < n → P (2 * j + 1)) → (i : ℕ) → i < 2 * n → P i
+by_pairs : (P : ℕ → Type 0) (n : ℕ) → ((j : ℕ) → j < n → P (2 * j)) → ((j : ℕ) → j < n → P (2 * j + 1)) → (i : ℕ) → i < 2 * n → P i
 by_pairs P n even odd i h = elim (cases_eq (i % 2) 0) [
   | inl e ↦ let is : 2 * (i / 2) ≡ i = omega arith in let lt : i / 2 < n = omega arith in subst P is (even (i / 2) lt)
   | inr ne ↦ let is : 2 * (i / 2) + 1 ≡ i = omega arith in let lt : i / 2 < n = omega arith in subst P is (odd (i / 2) lt)
 ]
 
 -- bytes whose items are a block's begin with it
-pub bytes_by_items : (xs block : List ℕ) (n : ℕ) → ((i : ℕ) → get_or xs i 0 < 256) → ((i : ℕ) → get_or block i 0 < 256)
+bytes_by_items : (xs block : List ℕ) (n : ℕ) → ((i : ℕ) → get_or xs i 0 < 256) → ((i : ℕ) → get_or block i 0 < 256)
     → length xs ≡ 2 * n → length block ≤ 2 * n → ((j : ℕ) → j < n → item xs j ≡ item block j) → take (length block) xs ≡ block
 bytes_by_items xs block n small few len room same =
     let long : length block ≤ length xs = omega arith in
@@ -52,7 +49,7 @@ bytes_by_items xs block n small few len room same =
     (λ j l. (same_bytes xs block j small few (same j l)).0) (λ j l. (same_bytes xs block j small few (same j l)).1) i (omega (arith, below, room)))
 
 -- what holds at each place of each row holds at each place
-pub by_rows : (P : ℕ → Type 0) (k n : ℕ) → ((s j : ℕ) → s < n → j < k → P (s * k + j)) → (i : ℕ) → i < n * k → P i
+by_rows : (P : ℕ → Type 0) (k n : ℕ) → ((s j : ℕ) → s < n → j < k → P (s * k + j)) → (i : ℕ) → i < n * k → P i
 by_rows P zero n each i h = let none : i < 0 = subst (λ m. i < m) (mul-zero n) h in absurd (omega arith)
 by_rows P (suc k) n each i h =
     let is : i / suc k * suc k + i % suc k ≡ i = div-add-mod' i (suc k) in

@@ -38,7 +38,7 @@ block_some : (k : ℕ) → 0 < k → 0 < block_size k
 block_some k some = omega arith
 
 -- the body of whole blocks and a rest
-pub body_more : (k b rest : ℕ) → 0 < k → 0 < rest → rest ≤ block_size k → body_size k (b * block_size k + rest) ≡ b * part_size + (4 + 2 * stripes k rest)
+body_more : (k b rest : ℕ) → 0 < k → 0 < rest → rest ≤ block_size k → body_size k (b * block_size k + rest) ≡ b * part_size + (4 + 2 * stripes k rest)
 body_more k b rest some more few =
     let block = block_some k some in
     let one : blocks k (b * block_size k + rest) ≡ b + 1 = rounded_more b rest (block_size k) block ∙ ap (λ x. b + x) (rounded_one rest (block_size k) more few) in
@@ -48,7 +48,7 @@ body_more k b rest some more few =
 none_rounded : (size : ℕ) → 0 < size → (0 + (size - 1)) / size ≡ 0
 none_rounded size some = grind arith
 
-pub body_full : (k b : ℕ) → 0 < k → body_size k (b * block_size k) ≡ b * part_size
+body_full : (k b : ℕ) → 0 < k → body_size k (b * block_size k) ≡ b * part_size
 body_full k b some =
     let block = block_some k some in
     let none : blocks k (b * block_size k + 0) ≡ b + 0 = rounded_more b 0 (block_size k) block ∙ ap (λ x. b + x) (none_rounded (block_size k) block) in

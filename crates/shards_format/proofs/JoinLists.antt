@@ -55,7 +55,7 @@ pub block_next : (size b : ℕ) (bytes : List ℕ) → take (b * size) bytes ++ 
 block_next size b bytes =
     take-parts (b * size) size bytes ∙ ap (λ m. take m bytes) (let e : b * size + size ≡ (b + 1) * size = omega arith in e)
 
-pub small_take : (n : ℕ) (xs : List ℕ) → ((i : ℕ) → get_or xs i 0 < 256) → (i : ℕ) → get_or (take n xs) i 0 < 256
+small_take : (n : ℕ) (xs : List ℕ) → ((i : ℕ) → get_or xs i 0 < 256) → (i : ℕ) → get_or (take n xs) i 0 < 256
 small_take n xs small i = elim (cases_lt i n) [
   | inl h ↦ rw (get_or-take n xs i 0 h) (small i)
   | inr h ↦ let past : length (take n xs) ≤ i = simp length-take (omega (arith, h)) in rw (get_or_past (take n xs) i 0 past) (omega arith)

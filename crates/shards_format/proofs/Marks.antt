@@ -1,6 +1,6 @@
 -- More numbers than are used can't all be used.
-use Rattle.std.proofs.Common.{◌≡◌, ℕ, zero, suc, ◌<◌, ◌≤◌, Bool, true, false, List, [], ◌∷◌, length, get_or, arith, refl, suc-le-suc, zero-le}
-use Rattle.std.proofs.Math.ListN.{set, replicate}
+use Rattle.std.proofs.Common.{◌≡◌, ℕ, zero, suc, ◌<◌, ◌≤◌, Bool, true, false, List, [], ◌∷◌, length, get_or, arith, suc-le-suc, zero-le}
+use Rattle.std.proofs.Math.ListN.{set}
 use Rattle.std.proofs.lemmas.Bool.Decides.{nat_tests}
 use Rattle.shards_format.specs.Parts.{count_true, shown}
 
@@ -15,10 +15,6 @@ count_true-set (true ∷ xs) zero = omega arith
 count_true-set (false ∷ xs) zero = omega arith
 count_true-set (true ∷ xs) (suc i) = suc-le-suc (count_true-set xs i)
 count_true-set (false ∷ xs) (suc i) = count_true-set xs i
-
-pub count_true-replicate : (n : ℕ) → count_true (replicate n false) ≡ 0
-count_true-replicate zero = refl
-count_true-replicate (suc n) = count_true-replicate n
 
 -- ---- how a number is written
 

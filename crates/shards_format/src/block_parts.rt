@@ -4,7 +4,7 @@ ghost use Rattle.std.specs.Prelude.{◌≡◌, ◌≢◌, ℕ, ◌+◌, ◌*◌,
 ghost use Rattle.shards_format.specs.Stripes.{item, stripe, stripes, numbers_at};
 ghost use Rattle.shards_format.specs.Parts.{IsPart};
 
-use crate::code::StripeCode;
+use crate::code::{PlacedNumbers, StripeCode};
 use crate::items::{item, put_item};
 use crate::parts::{PART, part_of};
 use std::alloc::{AllocError, Global};
@@ -106,7 +106,12 @@ pub fn block_of<C: StripeCode>(
         → take (length block) bytes.items ≡ block) }
 {
     let mut items = vec![in alloc; 0u16; count * code.k()]?;
-    code.restore(alloc, places, numbers, count, items.as_mut_slice())?;
+    let given = PlacedNumbers {
+        places,
+        stripes: count,
+        numbers,
+    };
+    code.restore(alloc, &given, items.as_mut_slice())?;
     let bytes = bytes_of(alloc, &items)?;
     Ok(bytes)
 }

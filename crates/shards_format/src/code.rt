@@ -4,6 +4,19 @@ ghost use Rattle.std.specs.Prelude.{◌≡◌, ◌≢◌, ℕ, ◌+◌, ◌*◌,
 
 use std::alloc::{AllocError, Global};
 
+/// Numbers that stripes have at places that differ.
+#[derive(Clone, Copy, Debug)]
+pub struct PlacedNumbers<'a> {
+    /// The places.
+    pub places: &'a [usize],
+    /// How many stripes have numbers there.
+    pub stripes: usize,
+    /// One number for each stripe, those at the first place first.
+    pub numbers: &'a [u32],
+    ghost apart: { (a b : ℕ) → a < b → b < length places.now → get_or places.now a 0 ≢ get_or places.now b 0 },
+    ghost len: { length numbers.now ≡ length places.now * stripes },
+}
+
 /// A code for stripes. A stripe is `k` items below 2^16; it has a number of at most 2^16 at each of `n` places, and the
 /// numbers at any `k` places tell the stripe.
 pub trait StripeCode: Drop + Sized {
@@ -48,24 +61,20 @@ pub trait StripeCode: Drop + Sized {
         ensures { OnOk result ((i s : ℕ) → i < Self.n_of self.now → s < stripes → get_or numbers.new (i * stripes + s) 0
             ≡ number (Self.k_of self.now) (Self.n_of self.now) (λ j. get_or items.now (s * Self.k_of self.now + j) 0) i) };
 
-    /// The items of so many stripes from their numbers at `k` places, those at the first of these first.
+    /// The items of stripes from their numbers at `k` places.
     fn restore(
         &self,
         alloc: Global,
-        places: &[usize],
-        numbers: &[u32],
-        stripes: usize,
+        given: &PlacedNumbers<'_>,
         items: &mut [u16],
     ) -> Result<(), AllocError>
-        requires places { length places.now ≡ Self.k_of self.now }
-        requires below { (a : ℕ) → a < length places.now → get_or places.now a 0 < Self.n_of self.now }
-        requires apart { (a b : ℕ) → a < b → b < length places.now → get_or places.now a 0 ≢ get_or places.now b 0 }
-        requires numbers { length numbers.now ≡ Self.k_of self.now * stripes }
-        requires items { length items.old ≡ stripes * Self.k_of self.now }
-        ensures { OnOk result ((s : ℕ) (stripe : ℕ → ℕ) → s < stripes
+        requires places { length given.now.places.now ≡ Self.k_of self.now }
+        requires below { (a : ℕ) → a < length given.now.places.now → get_or given.now.places.now a 0 < Self.n_of self.now }
+        requires items { length items.old ≡ given.now.stripes * Self.k_of self.now }
+        ensures { OnOk result ((s : ℕ) (stripe : ℕ → ℕ) → s < given.now.stripes
             → ((j : ℕ) → j < Self.k_of self.now → stripe j < 2 ^ 16)
-            → ((a : ℕ) → a < Self.k_of self.now → get_or numbers.now (a * stripes + s) 0
-            ≡ number (Self.k_of self.now) (Self.n_of self.now) stripe (get_or places.now a 0))
+            → ((a : ℕ) → a < Self.k_of self.now → get_or given.now.numbers.now (a * given.now.stripes + s) 0
+            ≡ number (Self.k_of self.now) (Self.n_of self.now) stripe (get_or given.now.places.now a 0))
             → (j : ℕ) → j < Self.k_of self.now → get_or items.new (s * Self.k_of self.now + j) 0 ≡ stripe j) };
 
     // A number depends on the stripe's items alone, and is at most 2^16.

@@ -13,7 +13,7 @@ mod piece;
 mod splitting;
 
 pub use block_parts::{block_of, parts_of_block, stripes};
-pub use code::StripeCode;
+pub use code::{PlacedNumbers, StripeCode};
 pub use header::{HEADER, Header, MAGIC};
 pub use items::{item, put_item, put_word, word};
 pub use joining::{JoinError, PART_SIZE, join, judge, places_of};

@@ -1,5 +1,5 @@
 -- Marks that are taken off one by one.
-use Rattle.std.proofs.Common.{◌≡◌, ◌≢◌, ℕ, zero, suc, ◌+◌, ◌<◌, Bool, true, false, List, [], ◌∷◌, length, get_or, set, replicate, cond, arith, sym, ◌∙◌, ap, refl, inl, inr, get_or-set_other}
+use Rattle.std.proofs.Common.{◌≡◌, ◌≢◌, ℕ, suc, ◌+◌, ◌<◌, Bool, true, false, List, [], ◌∷◌, length, get_or, set, cond, arith, sym, ◌∙◌, ap, refl, inl, inr, get_or-set_other}
 use Rattle.std.proofs.lemmas.List.Sums.{sum_by-set, sum_by-cons}
 use Rattle.std.proofs.lemmas.Bool.{cases_eq, cases_Bool}
 use Rattle.rs_code.specs.Codeword.{mark_count}
@@ -10,10 +10,6 @@ marks-less marks i l e =
     let s = sum_by-set (λ mark. cond mark 1 0) marks i false true l in
     let c : ◌≡◌ {A = ℕ} (cond (get_or marks i true) 1 0) 1 = ap (λ (b : Bool). cond {A = ℕ} b 1 0) e in
     omega (arith, s, c)
-
-pub marks-all : (n : ℕ) → mark_count (replicate n true) ≡ n
-marks-all zero = refl
-marks-all (suc n) = let e = sum_by-cons (λ (mark : Bool). cond mark 1 0) true (replicate n true) in let h = marks-all n in omega (arith, e, h)
 
 pub all_marked : (marks : List Bool) → ((i : ℕ) → get_or marks i true ≡ true) → mark_count marks ≡ length marks
 all_marked [] h = refl

@@ -1,4 +1,4 @@
-//! Rows that hold stripes. So many stripes from `first` on have a lane each: lane `t` is that of stripe `first + t`.
+//! Rows that hold a group of stripes, a lane for each: lane `t` is that of stripe `first + t`.
 
 ghost use Rattle.std.specs.Prelude.{◌≡◌, ◌≢◌, ℕ, ◌+◌, ◌*◌, ◌%◌, ◌^◌, ◌<◌, ◌≤◌, get_or, length, IfOk};
 ghost use Rattle.ark_math.specs.Field.{natural};
@@ -8,7 +8,20 @@ ghost use Rattle.shards_lib.specs.Rows.{entry};
 use crate::field::NumberField;
 use ark_base::Zero;
 use ark_rows::Row;
+use shards_format::PlacedNumbers;
 use std::alloc::{AllocError, Global};
+
+/// Some of the stripes, one after another.
+#[derive(Clone, Copy)]
+pub struct StripeGroup {
+    /// The first of them.
+    pub first: usize,
+    /// How many they are.
+    pub count: usize,
+    /// How many stripes there are in all.
+    pub all: usize,
+    ghost within: { first + count ≤ all },
+}
 
 /// The messages of so many stripes of `k` items: row `j` has item `j` of each.
 pub fn message_rows<F: NumberField, const N: usize>(
@@ -65,25 +78,22 @@ fn row_of_items<F: NumberField, const N: usize>(
     row
 }
 
-/// Writes the numbers of so many stripes, those at place `i` from row `i`.
+/// Writes the numbers of a group, those at place `i` from row `i`.
 pub fn put_rows<F: NumberField, const N: usize>(
     rows: &[Row<F, N>],
-    stripes: usize,
-    first: usize,
-    count: usize,
+    group: StripeGroup,
     numbers: &mut [u32],
 )
-    requires count { count ≤ N }
-    requires stripes { first + count ≤ stripes }
-    requires numbers { length numbers.old ≡ length rows.now * stripes }
-    ensures written { (i t : ℕ) → i < length rows.now → t < count
-        → get_or numbers.new (i * stripes + (first + t)) 0 ≡ F.number (entry F.field rows.now i t) }
-    ensures kept { (i s : ℕ) → i < length rows.now → s < first
-        → get_or numbers.new (i * stripes + s) 0 ≡ get_or numbers.old (i * stripes + s) 0 }
+    requires count { group.count ≤ N }
+    requires numbers { length numbers.old ≡ length rows.now * group.all }
+    ensures written { (i t : ℕ) → i < length rows.now → t < group.count
+        → get_or numbers.new (i * group.all + (group.first + t)) 0 ≡ F.number (entry F.field rows.now i t) }
+    ensures kept { (i s : ℕ) → i < length rows.now → s < group.first
+        → get_or numbers.new (i * group.all + s) 0 ≡ get_or numbers.old (i * group.all + s) 0 }
 {
     for i in 0..rows.len() {
-        let start = i * stripes + first;
-        put_row(&rows[i], &mut numbers[start..start + count]);
+        let start = i * group.all + group.first;
+        put_row(&rows[i], &mut numbers[start..start + group.count]);
     }
 }
 
@@ -97,53 +107,42 @@ fn put_row<F: NumberField, const N: usize>(row: &Row<F, N>, numbers: &mut [u32])
     }
 }
 
-/// The words of so many stripes: row `places[a]` has their numbers that are given at `a`, and the rows at other places
-/// are zero.
+/// The words of a group: row `places[a]` has the numbers that are given for `a`, and the rows at other places are zero.
 pub fn word_rows<F: NumberField, const N: usize>(
     alloc: Global,
     size: usize,
-    places: &[usize],
-    numbers: &[u32],
-    stripes: usize,
-    first: usize,
-    count: usize,
+    given: &PlacedNumbers<'_>,
+    group: StripeGroup,
 ) -> Result<Vec<Row<F, N>>, AllocError>
-    requires count { count ≤ N }
-    requires stripes { first + count ≤ stripes }
-    requires below { (a : ℕ) → a < length places.now → get_or places.now a 0 < size }
-    requires apart { (a b : ℕ) → a < b → b < length places.now → get_or places.now a 0 ≢ get_or places.now b 0 }
-    requires numbers { length numbers.now ≡ length places.now * stripes }
+    requires count { group.count ≤ N }
+    requires stripes { group.all ≡ given.now.stripes }
+    requires below { (a : ℕ) → a < length given.now.places.now → get_or given.now.places.now a 0 < size }
     ensures len { IfOk result (λ rows. length rows.items ≡ size) }
-    ensures entries { IfOk result (λ rows. (a t : ℕ) → a < length places.now → t < count
-        → entry F.field rows.items (get_or places.now a 0) t
-        ≡ natural F.field (get_or numbers.now (a * stripes + (first + t)) 0)) }
+    ensures entries { IfOk result (λ rows. (a t : ℕ) → a < length given.now.places.now → t < group.count
+        → entry F.field rows.items (get_or given.now.places.now a 0) t
+        ≡ natural F.field (get_or given.now.numbers.now (a * group.all + (group.first + t)) 0)) }
 {
     let mut rows = vec![in alloc; Row::<F, N>::zero(); size]?;
-    put_words(rows.as_mut_slice(), places, numbers, stripes, first, count);
+    put_words(rows.as_mut_slice(), given, group);
     Ok(rows)
 }
 
-// Writes the numbers of so many stripes at the places.
+// Writes the numbers of a group at their places.
 fn put_words<F: NumberField, const N: usize>(
     rows: &mut [Row<F, N>],
-    places: &[usize],
-    numbers: &[u32],
-    stripes: usize,
-    first: usize,
-    count: usize,
+    given: &PlacedNumbers<'_>,
+    group: StripeGroup,
 )
-    requires count { count ≤ N }
-    requires stripes { first + count ≤ stripes }
-    requires below { (a : ℕ) → a < length places.now → get_or places.now a 0 < length rows.old }
-    requires apart { (a b : ℕ) → a < b → b < length places.now → get_or places.now a 0 ≢ get_or places.now b 0 }
-    requires numbers { length numbers.now ≡ length places.now * stripes }
-    ensures { (a t : ℕ) → a < length places.now → t < count
-        → entry F.field rows.new (get_or places.now a 0) t
-        ≡ natural F.field (get_or numbers.now (a * stripes + (first + t)) 0) }
+    requires count { group.count ≤ N }
+    requires stripes { group.all ≡ given.now.stripes }
+    requires below { (a : ℕ) → a < length given.now.places.now → get_or given.now.places.now a 0 < length rows.old }
+    ensures { (a t : ℕ) → a < length given.now.places.now → t < group.count
+        → entry F.field rows.new (get_or given.now.places.now a 0) t
+        ≡ natural F.field (get_or given.now.numbers.now (a * group.all + (group.first + t)) 0) }
 {
-    for a in 0..places.len() {
-        let start = a * stripes + first;
-        rows[places[a]] = row_of_numbers(&numbers[start..start + count]);
+    for a in 0..given.places.len() {
+        let start = a * group.all + group.first;
+        rows[given.places[a]] = row_of_numbers(&given.numbers[start..start + group.count]);
     }
 }
 
@@ -160,24 +159,22 @@ fn row_of_numbers<F: NumberField, const N: usize>(numbers: &[u32]) -> Row<F, N>
     row
 }
 
-/// Writes the items of so many stripes of `k` items, item `j` of each from row `j`.
+/// Writes the items of a group of stripes of `k` items, item `j` of each from row `j`.
 pub fn put_stripes<F: NumberField, const N: usize>(
     rows: &[Row<F, N>],
     k: usize,
-    first: usize,
-    count: usize,
+    group: StripeGroup,
     items: &mut [u16],
 )
-    requires count { count ≤ N }
+    requires count { group.count ≤ N }
     requires rows { length rows.now ≡ k }
-    requires end { first + count < 2 ^ 64 }
-    requires items { (first + count) * k ≤ length items.old }
-    ensures written { (t j : ℕ) → t < count → j < k
-        → get_or items.new ((first + t) * k + j) 0 ≡ F.number (entry F.field rows.now j t) % 65536 }
-    ensures kept { (p : ℕ) → p < first * k → get_or items.new p 0 ≡ get_or items.old p 0 }
+    requires items { (group.first + group.count) * k ≤ length items.old }
+    ensures written { (t j : ℕ) → t < group.count → j < k
+        → get_or items.new ((group.first + t) * k + j) 0 ≡ F.number (entry F.field rows.now j t) % 65536 }
+    ensures kept { (p : ℕ) → p < group.first * k → get_or items.new p 0 ≡ get_or items.old p 0 }
 {
-    for t in 0..count {
-        let start = (first + t) * k;
+    for t in 0..group.count {
+        let start = (group.first + t) * k;
         put_stripe(rows, t, &mut items[start..start + k]);
     }
 }

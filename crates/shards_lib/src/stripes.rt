@@ -11,13 +11,13 @@ ghost use Rattle.shards_lib.specs.Rows.{HasCode, entry};
 ghost use Rattle.shards_lib.specs.Weights.{AreWeights, Restores};
 
 use crate::field::NumberField;
-use crate::rows::{message_rows, put_rows, put_stripes, word_rows};
+use crate::rows::{StripeGroup, message_rows, put_rows, put_stripes, word_rows};
 use crate::weights::{combined, unit_rows};
 use ark_base::{F65537, Zero};
 use ark_poly::{EvaluationDomain, Radix2EvaluationDomain};
 use ark_rows::Row;
 use rs_code::{DomainCode, DomainDecoder, RsError};
-use shards_format::StripeCode;
+use shards_format::{PlacedNumbers, StripeCode};
 use std::alloc::{AllocError, Global};
 
 /// The code of files: over the field of 65537 elements, sixteen stripes at once.
@@ -88,10 +88,14 @@ impl<F: NumberField, const N: usize> StripeCode for RowCode<F, N> {
         stripes: usize,
         numbers: &mut [u32],
     ) -> Result<(), AllocError> {
-        for group in 0..groups(stripes, N) {
-            let first = group * N;
-            let count = N.min(stripes - first);
-            self.encode_group(alloc, items, stripes, first, count, numbers)?;
+        for index in 0..groups(stripes, N) {
+            let first = index * N;
+            let group = StripeGroup {
+                first,
+                count: N.min(stripes - first),
+                all: stripes,
+            };
+            self.encode_group(alloc, items, group, numbers)?;
         }
         Ok(())
     }
@@ -99,44 +103,46 @@ impl<F: NumberField, const N: usize> StripeCode for RowCode<F, N> {
     fn restore(
         &self,
         alloc: Global,
-        places: &[usize],
-        numbers: &[u32],
-        stripes: usize,
+        given: &PlacedNumbers<'_>,
         items: &mut [u16],
     ) -> Result<(), AllocError> {
-        let decoder = self.decoder(alloc, places)?;
-        let weights = self.weights(alloc, &decoder, places)?;
-        self.restore_groups(alloc, &decoder, &weights, places, numbers, stripes, items)
+        let decoder = self.decoder(alloc, given.places)?;
+        let weights = self.weights(alloc, &decoder, given.places)?;
+        let restorer = Restorer {
+            code: self,
+            given,
+            decoder,
+            weights,
+        };
+        restorer.restore_groups(alloc, items)
     }
 }
 
 impl<F: NumberField, const N: usize> RowCode<F, N> {
-    // The numbers of so many stripes from `first` on.
+    // The numbers of a group.
     fn encode_group(
         &self,
         alloc: Global,
         items: &[u16],
-        stripes: usize,
-        first: usize,
-        count: usize,
+        group: StripeGroup,
         numbers: &mut [u32],
     ) -> Result<(), AllocError>
-        requires count { count ≤ N }
-        requires stripes { first + count ≤ stripes }
-        requires items { length items.now ≡ stripes * self.now.code.k }
-        requires numbers { length numbers.old ≡ self.now.n * stripes }
-        ensures written { OnOk result ((i t : ℕ) → i < self.now.n → t < count
-            → get_or numbers.new (i * stripes + (first + t)) 0
+        requires count { group.count ≤ N }
+        requires items { length items.now ≡ group.all * self.now.code.k }
+        requires numbers { length numbers.old ≡ self.now.n * group.all }
+        ensures written { OnOk result ((i t : ℕ) → i < self.now.n → t < group.count
+            → get_or numbers.new (i * group.all + (group.first + t)) 0
             ≡ number_at_place F.field F.root F.number self.now.code.k self.now.n
-            (λ j. get_or items.now ((first + t) * self.now.code.k + j) 0) i) }
-        ensures kept { OnOk result ((i s : ℕ) → i < self.now.n → s < first
-            → get_or numbers.new (i * stripes + s) 0 ≡ get_or numbers.old (i * stripes + s) 0) }
+            (λ j. get_or items.now ((group.first + t) * self.now.code.k + j) 0) i) }
+        ensures kept { OnOk result ((i s : ℕ) → i < self.now.n → s < group.first
+            → get_or numbers.new (i * group.all + s) 0 ≡ get_or numbers.old (i * group.all + s) 0) }
     {
         let k = self.code.k();
-        let start = first * k;
+        let count = group.count;
+        let start = group.first * k;
         let message = message_rows::<F, N>(alloc, &items[start..start + count * k], k, count)?;
         let codeword = self.codeword(alloc, &message)?;
-        put_rows(&codeword[..self.n], stripes, first, count, numbers);
+        put_rows(&codeword[..self.n], group, numbers);
         Ok(())
     }
 
@@ -172,71 +178,6 @@ impl<F: NumberField, const N: usize> RowCode<F, N> {
         }
     }
 
-    // The items of all stripes, a group at a time.
-    fn restore_groups(
-        &self,
-        alloc: Global,
-        decoder: &DomainDecoder<F, Radix2EvaluationDomain<F>>,
-        weights: &[Row<F, N>],
-        places: &[usize],
-        numbers: &[u32],
-        stripes: usize,
-        items: &mut [u16],
-    ) -> Result<(), AllocError>
-        requires way { Restores F.field F.root self.now.code self.now.n decoder.now places.now weights.now }
-        requires numbers { length numbers.now ≡ self.now.code.k * stripes }
-        requires items { length items.old ≡ stripes * self.now.code.k }
-        ensures { OnOk result ((s : ℕ) (stripe : ℕ → ℕ) → s < stripes
-            → ((j : ℕ) → j < self.now.code.k → stripe j < 2 ^ 16)
-            → ((a : ℕ) → a < self.now.code.k → get_or numbers.now (a * stripes + s) 0
-            ≡ number_at_place F.field F.root F.number self.now.code.k self.now.n stripe (get_or places.now a 0))
-            → (j : ℕ) → j < self.now.code.k → get_or items.new (s * self.now.code.k + j) 0 ≡ stripe j) }
-    {
-        for group in 0..groups(stripes, N) {
-            let first = group * N;
-            let count = N.min(stripes - first);
-            self.restore_group(
-                alloc, decoder, weights, places, numbers, stripes, first, count, items,
-            )?;
-        }
-        Ok(())
-    }
-
-    // The items of so many stripes from `first` on.
-    fn restore_group(
-        &self,
-        alloc: Global,
-        decoder: &DomainDecoder<F, Radix2EvaluationDomain<F>>,
-        weights: &[Row<F, N>],
-        places: &[usize],
-        numbers: &[u32],
-        stripes: usize,
-        first: usize,
-        count: usize,
-        items: &mut [u16],
-    ) -> Result<(), AllocError>
-        requires way { Restores F.field F.root self.now.code self.now.n decoder.now places.now weights.now }
-        requires numbers { length numbers.now ≡ self.now.code.k * stripes }
-        requires count { count ≤ N }
-        requires stripes { first + count ≤ stripes }
-        requires items { length items.old ≡ stripes * self.now.code.k }
-        ensures written { OnOk result ((t : ℕ) (stripe : ℕ → ℕ) → t < count
-            → ((j : ℕ) → j < self.now.code.k → stripe j < 2 ^ 16)
-            → ((a : ℕ) → a < self.now.code.k → get_or numbers.now (a * stripes + (first + t)) 0
-            ≡ number_at_place F.field F.root F.number self.now.code.k self.now.n stripe (get_or places.now a 0))
-            → (j : ℕ) → j < self.now.code.k
-            → get_or items.new ((first + t) * self.now.code.k + j) 0 ≡ stripe j) }
-        ensures kept { OnOk result ((p : ℕ) → p < first * self.now.code.k
-            → get_or items.new p 0 ≡ get_or items.old p 0) }
-    {
-        let k = self.code.k();
-        let size = self.code.n();
-        let word = word_rows::<F, N>(alloc, size, places, numbers, stripes, first, count)?;
-        let message = self.messages(alloc, decoder, weights, places, &word)?;
-        put_stripes(&message, k, first, count, items);
-        Ok(())
-    }
-
     // What each value at a kept place counts in the items of a message, the inverse of a Vandermonde matrix, where the
     // items are no more than the lanes; else nothing.
     fn weights(
@@ -262,29 +203,6 @@ impl<F: NumberField, const N: usize> RowCode<F, N> {
         self.message(alloc, decoder, &units)
     }
 
-    // The messages of which words have the values at the kept places: by the weights, where there are some.
-    fn messages(
-        &self,
-        alloc: Global,
-        decoder: &DomainDecoder<F, Radix2EvaluationDomain<F>>,
-        weights: &[Row<F, N>],
-        places: &[usize],
-        word: &[Row<F, N>],
-    ) -> Result<Vec<Row<F, N>>, AllocError>
-        requires way { Restores F.field F.root self.now.code self.now.n decoder.now places.now weights.now }
-        requires len { length word.now ≡ self.now.code.domain.size }
-        ensures len { IfOk result (λ m. length m.items ≡ self.now.code.k) }
-        ensures only { IfOk result (λ m. (t : ℕ) (items : ℕ → F) → t < N
-            → ((a : ℕ) → a < self.now.code.k → entry F.field word.now (get_or places.now a 0) t
-            ≡ value_at_place F.field F.root self.now.code.k self.now.n items (get_or places.now a 0))
-            → (j : ℕ) → j < self.now.code.k → entry F.field m.items j t ≡ items j) }
-    {
-        if weights.is_empty() {
-            return self.message(alloc, decoder, word);
-        }
-        combined(alloc, weights, word, places)
-    }
-
     // The messages of which words have the values at the kept places. As many places as a message has items are kept, so
     // there is one, and memory alone may be lacking.
     fn message(
@@ -307,6 +225,87 @@ impl<F: NumberField, const N: usize> RowCode<F, N> {
             Ok(message) => Ok(message),
             Err(error) => Err(refused(error)),
         }
+    }
+}
+
+// Stripes that are restored from their numbers at places: by weights, where there are some, else by transforms.
+#[derive(Drop)]
+struct Restorer<'a, F: NumberField, const N: usize> {
+    code: &'a RowCode<F, N>,
+    given: &'a PlacedNumbers<'a>,
+    decoder: DomainDecoder<F, Radix2EvaluationDomain<F>>,
+    weights: Vec<Row<F, N>>,
+    ghost way: { Restores F.field F.root code.now.code code.now.n decoder given.now.places.now weights.items },
+}
+
+impl<'a, F: NumberField, const N: usize> Restorer<'a, F, N> {
+    // The items of all stripes, a group at a time.
+    fn restore_groups(&self, alloc: Global, items: &mut [u16]) -> Result<(), AllocError>
+        requires items { length items.old ≡ self.now.given.now.stripes * self.now.code.now.code.k }
+        ensures { OnOk result ((s : ℕ) (stripe : ℕ → ℕ) → s < self.now.given.now.stripes
+            → ((j : ℕ) → j < self.now.code.now.code.k → stripe j < 2 ^ 16)
+            → ((a : ℕ) → a < self.now.code.now.code.k
+            → get_or self.now.given.now.numbers.now (a * self.now.given.now.stripes + s) 0
+            ≡ number_at_place F.field F.root F.number self.now.code.now.code.k self.now.code.now.n stripe
+            (get_or self.now.given.now.places.now a 0))
+            → (j : ℕ) → j < self.now.code.now.code.k → get_or items.new (s * self.now.code.now.code.k + j) 0 ≡ stripe j) }
+    {
+        let stripes = self.given.stripes;
+        for index in 0..groups(stripes, N) {
+            let first = index * N;
+            let group = StripeGroup {
+                first,
+                count: N.min(stripes - first),
+                all: stripes,
+            };
+            self.restore_group(alloc, group, items)?;
+        }
+        Ok(())
+    }
+
+    // The items of a group.
+    fn restore_group(
+        &self,
+        alloc: Global,
+        group: StripeGroup,
+        items: &mut [u16],
+    ) -> Result<(), AllocError>
+        requires count { group.count ≤ N }
+        requires stripes { group.all ≡ self.now.given.now.stripes }
+        requires items { length items.old ≡ group.all * self.now.code.now.code.k }
+        ensures written { OnOk result ((t : ℕ) (stripe : ℕ → ℕ) → t < group.count
+            → ((j : ℕ) → j < self.now.code.now.code.k → stripe j < 2 ^ 16)
+            → ((a : ℕ) → a < self.now.code.now.code.k
+            → get_or self.now.given.now.numbers.now (a * group.all + (group.first + t)) 0
+            ≡ number_at_place F.field F.root F.number self.now.code.now.code.k self.now.code.now.n stripe
+            (get_or self.now.given.now.places.now a 0))
+            → (j : ℕ) → j < self.now.code.now.code.k
+            → get_or items.new ((group.first + t) * self.now.code.now.code.k + j) 0 ≡ stripe j) }
+        ensures kept { OnOk result ((p : ℕ) → p < group.first * self.now.code.now.code.k
+            → get_or items.new p 0 ≡ get_or items.old p 0) }
+    {
+        let k = self.code.code.k();
+        let size = self.code.code.n();
+        let word = word_rows::<F, N>(alloc, size, self.given, group)?;
+        let message = self.messages(alloc, &word)?;
+        put_stripes(&message, k, group, items);
+        Ok(())
+    }
+
+    // The messages of which words have the values at the given places.
+    fn messages(&self, alloc: Global, word: &[Row<F, N>]) -> Result<Vec<Row<F, N>>, AllocError>
+        requires len { length word.now ≡ self.now.code.now.code.domain.size }
+        ensures len { IfOk result (λ m. length m.items ≡ self.now.code.now.code.k) }
+        ensures only { IfOk result (λ m. (t : ℕ) (items : ℕ → F) → t < N
+            → ((a : ℕ) → a < self.now.code.now.code.k → entry F.field word.now (get_or self.now.given.now.places.now a 0) t
+            ≡ value_at_place F.field F.root self.now.code.now.code.k self.now.code.now.n items
+            (get_or self.now.given.now.places.now a 0))
+            → (j : ℕ) → j < self.now.code.now.code.k → entry F.field m.items j t ≡ items j) }
+    {
+        if self.weights.is_empty() {
+            return self.code.message(alloc, &self.decoder, word);
+        }
+        combined(alloc, &self.weights, word, self.given.places)
     }
 }
 

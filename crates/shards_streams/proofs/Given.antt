@@ -1,7 +1,7 @@
 -- What sources gave.
 use Rattle.std.proofs.Common.{◌≡◌, ℕ, ◌+◌, ◌<◌, ◌≤◌, ◌^◌, List, [], ◌++◌, length, length-append, append-nil, append_assoc, ap₂, sym, ◌∙◌, subst, refl, arith, Err, Option}
 use Rattle.std.specs.Io.KnownBytes.{Consumes, IsAtEnd}
-use Rattle.std.proofs.KnownBytes.{Consumes-nil, Consumes-trans}
+use Rattle.std.proofs.KnownBytes.{Consumes-trans}
 use Rattle.sha2.specs.Sha256.{sha256}
 use Rattle.sha2.specs.Hashers.{Holds256}
 use Rattle.sha2.specs.declared.Sha256.{Sha256}
@@ -25,9 +25,6 @@ pub fewer_given : (bytes : List ℕ) (s t : SourceState) (e : SerializationError
 fewer_given bytes s t IoError f = f
 fewer_given bytes s t InvalidData f = absurd f
 fewer_given bytes s t Memory f = absurd f
-
-pub none_given : (s : Option (List ℕ)) → GaveSome s s
-none_given s = record { taken = []; consumes = Consumes-nil s }
 
 pub no_text : (hasher : Sha256) (s : SourceState) → GaveText 0 hasher hasher s s
 no_text hasher s = record {

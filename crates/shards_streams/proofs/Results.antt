@@ -1,10 +1,6 @@
 -- What holds of a result where it is `Ok` or `Err`.
 use Rattle.std.proofs.Common.{Result, Ok, Err, OnOk, OnErr}
 
-pub ok_any : {T E : Type 0} (r : Result T E) (P : Type 0) → P → OnOk r P
-ok_any (Ok x) P p = p
-ok_any (Err e) P p = tt
-
 pub err_any : {T E : Type 0} (r : Result T E) (P : Type 0) → P → OnErr r P
 err_any (Ok x) P p = tt
 err_any (Err e) P p = p

@@ -11,6 +11,7 @@ ghost use Rattle.shards_format.specs.declared.header.Header.{Header};
 ghost use Rattle.shards_streams.specs.Checking.{GaveFile, GaveLong, GavePiece, GaveText, LacksPiece};
 
 use crate::error::StreamError;
+use crate::file_digest::FileDigest;
 use crate::reading::take_bytes;
 use ark_bytes::Source;
 use sha2::{Digest, Sha256};
@@ -21,8 +22,8 @@ use std::alloc::Global;
 const CHUNK: usize = 65536;
 
 /// How many bytes a source has left, and their SHA-256. `TooLong` comes at 2^62 bytes, and `Read` where the source fails.
-pub fn digest_of<R: Source>(alloc: Global, source: &mut R) -> Result<(usize, [u8; 32]), StreamError>
-    ensures file { IfOk result (λ found. GaveFile found.0 found.1 (R.remaining source.old) (R.remaining source.new)) }
+pub fn digest_of<R: Source>(alloc: Global, source: &mut R) -> Result<FileDigest, StreamError>
+    ensures file { IfOk result (λ found. GaveFile found.len found.digest (R.remaining source.old) (R.remaining source.new)) }
     ensures read { result ≡ Err (StreamError.Read 0) → R.failures source.old < R.failures source.new }
     ensures too_long { result ≡ Err StreamError.TooLong → GaveLong (source_state R.remaining R.failures source.old)
         (source_state R.remaining R.failures source.new) }
@@ -43,9 +44,9 @@ fn zeros(alloc: Global, len: usize) -> Result<Vec<u8>, StreamError>
 }
 
 // How many bytes a source has left, and their SHA-256, taken through a buffer.
-fn digest_by<R: Source>(source: &mut R, buffer: &mut [u8]) -> Result<(usize, [u8; 32]), StreamError>
+fn digest_by<R: Source>(source: &mut R, buffer: &mut [u8]) -> Result<FileDigest, StreamError>
     requires { 0 < length buffer.old }
-    ensures file { IfOk result (λ found. GaveFile found.0 found.1 (R.remaining source.old) (R.remaining source.new)) }
+    ensures file { IfOk result (λ found. GaveFile found.len found.digest (R.remaining source.old) (R.remaining source.new)) }
     ensures read { result ≡ Err (StreamError.Read 0) → R.failures source.old < R.failures source.new }
     ensures too_long { result ≡ Err StreamError.TooLong → GaveLong (source_state R.remaining R.failures source.old)
         (source_state R.remaining R.failures source.new) }
@@ -56,7 +57,10 @@ fn digest_by<R: Source>(source: &mut R, buffer: &mut [u8]) -> Result<(usize, [u8
     while len < 1 << 62 {
         let count = take_some(source, buffer, &mut hasher)?;
         if count == 0 {
-            return Ok((len, hasher.finalize()));
+            return Ok(FileDigest {
+                len,
+                digest: hasher.finalize(),
+            });
         }
         len += count;
     }

@@ -16,50 +16,59 @@ use sha2::{Digest, Sha256};
 use shards_format::{PART, StripeCode, block_of, blocks, read_part, stripes};
 use std::alloc::Global;
 
-/// Joins the bodies that sources have, of the pieces at `k` places, and gives the SHA-256 of the file's bytes, which go to
-/// the sink.
+/// The pieces that a file is joined of, by their places, which differ.
+#[derive(Clone, Copy, Debug)]
+pub struct ChosenPieces<'a> {
+    /// The places.
+    pub places: &'a [usize],
+    /// How many bytes the file has.
+    pub file_len: usize,
+    ghost apart: { AreApart places.now },
+    ghost few: { file_len < 2 ^ 62 },
+}
+
+/// Joins the bodies that sources have, of `k` pieces, and gives the SHA-256 of the file's bytes, which go to the sink.
 ///
 /// `Read` comes with the number of the source that ended or failed, `Write` where the sink failed, and `Memory` where a
 /// growth was refused. The sink then has a beginning of the file.
 pub fn join_into<C: StripeCode, R: Source, W: Sink>(
     alloc: Global,
     code: &C,
-    places: &[usize],
-    len: usize,
+    chosen: &ChosenPieces<'_>,
     sources: &mut [R],
     sink: &mut W,
 ) -> Result<[u8; 32], StreamError>
-    requires places { length places.now ≡ C.k_of code.now }
-    requires below { (a : ℕ) → a < length places.now → get_or places.now a 0 < C.n_of code.now }
-    requires apart { AreApart places.now }
+    requires places { length chosen.now.places.now ≡ C.k_of code.now }
+    requires below { (a : ℕ) → a < length chosen.now.places.now → get_or chosen.now.places.now a 0 < C.n_of code.now }
     requires sources { length sources.old ≡ C.k_of code.now }
-    requires len { len < 2 ^ 62 }
-    ensures file { IfOk result (λ digest. (bytes : List ℕ) → ((i : ℕ) → get_or bytes i 0 < 256) → length bytes ≡ len
-        → HaveBodies R.remaining C.number (C.k_of code.now) (C.n_of code.now) bytes places.now sources.old
+    ensures file { IfOk result (λ digest. (bytes : List ℕ) → ((i : ℕ) → get_or bytes i 0 < 256)
+        → length bytes ≡ chosen.now.file_len
+        → HaveBodies R.remaining C.number (C.k_of code.now) (C.n_of code.now) bytes chosen.now.places.now sources.old
         → Appends (W.contents sink.old) (W.contents sink.new) bytes) }
-    ensures beginning { OnErr result ((bytes : List ℕ) → ((i : ℕ) → get_or bytes i 0 < 256) → length bytes ≡ len
-        → HaveBodies R.remaining C.number (C.k_of code.now) (C.n_of code.now) bytes places.now sources.old
+    ensures beginning { OnErr result ((bytes : List ℕ) → ((i : ℕ) → get_or bytes i 0 < 256)
+        → length bytes ≡ chosen.now.file_len
+        → HaveBodies R.remaining C.number (C.k_of code.now) (C.n_of code.now) bytes chosen.now.places.now sources.old
         → AppendsBeginning (W.contents sink.old) (W.contents sink.new) bytes) }
     ensures errors { IfErr result (λ e. (e ≡ StreamError.Memory) ⊎ ((e ≡ StreamError.Write 0)
         ⊎ ((a : ℕ) × (a < length sources.old) × (e ≡ StreamError.Read a)))) }
 
     // Of a source with its body a call failed, where it is the one that `Read` tells.
     ensures read { (bytes : List ℕ) (a : ℕ) (d : R) → a < C.k_of code.now → result ≡ Err (StreamError.Read a)
-        → ((i : ℕ) → get_or bytes i 0 < 256) → length bytes ≡ len
-        → HaveBodies R.remaining C.number (C.k_of code.now) (C.n_of code.now) bytes places.now sources.old
+        → ((i : ℕ) → get_or bytes i 0 < 256) → length bytes ≡ chosen.now.file_len
+        → HaveBodies R.remaining C.number (C.k_of code.now) (C.n_of code.now) bytes chosen.now.places.now sources.old
         → R.failures (get_or sources.old a d) < R.failures (get_or sources.new a d) }
 
     // Whatever the sources gave, the digest is that of what was written.
-    ensures digest { IfOk result (λ digest. TookFile len digest (W.contents sink.old) (W.contents sink.new)) }
+    ensures digest { IfOk result (λ digest. TookFile chosen.now.file_len digest (W.contents sink.old) (W.contents sink.new)) }
 {
     let k = code.k();
     let size = 2 * k * PART;
     let mut hasher = Sha256::new();
-    for b in 0..blocks(k, len) {
-        let want = size.min(len - b * size);
+    for b in 0..blocks(k, chosen.file_len) {
+        let want = size.min(chosen.file_len - b * size);
         let count = stripes(k, want);
         let numbers = take_parts(alloc, sources, count)?;
-        let block = block_of(alloc, code, places, &numbers, count)?;
+        let block = block_of(alloc, code, chosen.places, &numbers, count)?;
         put(sink, &mut hasher, &block[..want])?;
     }
     Ok(hasher.finalize())

@@ -3,6 +3,7 @@
 
 mod checking;
 mod error;
+mod file_digest;
 mod joining;
 mod reading;
 mod splitting;
@@ -10,7 +11,8 @@ mod writer;
 
 pub use checking::{check_source, digest_of};
 pub use error::StreamError;
-pub use joining::join_into;
+pub use file_digest::FileDigest;
+pub use joining::{ChosenPieces, join_into};
 pub use reading::take_bytes;
 pub use splitting::split_into;
 pub use writer::PieceWriter;

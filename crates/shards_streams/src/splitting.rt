@@ -13,42 +13,41 @@ ghost use Rattle.shards_streams.specs.Streams.{header_with};
 ghost use Rattle.shards_streams.specs.Splitting.{TookParts, TookPartsSome, HasSplit, HasBegun, TookBodies, TookBodiesSome};
 
 use crate::error::StreamError;
+use crate::file_digest::FileDigest;
 use crate::reading::take_bytes;
 use crate::writer::PieceWriter;
 use ark_bytes::{Sink, Source};
 use shards_format::{Header, PART, StripeCode, blocks, parts_of_block};
 use std::alloc::{AllocError, Global};
 
-/// Splits so many bytes of a source, which have this digest: each writer gets the piece at its place.
+/// Splits a file: each writer gets the piece at its place of so many bytes of the source, which have this digest.
 ///
 /// `Read` comes where the source ends or fails before, `Write` with the number of the writer that failed, and `Memory`
 /// where a growth was refused. Each sink then has a beginning of its piece, as far as the file was read.
 pub fn split_into<C: StripeCode, R: Source, W: Sink + Drop>(
     alloc: Global,
     code: &C,
-    len: usize,
-    digest: &[u8; 32],
+    file: &FileDigest,
     source: &mut R,
     writers: &mut [PieceWriter<W>],
 ) -> Result<(), StreamError>
-    requires len { len < 2 ^ 62 }
     requires writers { length writers.old ≡ C.n_of code.now }
     requires new { (i : ℕ) (d : PieceWriter W) → i < length writers.old → HasHashed (get_or writers.old i d) [] }
-    ensures pieces { OnOk result (HasSplit W.Sink C.number (C.k_of code.now) (C.n_of code.now) len digest.now
+    ensures pieces { OnOk result (HasSplit W.Sink C.number (C.k_of code.now) (C.n_of code.now) file.now.len file.now.digest
         (source_state R.remaining R.failures source.old) (source_state R.remaining R.failures source.new)
         writers.old writers.new) }
     ensures beginnings { OnErr result ((writers.new ≡ writers.old) ⊎ HasBegun W.Sink C.number (C.k_of code.now)
-        (C.n_of code.now) len digest.now (R.remaining source.old) (R.remaining source.new) writers.old writers.new) }
+        (C.n_of code.now) file.now.len file.now.digest (R.remaining source.old) (R.remaining source.new) writers.old writers.new) }
     ensures read { result ≡ Err (StreamError.Read 0) → TakesFewer (source_state R.remaining R.failures source.old)
-        (source_state R.remaining R.failures source.new) len }
+        (source_state R.remaining R.failures source.new) file.now.len }
     ensures errors { IfErr result (λ e. (e ≡ StreamError.Memory) ⊎ ((e ≡ StreamError.Read 0)
         ⊎ ((i : ℕ) × (i < length writers.old) × (e ≡ StreamError.Write i)))) }
 {
     let k = code.k();
     let n = code.n();
-    let heads = heads_of(alloc, k, n, len, digest)?;
+    let heads = heads_of(alloc, k, n, file)?;
     put_each(writers, &heads)?;
-    put_bodies(alloc, code, len, source, writers)?;
+    put_bodies(alloc, code, file.len, source, writers)?;
     put_digests(writers)
 }
 
@@ -57,14 +56,13 @@ fn heads_of(
     alloc: Global,
     k: usize,
     n: usize,
-    len: usize,
-    digest: &[u8; 32],
+    file: &FileDigest,
 ) -> Result<Vec<Vec<u8>>, AllocError>
     requires k { k ≤ 65536 }
     requires n { n ≤ 65536 }
     ensures len { IfOk result (λ heads. length heads.items ≡ n) }
     ensures heads { IfOk result (λ heads. (i : ℕ) → i < n
-        → IsHeader (get_or (map (λ head. head.items) heads.items) i []) (header_with k n len digest.now i)) }
+        → IsHeader (get_or (map (λ head. head.items) heads.items) i []) (header_with k n file.now.len file.now.digest i)) }
 {
     let mut heads = Vec::new(alloc);
     for i in 0..n {
@@ -72,8 +70,8 @@ fn heads_of(
             k: k as u32,
             n: n as u32,
             number: i as u32,
-            len: len as u64,
-            digest: *digest,
+            len: file.len as u64,
+            digest: file.digest,
         };
         heads.push(header.to_bytes(alloc)?)?;
     }

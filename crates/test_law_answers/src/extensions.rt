@@ -2,7 +2,8 @@
 
 use ark_base::{PolyError, Polynomial};
 use ark_laws::{
-    only_multilinear, value_at_corner, values_with_bound_variables, values_with_exchanged_variables,
+    Exchange, only_multilinear, value_at_corner, values_with_bound_variables,
+    values_with_exchanged_variables,
 };
 use ark_multi::{MultilinearExtension, SparseMultilinearExtension};
 use std::alloc::Global;
@@ -54,8 +55,12 @@ fn answer<F: Numbered, E: MultilinearExtension<F>>(
         [point] if name == "only" => only(alloc, p, point.as_str()),
         [first, others] if name == "bound" => bound(alloc, p, first.as_str(), others.as_str()),
         [a, b, k, point] if name == "exchanged" => {
-            let windows = (size(a.as_str()), size(b.as_str()), size(k.as_str()));
-            exchanged(alloc, p, windows, point.as_str())
+            let by = Exchange {
+                first: size(a.as_str()),
+                second: size(b.as_str()),
+                count: size(k.as_str()),
+            };
+            exchanged(alloc, p, by, point.as_str())
         }
         _ => no_case(alloc),
     }
@@ -101,13 +106,13 @@ fn bound<F: Numbered, E: MultilinearExtension<F>>(
 fn exchanged<F: Numbered, E: MultilinearExtension<F>>(
     alloc: Global,
     p: &E,
-    (a, b, k): (usize, usize, usize),
+    by: Exchange,
     point: &str,
 ) -> Answer {
     let point = elements(alloc, point)?;
-    if !p.relabel_fits(a, b, k) || point.len() != p.num_vars() {
+    if !p.relabel_fits(by.first, by.second, by.count) || point.len() != p.num_vars() {
         return no_fit(alloc);
     }
-    let (by_items, by_variables) = values_with_exchanged_variables(alloc, p, a, b, k, &point)?;
+    let (by_items, by_variables) = values_with_exchanged_variables(alloc, p, by, &point)?;
     text_of_numbers(alloc, &[by_items.number(), by_variables.number()])
 }

@@ -8,4 +8,4 @@ pub loop-variable-preserved : goal.loop-variable-preserved
 loop-variable-preserved g c =
     c.in_ok-push.ensures.items
     ∙ ap₂ (λ xs x. xs ++ x ∷ []) c.loop-variable.invariant c.exchanged_item.ensures
-    ∙ sym (tabulate-push c.loop-variable.variable (λ i. item (itself g.F.Field.field) c.args.point.now (place c.args.a c.args.b c.args.k i)))
+    ∙ sym (tabulate-push c.loop-variable.variable (λ i. item (itself g.F.Field.field) c.args.point.now (place c.args.by.first c.args.by.second c.args.by.count i)))

@@ -14,16 +14,16 @@ loop-i-preserved g c =
     let xs = c.loop-i.numbers in
     let ys = c.put_row.new.numbers in
     let less = c.loop-i-test.true in
-    let fits = c.requires.stripes in
+    let fits = c.args.group.within in
     let f : ℕ → ℕ → ℕ = λ i t. number (entry K rows i t) in
-    let len : length xs ≡ length rows * c.args.stripes = c.loop-i.auto.numbers ∙ c.requires.numbers in
-    let long = part_len f i (length rows) c.args.stripes c.args.first c.args.count c.args.numbers.now xs ys less fits len in
-    let begin = i * c.args.stripes + c.args.first in
-    let same : c.args.count ≡ begin + c.args.count - begin = omega arith in
-    let size : length ys ≡ begin + c.args.count - begin = c.put_row.auto.numbers ∙ long ∙ same in
+    let len : length xs ≡ length rows * c.args.group.all = c.loop-i.auto.numbers ∙ c.requires.numbers in
+    let long = part_len f i (length rows) c.args.group.all c.args.group.first c.args.group.count c.args.numbers.now xs ys less fits len in
+    let begin = i * c.args.group.all + c.args.group.first in
+    let same : c.args.group.count ≡ begin + c.args.group.count - begin = omega arith in
+    let size : length ys ≡ begin + c.args.group.count - begin = c.put_row.auto.numbers ∙ long ∙ same in
     let here : lanes K c.index-rows-i.result ≡ get_or (map (lanes K) rows) i (λ j. K.zero) = read_as (lanes K) (λ j. K.zero) rows i c.index-rows-i.result less c.index-rows-i.is in
     record {
-      written = part_written f i (length rows) c.args.stripes c.args.first c.args.count c.args.numbers.now xs ys less fits len size c.loop-i.invariant.written
+      written = part_written f i (length rows) c.args.group.all c.args.group.first c.args.group.count c.args.numbers.now xs ys less fits len size c.loop-i.invariant.written
           (λ t l. c.put_row.ensures t (subst (λ m. t < m) (sym long) l) ∙ ap (λ r. number (r t)) here);
-      kept = part_kept f i (length rows) c.args.stripes c.args.first c.args.count c.args.numbers.now xs ys less fits len size c.loop-i.invariant.kept;
+      kept = part_kept f i (length rows) c.args.group.all c.args.group.first c.args.group.count c.args.numbers.now xs ys less fits len size c.loop-i.invariant.kept;
     }

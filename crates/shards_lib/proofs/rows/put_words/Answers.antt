@@ -8,10 +8,10 @@ pub loop-a-preserved : goal.loop-a-preserved
 loop-a-preserved g c =
     let K = g.F.Field.field in
     let a = c.loop-a.a in
-    let places = c.args.places.now in
-    let numbers = c.args.numbers.now in
+    let places = c.args.given.now.places.now in
+    let numbers = c.args.given.now.numbers.now in
     let less = c.loop-a-test.true in
-    let read = part_read a (length places) c.args.stripes c.args.first c.args.count numbers less c.requires.stripes c.requires.numbers in
-    places_written K (λ a t. natural K (get_or numbers (a * c.args.stripes + (c.args.first + t)) 0)) places c.loop-a.rows a c.args.count c.row_of_numbers.result
-    (omega (arith, c.requires.below a less, c.loop-a.auto.rows)) (λ b l. c.requires.apart b a l less) c.loop-a.invariant
+    let read = part_read a (length places) c.args.group.all c.args.group.first c.args.group.count numbers less c.args.group.within (c.args.given.now.len ∙ ap (λ m. length places * m) (sym c.requires.stripes)) in
+    places_written K (λ a t. natural K (get_or numbers (a * c.args.group.all + (c.args.group.first + t)) 0)) places c.loop-a.rows a c.args.group.count c.row_of_numbers.result
+    (omega (arith, c.requires.below a less, c.loop-a.auto.rows)) (λ b l. c.args.given.now.apart b a l less) c.loop-a.invariant
     (λ t l. c.row_of_numbers.ensures t (subst (λ m. t < m) (sym read.0) l) ∙ ap (natural K) (read.1 t l))

@@ -11,7 +11,7 @@ loop-i-preserved c =
     let view : Vec ℕ Global → List ℕ = λ head. head.items in
     let heads = c.loop-i.heads.items in
     let head = c.in_ok-to_bytes.field-0 in
-    let is : ℕ → List ℕ → Type 0 = λ j xs. IsHeader xs (header_with c.args.k c.args.n c.args.len c.args.digest.now j) in
+    let is : ℕ → List ℕ → Type 0 = λ j xs. IsHeader xs (header_with c.args.k c.args.n c.args.file.now.len c.args.file.now.digest j) in
     let pushed : c.push.new.self.items ≡ heads ++ head ∷ [] = c.in_ok-push.ensures.items in
     record {
       len = ap length pushed ∙ length_push heads head ∙ ap (λ m. m + 1) c.loop-i.invariant.len;

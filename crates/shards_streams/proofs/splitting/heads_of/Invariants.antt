@@ -6,5 +6,5 @@ use Rattle.shards_streams.proofs.splitting.heads_of.Given as goal
 abbrev pub invariant-loop-i : goal.invariant-loop-i
 invariant-loop-i l = record {
   len : length l.heads.items ≡ l.i;
-  each : (j : ℕ) → j < l.i → IsHeader (get_or (map (λ head. head.items) l.heads.items) j []) (header_with l.k l.n l.len l.digest j);
+  each : (j : ℕ) → j < l.i → IsHeader (get_or (map (λ head. head.items) l.heads.items) j []) (header_with l.k l.n l.file.len l.file.digest j);
 }

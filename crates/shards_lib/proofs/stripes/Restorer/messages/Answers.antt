@@ -1,0 +1,71 @@
+use Rattle.std.proofs.Common.{◌≡◌, ◌<◌, length, arith, rules, sym, ◌∙◌, subst}
+use Rattle.ark_math.proofs.Outcomes.Results.{IfOk_more}
+use Rattle.shards_lib.specs.Numbers.{value_at_place}
+use Rattle.shards_lib.specs.Rows.{entry}
+use Rattle.shards_lib.proofs.ItemWeights.{by_weights, some_rows}
+use Rattle.shards_lib.proofs.Room.{last_part}
+use Rattle.shards_lib.proofs.stripes.Restorer.messages.Goals as goal
+
+pub message-requires : goal.message-requires
+message-requires g c = (
+  search rules,
+  (
+    search (rules, last_part),
+    (
+      c.args.self.now.way.code_is,
+      (
+        (
+          c.args.self.now.given.now.places.now,
+          c.args.self.now.way.kept,
+          c.args.self.now.way.as_many,
+          (λ a l. let below = c.args.self.now.way.below a l in let room = c.args.self.now.code.now.room in omega (arith, below, room)),
+        ),
+        c.requires.len,
+      ),
+    ),
+  ),
+)
+
+pub returns-then-is_empty-clause-only : goal.returns-then-is_empty-clause-only
+returns-then-is_empty-clause-only g c =
+    let K = g.F.Field.field in
+    let root = g.F.FftField.root in
+    let k = c.args.self.now.code.now.code.k in
+    let n = c.args.self.now.code.now.n in
+    let word = c.args.word.now in
+    IfOk_more c.message.result
+    (λ m only t items l values. only t items
+    (λ i e. let h = c.args.self.now.way.kept.kept i e in
+    subst (λ i. entry K word i t ≡ value_at_place K root k n items i) h.2 (values h.0 (subst (λ x. h.0 < x) c.args.self.now.way.as_many h.1))))
+    c.message.ensures.only
+
+pub combined-requires : goal.combined-requires
+combined-requires g c =
+    let some = some_rows (length c.args.self.now.weights.items) (sym c.is_empty.ensures ∙ c.if-is_empty.false) in
+    let weights = c.args.self.now.way.weights some in
+    let fits = weights.fits in
+    let many = c.args.self.now.way.as_many in (
+      search (rules, last_part),
+      (
+        omega (arith, fits, many),
+        (λ a l. let below = c.args.self.now.way.below a l in let room = c.args.self.now.code.now.room in let len = c.requires.len in omega (arith, below, room, len)),
+      ),
+    )
+
+pub returns-clause-len : goal.returns-clause-len
+returns-clause-len g c =
+    let some = some_rows (length c.args.self.now.weights.items) (sym c.is_empty.ensures ∙ c.if-is_empty.false) in
+    let weights = c.args.self.now.way.weights some in
+    IfOk_more c.combined.result (λ m len. len ∙ weights.len) c.combined.ensures.len
+
+pub returns-clause-only : goal.returns-clause-only
+returns-clause-only g c =
+    let K = g.F.Field.field in
+    let root = g.F.FftField.root in
+    let k = c.args.self.now.code.now.code.k in
+    let n = c.args.self.now.code.now.n in
+    let places = c.args.self.now.given.now.places.now in
+    let some = some_rows (length c.args.self.now.weights.items) (sym c.is_empty.ensures ∙ c.if-is_empty.false) in
+    IfOk_more c.combined.result
+    (λ m sums. by_weights K root k n places c.args.self.now.way.as_many c.args.self.now.weights.items c.args.word.now m.items (c.args.self.now.way.weights some) sums)
+    c.combined.ensures.sums
