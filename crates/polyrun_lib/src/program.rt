@@ -34,7 +34,7 @@ use ark_poly::{
 };
 use std::alloc::{AllocError, Global};
 
-/// The domains that the transforms are over.
+// The domains that the transforms are over.
 type Domain<M> = GeneralEvaluationDomain<PrimeField<M>>;
 
 /// Writes the answer to the words, and gives its status: 0; 1 where the line reports an error; 2 where the
