@@ -1,4 +1,5 @@
-//! An erasure code: values for n holders, of whom any k give all of them back, and one more than k show a wrong value.
+//! An erasure code: values for n holders, of whom any k give all of them back, and one more than k show a wrong value;
+//! and a message whose own items the first k holders have.
 
 ghost use Rattle.std.specs.Prelude.{◌≡◌, ◌≢◌, ◌+◌, ◌<◌, List, Some, None, get_or, length, map, IfOk};
 ghost use Rattle.ark_math.specs.Module.{item};
@@ -21,6 +22,21 @@ pub fn lost_and_restored<F: FftField, T: DomainCoeff<F>>(
 {
     let values = code.encode(alloc, message)?;
     code.decoder(alloc, lost)?.restore(alloc, &values)
+}
+
+/// A message from a word that begins with it, whichever places are lost.
+pub fn message_restored<F: FftField, T: DomainCoeff<F>>(
+    alloc: Global,
+    code: &Code<F>,
+    message: &[T],
+    lost: &[bool],
+) -> Result<Vec<T>, RsError>
+    ensures same { IfOk result (λ items. map T.meaning items.items ≡ map T.meaning message.now) }
+{
+    let word = code.encode_systematic(alloc, message)?;
+    let mut items = code.decoder(alloc, lost)?.restore(alloc, &word)?;
+    items.truncate(code.k());
+    Ok(items)
 }
 
 /// What comes back of a word: a list with all its values, and nothing where more than `k` values are known,

@@ -40,7 +40,7 @@ use coset::values_on_coset;
 use cost::{over_sixteen_and_back, restored_of_eighteen};
 use errors::{CallError, value_of_saved};
 use field::{F97, quotient};
-use holders::{lost_and_restored, restored_if_right};
+use holders::{lost_and_restored, message_restored, restored_if_right};
 use interpolation::interpolated_value;
 use large_field::{F18446742974197923841, size_for_a_hundred_million};
 use module::{Point, points_of_curve};
@@ -93,13 +93,7 @@ fn main(rt: HostRuntime) -> anyhow::Result<()> {
         "what each of four values counts at (2, 3)",
         &counts,
     )?;
-    let values = held(alloc, &[1, 2, 3].map(F65537::from))?;
-    print_list(&rt, alloc, "of eight values, five of them lost", &values)?;
-    let right = with_sixth(alloc, &[1, 2, 3].map(F65537::from), F65537::from(56578))?;
-    print_list(&rt, alloc, "of eight values, all of them right", &right)?;
-    if let Err(refused) = with_sixth(alloc, &[1, 2, 3].map(F65537::from), F65537::from(0)) {
-        println!(rt; "of eight values, one of them wrong: {refused}")?;
-    }
+    print_held(&rt, alloc)?;
     print_saved(&rt, alloc)?;
     print_fields(&rt, alloc)?;
     let coeffs = [(1, 2), (3, 4), (5, 6)].map(|(x, y)| Point {
@@ -227,11 +221,33 @@ fn print_polynomials(rt: &impl Print, alloc: Global) -> anyhow::Result<()> {
     )
 }
 
+// What comes back of values that are lost.
+fn print_held<R: Print>(rt: &R, alloc: Global) -> anyhow::Result<()> {
+    let message = [1, 2, 3].map(F65537::from);
+    let values = held(alloc, &message)?;
+    print_list(rt, alloc, "of eight values, five of them lost", &values)?;
+    let items = held_as_they_are(alloc, &message)?;
+    print_list(rt, alloc, "of eight values, the first three and two more lost", &items)?;
+    let right = with_sixth(alloc, &message, F65537::from(56578))?;
+    print_list(rt, alloc, "of eight values, all of them right", &right)?;
+    if let Err(refused) = with_sixth(alloc, &message, F65537::from(0)) {
+        println!(rt; "of eight values, one of them wrong: {refused}")?;
+    }
+    Ok(())
+}
+
 // The message's eight values, of which three are left.
 fn held<F: FftField>(alloc: Global, message: &[F]) -> anyhow::Result<Vec<F>> {
     let code = Code::new(message.len(), 8).ok_or(PolyError::NoDomain)?;
     let lost = [true, false, true, true, false, false, true, true];
     Ok(lost_and_restored(alloc, &code, message, &lost)?)
+}
+
+// The message from eight values that begin with it, of which the last three are left.
+fn held_as_they_are<F: FftField>(alloc: Global, message: &[F]) -> anyhow::Result<Vec<F>> {
+    let code = Code::new(message.len(), 8).ok_or(PolyError::NoDomain)?;
+    let lost = [true, true, true, true, true, false, false, false];
+    Ok(message_restored(alloc, &code, message, &lost)?)
 }
 
 // What comes back of the message's eight values where the sixth one is this.
