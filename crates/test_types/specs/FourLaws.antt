@@ -166,13 +166,7 @@ four_greatest = record {
   together = ((λ h. refl), (λ h. refl));
 }
 
--- the sizes that there are
-pub supported_one : IsSupported thirds 1
-supported_one = (0, 0, record { product = refl; twos_within = lit≤ tt; odds_within = lit≤ tt; fits = lit< tt })
-
-pub supported_three : IsSupported thirds 3
-supported_three = (0, 1, record { product = refl; twos_within = lit≤ tt; odds_within = lit≤ tt; fits = lit< tt })
-
+-- there are no other sizes than one and three
 pub not_supported : (n : ℕ) → n ≢ 1 → n ≢ 3 → IsSupported thirds n → ⊥
 not_supported n a b h = elim (supported n h) [ inl e ↦ a e | inr e ↦ b e ]
 
