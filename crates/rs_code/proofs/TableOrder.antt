@@ -25,7 +25,7 @@ reversed_next n (suc levels) i e pos l =
     reversed_lowest levels i (omega (arith, e, l)) ∙ ap₂ (λ s t. i % 2 * s + t) half twice
 
 -- a place of the quarter t
-pub reversed_turn : (l t j i : ℕ) → t < 4 → j < 2 ^ l → i ≡ t * 2 ^ l + j → reversed (suc (suc l)) i ≡ 4 * reversed l j + turn_place t
+reversed_turn : (l t j i : ℕ) → t < 4 → j < 2 ^ l → i ≡ t * 2 ^ l + j → reversed (suc (suc l)) i ≡ 4 * reversed l j + turn_place t
 reversed_turn l zero j i b h e =
     let same : i ≡ j = omega (arith, e) in
     ap (reversed (suc (suc l))) same ∙ omega (arith, reversed_low (suc l) j (omega (arith, h, pow_twice l)), reversed_low l j h)

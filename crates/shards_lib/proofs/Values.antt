@@ -24,7 +24,7 @@ use Rattle.shards_lib.specs.Rows.{entry}
 -- ---- entries
 
 -- an item of a lane is an entry
-pub lane_item : {F : Type 0} (z : F) (t : ℕ) (xs : List (ℕ → F)) (j : ℕ) → get_or (lane t xs) j z ≡ get_or xs j (λ i. z) t
+lane_item : {F : Type 0} (z : F) (t : ℕ) (xs : List (ℕ → F)) (j : ℕ) → get_or (lane t xs) j z ≡ get_or xs j (λ i. z) t
 lane_item z t [] j = refl
 lane_item z t (x ∷ xs) zero = refl
 lane_item z t (x ∷ xs) (suc j) = lane_item z t xs j
