@@ -1,6 +1,6 @@
 //! Loops over lists of field elements.
 
-ghost use Rattle.std.specs.Prelude.{◌≡◌, ◌≢◌, ℕ, ◌+◌, ◌*◌, ◌/◌, ◌<◌, ◌≤◌, false, length, IfOk};
+ghost use Rattle.std.specs.Prelude.{◌≡◌, ◌≢◌, ℕ, ◌+◌, ◌*◌, ◌/◌, ◌<◌, ◌≤◌, false, true, length, IfOk};
 ghost use Rattle.ark_math.specs.Field.{minus, power};
 ghost use Rattle.ark_math.specs.Module.{itself, sum_below};
 ghost use Rattle.ark_math.specs.Univariate.{of_list};
@@ -45,7 +45,8 @@ pub fn scale_each<F: Field>(items: &mut [F], factor: F)
 
 /// Whether an item is zero.
 pub fn has_zero<F: Field>(items: &[F]) -> bool
-    ensures { (result ≡ false) → (i : ℕ) → i < length items.now → of_list F.field items.now i ≢ F.field.zero }
+    ensures none { result ≡ false → (i : ℕ) → i < length items.now → of_list F.field items.now i ≢ F.field.zero }
+    ensures some { result ≡ true → (i : ℕ) × (i < length items.now) × (of_list F.field items.now i ≡ F.field.zero) }
 {
     for i in 0..items.len() {
         if items[i].is_zero() {
