@@ -98,7 +98,7 @@ fn append_each(lists: &mut [Vec<u8>], ends: &[Vec<u8>]) -> Result<(), AllocError
     Ok(())
 }
 
-// Appends to a list.
+/// Appends to a list.
 pub fn append(list: &mut Vec<u8>, end: &[u8]) -> Result<(), AllocError>
     ensures { OnOk result (list.new.items ≡ list.old.items ++ end.now) }
 {

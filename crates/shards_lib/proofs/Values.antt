@@ -52,13 +52,6 @@ module _ {F : Type 0} {N : ℕ} (K : FieldOn F) where
       (λ b e. ap (λ f. f t) (written_other (lanes K) (λ i. K.zero) rows (get_or places a 0) (get_or places b 0) row (apart b e)) ∙ before b t e l)
       (ap (λ f. f t) (written_same (lanes K) (λ i. K.zero) rows (get_or places a 0) row inside) ∙ here t l) b c
 
-  -- a loop that writes lane t of a row
-  pub lanes_written : (P : ℕ → F) (old now : Row F N) (t : ℕ) (x : F) → now.items ≡ set old.items t x → t < N
-      → ((i : ℕ) → i < t → lanes K old i ≡ P i) → x ≡ P t → (i : ℕ) → i < t + 1 → lanes K now i ≡ P i
-  lanes_written P old now t x is inside before here i b = below_more (λ i. lanes K now i ≡ P i) t
-      (λ i c. ap (λ xs. get_or xs i K.zero) is ∙ get_or-set_other old.items t i x K.zero (omega (arith, c)) ∙ before i c)
-      (ap (λ xs. get_or xs t K.zero) is ∙ get_or-set_same old.items t x K.zero (subst (λ n. t < n) (sym old.whole) inside) ∙ here) i b
-
   -- one in a lane of a row of zeros
   pub unit_lanes : (old now : Row F N) (a : ℕ) → a < N → now.items ≡ set old.items a K.one → lanes K old ≡ (λ i. K.zero) → (t : ℕ) → lanes K now t ≡ cond (t == a) K.one K.zero
   unit_lanes old now a inside is zeros t = elim (cases_eq t a) [

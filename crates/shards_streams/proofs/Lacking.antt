@@ -121,9 +121,6 @@ module _ (a b : SourceState) (head : List ℕ) (first : Takes a b head) (len : l
         (fewer_more a c d (head ++ text) 32 (Takes-trans a b c head text first second) fewer)
 
     module _ (d : SourceState) (digest : List ℕ) (last : Takes c d digest) (digest_len : length digest ≡ 32) where
-      pub failed_behind : (e : SourceState) → d.failures < e.failures → LacksPiece a e
-      failed_behind e more = λ bytes body header w is. omega (arith, more, last.failures, second.failures, first.failures)
-
       pub lacks_end : (e : SourceState) (more : List ℕ) → 0 < length more → Takes d e more → LacksPiece a e
       lacks_end e more some behind = λ bytes body header w is.
           let taken = Takes-trans a d e ((head ++ text) ++ digest) more (Takes-trans a c d (head ++ text) digest (Takes-trans a b c head text first second) last) behind in
