@@ -13,9 +13,9 @@ use Rattle.ark_math.proofs.Algebra.Powers.{times_zero}
 use Rattle.ark_math.proofs.OverDomains.PlaceValues.{values-item, values-length}
 use Rattle.ark_math.proofs.Polynomials.UnivariateValues.{one_value}
 use Rattle.ark_math.specs.Nodes.{nodes}
-use Rattle.rs_code.specs.Locator.{AreFactors, IsFactor, euler, lost, slope}
-use Rattle.rs_code.proofs.Factors.{nodes-value, slope-value}
-use Rattle.rs_code.proofs.Lost.{slope-lost}
+use Rattle.rs_code.specs.Locator.{AreFactors, IsFactor, euler, lost, derivative_at}
+use Rattle.rs_code.proofs.Factors.{nodes-value, derivative_at-value}
+use Rattle.rs_code.proofs.Lost.{derivative_at-lost}
 
 -- the field's own items times their exponents, by their meanings
 pub own_exponents : {F M : Type 0} {K : FieldOn F} {V : ModuleOn F M} {meaning : F → M} → IsField K → IsItself K V meaning → (old new : List F) → length new ≡ length old →
@@ -33,23 +33,23 @@ own_exponents {K = K} {V = V} {meaning = meaning} N I old new len each = fun_ext
 ])
 
 pub chosen_factors : {F : Type 0} (K : FieldOn F) (N : IsField K) (d : Domain F) → HasOrder K d.root d.size → d.offset ≢ K.zero → (marks : List Bool) → length marks ≡ d.size →
-    (values slopes inverses factors : List F) → AreValues K d (nodes K (lost K d marks)) values → AreValues K d (euler K (itself K) (nodes K (lost K d marks))) slopes →
-    ((i : ℕ) → i < length slopes → IsPlaceQuotient K K.one (of_list K slopes i) (of_list K inverses i)) →
+    (values derivatives inverses factors : List F) → AreValues K d (nodes K (lost K d marks)) values → AreValues K d (euler K (itself K) (nodes K (lost K d marks))) derivatives →
+    ((i : ℕ) → i < length derivatives → IsPlaceQuotient K K.one (of_list K derivatives i) (of_list K inverses i)) →
     length factors ≡ d.size → ((i : ℕ) → i < d.size → of_list K factors i ≡ (if get_or marks i true then of_list K inverses i else of_list K values i)) →
     AreFactors K d marks factors
-chosen_factors K N d o off marks size values slopes inverses factors are_values are_slopes quotients len chosen =
+chosen_factors K N d o off marks size values derivatives inverses factors are_values are_derivatives quotients len chosen =
     let rs = lost K d marks in
     record {
       len = len;
       each = λ i l.
           elim (get_or marks i true) as (λ b. get_or marks i true ≡ b → IsFactor K rs (element K d i) b (of_list K factors i)) [
             | true ↦ λ e.
-                let same : of_list K slopes i ≡ K.times (element K d i) (slope K rs (element K d i)) =
-                one_value K N (euler K (itself K) (nodes K rs)) (element K d i) _ _ (values-item K N d _ slopes are_slopes i l) (slope-value K N rs (element K d i)) in
-                let some : of_list K slopes i ≢ K.zero = λ z. slope-lost K N d o off marks i (omega arith) (omega arith) e (sym same ∙ z) in
-                let in_slopes : i < length slopes = omega (arith, values-length K N d _ slopes are_slopes) in
+                let same : of_list K derivatives i ≡ K.times (element K d i) (derivative_at K rs (element K d i)) =
+                one_value K N (euler K (itself K) (nodes K rs)) (element K d i) _ _ (values-item K N d _ derivatives are_derivatives i l) (derivative_at-value K N rs (element K d i)) in
+                let some : of_list K derivatives i ≢ K.zero = λ z. derivative_at-lost K N d o off marks i (omega arith) (omega arith) e (sym same ∙ z) in
+                let in_derivatives : i < length derivatives = omega (arith, values-length K N d _ derivatives are_derivatives) in
                 ap₂ K.times (chosen i l ∙ ap (λ b. if b then of_list K inverses i else of_list K values i) e) (sym same)
-                ∙ (quotients i in_slopes).some some
+                ∙ (quotients i in_derivatives).some some
             | false ↦ λ e.
                 chosen i l
                 ∙ ap (λ b. if b then of_list K inverses i else of_list K values i) e

@@ -13,7 +13,7 @@ use Rattle.ark_math.proofs.Polynomials.UnivariateProducts.{product_comm}
 use Rattle.ark_math.proofs.Polynomials.UnivariateValues.{value_below-monomial, value_below-past}
 use Rattle.ark_math.specs.Nodes.{nodes}
 use Rattle.ark_math.proofs.Polynomials.LinearFactors.{before, linear-product}
-use Rattle.rs_code.specs.Locator.{located, slope, euler, by_factor, by_factors}
+use Rattle.rs_code.specs.Locator.{locator_at, derivative_at, euler, by_factor, by_factors}
 use Rattle.rs_code.proofs.Locators.{value, IsShort, by_factors-short, by_factors-value, euler-value, euler-short}
 
 module _ {F : Type 0} (K : FieldOn F) (N : IsField K) where
@@ -38,18 +38,18 @@ module _ {F : Type 0} (K : FieldOn F) (N : IsField K) where
   pub nodes-short : (rs : List F) → IsBelow K (1 + length rs) (nodes K rs)
   nodes-short rs = subst (IsBelow K (1 + length rs)) (sym (nodes-factors rs)) (by_factors-short N (itself_is_module K N) 1 (1 + length rs) rs (monomial K 0 K.one) one-short (omega arith))
 
-  pub nodes-value : (rs : List F) (x : F) → IsValue K (nodes K rs) x (located K rs x)
+  pub nodes-value : (rs : List F) (x : F) → IsValue K (nodes K rs) x (locator_at K rs x)
   nodes-value rs x =
       let n = 1 + length rs in
-      (n, nodes-short rs, sym (ap (λ t. value K (itself K) n t x) (nodes-factors rs) ∙ by_factors-value N (itself_is_module K N) 1 n rs x (monomial K 0 K.one) one-short (omega arith) ∙ ap (K.times (located K rs x)) (one-value n x (omega arith)) ∙ N.times_one (located K rs x)))
+      (n, nodes-short rs, sym (ap (λ t. value K (itself K) n t x) (nodes-factors rs) ∙ by_factors-value N (itself_is_module K N) 1 n rs x (monomial K 0 K.one) one-short (omega arith) ∙ ap (K.times (locator_at K rs x)) (one-value n x (omega arith)) ∙ N.times_one (locator_at K rs x)))
 
   -- 1 has no coefficient that is multiplied by its exponent
   euler-one : IsShort (itself K) 0 (euler K (itself K) (monomial K 0 K.one))
   euler-one zero l = zero_scale N (itself_is_module K N) K.one
   euler-one (suc i) l = euler-short N (itself_is_module K N) 1 (monomial K 0 K.one) one-short (suc i) (omega arith)
 
-  pub slope-value : (rs : List F) (x : F) → IsValue K (euler K (itself K) (nodes K rs)) x (K.times x (slope K rs x))
-  slope-value rs x =
+  pub derivative_at-value : (rs : List F) (x : F) → IsValue K (euler K (itself K) (nodes K rs)) x (K.times x (derivative_at K rs x))
+  derivative_at-value rs x =
       let n = 1 + length rs in
       let one = monomial K 0 K.one in
       let none : value K (itself K) n (euler K (itself K) one) x ≡ K.zero = value_below-past K N 0 n (euler K (itself K) one) x (omega arith) euler-one in (
@@ -57,6 +57,6 @@ module _ {F : Type 0} (K : FieldOn F) (N : IsField K) where
         euler-short N (itself_is_module K N) n (nodes K rs) (nodes-short rs),
         sym (ap (λ t. value K (itself K) n (euler K (itself K) t) x) (nodes-factors rs)
             ∙ euler-value N (itself_is_module K N) 1 n rs x one one-short (omega arith)
-            ∙ ap₂ (λ u v. K.plus (K.times (K.times x (slope K rs x)) u) (K.times (located K rs x) v)) (one-value n x (omega arith)) none
-            ∙ ring2 K N (λ s l. (s ⊗ unit ⊕ l ⊗ nought, s)) refl (K.times x (slope K rs x)) (located K rs x)),
+            ∙ ap₂ (λ u v. K.plus (K.times (K.times x (derivative_at K rs x)) u) (K.times (locator_at K rs x) v)) (one-value n x (omega arith)) none
+            ∙ ring2 K N (λ s l. (s ⊗ unit ⊕ l ⊗ nought, s)) refl (K.times x (derivative_at K rs x)) (locator_at K rs x)),
       )

@@ -23,25 +23,25 @@ use Rattle.ark_math.proofs.Polynomials.UnivariateValues.{one_value, value_is, va
 use Rattle.ark_math.proofs.Polynomials.Zeros.{zeros_nothing}
 use Rattle.ark_math.specs.Nodes.{nodes}
 use Rattle.rs_code.specs.Codeword.{mark_count}
-use Rattle.rs_code.specs.Locator.{euler, located, lost, slope}
-use Rattle.rs_code.proofs.Factors.{nodes-value, slope-value}
-use Rattle.rs_code.proofs.Lost.{located-lost, lost-length}
+use Rattle.rs_code.specs.Locator.{euler, locator_at, lost, derivative_at}
+use Rattle.rs_code.proofs.Factors.{nodes-value, derivative_at-value}
+use Rattle.rs_code.proofs.Lost.{locator_at-lost, lost-length}
 use Rattle.rs_code.proofs.Monic.{nodes_monic}
 
 -- ---- the roots of two lists
 
 module _ {F : Type 0} (K : FieldOn F) (N : IsField K) where
-  located-append : (rs ss : List F) (x : F) → located K (rs ++ ss) x ≡ K.times (located K rs x) (located K ss x)
-  located-append [] ss x = sym (one_times K N (located K ss x))
-  located-append (r ∷ rs) ss x =
-      ap (K.times (minus K x r)) (located-append rs ss x) ∙ sym (N.times_assoc (minus K x r) (located K rs x) (located K ss x))
+  locator_at-append : (rs ss : List F) (x : F) → locator_at K (rs ++ ss) x ≡ K.times (locator_at K rs x) (locator_at K ss x)
+  locator_at-append [] ss x = sym (one_times K N (locator_at K ss x))
+  locator_at-append (r ∷ rs) ss x =
+      ap (K.times (minus K x r)) (locator_at-append rs ss x) ∙ sym (N.times_assoc (minus K x r) (locator_at K rs x) (locator_at K ss x))
 
   -- the product rule
-  slope-append : (rs ss : List F) (x : F) → slope K (rs ++ ss) x ≡ K.plus (K.times (slope K rs x) (located K ss x)) (K.times (located K rs x) (slope K ss x))
-  slope-append [] ss x = ring2 K N (λ l s. (s, nought ⊗ l ⊕ unit ⊗ s)) refl (located K ss x) (slope K ss x)
-  slope-append (r ∷ rs) ss x =
-      ap₂ (λ l s. K.plus l (K.times (minus K x r) s)) (located-append rs ss x) (slope-append rs ss x)
-      ∙ ring5 K N (λ m l s k t. (l ⊗ k ⊕ m ⊗ (s ⊗ k ⊕ l ⊗ t), (l ⊕ m ⊗ s) ⊗ k ⊕ (m ⊗ l) ⊗ t)) refl (minus K x r) (located K rs x) (slope K rs x) (located K ss x) (slope K ss x)
+  derivative_at-append : (rs ss : List F) (x : F) → derivative_at K (rs ++ ss) x ≡ K.plus (K.times (derivative_at K rs x) (locator_at K ss x)) (K.times (locator_at K rs x) (derivative_at K ss x))
+  derivative_at-append [] ss x = ring2 K N (λ l s. (s, nought ⊗ l ⊕ unit ⊗ s)) refl (locator_at K ss x) (derivative_at K ss x)
+  derivative_at-append (r ∷ rs) ss x =
+      ap₂ (λ l s. K.plus l (K.times (minus K x r) s)) (locator_at-append rs ss x) (derivative_at-append rs ss x)
+      ∙ ring5 K N (λ m l s k t. (l ⊗ k ⊕ m ⊗ (s ⊗ k ⊕ l ⊗ t), (l ⊕ m ⊗ s) ⊗ k ⊕ (m ⊗ l) ⊗ t)) refl (minus K x r) (locator_at K rs x) (derivative_at K rs x) (locator_at K ss x) (derivative_at K ss x)
 
 -- ---- as many roots as a domain has elements, and each element one of them
 
@@ -64,7 +64,7 @@ module _ {F : Type 0} (K : FieldOn F) (N : IsField K) (d : Domain F) where
       (λ (ne : i ≢ d.size). euler-others i ne ∙ sym (monomial-other K d.size leading i (λ e. ne (sym e))))
       (cases_eq i d.size))
 
-  module _ (o : HasOrder K d.root d.size) (off : d.offset ≢ K.zero) (some : 0 < d.size) (rs : List F) (len : length rs ≡ d.size) (roots : (i : ℕ) → i < d.size → located K rs (element K d i) ≡ K.zero) where
+  module _ (o : HasOrder K d.root d.size) (off : d.offset ≢ K.zero) (some : 0 < d.size) (rs : List F) (len : length rs ≡ d.size) (roots : (i : ℕ) → i < d.size → locator_at K rs (element K d i) ≡ K.zero) where
     less : ℕ → F
     less = difference K (nodes K rs) (vanishing K d)
 
@@ -92,14 +92,14 @@ module _ {F : Type 0} (K : FieldOn F) (N : IsField K) (d : Domain F) where
         (λ i l. sym (value_is K N d.size less (element K d i) K.zero less-below (less-value i l))) in
         fun_ext (λ i. same_from_minus K N _ _ (ap (λ a. a i) none))
 
-    located-roots : (x : F) → located K rs x ≡ minus K (power K x d.size) (power K d.offset d.size)
-    located-roots x =
+    locator_at-roots : (x : F) → locator_at K rs x ≡ minus K (power K x d.size) (power K d.offset d.size)
+    locator_at-roots x =
         one_value K N (nodes K rs) x _ _ (nodes-value K N rs x)
         (subst (λ a. IsValue K a x (minus K (power K x d.size) (power K d.offset d.size))) (sym nodes_is_vanishing) (value-vanishing K N d x))
 
-    slope-roots : (x : F) → K.times x (slope K rs x) ≡ K.times (natural K d.size) (power K x d.size)
-    slope-roots x =
-        one_value K N (euler K (itself K) (nodes K rs)) x _ _ (slope-value K N rs x)
+    derivative_at-roots : (x : F) → K.times x (derivative_at K rs x) ≡ K.times (natural K d.size) (power K x d.size)
+    derivative_at-roots x =
+        one_value K N (euler K (itself K) (nodes K rs)) x _ _ (derivative_at-value K N rs x)
         (subst (λ a. IsValue K a x (K.times (power K x d.size) (natural K d.size)))
         (sym (ap (euler K (itself K)) nodes_is_vanishing ∙ euler-vanishing some))
         (value-monomial K N d.size (natural K d.size) x))
@@ -137,43 +137,37 @@ module _ {F : Type 0} (K : FieldOn F) (N : IsField K) (d : Domain F) (o : HasOrd
     both-length : length (gone ++ kept) ≡ d.size
     both-length = omega (arith, len, length-append gone kept, lost-length K d marks, lost-length K d (map not marks), mark_count-not marks)
 
-    both-roots : (i : ℕ) → i < d.size → located K (gone ++ kept) (element K d i) ≡ K.zero
+    both-roots : (i : ℕ) → i < d.size → locator_at K (gone ++ kept) (element K d i) ≡ K.zero
     both-roots i l =
         let x = element K d i in
         let here : i < length marks = omega arith in
         let there : i < length (map not marks) = omega (arith, length-map marks not) in
-        located-append K N gone kept x
-        ∙ elim (get_or marks i true) as (λ b. get_or marks i true ≡ b → K.times (located K gone x) (located K kept x) ≡ K.zero) [
+        locator_at-append K N gone kept x
+        ∙ elim (get_or marks i true) as (λ b. get_or marks i true ≡ b → K.times (locator_at K gone x) (locator_at K kept x) ≡ K.zero) [
           | true ↦ λ e.
-              ap (λ t. K.times t (located K kept x)) (located-lost K N d o off marks i here e)
-              ∙ zero_scale N (itself_is_module K N) (located K kept x)
+              ap (λ t. K.times t (locator_at K kept x)) (locator_at-lost K N d o off marks i here e)
+              ∙ zero_scale N (itself_is_module K N) (locator_at K kept x)
           | false ↦ λ e.
-              ap (K.times (located K gone x)) (located-lost K N d o off (map not marks) i there (get_or-map not marks i true true here ∙ ap not e))
-              ∙ times_zero K N (located K gone x)
+              ap (K.times (locator_at K gone x)) (locator_at-lost K N d o off (map not marks) i there (get_or-map not marks i true true here ∙ ap not e))
+              ∙ times_zero K N (locator_at K gone x)
         ] refl
 
-    pub located-all : 0 < d.size → (x : F) → K.times (located K (lost K d marks) x) (located K (lost K d (map not marks)) x) ≡ minus K (power K x d.size) K.one
-    located-all some x =
-        sym (located-append K N gone kept x)
-        ∙ located-roots K N d o off some (gone ++ kept) both-length both-roots x
-        ∙ ap (minus K (power K x d.size)) offset_power
-
-    slope-kept : (i : ℕ) → i < d.size → get_or marks i true ≡ true → K.times (element K d i) (K.times (slope K (lost K d marks) (element K d i)) (located K (lost K d (map not marks)) (element K d i))) ≡ natural K d.size
-    slope-kept i l e =
+    derivative_at-kept : (i : ℕ) → i < d.size → get_or marks i true ≡ true → K.times (element K d i) (K.times (derivative_at K (lost K d marks) (element K d i)) (locator_at K (lost K d (map not marks)) (element K d i))) ≡ natural K d.size
+    derivative_at-kept i l e =
         let x = element K d i in
-        let s = K.times (slope K gone x) (located K kept x) in
+        let s = K.times (derivative_at K gone x) (locator_at K kept x) in
         ap (K.times x)
-        (sym (slope-append K N gone kept x
-        ∙ ap (λ t. K.plus s (K.times t (slope K kept x))) (located-lost K N d o off marks i (omega arith) e)
-        ∙ ring2 K N (λ s t. (s ⊕ nought ⊗ t, s)) refl s (slope K kept x)))
-        ∙ slope-roots K N d o off (omega arith) (gone ++ kept) both-length both-roots x
+        (sym (derivative_at-append K N gone kept x
+        ∙ ap (λ t. K.plus s (K.times t (derivative_at K kept x))) (locator_at-lost K N d o off marks i (omega arith) e)
+        ∙ ring2 K N (λ s t. (s ⊕ nought ⊗ t, s)) refl s (derivative_at K kept x)))
+        ∙ derivative_at-roots K N d o off (omega arith) (gone ++ kept) both-length both-roots x
         ∙ ap (K.times (natural K d.size)) (element-power K N d o i ∙ offset_power)
         ∙ N.times_one (natural K d.size)
 
     -- where h is 1 / n, this is the inverse of the derivative's value
-    pub inverse-slope : (i : ℕ) → i < d.size → get_or marks i true ≡ true → (h : F) → K.times h (natural K d.size) ≡ K.one → K.times (K.times h (K.times (element K d i) (located K (lost K d (map not marks)) (element K d i)))) (slope K (lost K d marks) (element K d i)) ≡ K.one
-    inverse-slope i l e h inverse =
+    pub inverse-derivative_at : (i : ℕ) → i < d.size → get_or marks i true ≡ true → (h : F) → K.times h (natural K d.size) ≡ K.one → K.times (K.times h (K.times (element K d i) (locator_at K (lost K d (map not marks)) (element K d i)))) (derivative_at K (lost K d marks) (element K d i)) ≡ K.one
+    inverse-derivative_at i l e h inverse =
         let x = element K d i in
-        ring4 K N (λ h x k s. ((h ⊗ (x ⊗ k)) ⊗ s, h ⊗ (x ⊗ (s ⊗ k)))) refl h x (located K kept x) (slope K gone x)
-        ∙ ap (K.times h) (slope-kept i l e)
+        ring4 K N (λ h x k s. ((h ⊗ (x ⊗ k)) ⊗ s, h ⊗ (x ⊗ (s ⊗ k)))) refl h x (locator_at K kept x) (derivative_at K gone x)
+        ∙ ap (K.times h) (derivative_at-kept i l e)
         ∙ inverse

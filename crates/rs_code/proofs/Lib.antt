@@ -10,12 +10,8 @@ pub mod Messages
 pub mod Monic
 pub mod Parts
 pub mod Places
-pub mod QuarterTurns
 pub mod Refused
 pub mod Restored
 pub mod Sizes
-pub mod SortedRoots
 pub mod Spent
-pub mod TableOrder
-pub mod TurnFactors
-pub mod TurnedPlaces
+pub mod Systematic

@@ -2,7 +2,7 @@
 use Rattle.std.proofs.Common.{◌≡◌, ℕ, zero, suc, ◌+◌, ◌<◌, ◌≤◌, List, [], ◌∷◌, length, sym, ◌∙◌, ap, ap₂, refl, arith}
 use Rattle.ark_math.specs.Field.{FieldOn, IsField, power, natural, minus}
 use Rattle.ark_math.specs.Module.{ModuleOn, IsModule, sum_below}
-use Rattle.rs_code.specs.Locator.{located, slope, euler, by_factor, by_factors}
+use Rattle.rs_code.specs.Locator.{locator_at, derivative_at, euler, by_factor, by_factors}
 use Rattle.ark_math.proofs.Algebra.Groups.{scale_zero}
 use Rattle.ark_math.proofs.Algebra.Sums.{sum_below-same, sum_below-plus}
 use Rattle.ark_math.proofs.Algebra.Solve.{Scalar, Vector, scalar_at, vector_at, vector, solve_vector, ◌⊕◌, ◌⊖◌, ◌⊗◌, ◌⊞◌, ◌•◌, negative, unit, nought, origin}
@@ -69,12 +69,12 @@ module _ {F M : Type 0} {K : FieldOn F} {V : ModuleOn F M} (N : IsField K) (L : 
 
   -- ---- the values of products and of x times their derivatives
 
-  pub by_factors-value : (m n : ℕ) (rs : List F) (x : F) (a : ℕ → M) → IsShort V m a → m + length rs ≤ n → value K V n (by_factors K V rs a) x ≡ V.scale (located K rs x) (value K V n a x)
+  pub by_factors-value : (m n : ℕ) (rs : List F) (x : F) (a : ℕ → M) → IsShort V m a → m + length rs ≤ n → value K V n (by_factors K V rs a) x ≡ V.scale (locator_at K rs x) (value K V n a x)
   by_factors-value m n [] x a short l = sym (L.one_scale (value K V n a x))
   by_factors-value m n (r ∷ rs) x a short l =
       by_factor-value (m + length rs) n r x (by_factors K V rs a) (by_factors-short m (m + length rs) rs a short (omega arith)) (omega arith)
       ∙ ap (V.scale (minus K x r)) (by_factors-value m n rs x a short (omega arith))
-      ∙ sym (L.times_scale (minus K x r) (located K rs x) (value K V n a x))
+      ∙ sym (L.times_scale (minus K x r) (locator_at K rs x) (value K V n a x))
 
   -- the product rule for one factor
   euler-by_factor : (r : F) (a : ℕ → M) (i : ℕ) → euler K V (by_factor K V r a) i ≡ V.plus (by_factor K V K.zero a i) (by_factor K V r (euler K V a) i)
@@ -84,7 +84,7 @@ module _ {F M : Type 0} {K : FieldOn F} {V : ModuleOn F M} (N : IsField K) (L : 
       module2_2 N L (λ r q a b. ((q ⊕ unit) • (a ⊞ negative r • b), (a ⊞ negative nought • b) ⊞ (q • a ⊞ negative r • ((q ⊕ unit) • b)))) refl r (natural K i) (a i) (a (suc i))
 
   -- the product rule for all of them
-  pub euler-value : (m n : ℕ) (rs : List F) (x : F) (a : ℕ → M) → IsShort V m a → m + length rs ≤ n → value K V n (euler K V (by_factors K V rs a)) x ≡ V.plus (V.scale (K.times x (slope K rs x)) (value K V n a x)) (V.scale (located K rs x) (value K V n (euler K V a) x))
+  pub euler-value : (m n : ℕ) (rs : List F) (x : F) (a : ℕ → M) → IsShort V m a → m + length rs ≤ n → value K V n (euler K V (by_factors K V rs a)) x ≡ V.plus (V.scale (K.times x (derivative_at K rs x)) (value K V n a x)) (V.scale (locator_at K rs x) (value K V n (euler K V a) x))
   euler-value m n [] x a short l =
       module2_2 N L (λ x q a b. (b, (x ⊗ nought) • a ⊞ unit • b)) refl x K.one (value K V n a x) (value K V n (euler K V a) x)
   euler-value m n (r ∷ rs) x a short l =
@@ -97,4 +97,4 @@ module _ {F M : Type 0} {K : FieldOn F} {V : ModuleOn F M} (N : IsField K) (L : 
       ∙ ap (V.scale (minus K x K.zero)) (by_factors-value m n rs x a short (omega arith)))
       (by_factor-value (m + length rs) n r x (euler K V b) (euler-short (m + length rs) b before) (omega arith)
       ∙ ap (V.scale (minus K x r)) (euler-value m n rs x a short (omega arith)))
-      ∙ module4_2 (λ x e f c u v. ((x ⊖ nought) • (e • u) ⊞ c • ((x ⊗ f) • u ⊞ e • v), (x ⊗ (e ⊕ c ⊗ f)) • u ⊞ (c ⊗ e) • v)) refl x (located K rs x) (slope K rs x) (minus K x r) (value K V n a x) (value K V n (euler K V a) x)
+      ∙ module4_2 (λ x e f c u v. ((x ⊖ nought) • (e • u) ⊞ c • ((x ⊗ f) • u ⊞ e • v), (x ⊗ (e ⊕ c ⊗ f)) • u ⊞ (c ⊗ e) • v)) refl x (locator_at K rs x) (derivative_at K rs x) (minus K x r) (value K V n a x) (value K V n (euler K V a) x)

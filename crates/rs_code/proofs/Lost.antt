@@ -9,70 +9,70 @@ use Rattle.ark_math.proofs.Algebra.Powers.{times_zero}
 use Rattle.ark_math.proofs.Domains.Elements.{elements_differ, power_not_zero, times_not_zero, minus_not_zero, minus_same}
 use Rattle.ark_math.proofs.Roots.Order.{root_not_zero}
 use Rattle.rs_code.specs.Codeword.{mark_count}
-use Rattle.rs_code.specs.Locator.{lost_from, lost, located, slope}
+use Rattle.rs_code.specs.Locator.{lost_from, lost, locator_at, derivative_at}
 
 module _ {F : Type 0} (K : FieldOn F) (N : IsField K) (d : Domain F) (o : HasOrder K d.root d.size) (off : d.offset ≢ K.zero) where
   -- not zero before the first place
-  located_before : (i j : ℕ) (marks : List Bool) → j < i → i + length marks ≤ d.size → located K (lost_from K d i marks) (element K d j) ≢ K.zero
-  located_before i j [] l b e = N.one_not_zero e
-  located_before i j (true ∷ marks) l b e =
-      times_not_zero K N (minus K (element K d j) (element K d i)) (located K (lost_from K d (suc i) marks) (element K d j))
+  locator_before : (i j : ℕ) (marks : List Bool) → j < i → i + length marks ≤ d.size → locator_at K (lost_from K d i marks) (element K d j) ≢ K.zero
+  locator_before i j [] l b e = N.one_not_zero e
+  locator_before i j (true ∷ marks) l b e =
+      times_not_zero K N (minus K (element K d j) (element K d i)) (locator_at K (lost_from K d (suc i) marks) (element K d j))
       (minus_not_zero K N _ _ (elements_differ K N d o off j i l (omega arith)))
-      (located_before (suc i) j marks (omega arith) (omega arith)) e
-  located_before i j (false ∷ marks) l b e = located_before (suc i) j marks (omega arith) (omega arith) e
+      (locator_before (suc i) j marks (omega arith) (omega arith)) e
+  locator_before i j (false ∷ marks) l b e = locator_before (suc i) j marks (omega arith) (omega arith) e
 
-  located_lost : (i j k : ℕ) (marks : List Bool) → j < length marks → get_or marks j true ≡ true → k ≡ i + j → located K (lost_from K d i marks) (element K d k) ≡ K.zero
-  located_lost i j k [] l e s = absurd (omega arith)
-  located_lost i zero k (true ∷ marks) l e s =
+  locator_lost : (i j k : ℕ) (marks : List Bool) → j < length marks → get_or marks j true ≡ true → k ≡ i + j → locator_at K (lost_from K d i marks) (element K d k) ≡ K.zero
+  locator_lost i j k [] l e s = absurd (omega arith)
+  locator_lost i zero k (true ∷ marks) l e s =
       let same : k ≡ i = omega arith in
-      ap (λ t. K.times t (located K (lost_from K d (suc i) marks) (element K d k))) (minus_same K N _ _ (ap (element K d) same))
+      ap (λ t. K.times t (locator_at K (lost_from K d (suc i) marks) (element K d k))) (minus_same K N _ _ (ap (element K d) same))
       ∙ zero_scale N (itself_is_module K N) _
-  located_lost i zero k (false ∷ marks) l e s = absurd (true≢false (sym e))
-  located_lost i (suc j) k (true ∷ marks) l e s =
-      ap (K.times (minus K (element K d k) (element K d i))) (located_lost (suc i) j k marks (omega arith) e (omega arith)) ∙ times_zero K N _
-  located_lost i (suc j) k (false ∷ marks) l e s = located_lost (suc i) j k marks (omega arith) e (omega arith)
+  locator_lost i zero k (false ∷ marks) l e s = absurd (true≢false (sym e))
+  locator_lost i (suc j) k (true ∷ marks) l e s =
+      ap (K.times (minus K (element K d k) (element K d i))) (locator_lost (suc i) j k marks (omega arith) e (omega arith)) ∙ times_zero K N _
+  locator_lost i (suc j) k (false ∷ marks) l e s = locator_lost (suc i) j k marks (omega arith) e (omega arith)
 
-  located_kept : (i j k : ℕ) (marks : List Bool) → j < length marks → i + length marks ≤ d.size → get_or marks j true ≡ false → k ≡ i + j → located K (lost_from K d i marks) (element K d k) ≢ K.zero
-  located_kept i j k [] l b e s = absurd (omega arith)
-  located_kept i zero k (true ∷ marks) l b e s = absurd (true≢false e)
-  located_kept i zero k (false ∷ marks) l b e s = located_before (suc i) k marks (omega arith) (omega arith)
-  located_kept i (suc j) k (true ∷ marks) l b e s =
-      times_not_zero K N (minus K (element K d k) (element K d i)) (located K (lost_from K d (suc i) marks) (element K d k))
+  locator_kept : (i j k : ℕ) (marks : List Bool) → j < length marks → i + length marks ≤ d.size → get_or marks j true ≡ false → k ≡ i + j → locator_at K (lost_from K d i marks) (element K d k) ≢ K.zero
+  locator_kept i j k [] l b e s = absurd (omega arith)
+  locator_kept i zero k (true ∷ marks) l b e s = absurd (true≢false e)
+  locator_kept i zero k (false ∷ marks) l b e s = locator_before (suc i) k marks (omega arith) (omega arith)
+  locator_kept i (suc j) k (true ∷ marks) l b e s =
+      times_not_zero K N (minus K (element K d k) (element K d i)) (locator_at K (lost_from K d (suc i) marks) (element K d k))
       (minus_not_zero K N _ _ (λ same. elements_differ K N d o off i k (omega arith) (omega arith) (sym same)))
-      (located_kept (suc i) j k marks (omega arith) (omega arith) e (omega arith))
-  located_kept i (suc j) k (false ∷ marks) l b e s = located_kept (suc i) j k marks (omega arith) (omega arith) e (omega arith)
+      (locator_kept (suc i) j k marks (omega arith) (omega arith) e (omega arith))
+  locator_kept i (suc j) k (false ∷ marks) l b e s = locator_kept (suc i) j k marks (omega arith) (omega arith) e (omega arith)
 
-  slope_lost : (i j k : ℕ) (marks : List Bool) → j < length marks → i + length marks ≤ d.size → get_or marks j true ≡ true → k ≡ i + j → slope K (lost_from K d i marks) (element K d k) ≢ K.zero
-  slope_lost i j k [] l b e s z = absurd (omega arith)
-  slope_lost i zero k (true ∷ marks) l b e s z =
+  derivative_lost : (i j k : ℕ) (marks : List Bool) → j < length marks → i + length marks ≤ d.size → get_or marks j true ≡ true → k ≡ i + j → derivative_at K (lost_from K d i marks) (element K d k) ≢ K.zero
+  derivative_lost i j k [] l b e s z = absurd (omega arith)
+  derivative_lost i zero k (true ∷ marks) l b e s z =
       let same : k ≡ i = omega arith in
-      located_before (suc i) k marks (omega arith) (omega arith)
+      locator_before (suc i) k marks (omega arith) (omega arith)
       (sym (N.plus_zero _)
-      ∙ ap (K.plus (located K (lost_from K d (suc i) marks) (element K d k)))
-      (sym (ap (λ t. K.times t (slope K (lost_from K d (suc i) marks) (element K d k))) (minus_same K N _ _ (ap (element K d) same)) ∙ zero_scale N (itself_is_module K N) _))
+      ∙ ap (K.plus (locator_at K (lost_from K d (suc i) marks) (element K d k)))
+      (sym (ap (λ t. K.times t (derivative_at K (lost_from K d (suc i) marks) (element K d k))) (minus_same K N _ _ (ap (element K d) same)) ∙ zero_scale N (itself_is_module K N) _))
       ∙ z)
-  slope_lost i zero k (false ∷ marks) l b e s z = absurd (true≢false (sym e))
-  slope_lost i (suc j) k (true ∷ marks) l b e s z =
-      times_not_zero K N (minus K (element K d k) (element K d i)) (slope K (lost_from K d (suc i) marks) (element K d k))
+  derivative_lost i zero k (false ∷ marks) l b e s z = absurd (true≢false (sym e))
+  derivative_lost i (suc j) k (true ∷ marks) l b e s z =
+      times_not_zero K N (minus K (element K d k) (element K d i)) (derivative_at K (lost_from K d (suc i) marks) (element K d k))
       (minus_not_zero K N _ _ (λ same. elements_differ K N d o off i k (omega arith) (omega arith) (sym same)))
-      (slope_lost (suc i) j k marks (omega arith) (omega arith) e (omega arith))
-      (sym (ap (λ t. K.plus t (K.times (minus K (element K d k) (element K d i)) (slope K (lost_from K d (suc i) marks) (element K d k)))) (located_lost (suc i) j k marks (omega arith) e (omega arith)) ∙ zero_plus (itself_is_module K N) _)
+      (derivative_lost (suc i) j k marks (omega arith) (omega arith) e (omega arith))
+      (sym (ap (λ t. K.plus t (K.times (minus K (element K d k) (element K d i)) (derivative_at K (lost_from K d (suc i) marks) (element K d k)))) (locator_lost (suc i) j k marks (omega arith) e (omega arith)) ∙ zero_plus (itself_is_module K N) _)
       ∙ z)
-  slope_lost i (suc j) k (false ∷ marks) l b e s z = slope_lost (suc i) j k marks (omega arith) (omega arith) e (omega arith) z
+  derivative_lost i (suc j) k (false ∷ marks) l b e s z = derivative_lost (suc i) j k marks (omega arith) (omega arith) e (omega arith) z
 
-  pub located-lost : (marks : List Bool) (j : ℕ) → j < length marks → get_or marks j true ≡ true → located K (lost K d marks) (element K d j) ≡ K.zero
-  located-lost marks j l e = located_lost 0 j j marks l e (omega arith)
+  pub locator_at-lost : (marks : List Bool) (j : ℕ) → j < length marks → get_or marks j true ≡ true → locator_at K (lost K d marks) (element K d j) ≡ K.zero
+  locator_at-lost marks j l e = locator_lost 0 j j marks l e (omega arith)
 
-  pub located-kept : (marks : List Bool) (j : ℕ) → length marks ≤ d.size → j < length marks → get_or marks j true ≡ false → located K (lost K d marks) (element K d j) ≢ K.zero
-  located-kept marks j b l e = located_kept 0 j j marks l (omega arith) e (omega arith)
+  pub locator_at-kept : (marks : List Bool) (j : ℕ) → length marks ≤ d.size → j < length marks → get_or marks j true ≡ false → locator_at K (lost K d marks) (element K d j) ≢ K.zero
+  locator_at-kept marks j b l e = locator_kept 0 j j marks l (omega arith) e (omega arith)
 
   element-not_zero : (i : ℕ) → 0 < d.size → element K d i ≢ K.zero
   element-not_zero i some = times_not_zero K N d.offset (power K d.root i) off (power_not_zero K N d.root i (root_not_zero K N d.root d.size o some))
 
   -- x times the derivative isn't zero there either
-  pub slope-lost : (marks : List Bool) (j : ℕ) → length marks ≤ d.size → j < length marks → get_or marks j true ≡ true → K.times (element K d j) (slope K (lost K d marks) (element K d j)) ≢ K.zero
-  slope-lost marks j b l e =
-      times_not_zero K N (element K d j) (slope K (lost K d marks) (element K d j)) (element-not_zero j (omega arith)) (slope_lost 0 j j marks l (omega arith) e (omega arith))
+  pub derivative_at-lost : (marks : List Bool) (j : ℕ) → length marks ≤ d.size → j < length marks → get_or marks j true ≡ true → K.times (element K d j) (derivative_at K (lost K d marks) (element K d j)) ≢ K.zero
+  derivative_at-lost marks j b l e =
+      times_not_zero K N (element K d j) (derivative_at K (lost K d marks) (element K d j)) (element-not_zero j (omega arith)) (derivative_lost 0 j j marks l (omega arith) e (omega arith))
 
 -- ---- the list as it grows
 

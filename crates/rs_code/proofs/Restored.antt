@@ -13,9 +13,9 @@ use Rattle.ark_math.proofs.Algebra.Sums.{sum_below-same}
 use Rattle.ark_math.proofs.Lists.Tabulated.{length-tabulate, item-tabulate, is_tabulated}
 use Rattle.ark_math.proofs.Callers.Transforms.{fit-same, transform-length}
 use Rattle.rs_code.specs.Codeword.{IsCodeword, AgreesElsewhere, mark_count}
-use Rattle.rs_code.specs.Locator.{lost, located, slope, euler, by_factors, IsFactor, AreFactors, weighed, filled}
+use Rattle.rs_code.specs.Locator.{lost, locator_at, derivative_at, euler, by_factors, IsFactor, AreFactors, weighed, filled}
 use Rattle.rs_code.proofs.Locators.{value, value-same, IsShort, by_factors-short, by_factors-value, euler-value}
-use Rattle.rs_code.proofs.Lost.{located-lost, located-kept, lost-length}
+use Rattle.rs_code.proofs.Lost.{locator_at-lost, locator_at-kept, lost-length}
 use Rattle.rs_code.proofs.Divided.{divided, scale_cancel}
 use Rattle.rs_code.proofs.Places.{unmarked_within}
 
@@ -71,12 +71,12 @@ module _ {F M : Type 0} {K : FieldOn F} {V : ModuleOn F M} (N : IsField K) (L : 
         let below : IsShort V k a = list-short m k short in
         let room : k + length rs ≤ n = omega (arith, lost-length K d marks) in
         let b_short : IsShort V n b = by_factors-short N L k n rs a below room in
-        let products : (i : ℕ) → i < n → item V v i ≡ V.scale (located K rs (element K d i)) (item V other i) = λ i l.
-        elim (get_or marks i true) as (λ p. get_or marks i true ≡ p → item V v i ≡ V.scale (located K rs (element K d i)) (item V other i)) [
+        let products : (i : ℕ) → i < n → item V v i ≡ V.scale (locator_at K rs (element K d i)) (item V other i) = λ i l.
+        elim (get_or marks i true) as (λ p. get_or marks i true ≡ p → item V v i ≡ V.scale (locator_at K rs (element K d i)) (item V other i)) [
           | true ↦ λ e.
               v_is i l
               ∙ ap (λ x. weighed V x (of_list K w i) (item V y i)) e
-              ∙ sym (ap (λ x. V.scale x (item V other i)) (located-lost K N d o off marks i (omega arith) e) ∙ zero_scale N L (item V other i))
+              ∙ sym (ap (λ x. V.scale x (item V other i)) (locator_at-lost K N d o off marks i (omega arith) e) ∙ zero_scale N L (item V other i))
           | false ↦ λ e.
               v_is i l
               ∙ ap (λ x. weighed V x (of_list K w i) (item V y i)) e
@@ -88,7 +88,7 @@ module _ {F M : Type 0} {K : FieldOn F} {V : ModuleOn F M} (N : IsField K) (L : 
               sym (transform-from t v v_size
               (λ i l.
               products i l
-              ∙ ap (V.scale (located K rs (element K d i))) (transform-item m i l)
+              ∙ ap (V.scale (locator_at K rs (element K d i))) (transform-item m i l)
               ∙ sym (value-same N L n (item V t) b (element K d i) (λ j _. tabulate-item n b b_short j) ∙ by_factors-value N L k n rs (element K d i) a below room)))
               ∙ sym (fit-same V v n v_size);
         })
@@ -146,7 +146,7 @@ module _ {F M : Type 0} {K : FieldOn F} {V : ModuleOn F M} (N : IsField K) (L : 
               let x = element K d i in
               transform-item m i l
               ∙ value-same N L n (item V m) q x (λ j _. tabulate-item k q q_short j)
-              ∙ scale_cancel N L (located K rs x) (value K V n q x) (item V y i) (located-kept K N d o off marks i (omega arith) (omega arith) e)
+              ∙ scale_cancel N L (locator_at K rs x) (value K V n q x) (item V y i) (locator_at-kept K N d o off marks i (omega arith) (omega arith) e)
               (sym (by_factors-value N L k n rs x q q_short room)
               ∙ ap (λ t. value K V n t x) (sym is)
               ∙ sym (there i l)
@@ -157,23 +157,23 @@ module _ {F M : Type 0} {K : FieldOn F} {V : ModuleOn F M} (N : IsField K) (L : 
 
     -- the value of x times the derivative at a marked place
     pub lost-value : (u s m : List M) → length m ≤ k → ((i : ℕ) → item V u i ≡ by_factors K V (lost K d marks) (item V m) i) → ((i : ℕ) → i < d.size → item V s i ≡ euler K V (item V u) i)
-        → (i : ℕ) → i < d.size → get_or marks i true ≡ true → value K V d.size (item V s) (element K d i) ≡ V.scale (K.times (element K d i) (slope K (lost K d marks) (element K d i))) (item V (transform K V d m) i)
+        → (i : ℕ) → i < d.size → get_or marks i true ≡ true → value K V d.size (item V s) (element K d i) ≡ V.scale (K.times (element K d i) (derivative_at K (lost K d marks) (element K d i))) (item V (transform K V d m) i)
     lost-value u s m short u_is s_is i l e =
         let n = d.size in
         let rs = lost K d marks in
         let a = item V m in
         let x = element K d i in
-        let f = K.times x (slope K rs x) in
+        let f = K.times x (derivative_at K rs x) in
         let room : k + length rs ≤ n = omega (arith, lost-length K d marks) in
         value-same N L n (item V s) (euler K V (by_factors K V rs a)) x (λ j h. s_is j h ∙ ap (V.scale (natural K j)) (u_is j))
         ∙ euler-value N L k n rs x a (list-short m k short) room
-        ∙ ap₂ (λ y z. V.plus (V.scale f y) (V.scale z (value K V n (euler K V a) x))) (sym (transform-item m i l)) (located-lost K N d o off marks i (omega arith) e)
+        ∙ ap₂ (λ y z. V.plus (V.scale f y) (V.scale z (value K V n (euler K V a) x))) (sym (transform-item m i l)) (locator_at-lost K N d o off marks i (omega arith) e)
         ∙ ap (V.plus (V.scale f (item V (transform K V d m) i))) (zero_scale N L (value K V n (euler K V a) x))
         ∙ L.plus_zero (V.scale f (item V (transform K V d m) i))
 
     -- what is filled in from it is the codeword's value
     pub filled-place : (w : List F) (y m : List M) → AreFactors K d marks w → AgreesElsewhere V marks y (transform K V d m) → (i : ℕ) (z : M) → i < d.size
-        → (get_or marks i true ≡ true → z ≡ V.scale (K.times (element K d i) (slope K (lost K d marks) (element K d i))) (item V (transform K V d m) i))
+        → (get_or marks i true ≡ true → z ≡ V.scale (K.times (element K d i) (derivative_at K (lost K d marks) (element K d i))) (item V (transform K V d m) i))
         → filled V (get_or marks i true) (of_list K w i) (item V y i) z ≡ item V (transform K V d m) i
     filled-place w y m factors agrees i z l is =
         let rs = lost K d marks in
@@ -182,10 +182,10 @@ module _ {F M : Type 0} {K : FieldOn F} {V : ModuleOn F M} (N : IsField K) (L : 
         let other = item V (transform K V d m) i in
         elim (get_or marks i true) as (λ p. get_or marks i true ≡ p → filled V (get_or marks i true) f (item V y i) z ≡ other) [
           | true ↦ λ e.
-              let one : K.times f (K.times x (slope K rs x)) ≡ K.one = subst (λ p. IsFactor K rs x p f) e (factors.each i l) in
+              let one : K.times f (K.times x (derivative_at K rs x)) ≡ K.one = subst (λ p. IsFactor K rs x p f) e (factors.each i l) in
               ap (λ p. filled V p f (item V y i) z) e
               ∙ ap (V.scale f) (is e)
-              ∙ sym (L.times_scale f (K.times x (slope K rs x)) other)
+              ∙ sym (L.times_scale f (K.times x (derivative_at K rs x)) other)
               ∙ ap (λ t. V.scale t other) one
               ∙ L.one_scale other
           | false ↦ λ e.

@@ -15,14 +15,14 @@ abbrev pub lost : {F : Type 0} → FieldOn F → Domain F → List Bool → List
 lost K d marks = lost_from K d 0 marks
 
 -- the product of x - r for each r of a list
-abbrev pub located : {F : Type 0} → FieldOn F → List F → F → F
-located K [] x = K.one
-located K (r ∷ rs) x = K.times (minus K x r) (located K rs x)
+abbrev pub locator_at : {F : Type 0} → FieldOn F → List F → F → F
+locator_at K [] x = K.one
+locator_at K (r ∷ rs) x = K.times (minus K x r) (locator_at K rs x)
 
 -- the value of its derivative
-abbrev pub slope : {F : Type 0} → FieldOn F → List F → F → F
-slope K [] x = K.zero
-slope K (r ∷ rs) x = K.plus (located K rs x) (K.times (minus K x r) (slope K rs x))
+abbrev pub derivative_at : {F : Type 0} → FieldOn F → List F → F → F
+derivative_at K [] x = K.zero
+derivative_at K (r ∷ rs) x = K.plus (locator_at K rs x) (K.times (minus K x r) (derivative_at K rs x))
 
 -- the coefficients of a polynomial over a module times x - r
 abbrev pub by_factor : {F M : Type 0} → FieldOn F → ModuleOn F M → F → (ℕ → M) → ℕ → M
@@ -40,8 +40,8 @@ euler K V a i = V.scale (natural K i) (a i)
 
 -- a factor for a place: the polynomial's value, or at a marked one the inverse of x times its derivative's
 abbrev pub IsFactor : {F : Type 0} → FieldOn F → List F → F → Bool → F → Type 0
-IsFactor K rs x true f = K.times f (K.times x (slope K rs x)) ≡ K.one
-IsFactor K rs x false f = f ≡ located K rs x
+IsFactor K rs x true f = K.times f (K.times x (derivative_at K rs x)) ≡ K.one
+IsFactor K rs x false f = f ≡ locator_at K rs x
 
 -- one for each place
 pub record AreFactors {F : Type 0} (K : FieldOn F) (d : Domain F) (marks : List Bool) (factors : List F) : Type 0 where

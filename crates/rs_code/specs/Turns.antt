@@ -6,7 +6,7 @@ use Rattle.ark_math.specs.Domain.{Domain, element}
 use Rattle.ark_math.specs.Multilinear.{product_below}
 use Rattle.ark_math.specs.Univariate.{of_list}
 use Rattle.ark_blocks.specs.Blocks.{AreReversed, IsPowerOfTwo, element_of, size_of}
-use Rattle.rs_code.specs.Locator.{located, lost}
+use Rattle.rs_code.specs.Locator.{locator_at, lost}
 use Rattle.rs_code.specs.declared.turns.AtTurns.{AtTurns}
 use Rattle.rs_code.specs.declared.turns.PlaceValues.{PlaceValues}
 
@@ -27,13 +27,13 @@ abbrev pub others : Four → Four
 others m = record { first = not m.first; second = not m.second; third = not m.third; fourth = not m.fourth }
 
 -- the marked ones in a row from the first on, as many as are told of up to four; or else the first and the third
-abbrev pub in_row : ℕ → Four
-in_row zero = record { first = false; second = false; third = false; fourth = false }
-in_row (suc zero) = record { first = true; second = false; third = false; fourth = false }
-in_row (suc (suc zero)) = record { first = true; second = true; third = false; fourth = false }
-in_row (suc (suc (suc zero))) = record { first = true; second = true; third = true; fourth = false }
-in_row (suc (suc (suc (suc zero)))) = record { first = true; second = true; third = true; fourth = true }
-in_row (suc (suc (suc (suc (suc n))))) = record { first = true; second = false; third = true; fourth = false }
+abbrev pub marked_first : ℕ → Four
+marked_first zero = record { first = false; second = false; third = false; fourth = false }
+marked_first (suc zero) = record { first = true; second = false; third = false; fourth = false }
+marked_first (suc (suc zero)) = record { first = true; second = true; third = false; fourth = false }
+marked_first (suc (suc (suc zero))) = record { first = true; second = true; third = true; fourth = false }
+marked_first (suc (suc (suc (suc zero)))) = record { first = true; second = true; third = true; fourth = true }
+marked_first (suc (suc (suc (suc (suc n))))) = record { first = true; second = false; third = true; fourth = false }
 
 -- a factor where there is a mark, else one
 abbrev pub factor : {F : Type 0} → FieldOn F → Bool → F → F
@@ -74,19 +74,19 @@ pub record Sorted (F : Type 0) : Type 0 where
 abbrev pub over_erased : {F : Type 0} → FieldOn F → F → Sorted F → F → F
 over_erased K w s x =
     K.times s.erased_scale
-    (K.times (located K s.one x)
-    (K.times (K.times (located K s.two x) (located K s.two (K.negated (K.times w x))))
-    (K.times (K.times (located K s.three x) (K.times (located K s.three (K.negated (K.times w x))) (located K s.three (K.negated x))))
-    (K.times (located K s.opposite (K.times x x)) (located K s.all (K.times (K.times x x) (K.times x x)))))))
+    (K.times (locator_at K s.one x)
+    (K.times (K.times (locator_at K s.two x) (locator_at K s.two (K.negated (K.times w x))))
+    (K.times (K.times (locator_at K s.three x) (K.times (locator_at K s.three (K.negated (K.times w x))) (locator_at K s.three (K.negated x))))
+    (K.times (locator_at K s.opposite (K.times x x)) (locator_at K s.all (K.times (K.times x x) (K.times x x)))))))
 
 -- and over the kept ones
 abbrev pub over_kept : {F : Type 0} → FieldOn F → F → Sorted F → F → F
 over_kept K w s x =
     K.times s.kept_scale
-    (K.times (K.times (located K s.one (K.negated (K.times w x))) (K.times (located K s.one (K.negated x)) (located K s.one (K.times w x))))
-    (K.times (K.times (located K s.two (K.negated x)) (located K s.two (K.times w x)))
-    (K.times (located K s.three (K.times w x))
-    (K.times (located K s.opposite (K.negated (K.times x x))) (located K s.none (K.times (K.times x x) (K.times x x)))))))
+    (K.times (K.times (locator_at K s.one (K.negated (K.times w x))) (K.times (locator_at K s.one (K.negated x)) (locator_at K s.one (K.times w x))))
+    (K.times (K.times (locator_at K s.two (K.negated x)) (locator_at K s.two (K.times w x)))
+    (K.times (locator_at K s.three (K.times w x))
+    (K.times (locator_at K s.opposite (K.negated (K.times x x))) (locator_at K s.none (K.times (K.times x x) (K.times x x)))))))
 
 -- the lists with one more root r, of four places of which so many in a row are erased from r on; w is a quarter turn
 abbrev pub pushed : {F : Type 0} → FieldOn F → F → ℕ → F → Sorted F → Sorted F
@@ -149,8 +149,8 @@ pub record AreSortedBelow {F : Type 0} (K : FieldOn F) (d : Domain F) (q : ℕ) 
 -- which places the sorted lists stand for
 pub record AreSorted {F : Type 0} (K : FieldOn F) (d : Domain F) (q : ℕ) (marks : List Bool) (s : Sorted F) : Type 0 where
   pub within : AreWithin q s
-  pub erased : (x : F) → over_erased K (element K d q) s x ≡ located K (lost K d marks) x
-  pub kept : (x : F) → over_kept K (element K d q) s x ≡ located K (lost K d (map not marks)) x
+  pub erased : (x : F) → over_erased K (element K d q) s x ≡ locator_at K (lost K d marks) x
+  pub kept : (x : F) → over_kept K (element K d q) s x ≡ locator_at K (lost K d (map not marks)) x
 
 abbrev pub product_of_eight : {F : Type 0} → FieldOn F → F → F → F → F → F → F → F → F → F
 product_of_eight K a b c d e f g h = K.times (K.times (K.times a b) (K.times c d)) (K.times (K.times e f) (K.times g h))
@@ -215,12 +215,12 @@ pub record IsTableOf {F : Type 0} (K : FieldOn F) (d : Domain F) (table : List F
 -- what the values are: those over squares at as many elements as there are of these, and so over fourth powers; inverse is
 -- that of the domain's size
 pub record HoldValues {F : Type 0} (K : FieldOn F) (table : List F) (q : ℕ) (s : Sorted F) (inverse : F) (v : Values F) : Type 0 where
-  pub one_is : (i : ℕ) → i < 4 * q → of_list K v.one i ≡ located K s.one (element_of K table i)
-  pub two_is : (i : ℕ) → i < 4 * q → of_list K v.two i ≡ located K s.two (element_of K table i)
-  pub three_is : (i : ℕ) → i < 4 * q → of_list K v.three i ≡ located K s.three (element_of K table i)
-  pub opposite_is : (i : ℕ) → i < 2 * q → of_list K v.opposite i ≡ located K s.opposite (element_of K table i)
-  pub all_is : (i : ℕ) → i < q → of_list K v.all i ≡ K.times (located K s.all (element_of K table i)) s.erased_scale
-  pub none_is : (i : ℕ) → i < q → of_list K v.none i ≡ K.times (located K s.none (element_of K table i)) (K.times s.kept_scale inverse)
+  pub one_is : (i : ℕ) → i < 4 * q → of_list K v.one i ≡ locator_at K s.one (element_of K table i)
+  pub two_is : (i : ℕ) → i < 4 * q → of_list K v.two i ≡ locator_at K s.two (element_of K table i)
+  pub three_is : (i : ℕ) → i < 4 * q → of_list K v.three i ≡ locator_at K s.three (element_of K table i)
+  pub opposite_is : (i : ℕ) → i < 2 * q → of_list K v.opposite i ≡ locator_at K s.opposite (element_of K table i)
+  pub all_is : (i : ℕ) → i < q → of_list K v.all i ≡ K.times (locator_at K s.all (element_of K table i)) s.erased_scale
+  pub none_is : (i : ℕ) → i < q → of_list K v.none i ≡ K.times (locator_at K s.none (element_of K table i)) (K.times s.kept_scale inverse)
 
 -- a list's values at the place t quarter turns after the first of the four of index k, and at its own turns
 pub record AreAtTurns {F : Type 0} (K : FieldOn F) (v : List F) (k t : ℕ) (a : AtTurns F) : Type 0 where

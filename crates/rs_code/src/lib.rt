@@ -14,7 +14,6 @@ mod laws;
 mod locator;
 mod marks;
 mod part;
-mod product;
 mod restore;
 mod systematic;
 mod turns;

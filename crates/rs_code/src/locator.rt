@@ -16,7 +16,7 @@ use ark_poly::{DenseUVPolynomial, EvaluationDomain};
 use ark_subproducts::product_over;
 use std::alloc::{AllocError, Global};
 
-// Of fewer places all go by slopes.
+// Of fewer places all go by derivatives.
 const FEW_PLACES: usize = 256;
 
 /// The factors: at a kept place the value of the polynomial that is zero at the erased ones, and at an erased one the
@@ -41,11 +41,11 @@ pub fn factors<F: FftField, D: EvaluationDomain<F>>(
             }
         }
     }
-    factors_by_slopes(alloc, domain, erased)
+    factors_by_derivative(alloc, domain, erased)
 }
 
 // The same, by the values of the polynomial and of x times its derivative, and the inverses of these.
-fn factors_by_slopes<F: FftField, D: EvaluationDomain<F>>(
+fn factors_by_derivative<F: FftField, D: EvaluationDomain<F>>(
     alloc: Global,
     domain: D,
     erased: &[bool],
@@ -58,9 +58,9 @@ fn factors_by_slopes<F: FftField, D: EvaluationDomain<F>>(
     let roots = lost_elements(alloc, &domain, erased)?;
     let polynomial = product_over(alloc, &roots)?;
     let mut factors = domain.fft(alloc, polynomial.coeffs())?;
-    let mut slopes = Vec::from_slice(alloc, polynomial.coeffs())?;
-    scale_by_exponents(slopes.as_mut_slice(), &mut Work::new());
-    let mut inverses = domain.fft(alloc, &slopes)?;
+    let mut derivatives = Vec::from_slice(alloc, polynomial.coeffs())?;
+    scale_by_exponents(derivatives.as_mut_slice(), &mut Work::new());
+    let mut inverses = domain.fft(alloc, &derivatives)?;
     batch_inversion(alloc, inverses.as_mut_slice())?;
     choose(factors.as_mut_slice(), &inverses, erased);
     Ok(factors)

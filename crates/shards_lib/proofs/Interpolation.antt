@@ -11,7 +11,7 @@ use Rattle.ark_math.proofs.Domains.Elements.{times_not_zero, minus_not_zero, min
 use Rattle.ark_math.proofs.Polynomials.Univariate.{added-below, scaled-below, IsBelow-more}
 use Rattle.ark_math.proofs.Polynomials.UnivariateValues.{value-added, value-scaled}
 use Rattle.ark_math.specs.Nodes.{nodes}
-use Rattle.rs_code.specs.Locator.{located}
+use Rattle.rs_code.specs.Locator.{locator_at}
 use Rattle.rs_code.proofs.Factors.{nodes-short, nodes-value}
 
 module _ {F : Type 0} (K : FieldOn F) (N : IsField K) (point : ℕ → F) where
@@ -19,20 +19,20 @@ module _ {F : Type 0} (K : FieldOn F) (N : IsField K) (point : ℕ → F) where
   spot places i = point (get_or places i 0)
 
   -- zero at each point
-  located_here : (places : List ℕ) (i : ℕ) → i < length places → located K (map point places) (spot places i) ≡ K.zero
+  located_here : (places : List ℕ) (i : ℕ) → i < length places → locator_at K (map point places) (spot places i) ≡ K.zero
   located_here [] i l = absurd (omega (arith, l))
   located_here (p ∷ places) zero l =
-      ap (λ x. K.times x (located K (map point places) (point p))) (minus_same K N (point p) (point p) refl)
-      ∙ zero_scale N (itself_is_module K N) (located K (map point places) (point p))
+      ap (λ x. K.times x (locator_at K (map point places) (point p))) (minus_same K N (point p) (point p) refl)
+      ∙ zero_scale N (itself_is_module K N) (locator_at K (map point places) (point p))
   located_here (p ∷ places) (suc i) l =
       ap (λ x. K.times (minus K (spot places i) (point p)) x) (located_here places i (omega (arith, l)))
       ∙ times_zero K N (minus K (spot places i) (point p))
 
   -- and nowhere else
-  located_elsewhere : (places : List ℕ) (x : F) → ((i : ℕ) → i < length places → x ≢ spot places i) → located K (map point places) x ≢ K.zero
+  located_elsewhere : (places : List ℕ) (x : F) → ((i : ℕ) → i < length places → x ≢ spot places i) → locator_at K (map point places) x ≢ K.zero
   located_elsewhere [] x ne = N.one_not_zero
   located_elsewhere (p ∷ places) x ne =
-      times_not_zero K N (minus K x (point p)) (located K (map point places) x) (minus_not_zero K N x (point p) (ne 0 (omega arith)))
+      times_not_zero K N (minus K x (point p)) (locator_at K (map point places) x) (minus_not_zero K N x (point p) (ne 0 (omega arith)))
       (located_elsewhere places x (λ i l. ne (suc i) (omega (arith, l))))
 
   abbrev pub Differ : List ℕ → Type 0
@@ -48,11 +48,11 @@ module _ {F : Type 0} (K : FieldOn F) (N : IsField K) (point : ℕ → F) where
       let q = spot places i in
       let v = y (get_or places i 0) in
       let inside : i < length places = omega (arith, l) in
-      let nothing : K.plus v (K.times c (located K (map point places) q)) ≡ v =
+      let nothing : K.plus v (K.times c (locator_at K (map point places) q)) ≡ v =
       ap (λ x. K.plus v (K.times c x)) (located_here places i inside) ∙ ap (K.plus v) (times_zero K N c) ∙ N.plus_zero v in
       subst (IsValue K (added K a (scaled K c (nodes K (map point places)))) q) nothing
-      (value-added K N a (scaled K c (nodes K (map point places))) q v (K.times c (located K (map point places) q)) (earlier i inside)
-      (value-scaled K N c (nodes K (map point places)) q (located K (map point places) q) (nodes-value K N (map point places) q)))
+      (value-added K N a (scaled K c (nodes K (map point places))) q v (K.times c (locator_at K (map point places) q)) (earlier i inside)
+      (value-scaled K N c (nodes K (map point places)) q (locator_at K (map point places) q) (nodes-value K N (map point places) q)))
 
   -- as many coefficients as points give each list of values
   pub has_polynomial : (y : ℕ → F) (places : List ℕ) → Differ places
@@ -64,7 +64,7 @@ module _ {F : Type 0} (K : FieldOn F) (N : IsField K) (point : ℕ → F) where
       let n = length places in
       let roots = map point places in
       let v = value_below K n a (point p) in
-      let f = located K roots (point p) in
+      let f = locator_at K roots (point p) in
       let inverse = N.inverts f (located_elsewhere places (point p) (λ i l. differ 0 (suc i) (omega arith) (omega (arith, l)))) in
       let z = inverse.0 in
       let d = minus K (y p) v in

@@ -7,20 +7,21 @@
 //! gives by its values at turns of `x`: so no more than `n / 4` roots are multiplied, however the places are erased.
 //!
 //! This module is a faster way and nothing else: with it, restoring half of 4096 places takes the time of some 8
-//! transforms in place of 13. Who wants the plain way alone deletes it, with `proofs/turns` and the lemmas that only those
-//! proofs use, and lets `factors` of `locator.rt` call `factors_by_slopes` always: the rest stays proved.
+//! transforms in place of 13. Who wants the plain way alone deletes it, with `proofs/turns` and `specs/Turns`,
+//! and lets `factors` of `locator.rt` call `factors_by_derivative` always: the rest stays proved.
 
+mod product;
 mod sorted;
 
 ghost use Rattle.std.specs.Prelude.{◌≡◌, ℕ, ◌+◌, ◌*◌, ◌^◌, ◌<◌, ◌≤◌, true, false, length, get_or, IfOk};
 ghost use Rattle.ark_blocks.specs.Blocks.{IsPowerOfTwo, element_of, size_of};
 ghost use Rattle.ark_math.specs.BitReversal.{reversed};
 ghost use Rattle.ark_math.specs.Univariate.{of_list};
-ghost use Rattle.rs_code.specs.Locator.{AreFactors, located};
+ghost use Rattle.rs_code.specs.Locator.{AreFactors, locator_at};
 ghost use Rattle.rs_code.specs.Turns.{AreAtTurns, AreForFours, ArePlaceValues, AreWithin, HoldValues, IsFactorFrom, IsMadeOf};
 ghost use Rattle.rs_code.specs.Turns.{IsPlaceAhead, IsTableOf, product_of_eight};
 
-use crate::product::values_over;
+use crate::turns::product::values_over;
 use crate::turns::sorted::{Sorted, sorted_by_turns};
 use ark_base::{FftField, Field};
 use ark_blocks::BlockRoots;
@@ -129,7 +130,7 @@ fn scaled_values<F: FftField>(
     requires many { 64 ≤ count }
     ensures len { IfOk result (λ v. length v.items ≡ count) }
     ensures values { IfOk result (λ v. (i : ℕ) → i < count → of_list F.field v.items i ≡ F.field.times
-        (located F.field roots.now (element_of F.field table.now i)) scale) }
+        (locator_at F.field roots.now (element_of F.field table.now i)) scale) }
 {
     let mut values = values_over(alloc, table, roots, count)?;
     scale_each(values.as_mut_slice(), scale);

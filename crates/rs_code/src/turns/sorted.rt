@@ -5,7 +5,7 @@ ghost use Rattle.ark_blocks.specs.Blocks.{IsPowerOfTwo, size_of};
 ghost use Rattle.ark_math.specs.BitReversal.{reversed};
 ghost use Rattle.ark_math.specs.Domain.{Domain};
 ghost use Rattle.ark_math.specs.Root.{HasOrder};
-ghost use Rattle.rs_code.specs.Turns.{AreSorted, IsTableOf, alternating, finished, in_row, roots_of, turn_place, turned};
+ghost use Rattle.rs_code.specs.Turns.{AreSorted, IsTableOf, alternating, finished, marked_first, roots_of, turn_place, turned};
 
 use ark_base::{FftField, Field};
 use ark_blocks::BlockRoots;
@@ -14,7 +14,7 @@ use std::marker::Model;
 
 // By the marks of four places, of which the first is the lowest bit: the number of their pattern, and which of their
 // neighbours in a table it begins with. The patterns are how many are erased in a row, and 5 is two that are opposite.
-static ROWS: [(usize, usize); 16] = [
+static PATTERNS: [(usize, usize); 16] = [
     (0, 0),
     (1, 0),
     (1, 2),
@@ -85,7 +85,7 @@ pub fn sorted_by_turns<F: FftField>(
     let quarter = fours.len();
     let mut lists = empty_lists(alloc, quarter)?;
     for j in 0..quarter {
-        let (pattern, place) = row(
+        let (pattern, place) = pattern_of(
             erased[j],
             erased[j + quarter],
             erased[j + quarter + quarter],
@@ -114,13 +114,13 @@ fn empty_lists<F: Field>(alloc: Global, room: usize) -> Result<[Vec<F>; 6], Allo
 
 // The pattern of four places with these marks, and which of their neighbours in a table it begins with.
 #[inline(always)]
-fn row(first: bool, second: bool, third: bool, fourth: bool) -> (usize, usize)
-    ensures row { turned (turn_place result.1) (record { first = first; second = second; third = third; fourth = fourth })
-        ≡ in_row result.0 }
+fn pattern_of(first: bool, second: bool, third: bool, fourth: bool) -> (usize, usize)
+    ensures marked { turned (turn_place result.1) (record { first = first; second = second; third = third; fourth = fourth })
+        ≡ marked_first result.0 }
     ensures pattern { result.0 < 6 }
     ensures place { result.1 < 4 }
 {
-    ROWS[bit(first) + 2 * bit(second) + 4 * bit(third) + 8 * bit(fourth)]
+    PATTERNS[bit(first) + 2 * bit(second) + 4 * bit(third) + 8 * bit(fourth)]
 }
 
 // One where there is a mark, else zero.

@@ -6,8 +6,8 @@ use Rattle.ark_math.proofs.Lists.Lists.{written_back}
 use Rattle.ark_math.proofs.Domains.LawfulDomains.{lawful_domain, order}
 use Rattle.rs_code.specs.Locator.{IsFactor, lost}
 use Rattle.rs_code.specs.Turns.{AreSorted, AreWithin}
-use Rattle.rs_code.proofs.TableOrder.{four_below, quarter_of}
-use Rattle.rs_code.proofs.TurnFactors.{all-factors}
+use Rattle.rs_code.proofs.turns.TableOrder.{four_below, quarter_of}
+use Rattle.rs_code.proofs.turns.TurnFactors.{all-factors}
 use Rattle.rs_code.proofs.turns.factors_by_turns.Goals as goal
 
 pub reversed_places-requires : goal.reversed_places-requires

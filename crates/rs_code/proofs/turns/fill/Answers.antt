@@ -1,6 +1,6 @@
 use Rattle.std.proofs.Common.{◌≡◌, ℕ, true, false, ◌+◌, ◌<◌, get_or, length, refl, arith}
 use Rattle.std.proofs.lemmas.List.{get_or_default}
-use Rattle.rs_code.proofs.TurnFactors.{made_more, made_parts}
+use Rattle.rs_code.proofs.turns.TurnFactors.{made_more, made_parts}
 use Rattle.rs_code.proofs.turns.fill.Goals as goal
 
 pub at-place-requires : goal.at-place-requires

@@ -1,6 +1,6 @@
 use Rattle.std.proofs.Common.{◌∙◌}
-use Rattle.rs_code.proofs.TurnedPlaces.{eight_same}
-use Rattle.rs_code.proofs.TurnFactors.{factor-from}
+use Rattle.rs_code.proofs.turns.TurnedPlaces.{eight_same}
+use Rattle.rs_code.proofs.turns.TurnFactors.{factor-from}
 use Rattle.rs_code.proofs.turns.PlaceValues.factor.Goals as goal
 
 pub returns : goal.returns

@@ -1,5 +1,5 @@
 use Rattle.std.proofs.Common.{◌∙◌}
-use Rattle.rs_code.proofs.TurnFactors.{opposite-ahead, turned-values}
+use Rattle.rs_code.proofs.turns.TurnFactors.{opposite-ahead, turned-values}
 use Rattle.rs_code.proofs.turns.PlaceValues.turned.Goals as goal
 
 pub returns : goal.returns

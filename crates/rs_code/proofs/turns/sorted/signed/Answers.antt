@@ -1,5 +1,5 @@
 use Rattle.std.proofs.Common.{sym, ◌∙◌, arith}
-use Rattle.rs_code.proofs.SortedRoots.{alternating-even, alternating-odd}
+use Rattle.rs_code.proofs.turns.SortedRoots.{alternating-even, alternating-odd}
 use Rattle.rs_code.proofs.turns.sorted.signed.Goals as goal
 
 pub returns-then-signs-eq0 : goal.returns-then-signs-eq0

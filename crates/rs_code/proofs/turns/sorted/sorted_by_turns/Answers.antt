@@ -7,10 +7,10 @@ use Rattle.ark_math.specs.BitReversal.{reversed}
 use Rattle.ark_math.proofs.Numbers.BitReversal.{reversed_none}
 use Rattle.ark_math.proofs.Numbers.PowersOfTwo.{pow_twice}
 use Rattle.rs_code.specs.Turns.{AreSorted, AreSortedBelow, finished, finished_from, pushed, roots_of, turn_place, turned}
-use Rattle.rs_code.proofs.TurnedPlaces.{four_read}
-use Rattle.rs_code.proofs.TableOrder.{four_below, row_element, turn_element}
-use Rattle.rs_code.proofs.QuarterTurns.{sorted-all, sorted-more, sorted-none}
-use Rattle.rs_code.proofs.SortedRoots.{finished-more, finished_same, other-roots, pushed-length, pushed-roots}
+use Rattle.rs_code.proofs.turns.TurnedPlaces.{four_read}
+use Rattle.rs_code.proofs.turns.TableOrder.{four_below, row_element, turn_element}
+use Rattle.rs_code.proofs.turns.QuarterTurns.{sorted-all, sorted-more, sorted-none}
+use Rattle.rs_code.proofs.turns.SortedRoots.{finished-more, finished_same, other-roots, pushed-length, pushed-roots}
 use Rattle.rs_code.proofs.turns.sorted.sorted_by_turns.Goals as goal
 
 pub overflow_mul-fours : goal.overflow_mul-fours
@@ -19,11 +19,11 @@ overflow_mul-fours g c =
 
 pub overflow_add-fours : goal.overflow_add-fours
 overflow_add-fours g c =
-    omega (arith, four_below c.args.fours.now c.requires.power c.requires.places c.loop-j.j c.loop-j-test.true, c.requires.size, c.requires.len, c.row-pattern.ensures.place)
+    omega (arith, four_below c.args.fours.now c.requires.power c.requires.places c.loop-j.j c.loop-j-test.true, c.requires.size, c.requires.len, c.pattern_of-pattern.ensures.place)
 
 pub element-requires : goal.element-requires
 element-requires g c =
-    omega (arith, four_below c.args.fours.now c.requires.power c.requires.places c.loop-j.j c.loop-j-test.true, c.requires.size, c.row-pattern.ensures.place)
+    omega (arith, four_below c.args.fours.now c.requires.power c.requires.places c.loop-j.j c.loop-j-test.true, c.requires.size, c.pattern_of-pattern.ensures.place)
 
 pub loop-j-init : goal.loop-j-init
 loop-j-init g c =
@@ -51,10 +51,10 @@ loop-j-preserved g c =
     let j = c.loop-j.j in
     let lists = c.loop-j.lists in
     let pushed_to = c.push.new.self in
-    let p = c.row-pattern.result.0 in
-    let place = c.row-pattern.result.1 in
+    let p = c.pattern_of-pattern.result.0 in
+    let place = c.pattern_of-pattern.result.1 in
     let r = c.element.result in
-    let inside : p < length lists = omega (arith, c.row-pattern.ensures.pattern, v.len) in
+    let inside : p < length lists = omega (arith, c.pattern_of-pattern.ensures.pattern, v.len) in
     let old = get_or lists p c.index-lists-pattern.result in
     let old_is : old.items ≡ roots_of lists p = sym (get_or-map (λ v. v.items) lists p c.index-lists-pattern.result [] inside) in
     record {
@@ -69,16 +69,16 @@ loop-j-preserved g c =
           let whole : d.size ≡ q + (q + (q + q)) = omega (arith, c.requires.size, table.size) in
           let root : r ≡ element K d (j + turn * q) =
           c.element.ensures ∙ ap (λ k. element_of K c.args.table.now (4 * k + place)) (c.requires.places l j q_is c.loop-j-test.true)
-          ∙ row_element K N d one c.args.table.now table l levels j (omega (arith, c.loop-j-test.true, q_is)) q place q_is c.row-pattern.ensures.place in
+          ∙ row_element K N d one c.args.table.now table l levels j (omega (arith, c.loop-j-test.true, q_is)) q place q_is c.pattern_of-pattern.ensures.place in
           let more : finished_from K w (set lists p pushed_to) ≡ pushed K w p (element K d (j + turn * q)) (finished_from K w lists) =
-          finished-more K N w r p (roots_of lists) (roots_of (set lists p pushed_to)) c.row-pattern.ensures.pattern
+          finished-more K N w r p (roots_of lists) (roots_of (set lists p pushed_to)) c.pattern_of-pattern.ensures.pattern
           (pushed-roots lists p pushed_to r inside old.items c.in_ok-push.ensures.items old_is) (other-roots lists p pushed_to)
           ∙ ap (λ x. pushed K w p x (finished_from K w lists)) root in
           let next : suc j ≡ j + 1 = omega arith in
           subst (λ i. AreSortedBelow K d q marks i (finished_from K w (set lists p pushed_to))) next
           (subst (AreSortedBelow K d q marks (suc j)) (sym more)
           (sorted-more K N d q order one whole (omega (arith, c.loop-j-test.true)) marks j p turn (finished_from K w lists) (v.sorted d one order table)
-          (ap (turned turn) (sym (four_read marks q j (omega (arith, c.loop-j-test.true, c.requires.size, c.requires.len)))) ∙ c.row-pattern.ensures.row)));
+          (ap (turned turn) (sym (four_read marks q j (omega (arith, c.loop-j-test.true, c.requires.size, c.requires.len)))) ∙ c.pattern_of-pattern.ensures.marked)));
     }
 
 pub returns : goal.returns

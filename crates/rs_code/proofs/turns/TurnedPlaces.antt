@@ -9,11 +9,11 @@ use Rattle.ark_math.proofs.Algebra.Powers.{power-add, power-mul, power-one}
 use Rattle.ark_math.proofs.Algebra.Solve.{◌⊗◌, negative, unit}
 use Rattle.ark_math.proofs.Algebra.Ring.{ring3, ring4, ring6, ring7, ring2_by}
 use Rattle.ark_math.specs.Univariate.{of_list}
-use Rattle.rs_code.specs.Locator.{lost, located, slope, IsFactor}
+use Rattle.rs_code.specs.Locator.{lost, locator_at, derivative_at, IsFactor}
 use Rattle.rs_code.specs.Turns.{four, Sorted, AreSorted, product_of_eight}
-use Rattle.rs_code.proofs.QuarterTurns.{turn-square, element-turned, element-opposite, element-back}
+use Rattle.rs_code.proofs.turns.QuarterTurns.{turn-square, element-turned, element-opposite, element-back}
 use Rattle.rs_code.proofs.Places.{at_default, is_read}
-use Rattle.rs_code.proofs.Kept.{inverse-slope}
+use Rattle.rs_code.proofs.Kept.{inverse-derivative_at}
 
 -- the marks of four places as they are read
 pub four_read : (marks : List Bool) (q j : ℕ) → j + q + q + q < length marks →
@@ -128,44 +128,44 @@ module _ {F : Type 0} (K : FieldOn F) (N : IsField K) (d : Domain F) (q : ℕ) (
 
   module _ (marks : List Bool) (len : length marks ≡ d.size) (s : Sorted F) (sorted : AreSorted K d q marks s) (t j : ℕ) (inside : t * q + j < d.size) where
     pub kept-place : (all opposite first two two_back three three_back three_over : F) → get_or marks (t * q + j) true ≡ false →
-        all ≡ K.times (located K s.all (element K d (j * 4))) s.erased_scale →
-        opposite ≡ located K s.opposite (element K d (((t % 2) * q + j) * 2)) →
-        first ≡ located K s.one (element K d (t * q + j)) →
-        two ≡ located K s.two (element K d (t * q + j)) → two_back ≡ located K s.two (element K d (((t + 3) % 4) * q + j)) →
-        three ≡ located K s.three (element K d (t * q + j)) → three_back ≡ located K s.three (element K d (((t + 3) % 4) * q + j)) → three_over ≡ located K s.three (element K d (((t + 2) % 4) * q + j)) →
+        all ≡ K.times (locator_at K s.all (element K d (j * 4))) s.erased_scale →
+        opposite ≡ locator_at K s.opposite (element K d (((t % 2) * q + j) * 2)) →
+        first ≡ locator_at K s.one (element K d (t * q + j)) →
+        two ≡ locator_at K s.two (element K d (t * q + j)) → two_back ≡ locator_at K s.two (element K d (((t + 3) % 4) * q + j)) →
+        three ≡ locator_at K s.three (element K d (t * q + j)) → three_back ≡ locator_at K s.three (element K d (((t + 3) % 4) * q + j)) → three_over ≡ locator_at K s.three (element K d (((t + 2) % 4) * q + j)) →
         IsFactor K (lost K d marks) (element K d (t * q + j)) (get_or marks (t * q + j) true) (product_of_eight K all opposite first two two_back three three_back three_over)
     kept-place all opposite first two two_back three three_back three_over e all_is opposite_is one_is two_is two_back_is three_is three_back_is three_over_is =
         subst (λ b. IsFactor K (lost K d marks) (element K d (t * q + j)) b (product_of_eight K all opposite first two two_back three three_back three_over)) (sym e)
         (eight_same K
-        (all_is ∙ ap (λ y. K.times (located K s.all y) s.erased_scale) (fourth-turned t j))
-        (opposite_is ∙ ap (located K s.opposite) (square-turned t j))
+        (all_is ∙ ap (λ y. K.times (locator_at K s.all y) s.erased_scale) (fourth-turned t j))
+        (opposite_is ∙ ap (locator_at K s.opposite) (square-turned t j))
         one_is
-        two_is (two_back_is ∙ ap (located K s.two) (turn-back t j))
-        three_is (three_back_is ∙ ap (located K s.three) (turn-back t j)) (three_over_is ∙ ap (located K s.three) (turn-over t j))
+        two_is (two_back_is ∙ ap (locator_at K s.two) (turn-back t j))
+        three_is (three_back_is ∙ ap (locator_at K s.three) (turn-back t j)) (three_over_is ∙ ap (locator_at K s.three) (turn-over t j))
         ∙ eight_kept K N s.erased_scale _ _ _ _ _ _ _ _
         ∙ sorted.erased (element K d (t * q + j)))
 
     pub erased-place : (inverse none opposite first_back first_over first_ahead two_over two_ahead three_ahead : F) → get_or marks (t * q + j) true ≡ true →
         K.times inverse (natural K d.size) ≡ K.one →
-        none ≡ K.times (located K s.none (element K d (j * 4))) (K.times s.kept_scale inverse) →
-        opposite ≡ located K s.opposite (element K d ((((t + 1) % 2) * q + j) * 2)) →
-        first_back ≡ located K s.one (element K d (((t + 3) % 4) * q + j)) → first_over ≡ located K s.one (element K d (((t + 2) % 4) * q + j)) → first_ahead ≡ located K s.one (element K d (((t + 1) % 4) * q + j)) →
-        two_over ≡ located K s.two (element K d (((t + 2) % 4) * q + j)) → two_ahead ≡ located K s.two (element K d (((t + 1) % 4) * q + j)) →
-        three_ahead ≡ located K s.three (element K d (((t + 1) % 4) * q + j)) →
+        none ≡ K.times (locator_at K s.none (element K d (j * 4))) (K.times s.kept_scale inverse) →
+        opposite ≡ locator_at K s.opposite (element K d ((((t + 1) % 2) * q + j) * 2)) →
+        first_back ≡ locator_at K s.one (element K d (((t + 3) % 4) * q + j)) → first_over ≡ locator_at K s.one (element K d (((t + 2) % 4) * q + j)) → first_ahead ≡ locator_at K s.one (element K d (((t + 1) % 4) * q + j)) →
+        two_over ≡ locator_at K s.two (element K d (((t + 2) % 4) * q + j)) → two_ahead ≡ locator_at K s.two (element K d (((t + 1) % 4) * q + j)) →
+        three_ahead ≡ locator_at K s.three (element K d (((t + 1) % 4) * q + j)) →
         IsFactor K (lost K d marks) (element K d (t * q + j)) (get_or marks (t * q + j) true) (product_of_eight K none opposite first_back first_over first_ahead two_over two_ahead three_ahead)
     erased-place inverse none opposite first_back first_over first_ahead two_over two_ahead three_ahead e inverse_is none_is opposite_is back_is over_is ahead_is two_over_is two_ahead_is three_ahead_is =
         let x = element K d (t * q + j) in
         let formula = product_of_eight K none opposite first_back first_over first_ahead two_over two_ahead three_ahead in
-        let same : formula ≡ K.times inverse (located K (lost K d (map not marks)) x) =
+        let same : formula ≡ K.times inverse (locator_at K (lost K d (map not marks)) x) =
         eight_same K
-        (none_is ∙ ap (λ y. K.times (located K s.none y) (K.times s.kept_scale inverse)) (fourth-turned t j))
-        (opposite_is ∙ ap (located K s.opposite) (square-other t j))
-        (back_is ∙ ap (located K s.one) (turn-back t j)) (over_is ∙ ap (located K s.one) (turn-over t j)) (ahead_is ∙ ap (located K s.one) (turn-ahead t j))
-        (two_over_is ∙ ap (located K s.two) (turn-over t j)) (two_ahead_is ∙ ap (located K s.two) (turn-ahead t j))
-        (three_ahead_is ∙ ap (located K s.three) (turn-ahead t j))
+        (none_is ∙ ap (λ y. K.times (locator_at K s.none y) (K.times s.kept_scale inverse)) (fourth-turned t j))
+        (opposite_is ∙ ap (locator_at K s.opposite) (square-other t j))
+        (back_is ∙ ap (locator_at K s.one) (turn-back t j)) (over_is ∙ ap (locator_at K s.one) (turn-over t j)) (ahead_is ∙ ap (locator_at K s.one) (turn-ahead t j))
+        (two_over_is ∙ ap (locator_at K s.two) (turn-over t j)) (two_ahead_is ∙ ap (locator_at K s.two) (turn-ahead t j))
+        (three_ahead_is ∙ ap (locator_at K s.three) (turn-ahead t j))
         ∙ eight_erased K N inverse s.kept_scale _ _ _ _ _ _ _ _
         ∙ ap (K.times inverse) (sorted.kept x) in
         subst (λ b. IsFactor K (lost K d marks) x b formula) (sym e)
-        (ap (λ y. K.times y (K.times x (slope K (lost K d marks) x))) same
-        ∙ ring4 K N (λ i k x s. ((i ⊗ k) ⊗ (x ⊗ s), (i ⊗ (x ⊗ k)) ⊗ s)) refl inverse (located K (lost K d (map not marks)) x) x (slope K (lost K d marks) x)
-        ∙ inverse-slope K N d o one marks len (t * q + j) inside e inverse inverse_is)
+        (ap (λ y. K.times y (K.times x (derivative_at K (lost K d marks) x))) same
+        ∙ ring4 K N (λ i k x s. ((i ⊗ k) ⊗ (x ⊗ s), (i ⊗ (x ⊗ k)) ⊗ s)) refl inverse (locator_at K (lost K d (map not marks)) x) x (derivative_at K (lost K d marks) x)
+        ∙ inverse-derivative_at K N d o one marks len (t * q + j) inside e inverse inverse_is)

@@ -11,12 +11,12 @@ use Rattle.ark_blocks.specs.Blocks.{element_of}
 use Rattle.ark_math.specs.BitReversal.{reversed}
 use Rattle.ark_math.proofs.Numbers.BitReversal.{reversed_below}
 use Rattle.ark_math.proofs.Numbers.PowersOfTwo.{pow_twice}
-use Rattle.rs_code.specs.Locator.{lost, located, slope, IsFactor}
+use Rattle.rs_code.specs.Locator.{lost, locator_at, derivative_at, IsFactor}
 use Rattle.rs_code.specs.Turns.{AreAtTurns, AreMadeBelow, AreSorted, HoldValues, IsFactorFrom, IsMadeOf, IsTableOf, Sorted, Values, at_turn, erased_from, kept_from, product_of_eight, turn_place}
 use Rattle.rs_code.specs.declared.turns.AtTurns.{AtTurns}
 use Rattle.rs_code.specs.declared.turns.PlaceValues.{PlaceValues}
-use Rattle.rs_code.proofs.TableOrder.{turn_element, turn_fourth, turn_place_less, turn_square}
-use Rattle.rs_code.proofs.TurnedPlaces.{eight_same, element-square, element-fourth, erased-place, kept-place}
+use Rattle.rs_code.proofs.turns.TableOrder.{turn_element, turn_fourth, turn_place_less, turn_square}
+use Rattle.rs_code.proofs.turns.TurnedPlaces.{eight_same, element-square, element-fourth, erased-place, kept-place}
 
 after_list : {X : Type 0} (xs ys : List X) (i j : ℕ) (z : X) → i ≡ length xs + j → get_or (xs ++ ys) i z ≡ get_or ys j z
 after_list xs ys i j z e = ap (λ t. get_or (xs ++ ys) t z) e ∙ get_or-append-add xs ys j z
@@ -146,37 +146,37 @@ module _ {F : Type 0} (K : FieldOn F) (N : IsField K) (d : Domain F) (q l : ℕ)
       let place : (u : ℕ) → 4 * r + turn_place (u % 4) < 4 * q = λ u. omega (arith, within, turn_place_less (u % 4)) in
       let element_is : (u : ℕ) → element_of K table (4 * r + turn_place (u % 4)) ≡ element K d (u % 4 * q + j) = λ u. turn_at (u % 4) (mod-lt u (omega arith)) in
       let own : element_of K table (4 * r + turn_place (t % 4)) ≡ element K d (t * q + j) = (let e : t % 4 ≡ t = omega (arith, h) in element_is t ∙ ap (λ u. element K d (u * q + j)) e) in
-      let square : (u : ℕ) → of_list K v.opposite (2 * r + u % 2) ≡ located K s.opposite (element K d ((u % 2 * q + j) * 2)) = λ u.
+      let square : (u : ℕ) → of_list K v.opposite (2 * r + u % 2) ≡ locator_at K s.opposite (element K d ((u % 2 * q + j) * 2)) = λ u.
       let b : u % 2 < 2 = mod-lt u (omega arith) in
-      hold.opposite_is (2 * r + u % 2) (omega (arith, within, b)) ∙ ap (located K s.opposite) (square_at (u % 2) b) in
+      hold.opposite_is (2 * r + u % 2) (omega (arith, within, b)) ∙ ap (locator_at K s.opposite) (square_at (u % 2) b) in
       let x = element K d (t * q + j) in
       let mark = get_or marks (t * q + j) true in
       let here = fits t (t * q + j) h refl in
       elim mark as (λ b. mark ≡ b → IsFactor K (lost K d marks) x b y) [
         | true ↦ λ e.
-            subst (λ z. K.times z (K.times x (slope K (lost K d marks) x)) ≡ K.one) (sym (made.erased e))
+            subst (λ z. K.times z (K.times x (derivative_at K (lost K d marks) x)) ≡ K.one) (sym (made.erased e))
             (subst (λ b. IsFactor K (lost K d marks) x b (erased_from K v r t)) e
             (erased-place K N d q o one size some marks len s sorted t j here inverse _ _ _ _ _ _ _ _ e inverse_is
-            (hold.none_is r within ∙ ap (λ z. K.times (located K s.none z) (K.times s.kept_scale inverse)) fourth_at)
+            (hold.none_is r within ∙ ap (λ z. K.times (locator_at K s.none z) (K.times s.kept_scale inverse)) fourth_at)
             (square (t + 1))
-            (hold.one_is _ (place (t + 3)) ∙ ap (located K s.one) (element_is (t + 3)))
-            (hold.one_is _ (place (t + 2)) ∙ ap (located K s.one) (element_is (t + 2)))
-            (hold.one_is _ (place (t + 1)) ∙ ap (located K s.one) (element_is (t + 1)))
-            (hold.two_is _ (place (t + 2)) ∙ ap (located K s.two) (element_is (t + 2)))
-            (hold.two_is _ (place (t + 1)) ∙ ap (located K s.two) (element_is (t + 1)))
-            (hold.three_is _ (place (t + 1)) ∙ ap (located K s.three) (element_is (t + 1)))))
+            (hold.one_is _ (place (t + 3)) ∙ ap (locator_at K s.one) (element_is (t + 3)))
+            (hold.one_is _ (place (t + 2)) ∙ ap (locator_at K s.one) (element_is (t + 2)))
+            (hold.one_is _ (place (t + 1)) ∙ ap (locator_at K s.one) (element_is (t + 1)))
+            (hold.two_is _ (place (t + 2)) ∙ ap (locator_at K s.two) (element_is (t + 2)))
+            (hold.two_is _ (place (t + 1)) ∙ ap (locator_at K s.two) (element_is (t + 1)))
+            (hold.three_is _ (place (t + 1)) ∙ ap (locator_at K s.three) (element_is (t + 1)))))
         | false ↦ λ e.
             made.kept e
             ∙ subst (λ b. IsFactor K (lost K d marks) x b (kept_from K v r t)) e
             (kept-place K N d q o one size some marks len s sorted t j here _ _ _ _ _ _ _ _ e
-            (hold.all_is r within ∙ ap (λ z. K.times (located K s.all z) s.erased_scale) fourth_at)
+            (hold.all_is r within ∙ ap (λ z. K.times (locator_at K s.all z) s.erased_scale) fourth_at)
             (square t)
-            (hold.one_is _ (place t) ∙ ap (located K s.one) own)
-            (hold.two_is _ (place t) ∙ ap (located K s.two) own)
-            (hold.two_is _ (place (t + 3)) ∙ ap (located K s.two) (element_is (t + 3)))
-            (hold.three_is _ (place t) ∙ ap (located K s.three) own)
-            (hold.three_is _ (place (t + 3)) ∙ ap (located K s.three) (element_is (t + 3)))
-            (hold.three_is _ (place (t + 2)) ∙ ap (located K s.three) (element_is (t + 2))))
+            (hold.one_is _ (place t) ∙ ap (locator_at K s.one) own)
+            (hold.two_is _ (place t) ∙ ap (locator_at K s.two) own)
+            (hold.two_is _ (place (t + 3)) ∙ ap (locator_at K s.two) (element_is (t + 3)))
+            (hold.three_is _ (place t) ∙ ap (locator_at K s.three) own)
+            (hold.three_is _ (place (t + 3)) ∙ ap (locator_at K s.three) (element_is (t + 3)))
+            (hold.three_is _ (place (t + 2)) ∙ ap (locator_at K s.three) (element_is (t + 2))))
       ] refl
 
 -- which turn of which of the first quarter a place is

@@ -10,7 +10,7 @@ use Rattle.rs_code.specs.Locator.{AreFactors, euler, lost}
 use Rattle.rs_code.proofs.Lost.{lost-length}
 use Rattle.rs_code.proofs.Sizes.{nodes_length}
 use Rattle.rs_code.proofs.ChosenFactors.{chosen_factors, own_exponents}
-use Rattle.rs_code.proofs.locator.factors_by_slopes.Goals as goal
+use Rattle.rs_code.proofs.locator.factors_by_derivative.Goals as goal
 
 pub returns-clause-factors : goal.returns-clause-factors
 returns-clause-factors g c =
@@ -30,7 +30,7 @@ returns-clause-factors g c =
     let values : AreValues K d (nodes K rs) c.in_ok-factors.factors.items =
     subst (λ a. AreValues K d a c.in_ok-factors.factors.items) polynomial (values_of_fft K V I N d coeffs c.in_ok-factors.factors.items short c.in_ok-factors.ensures.transform) in
     let made = c.scale_by_exponents.new.coeffs in
-    let copied : c.as_mut_slice.result.now ≡ coeffs = c.as_mut_slice.ensures.value ∙ c.in_ok-slopes.ensures.items ∙ same in
+    let copied : c.as_mut_slice.result.now ≡ coeffs = c.as_mut_slice.ensures.value ∙ c.in_ok-derivatives.ensures.items ∙ same in
     let kept : length made ≡ length c.as_mut_slice.result.now = c.scale_by_exponents.auto.coeffs in
     let scaled : c.deref-2.result.now ≡ made = c.deref-2.ensures.value ∙ written_back made _ _ (omega (arith, kept, c.as_mut_slice.ensures.len)) in
     let exponents : of_list K c.deref-2.result.now ≡ euler K (itself K) (nodes K rs) =
@@ -39,14 +39,14 @@ returns-clause-factors g c =
     ∙ ap (λ a. euler K (itself K) (of_list K a)) copied
     ∙ ap (euler K (itself K)) polynomial in
     let room : length c.deref-2.result.now ≤ d.size = omega (arith, short, ap length scaled, kept, ap length copied) in
-    let slopes : AreValues K d (euler K (itself K) (nodes K rs)) c.in_ok-inverses.inverses.items =
+    let derivatives : AreValues K d (euler K (itself K) (nodes K rs)) c.in_ok-inverses.inverses.items =
     subst (λ a. AreValues K d a c.in_ok-inverses.inverses.items) exponents (values_of_fft K V I N d c.deref-2.result.now c.in_ok-inverses.inverses.items room c.in_ok-inverses.ensures.transform) in
     let inverses : c.deref-3.result.now ≡ c.batch_inversion.new.items =
     c.deref-3.ensures.value ∙ written_back c.batch_inversion.new.items _ _ (omega (arith, c.batch_inversion.auto.items, c.as_mut_slice-2.ensures.len)) in
     let listed = chosen_factors K N d (order (lawful_domain N g.met.F.FftField.roots_law lawful)) lawful.offset_not_zero marks c.requires.len
     c.as_mut_slice-3.result.now c.as_mut_slice-2.result.now c.deref-3.result.now c.choose.new.items
     (subst (AreValues K d (nodes K rs)) (sym c.as_mut_slice-3.ensures.value) values)
-    (subst (AreValues K d (euler K (itself K) (nodes K rs))) (sym c.as_mut_slice-2.ensures.value) slopes)
+    (subst (AreValues K d (euler K (itself K) (nodes K rs))) (sym c.as_mut_slice-2.ensures.value) derivatives)
     (λ i l. subst (λ v. IsPlaceQuotient K K.one (of_list K c.as_mut_slice-2.result.now i) (of_list K v i)) (sym inverses) (c.in_ok-batch_inversion.ensures.inverses i l))
     (omega (arith, c.choose.auto.items, c.as_mut_slice-3.ensures.len, ap length c.as_mut_slice-3.ensures.value, c.in_ok-factors.ensures.len))
     (λ i l. c.choose.ensures i (omega (arith, l, ap length c.as_mut_slice-3.ensures.value, c.in_ok-factors.ensures.len))) in

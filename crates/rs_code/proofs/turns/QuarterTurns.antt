@@ -10,14 +10,14 @@ use Rattle.ark_math.proofs.Algebra.Powers.{power-add, half_of_order, power-doubl
 use Rattle.ark_math.proofs.Algebra.Solve.{◌⊕◌, ◌⊖◌, ◌⊗◌, negative, unit}
 use Rattle.ark_math.proofs.Algebra.Ring.{ring1, ring2, ring3, ring4, ring5, ring6, ring7, ring2_by, ring3_by}
 use Rattle.ark_math.proofs.Polynomials.Cube.{product_below-first, product_below-same}
-use Rattle.rs_code.specs.Locator.{lost_from, lost, located}
-use Rattle.rs_code.specs.Turns.{Four, turned, others, in_row, factor, four, over_four, Sorted, over_erased, over_kept, pushed, nothing_sorted, AreWithin, AreSortedBelow, AreSorted}
+use Rattle.rs_code.specs.Locator.{lost_from, lost, locator_at}
+use Rattle.rs_code.specs.Turns.{Four, turned, others, marked_first, factor, four, over_four, Sorted, over_erased, over_kept, pushed, nothing_sorted, AreWithin, AreSortedBelow, AreSorted}
 
 module _ {F : Type 0} (K : FieldOn F) (N : IsField K) where
   -- one more root
-  pub located-push : (rs : List F) (r x : F) → located K (rs ++ r ∷ []) x ≡ K.times (located K rs x) (minus K x r)
-  located-push [] r x = N.times_comm (minus K x r) K.one
-  located-push (s ∷ rs) r x = ap (K.times (minus K x s)) (located-push rs r x) ∙ sym (N.times_assoc (minus K x s) (located K rs x) (minus K x r))
+  pub locator_at-push : (rs : List F) (r x : F) → locator_at K (rs ++ r ∷ []) x ≡ K.times (locator_at K rs x) (minus K x r)
+  locator_at-push [] r x = N.times_comm (minus K x r) K.one
+  locator_at-push (s ∷ rs) r x = ap (K.times (minus K x s)) (locator_at-push rs r x) ∙ sym (N.times_assoc (minus K x s) (locator_at K rs x) (minus K x r))
 
   -- ---- products over all places, by fours
 
@@ -48,24 +48,24 @@ module _ {F : Type 0} (K : FieldOn F) (N : IsField K) where
       ap₂ (λ s t. K.times (f i) (K.times (f s) t)) e (ap₂ (λ s t. K.times (f s) (f t)) g h))
 
   -- the polynomial of the marked places as a product over all
-  located_from-product : (d : Domain F) (i : ℕ) (marks : List Bool) (x : F) → located K (lost_from K d i marks) x ≡ product_below K (length marks) (λ j. factor K (get_or marks j true) (minus K x (element K d (i + j))))
-  located_from-product d i [] x = refl
-  located_from-product d i (true ∷ marks) x =
-      (let e : i ≡ i + 0 = omega arith in ap (λ t. K.times (minus K x (element K d t)) (located K (lost_from K d (suc i) marks) x)) e)
-      ∙ ap (K.times (minus K x (element K d (i + 0)))) (located_from-product d (suc i) marks x ∙ moved i marks x)
+  locator_from-product : (d : Domain F) (i : ℕ) (marks : List Bool) (x : F) → locator_at K (lost_from K d i marks) x ≡ product_below K (length marks) (λ j. factor K (get_or marks j true) (minus K x (element K d (i + j))))
+  locator_from-product d i [] x = refl
+  locator_from-product d i (true ∷ marks) x =
+      (let e : i ≡ i + 0 = omega arith in ap (λ t. K.times (minus K x (element K d t)) (locator_at K (lost_from K d (suc i) marks) x)) e)
+      ∙ ap (K.times (minus K x (element K d (i + 0)))) (locator_from-product d (suc i) marks x ∙ moved i marks x)
       ∙ sym (product_below-first K N (length marks) (λ j. factor K (get_or (true ∷ marks) j true) (minus K x (element K d (i + j)))))
     where
       moved : (i : ℕ) (marks : List Bool) (x : F) → product_below K (length marks) (λ j. factor K (get_or marks j true) (minus K x (element K d (suc i + j)))) ≡ product_below K (length marks) (λ j. factor K (get_or marks j true) (minus K x (element K d (i + suc j))))
       moved i marks x = product_below-same K (length marks) _ _ (λ j l. let e : suc i + j ≡ i + suc j = omega arith in ap (λ t. factor K (get_or marks j true) (minus K x (element K d t))) e)
-  located_from-product d i (false ∷ marks) x =
-      located_from-product d (suc i) marks x
+  locator_from-product d i (false ∷ marks) x =
+      locator_from-product d (suc i) marks x
       ∙ product_below-same K (length marks) _ _ (λ j l. let e : suc i + j ≡ i + suc j = omega arith in ap (λ t. factor K (get_or marks j true) (minus K x (element K d t))) e)
       ∙ sym (N.times_comm K.one _ ∙ N.times_one _)
       ∙ sym (product_below-first K N (length marks) (λ j. factor K (get_or (false ∷ marks) j true) (minus K x (element K d (i + j)))))
 
-  pub located-fours : (d : Domain F) (q : ℕ) (marks : List Bool) (x : F) → length marks ≡ q + (q + (q + q)) → located K (lost K d marks) x ≡ product_below K q (λ j. over_four K d (four marks q j) q j x)
-  located-fours d q marks x len =
-      located_from-product d 0 marks x
+  pub locator_at-fours : (d : Domain F) (q : ℕ) (marks : List Bool) (x : F) → length marks ≡ q + (q + (q + q)) → locator_at K (lost K d marks) x ≡ product_below K q (λ j. over_four K d (four marks q j) q j x)
+  locator_at-fours d q marks x len =
+      locator_from-product d 0 marks x
       ∙ product_below-same K (length marks) _ (λ j. factor K (get_or marks j true) (minus K x (element K d j))) (λ j l. let e : 0 + j ≡ j = omega arith in ap (λ t. factor K (get_or marks j true) (minus K x (element K d t))) e)
       ∙ ap (λ n. product_below K n (λ j. factor K (get_or marks j true) (minus K x (element K d j)))) len
       ∙ product-fours q (λ j. factor K (get_or marks j true) (minus K x (element K d j)))
@@ -164,98 +164,98 @@ module _ {F : Type 0} (K : FieldOn F) (N : IsField K) (w : F) (turn : K.times w 
 
   -- the factors of both products, each of one list
   abbrev of_two : Sorted F → F → F
-  of_two s x = K.times (located K s.two x) (located K s.two (K.negated (K.times w x)))
+  of_two s x = K.times (locator_at K s.two x) (locator_at K s.two (K.negated (K.times w x)))
 
   abbrev of_three : Sorted F → F → F
-  of_three s x = K.times (located K s.three x) (K.times (located K s.three (K.negated (K.times w x))) (located K s.three (K.negated x)))
+  of_three s x = K.times (locator_at K s.three x) (K.times (locator_at K s.three (K.negated (K.times w x))) (locator_at K s.three (K.negated x)))
 
   abbrev rest_one : Sorted F → F → F
-  rest_one s x = K.times (located K s.one (K.negated (K.times w x))) (K.times (located K s.one (K.negated x)) (located K s.one (K.times w x)))
+  rest_one s x = K.times (locator_at K s.one (K.negated (K.times w x))) (K.times (locator_at K s.one (K.negated x)) (locator_at K s.one (K.times w x)))
 
   abbrev rest_two : Sorted F → F → F
-  rest_two s x = K.times (located K s.two (K.negated x)) (located K s.two (K.times w x))
+  rest_two s x = K.times (locator_at K s.two (K.negated x)) (locator_at K s.two (K.times w x))
 
   abbrev fourth : F → F
   fourth x = K.times (K.times x x) (K.times x x)
 
-  pub pushed-erased : (p : ℕ) (r x : F) (s : Sorted F) → over_erased K w (pushed K w p r s) x ≡ K.times (over_erased K w s x) (by_marks (in_row p) r x)
+  pub pushed-erased : (p : ℕ) (r x : F) (s : Sorted F) → over_erased K w (pushed K w p r s) x ≡ K.times (over_erased K w s x) (by_marks (marked_first p) r x)
   pushed-erased zero r x s = by_one _ ∙ ap (K.times (over_erased K w s x)) (ring1 K N (λ u. (unit, unit ⊗ (unit ⊗ (unit ⊗ unit)))) refl r)
   pushed-erased (suc zero) r x s =
-      let rest = K.times (of_two s x) (K.times (of_three s x) (K.times (located K s.opposite (K.times x x)) (located K s.all (fourth x)))) in
-      ap₂ (λ k a. K.times k (K.times a rest)) (by_one s.erased_scale) (located-push K N s.one r x)
-      ∙ in_first s.erased_scale K.one (located K s.one x) (minus K x r) rest
+      let rest = K.times (of_two s x) (K.times (of_three s x) (K.times (locator_at K s.opposite (K.times x x)) (locator_at K s.all (fourth x)))) in
+      ap₂ (λ k a. K.times k (K.times a rest)) (by_one s.erased_scale) (locator_at-push K N s.one r x)
+      ∙ in_first s.erased_scale K.one (locator_at K s.one x) (minus K x r) rest
       ∙ ap (K.times (over_erased K w s x)) (ring1 K N (λ u. (unit ⊗ u, u ⊗ (unit ⊗ (unit ⊗ unit)))) refl (minus K x r))
   pushed-erased (suc (suc zero)) r x s =
       let back = K.negated (K.times w x) in
-      let first = located K s.one x in
-      let rest = K.times (of_three s x) (K.times (located K s.opposite (K.times x x)) (located K s.all (fourth x))) in
-      ap (λ b. K.times (K.times s.erased_scale w) (K.times first (K.times b rest))) (ap₂ K.times (located-push K N s.two r x) (located-push K N s.two r back) ∙ two_pairs (located K s.two x) (minus K x r) (located K s.two back) (minus K back r))
+      let first = locator_at K s.one x in
+      let rest = K.times (of_three s x) (K.times (locator_at K s.opposite (K.times x x)) (locator_at K s.all (fourth x))) in
+      ap (λ b. K.times (K.times s.erased_scale w) (K.times first (K.times b rest))) (ap₂ K.times (locator_at-push K N s.two r x) (locator_at-push K N s.two r back) ∙ two_pairs (locator_at K s.two x) (minus K x r) (locator_at K s.two back) (minus K back r))
       ∙ in_second s.erased_scale w first (of_two s x) (K.times (minus K x r) (minus K back r)) rest
       ∙ ap (K.times (over_erased K w s x)) (row_of_two x r ∙ ring2 K N (λ u v. (u ⊗ v, u ⊗ (v ⊗ (unit ⊗ unit)))) refl (minus K x r) (minus K x (K.times w r)))
   pushed-erased (suc (suc (suc zero))) r x s =
       let back = K.negated (K.times w x) in
       let over = K.negated x in
-      let first = located K s.one x in
-      let rest = K.times (located K s.opposite (K.times x x)) (located K s.all (fourth x)) in
+      let first = locator_at K s.one x in
+      let rest = K.times (locator_at K s.opposite (K.times x x)) (locator_at K s.all (fourth x)) in
       ap₂ (λ k c. K.times k (K.times first (K.times (of_two s x) (K.times c rest)))) (by_back s.erased_scale w)
-      (ap₂ K.times (located-push K N s.three r x) (ap₂ K.times (located-push K N s.three r back) (located-push K N s.three r over))
-      ∙ three_pairs (located K s.three x) (minus K x r) (located K s.three back) (minus K back r) (located K s.three over) (minus K over r))
+      (ap₂ K.times (locator_at-push K N s.three r x) (ap₂ K.times (locator_at-push K N s.three r back) (locator_at-push K N s.three r over))
+      ∙ three_pairs (locator_at K s.three x) (minus K x r) (locator_at K s.three back) (minus K back r) (locator_at K s.three over) (minus K over r))
       ∙ in_third s.erased_scale (K.negated w) first (of_two s x) (of_three s x) (K.times (minus K x r) (K.times (minus K back r) (minus K over r))) rest
       ∙ ap (K.times (over_erased K w s x)) (back_times w (K.times (minus K x r) (K.times (minus K back r) (minus K over r))) ∙ row_of_three x r ∙ ring3 K N (λ u v t. (u ⊗ (v ⊗ t), u ⊗ (v ⊗ (t ⊗ unit)))) refl (minus K x r) (minus K x (K.times w r)) (minus K x (K.negated r)))
   pushed-erased (suc (suc (suc (suc zero)))) r x s =
-      let first = located K s.one x in
-      let square = located K s.opposite (K.times x x) in
-      ap (λ e. K.times s.erased_scale (K.times first (K.times (of_two s x) (K.times (of_three s x) (K.times square e))))) (located-push K N s.all (fourth r) (fourth x))
-      ∙ in_last s.erased_scale first (of_two s x) (of_three s x) square (located K s.all (fourth x)) (minus K (fourth x) (fourth r))
+      let first = locator_at K s.one x in
+      let square = locator_at K s.opposite (K.times x x) in
+      ap (λ e. K.times s.erased_scale (K.times first (K.times (of_two s x) (K.times (of_three s x) (K.times square e))))) (locator_at-push K N s.all (fourth r) (fourth x))
+      ∙ in_last s.erased_scale first (of_two s x) (of_three s x) square (locator_at K s.all (fourth x)) (minus K (fourth x) (fourth r))
       ∙ ap (K.times (over_erased K w s x)) (all_four x r)
   pushed-erased (suc (suc (suc (suc (suc n))))) r x s =
-      let first = located K s.one x in
-      let square = located K s.opposite (K.times x x) in
-      let rest = located K s.all (fourth x) in
+      let first = locator_at K s.one x in
+      let square = locator_at K s.opposite (K.times x x) in
+      let rest = locator_at K s.all (fourth x) in
       let u = minus K (K.times x x) (K.times r r) in
-      ap₂ (λ k d. K.times k (K.times first (K.times (of_two s x) (K.times (of_three s x) (K.times d rest))))) (by_one s.erased_scale) (located-push K N s.opposite (K.times r r) (K.times x x))
+      ap₂ (λ k d. K.times k (K.times first (K.times (of_two s x) (K.times (of_three s x) (K.times d rest))))) (by_one s.erased_scale) (locator_at-push K N s.opposite (K.times r r) (K.times x x))
       ∙ in_fourth s.erased_scale K.one first (of_two s x) (of_three s x) square u rest
       ∙ ap (K.times (over_erased K w s x)) (one_times u ∙ row_of_opposite x r ∙ ring2 K N (λ u v. (u ⊗ v, u ⊗ (unit ⊗ (v ⊗ unit)))) refl (minus K x r) (minus K x (K.negated r)))
 
-  pub pushed-kept : (p : ℕ) (r x : F) (s : Sorted F) → over_kept K w (pushed K w p r s) x ≡ K.times (over_kept K w s x) (by_marks (others (in_row p)) r x)
+  pub pushed-kept : (p : ℕ) (r x : F) (s : Sorted F) → over_kept K w (pushed K w p r s) x ≡ K.times (over_kept K w s x) (by_marks (others (marked_first p)) r x)
   pushed-kept zero r x s =
-      let third = located K s.three (K.times w x) in
-      let square = located K s.opposite (K.negated (K.times x x)) in
-      ap (λ e. K.times s.kept_scale (K.times (rest_one s x) (K.times (rest_two s x) (K.times third (K.times square e))))) (located-push K N s.none (fourth r) (fourth x))
-      ∙ in_last s.kept_scale (rest_one s x) (rest_two s x) third square (located K s.none (fourth x)) (minus K (fourth x) (fourth r))
+      let third = locator_at K s.three (K.times w x) in
+      let square = locator_at K s.opposite (K.negated (K.times x x)) in
+      ap (λ e. K.times s.kept_scale (K.times (rest_one s x) (K.times (rest_two s x) (K.times third (K.times square e))))) (locator_at-push K N s.none (fourth r) (fourth x))
+      ∙ in_last s.kept_scale (rest_one s x) (rest_two s x) third square (locator_at K s.none (fourth x)) (minus K (fourth x) (fourth r))
       ∙ ap (K.times (over_kept K w s x)) (all_four x r)
   pushed-kept (suc zero) r x s =
       let back = K.negated (K.times w x) in
       let over = K.negated x in
       let ahead = K.times w x in
-      let rest = K.times (rest_two s x) (K.times (located K s.three ahead) (K.times (located K s.opposite (K.negated (K.times x x))) (located K s.none (fourth x)))) in
+      let rest = K.times (rest_two s x) (K.times (locator_at K s.three ahead) (K.times (locator_at K s.opposite (K.negated (K.times x x))) (locator_at K s.none (fourth x)))) in
       let u = K.times (minus K back r) (K.times (minus K over r) (minus K ahead r)) in
       ap₂ (λ k a. K.times k (K.times a rest)) (by_minus s.kept_scale)
-      (ap₂ K.times (located-push K N s.one r back) (ap₂ K.times (located-push K N s.one r over) (located-push K N s.one r ahead))
-      ∙ three_pairs (located K s.one back) (minus K back r) (located K s.one over) (minus K over r) (located K s.one ahead) (minus K ahead r))
+      (ap₂ K.times (locator_at-push K N s.one r back) (ap₂ K.times (locator_at-push K N s.one r over) (locator_at-push K N s.one r ahead))
+      ∙ three_pairs (locator_at K s.one back) (minus K back r) (locator_at K s.one over) (minus K over r) (locator_at K s.one ahead) (minus K ahead r))
       ∙ in_first s.kept_scale (K.negated K.one) (rest_one s x) u rest
       ∙ ap (K.times (over_kept K w s x)) (minus_times u ∙ rest_of_one x r ∙ ring3 K N (λ u v t. (u ⊗ (v ⊗ t), unit ⊗ (u ⊗ (v ⊗ t)))) refl (minus K x (K.times w r)) (minus K x (K.negated r)) (minus K x (K.negated (K.times w r))))
   pushed-kept (suc (suc zero)) r x s =
       let over = K.negated x in
       let ahead = K.times w x in
-      let rest = K.times (located K s.three ahead) (K.times (located K s.opposite (K.negated (K.times x x))) (located K s.none (fourth x))) in
-      ap (λ b. K.times (K.times s.kept_scale w) (K.times (rest_one s x) (K.times b rest))) (ap₂ K.times (located-push K N s.two r over) (located-push K N s.two r ahead) ∙ two_pairs (located K s.two over) (minus K over r) (located K s.two ahead) (minus K ahead r))
+      let rest = K.times (locator_at K s.three ahead) (K.times (locator_at K s.opposite (K.negated (K.times x x))) (locator_at K s.none (fourth x))) in
+      ap (λ b. K.times (K.times s.kept_scale w) (K.times (rest_one s x) (K.times b rest))) (ap₂ K.times (locator_at-push K N s.two r over) (locator_at-push K N s.two r ahead) ∙ two_pairs (locator_at K s.two over) (minus K over r) (locator_at K s.two ahead) (minus K ahead r))
       ∙ in_second s.kept_scale w (rest_one s x) (rest_two s x) (K.times (minus K over r) (minus K ahead r)) rest
       ∙ ap (K.times (over_kept K w s x)) (rest_of_two x r ∙ ring2 K N (λ u v. (u ⊗ v, unit ⊗ (unit ⊗ (u ⊗ v)))) refl (minus K x (K.negated r)) (minus K x (K.negated (K.times w r))))
   pushed-kept (suc (suc (suc zero))) r x s =
       let ahead = K.times w x in
-      let rest = K.times (located K s.opposite (K.negated (K.times x x))) (located K s.none (fourth x)) in
-      ap₂ (λ k c. K.times k (K.times (rest_one s x) (K.times (rest_two s x) (K.times c rest)))) (by_back s.kept_scale w) (located-push K N s.three r ahead)
-      ∙ in_third s.kept_scale (K.negated w) (rest_one s x) (rest_two s x) (located K s.three ahead) (minus K ahead r) rest
+      let rest = K.times (locator_at K s.opposite (K.negated (K.times x x))) (locator_at K s.none (fourth x)) in
+      ap₂ (λ k c. K.times k (K.times (rest_one s x) (K.times (rest_two s x) (K.times c rest)))) (by_back s.kept_scale w) (locator_at-push K N s.three r ahead)
+      ∙ in_third s.kept_scale (K.negated w) (rest_one s x) (rest_two s x) (locator_at K s.three ahead) (minus K ahead r) rest
       ∙ ap (K.times (over_kept K w s x)) (back_times w (minus K ahead r) ∙ rest_of_three x r ∙ ring1 K N (λ u. (u, unit ⊗ (unit ⊗ (unit ⊗ u)))) refl (minus K x (K.negated (K.times w r))))
   pushed-kept (suc (suc (suc (suc zero)))) r x s = by_one _ ∙ ap (K.times (over_kept K w s x)) (ring1 K N (λ u. (unit, unit ⊗ (unit ⊗ (unit ⊗ unit)))) refl r)
   pushed-kept (suc (suc (suc (suc (suc n))))) r x s =
-      let third = located K s.three (K.times w x) in
+      let third = locator_at K s.three (K.times w x) in
       let y = K.negated (K.times x x) in
-      let rest = located K s.none (fourth x) in
+      let rest = locator_at K s.none (fourth x) in
       let u = minus K y (K.times r r) in
-      ap₂ (λ k d. K.times k (K.times (rest_one s x) (K.times (rest_two s x) (K.times third (K.times d rest))))) (by_minus s.kept_scale) (located-push K N s.opposite (K.times r r) y)
-      ∙ in_fourth s.kept_scale (K.negated K.one) (rest_one s x) (rest_two s x) third (located K s.opposite y) u rest
+      ap₂ (λ k d. K.times k (K.times (rest_one s x) (K.times (rest_two s x) (K.times third (K.times d rest))))) (by_minus s.kept_scale) (locator_at-push K N s.opposite (K.times r r) y)
+      ∙ in_fourth s.kept_scale (K.negated K.one) (rest_one s x) (rest_two s x) third (locator_at K s.opposite y) u rest
       ∙ ap (K.times (over_kept K w s x)) (minus_times u ∙ rest_of_opposite x r ∙ ring2 K N (λ u v. (u ⊗ v, unit ⊗ (u ⊗ (unit ⊗ v)))) refl (minus K x (K.times w r)) (minus K x (K.negated (K.times w r))))
 
 -- ---- the places of a domain
@@ -314,19 +314,19 @@ module _ {F : Type 0} (K : FieldOn F) (N : IsField K) (d : Domain F) (q : ℕ) (
   turned_others (suc f) m = turned_others f (turned 1 m)
 
   -- one more four
-  pub more-erased : (p f j : ℕ) (m : Four) (s : Sorted F) → turned f m ≡ in_row p → (x : F) →
+  pub more-erased : (p f j : ℕ) (m : Four) (s : Sorted F) → turned f m ≡ marked_first p → (x : F) →
       over_erased K (element K d q) (pushed K (element K d q) p (element K d (j + f * q)) s) x ≡ K.times (over_erased K (element K d q) s x) (over_four K d m q j x)
   more-erased p f j m s e x =
       pushed-erased K N (element K d q) turn-square p (element K d (j + f * q)) x s
       ∙ ap (K.times (over_erased K (element K d q) s x))
-      (sym (over_four-marks (in_row p) (j + f * q) x) ∙ ap (λ t. over_four K d t q (j + f * q) x) (sym e) ∙ turned_more f m j x)
+      (sym (over_four-marks (marked_first p) (j + f * q) x) ∙ ap (λ t. over_four K d t q (j + f * q) x) (sym e) ∙ turned_more f m j x)
 
-  pub more-kept : (p f j : ℕ) (m : Four) (s : Sorted F) → turned f m ≡ in_row p → (x : F) →
+  pub more-kept : (p f j : ℕ) (m : Four) (s : Sorted F) → turned f m ≡ marked_first p → (x : F) →
       over_kept K (element K d q) (pushed K (element K d q) p (element K d (j + f * q)) s) x ≡ K.times (over_kept K (element K d q) s x) (over_four K d (others m) q j x)
   more-kept p f j m s e x =
       pushed-kept K N (element K d q) turn-square p (element K d (j + f * q)) x s
       ∙ ap (K.times (over_kept K (element K d q) s x))
-      (sym (over_four-marks (others (in_row p)) (j + f * q) x) ∙ ap (λ t. over_four K d t q (j + f * q) x) (sym (turned_others f m ∙ ap others e)) ∙ turned_more f (others m) j x)
+      (sym (over_four-marks (others (marked_first p)) (j + f * q) x) ∙ ap (λ t. over_four K d t q (j + f * q) x) (sym (turned_others f m ∙ ap others e)) ∙ turned_more f (others m) j x)
 
   -- ---- the loop
 
@@ -348,7 +348,7 @@ module _ {F : Type 0} (K : FieldOn F) (N : IsField K) (d : Domain F) (q : ℕ) (
   pushed-within w r (suc (suc (suc (suc zero)))) n s l = record { one = omega (arith, l.one); two = omega (arith, l.two); three = omega (arith, l.three); opposite = omega (arith, l.opposite); all = one_longer n s.all _ l.all; none = omega (arith, l.none) }
   pushed-within w r (suc (suc (suc (suc (suc m))))) n s l = record { one = omega (arith, l.one); two = omega (arith, l.two); three = omega (arith, l.three); opposite = one_longer n s.opposite _ l.opposite; all = omega (arith, l.all); none = omega (arith, l.none) }
 
-  pub sorted-more : (marks : List Bool) (j p f : ℕ) (s : Sorted F) → AreSortedBelow K d q marks j s → turned f (four marks q j) ≡ in_row p →
+  pub sorted-more : (marks : List Bool) (j p f : ℕ) (s : Sorted F) → AreSortedBelow K d q marks j s → turned f (four marks q j) ≡ marked_first p →
       AreSortedBelow K d q marks (suc j) (pushed K (element K d q) p (element K d (j + f * q)) s)
   sorted-more marks j p f s so e = record {
     within = pushed-within (element K d q) (element K d (j + f * q)) p j s so.within;
@@ -368,9 +368,9 @@ module _ {F : Type 0} (K : FieldOn F) (N : IsField K) (d : Domain F) (q : ℕ) (
   pub sorted-all : (marks : List Bool) (s : Sorted F) → length marks ≡ d.size → AreSortedBelow K d q marks q s → AreSorted K d q marks s
   sorted-all marks s len so = record {
     within = so.within;
-    erased = λ x. so.erased x ∙ sym (located-fours K N d q marks x (omega (arith, len, size)));
+    erased = λ x. so.erased x ∙ sym (locator_at-fours K N d q marks x (omega (arith, len, size)));
     kept = λ x.
         so.kept x
         ∙ product_below-same K q _ _ (λ i l. ap (λ m. over_four K d m q i x) (sym (four-others marks i len l)))
-        ∙ sym (located-fours K N d q (map not marks) x (omega (arith, length-map marks not, len, size)));
+        ∙ sym (locator_at-fours K N d q (map not marks) x (omega (arith, length-map marks not, len, size)));
   }

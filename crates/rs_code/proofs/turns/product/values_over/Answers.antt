@@ -4,9 +4,9 @@ use Rattle.ark_math.specs.Nodes.{nodes}
 use Rattle.ark_math.specs.Univariate.{IsValue, of_list}
 use Rattle.ark_math.proofs.Outcomes.Results.{IfOk_more}
 use Rattle.ark_math.proofs.Polynomials.UnivariateValues.{one_value}
-use Rattle.rs_code.specs.Locator.{located}
+use Rattle.rs_code.specs.Locator.{locator_at}
 use Rattle.rs_code.proofs.Factors.{nodes-value}
-use Rattle.rs_code.proofs.product.values_over.Goals as goal
+use Rattle.rs_code.proofs.turns.product.values_over.Goals as goal
 
 pub returns-clause-len : goal.returns-clause-len
 returns-clause-len g c = IfOk_more c.product_values.result (λ v V. V.len) c.product_values.ensures.values
@@ -20,7 +20,7 @@ returns-clause-values g c =
     IfOk_more c.product_values.result
     (λ v V i l.
     let place : 0 + i ≡ i = omega arith in
-    one_value K N (nodes K rs) (x i) (of_list K v.items i) (located K rs (x i))
+    one_value K N (nodes K rs) (x i) (of_list K v.items i) (locator_at K rs (x i))
     (subst (λ j. IsValue K (nodes K rs) (x j) (of_list K v.items i)) place (V.values i l))
     (nodes-value K N rs (x i)))
     c.product_values.ensures.values

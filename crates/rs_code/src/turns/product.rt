@@ -3,7 +3,7 @@
 ghost use Rattle.std.specs.Prelude.{◌≡◌, ℕ, ◌<◌, ◌≤◌, length, IfOk};
 ghost use Rattle.ark_blocks.specs.Blocks.{IsPowerOfTwo, element_of, size_of};
 ghost use Rattle.ark_math.specs.Univariate.{of_list};
-ghost use Rattle.rs_code.specs.Locator.{located};
+ghost use Rattle.rs_code.specs.Locator.{locator_at};
 
 use ark_base::FftField;
 use ark_blocks::BlockRoots;
@@ -23,7 +23,7 @@ pub fn values_over<F: FftField>(
     requires many { 64 ≤ count }
     ensures len { IfOk result (λ v. length v.items ≡ count) }
     ensures values { IfOk result (λ v. (i : ℕ) → i < count → of_list F.field v.items i
-        ≡ located F.field roots.now (element_of F.field table.now i)) }
+        ≡ locator_at F.field roots.now (element_of F.field table.now i)) }
 {
     product_values(alloc, table, roots, count)
 }
