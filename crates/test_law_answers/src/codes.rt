@@ -22,6 +22,9 @@ pub fn answer<F: Numbered>(alloc: Global, words: &[String]) -> Answer {
         "new" => Ok(format!(in alloc; "{},{}", code.k(), code.n())?),
         "encode" => encoded(alloc, &code, arguments),
         "restore" => restored(alloc, &code, arguments),
+        "encode_systematic" | "extend" | "systematic_decoder" => {
+            systematic(alloc, operation.as_str(), &code, arguments)
+        }
         "encode_pairs" => encoded_pairs(alloc, &code, arguments),
         "restore_pairs" => restored_pairs(alloc, &code, arguments),
         "drawn" => answer_of_drawn(alloc, &code, arguments),
@@ -36,6 +39,37 @@ fn encoded<F: Numbered>(alloc: Global, code: &Code<F>, arguments: &[String]) -> 
     };
     let message = elements::<F>(alloc, message)?;
     text_of_result(alloc, code.encode(alloc, &message))
+}
+
+// The codeword that begins with a message, by the code and by a decoder; or its values behind the message.
+fn systematic<F: Numbered>(
+    alloc: Global,
+    operation: &str,
+    code: &Code<F>,
+    arguments: &[String],
+) -> Answer {
+    let [message] = arguments else {
+        return no_case(alloc);
+    };
+    let message = elements::<F>(alloc, message)?;
+    text_of_result(
+        alloc,
+        match operation {
+            "encode_systematic" => code.encode_systematic(alloc, &message),
+            "extend" => code.extend(alloc, &message),
+            _ => extended_by_decoder(alloc, code, message),
+        },
+    )
+}
+
+fn extended_by_decoder<F: FftField>(
+    alloc: Global,
+    code: &Code<F>,
+    message: Vec<F>,
+) -> Result<Vec<F>, RsError> {
+    let mut word = message;
+    word.resize(code.n(), F::zero())?;
+    code.systematic_decoder(alloc)?.restore(alloc, &word)
 }
 
 // The codeword that a word comes from, by the code and by a decoder.

@@ -50,6 +50,8 @@ impl<F: Numbered> Call for OfCode<F> {
     fn call(&mut self, alloc: Global, name: &str) -> Result<Answered<F>, PolyError> {
         match name {
             "encode" => outcome_of(self.code.encode(alloc, &self.message)),
+            "encode_systematic" => outcome_of(self.code.encode_systematic(alloc, &self.message)),
+            "extend" => outcome_of(self.code.extend(alloc, &self.message)),
             "restore" => outcome_of(self.code.restore(alloc, &self.word)),
             "restore_counted" => {
                 outcome_of(
@@ -57,10 +59,8 @@ impl<F: Numbered> Call for OfCode<F> {
                         .restore_counted(alloc, &self.word, &mut Work::new()),
                 )
             }
-            "decoder" => match self.code.decoder(alloc, &self.erased) {
-                Ok(decoder) => Ok(Answered::Decoder(decoder)),
-                Err(error) => refused(error),
-            },
+            "decoder" => decoder_of(self.code.decoder(alloc, &self.erased)),
+            "systematic_decoder" => decoder_of(self.code.systematic_decoder(alloc)),
             _ => Ok(Answered::NoCall),
         }
     }
@@ -150,6 +150,13 @@ fn erased_places<F: FftField>(alloc: Global, word: &[Option<F>]) -> Result<Vec<b
 fn outcome_of<F: FftField>(outcome: Result<Vec<F>, RsError>) -> Result<Answered<F>, PolyError> {
     match outcome {
         Ok(values) => Ok(Answered::Values(values)),
+        Err(error) => refused(error),
+    }
+}
+
+fn decoder_of<F: FftField>(outcome: Result<Decoder<F>, RsError>) -> Result<Answered<F>, PolyError> {
+    match outcome {
+        Ok(decoder) => Ok(Answered::Decoder(decoder)),
         Err(error) => refused(error),
     }
 }

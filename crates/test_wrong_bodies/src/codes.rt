@@ -1,6 +1,6 @@
 //! Calls of erasure codes.
 
-ghost use Rattle.std.specs.Prelude.{◌≡◌, map, IfOk, IfSome};
+ghost use Rattle.std.specs.Prelude.{◌≡◌, map, take, IfOk, IfSome};
 ghost use Rattle.rs_code.specs.Codeword.{AgreesWith};
 
 use ark_base::{DomainCoeff, FftField, Work};
@@ -16,6 +16,17 @@ pub fn code_for<F: FftField, D: EvaluationDomain<F>>(
     ensures items { IfSome result (λ c. c.k ≡ k) }
 {
     DomainCode::new(k, n_at_least)
+}
+
+/// The codeword that begins with a message.
+pub fn systematic<F: FftField, D: EvaluationDomain<F>, T: DomainCoeff<F>>(
+    alloc: Global,
+    code: &DomainCode<F, D>,
+    message: &[T],
+) -> Result<Vec<T>, RsError>
+    ensures { IfOk result (λ c. take code.now.k (map T.meaning c.items) ≡ map T.meaning message.now) }
+{
+    code.encode_systematic(alloc, message)
 }
 
 /// The codeword that has the word's values at the places that aren't erased.

@@ -10,7 +10,7 @@
 //! transforms in place of 13. Who wants the plain way alone deletes it, with `proofs/turns` and `specs/Turns`,
 //! and lets `factors` of `locator.rt` call `factors_by_derivative` always: the rest stays proved.
 
-mod product;
+mod products;
 mod sorted;
 
 ghost use Rattle.std.specs.Prelude.{◌≡◌, ℕ, ◌+◌, ◌*◌, ◌^◌, ◌<◌, ◌≤◌, true, false, length, get_or, IfOk};
@@ -21,7 +21,7 @@ ghost use Rattle.rs_code.specs.Locator.{AreFactors, locator_at};
 ghost use Rattle.rs_code.specs.Turns.{AreAtTurns, AreForFours, ArePlaceValues, AreWithin, HoldValues, IsFactorFrom, IsMadeOf};
 ghost use Rattle.rs_code.specs.Turns.{IsPlaceAhead, IsTableOf, product_of_eight};
 
-use crate::turns::product::values_over;
+use crate::turns::products::values_over;
 use crate::turns::sorted::{Sorted, sorted_by_turns};
 use ark_base::{FftField, Field};
 use ark_blocks::BlockRoots;

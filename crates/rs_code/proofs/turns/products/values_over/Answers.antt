@@ -6,7 +6,7 @@ use Rattle.ark_math.proofs.Outcomes.Results.{IfOk_more}
 use Rattle.ark_math.proofs.Polynomials.UnivariateValues.{one_value}
 use Rattle.rs_code.specs.Locator.{locator_at}
 use Rattle.rs_code.proofs.Factors.{nodes-value}
-use Rattle.rs_code.proofs.turns.product.values_over.Goals as goal
+use Rattle.rs_code.proofs.turns.products.values_over.Goals as goal
 
 pub returns-clause-len : goal.returns-clause-len
 returns-clause-len g c = IfOk_more c.product_values.result (λ v V. V.len) c.product_values.ensures.values
