@@ -1,7 +1,7 @@
 //! Shares of a secret.
 
 ghost use Rattle.std.specs.Prelude.{◌≡◌, ◌↔◌, ◌⊎◌, ℕ, ◌+◌, ◌^◌, ◌<◌, ◌≤◌, List, ◌∷◌, length, map};
-ghost use Rattle.std.specs.Prelude.{Err, IfErr, IfOk, OnOk, IsTrue, IsOkUnless};
+ghost use Rattle.std.specs.Prelude.{Err, IfErr, IfOk, OnOk, IsOkUnless};
 ghost use Rattle.ark_math.specs.Outcome.{IsOkUnlessEither};
 ghost use Rattle.ark_math.specs.Univariate.{of_list};
 ghost use Rattle.ark_math.specs.AtPoints.{AreDifferent, HasRepeated};
@@ -10,6 +10,7 @@ ghost use Rattle.ark_sharing.specs.Sharing.{AreNotZero, AreShares, HasZero, IsSh
 
 use crate::error::SharingError;
 use ark_base::Field;
+use ark_blocks::items::has_zero;
 use ark_points::{has_repeated, naive_evaluate_at, paired};
 use ark_poly::DenseUVPolynomial;
 use ark_poly::univariate::DensePolynomial;
@@ -157,16 +158,4 @@ fn values_of_sharing<F: Field>(
     let polynomial = DensePolynomial::from_coefficients_vec(all);
     let values = naive_evaluate_at(alloc, &polynomial, points)?;
     Ok(paired(alloc, points, &values)?)
-}
-
-// Whether one of the points is zero.
-fn has_zero<F: Field>(points: &[F]) -> bool
-    ensures { IsTrue result ↔ HasZero F.field (length points.now) (of_list F.field points.now) }
-{
-    for i in 0..points.len() {
-        if points[i].is_zero() {
-            return true;
-        }
-    }
-    false
 }
