@@ -235,12 +235,13 @@ struct Restorer<'a, F: NumberField, const N: usize> {
     given: &'a PlacedNumbers<'a>,
     decoder: DomainDecoder<F, Radix2EvaluationDomain<F>>,
     weights: Vec<Row<F, N>>,
-    ghost way: { Restores F.field F.root code.now.code code.now.n decoder given.now.places.now weights.items },
 }
 
 impl<'a, F: NumberField, const N: usize> Restorer<'a, F, N> {
     // The items of all stripes, a group at a time.
     fn restore_groups(&self, alloc: Global, items: &mut [u16]) -> Result<(), AllocError>
+        requires way { Restores F.field F.root self.now.code.now.code self.now.code.now.n self.now.decoder
+            self.now.given.now.places.now self.now.weights.items }
         requires items { length items.old ≡ self.now.given.now.stripes * self.now.code.now.code.k }
         ensures { OnOk result ((s : ℕ) (stripe : ℕ → ℕ) → s < self.now.given.now.stripes
             → ((j : ℕ) → j < self.now.code.now.code.k → stripe j < 2 ^ 16)
@@ -270,6 +271,8 @@ impl<'a, F: NumberField, const N: usize> Restorer<'a, F, N> {
         group: StripeGroup,
         items: &mut [u16],
     ) -> Result<(), AllocError>
+        requires way { Restores F.field F.root self.now.code.now.code self.now.code.now.n self.now.decoder
+            self.now.given.now.places.now self.now.weights.items }
         requires count { group.count ≤ N }
         requires stripes { group.all ≡ self.now.given.now.stripes }
         requires items { length items.old ≡ group.all * self.now.code.now.code.k }
@@ -294,6 +297,8 @@ impl<'a, F: NumberField, const N: usize> Restorer<'a, F, N> {
 
     // The messages of which words have the values at the given places.
     fn messages(&self, alloc: Global, word: &[Row<F, N>]) -> Result<Vec<Row<F, N>>, AllocError>
+        requires way { Restores F.field F.root self.now.code.now.code self.now.code.now.n self.now.decoder
+            self.now.given.now.places.now self.now.weights.items }
         requires len { length word.now ≡ self.now.code.now.code.domain.size }
         ensures len { IfOk result (λ m. length m.items ≡ self.now.code.now.code.k) }
         ensures only { IfOk result (λ m. (t : ℕ) (items : ℕ → F) → t < N

@@ -12,13 +12,13 @@ message-requires g c = (
   (
     search (rules, last_part),
     (
-      c.args.self.now.way.code_is,
+      c.requires.way.code_is,
       (
         (
           c.args.self.now.given.now.places.now,
-          c.args.self.now.way.kept,
-          c.args.self.now.way.as_many,
-          (λ a l. let below = c.args.self.now.way.below a l in let room = c.args.self.now.code.now.room in omega (arith, below, room)),
+          c.requires.way.kept,
+          c.requires.way.as_many,
+          (λ a l. let below = c.requires.way.below a l in let room = c.args.self.now.code.now.room in omega (arith, below, room)),
         ),
         c.requires.len,
       ),
@@ -35,27 +35,27 @@ returns-then-is_empty-clause-only g c =
     let word = c.args.word.now in
     IfOk_more c.message.result
     (λ m only t items l values. only t items
-    (λ i e. let h = c.args.self.now.way.kept.kept i e in
-    subst (λ i. entry K word i t ≡ value_at_place K root k n items i) h.2 (values h.0 (subst (λ x. h.0 < x) c.args.self.now.way.as_many h.1))))
+    (λ i e. let h = c.requires.way.kept.kept i e in
+    subst (λ i. entry K word i t ≡ value_at_place K root k n items i) h.2 (values h.0 (subst (λ x. h.0 < x) c.requires.way.as_many h.1))))
     c.message.ensures.only
 
 pub combined-requires : goal.combined-requires
 combined-requires g c =
     let some = some_rows (length c.args.self.now.weights.items) (sym c.is_empty.ensures ∙ c.if-is_empty.false) in
-    let weights = c.args.self.now.way.weights some in
+    let weights = c.requires.way.weights some in
     let fits = weights.fits in
-    let many = c.args.self.now.way.as_many in (
+    let many = c.requires.way.as_many in (
       search (rules, last_part),
       (
         omega (arith, fits, many),
-        (λ a l. let below = c.args.self.now.way.below a l in let room = c.args.self.now.code.now.room in let len = c.requires.len in omega (arith, below, room, len)),
+        (λ a l. let below = c.requires.way.below a l in let room = c.args.self.now.code.now.room in let len = c.requires.len in omega (arith, below, room, len)),
       ),
     )
 
 pub returns-clause-len : goal.returns-clause-len
 returns-clause-len g c =
     let some = some_rows (length c.args.self.now.weights.items) (sym c.is_empty.ensures ∙ c.if-is_empty.false) in
-    let weights = c.args.self.now.way.weights some in
+    let weights = c.requires.way.weights some in
     IfOk_more c.combined.result (λ m len. len ∙ weights.len) c.combined.ensures.len
 
 pub returns-clause-only : goal.returns-clause-only
@@ -67,5 +67,5 @@ returns-clause-only g c =
     let places = c.args.self.now.given.now.places.now in
     let some = some_rows (length c.args.self.now.weights.items) (sym c.is_empty.ensures ∙ c.if-is_empty.false) in
     IfOk_more c.combined.result
-    (λ m sums. by_weights K root k n places c.args.self.now.way.as_many c.args.self.now.weights.items c.args.word.now m.items (c.args.self.now.way.weights some) sums)
+    (λ m sums. by_weights K root k n places c.requires.way.as_many c.args.self.now.weights.items c.args.word.now m.items (c.requires.way.weights some) sums)
     c.combined.ensures.sums

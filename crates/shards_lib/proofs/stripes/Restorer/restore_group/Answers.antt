@@ -14,7 +14,7 @@ word_rows-requires g c = (
     (
       c.requires.stripes,
       λ a l. subst (λ m. get_or c.args.self.now.given.now.places.now a 0 < m) (sym c.n-size.ensures)
-          (let below = c.args.self.now.way.below a l in let room = c.args.self.now.code.now.room in omega (arith, below, room)),
+          (let below = c.requires.way.below a l in let room = c.args.self.now.code.now.room in omega (arith, below, room)),
     ),
   ),
 )
@@ -24,7 +24,10 @@ messages-requires g c = (
   search rules,
   (
     search (rules, last_part),
-    ap length c.deref.ensures.value ∙ c.in_ok-word.ensures.len ∙ c.n-size.ensures,
+    (
+      c.requires.way,
+      ap length c.deref.ensures.value ∙ c.in_ok-word.ensures.len ∙ c.n-size.ensures,
+    ),
   ),
 )
 
@@ -61,7 +64,7 @@ returns-clause-written g c = λ t stripe b small numbered j l.
     let count = c.requires.count in
     let given : (a : ℕ) → a < k → entry K c.deref.result.now (get_or places a 0) t ≡ value_at_place K root k n (λ j. natural K (stripe j)) (get_or places a 0) = λ a less.
     ap (λ xs. entry K xs (get_or places a 0) t) c.deref.ensures.value
-    ∙ c.in_ok-word.ensures.entries a t (subst (λ x. a < x) (sym self.way.as_many) less) b
+    ∙ c.in_ok-word.ensures.entries a t (subst (λ x. a < x) (sym c.requires.way.as_many) less) b
     ∙ ap (natural K) (numbered a less) ∙ g.met.F.NumberField.natural_number _ in
     let item_is : entry K rows j t ≡ natural K (stripe j) =
     ap (λ xs. entry K xs j t) c.deref-2.ensures.value ∙ c.in_ok-message.ensures.only t (λ j. natural K (stripe j)) (omega (arith, b, count)) given j l in

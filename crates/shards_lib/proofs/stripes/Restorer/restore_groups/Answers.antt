@@ -19,10 +19,10 @@ loop-index-preserved g c = λ s stripe l h small.
           let p = row_place s j (group * g.row.N) k before m in
           c.in_ok-restore_group.ensures.kept (s * k + j) p ∙ c.loop-index.invariant s stripe before h small numbered j m
       | inr here ↦
-          let width = c.min-count.ensures in
+          let width = c.min.ensures in
           let within = here.1 in
           let is = here.2 in
-          let less : here.0 < c.min-count.result = omega (arith, width, within, is, h) in
+          let less : here.0 < c.min.result = omega (arith, width, within, is, h) in
           subst (λ s. ((a : ℕ) → a < k → get_or numbers (a * stripes + s) 0 ≡ number (get_or places a 0)) → (j : ℕ) → j < k
           → get_or c.restore_group.new.items (s * k + j) 0 ≡ stripe j) (sym is)
           (c.in_ok-restore_group.ensures.written here.0 stripe less small)
@@ -40,10 +40,13 @@ restore_group-requires g c = (
   (
     search (rules, last_part),
     (
-      search rules,
+      c.requires.way,
       (
-        refl,
-        c.loop-index.auto.items ∙ c.requires.items,
+        search rules,
+        (
+          refl,
+          c.loop-index.auto.items ∙ c.requires.items,
+        ),
       ),
     ),
   ),

@@ -14,10 +14,10 @@ loop-index-preserved g c = λ i s b l h.
     elim (in_group group g.row.N s l) [
       | inl before ↦ c.in_ok-encode_group.ensures.kept i s b before ∙ c.loop-index.invariant i s b before h
       | inr here ↦
-          let width = c.min-count.ensures in
+          let width = c.min.ensures in
           let within = here.1 in
           let is = here.2 in
-          let less : here.0 < c.min-count.result = omega (arith, width, within, is, h) in
+          let less : here.0 < c.min.result = omega (arith, width, within, is, h) in
           subst (λ s. get_or c.encode_group.new.numbers (i * stripes + s) 0 ≡ number (λ j. get_or items (s * k + j) 0) i) (sym is)
           (c.in_ok-encode_group.ensures.written i here.0 b less)
     ]
