@@ -63,6 +63,14 @@ impl<F: FftField> SubproductTree<F> {
         ensures monic { (points : List F) → IsTreeOver F.field points self.now
             → IsMonic F.field (length points) (of_list F.field result.now) }
     {
+        self.whole()
+    }
+
+    // What the tree keeps for all points.
+    fn whole(&self) -> &DensePolynomial<F>
+        ensures { (points : List F) → IsTreeOver F.field points self.now
+            → of_list F.field result.now ≡ nodes F.field points }
+    {
         match self {
             Tree::Few(Leaf::Plain(product)) => product,
             Tree::Few(Leaf::Blocks(_, tree)) => tree.product(),

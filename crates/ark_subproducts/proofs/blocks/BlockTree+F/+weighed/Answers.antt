@@ -25,7 +25,7 @@ weighed-requires g t c κs within =
           low.ensures.part,
           (
             tree_of_half g.F.Field.field part low.result (take half points) c.in-Halves.low.value _ low.ensures.half c.deref.ensures tree.2,
-            c.split_at-low_weights.ensures.front_len ∙ sym front,
+            c.split_at.ensures.front_len ∙ sym front,
           ),
         ),
       ),
@@ -46,7 +46,7 @@ weighed-requires-in-Halves g t c κs within =
           high.ensures.part,
           (
             tree_of_half g.F.Field.field part high.result (drop half points) c.in-Halves.high.value _ high.ensures.half c.deref-in-Halves-2.ensures tree.3,
-            omega (arith, c.split_at-low_weights.ensures.back_len, back, c.requires.weights),
+            omega (arith, c.split_at.ensures.back_len, back, c.requires.weights),
           ),
         ),
       ),
@@ -97,7 +97,7 @@ returns-in_ok-second-in-Halves g t c =
     let high = c.high-high_part.result in
     let first_half = c.low-low_part.ensures.half in
     let second_half = c.high-high_part.ensures.half in
-    let cut = c.split_at-low_weights in
+    let cut = c.split_at in
     let us = cut.result.0.now in
     let vs = cut.result.1.now in
     let values = (rw c.in-Halves.is at c.requires.tree).1 in
