@@ -105,7 +105,8 @@ fn values_in<F: FftField, D: EvaluationDomain<F>>(
     }
     let at_zero = polynomial.evaluate(alloc, &F::zero())?;
     let all = polynomial.evaluate_over_domain_by_ref(alloc, domain)?;
-    looked_up(alloc, points, &rests, &places, &all, at_zero)
+    let known = SubgroupValues { at_zero, all };
+    looked_up(alloc, points, &rests, &places, &known)
 }
 
 // Whether each of the points is zero or has one as its rest.
@@ -129,6 +130,13 @@ fn is_found<F: Field>(point: F, rest: F) -> bool
     rest.is_one() || point.is_zero()
 }
 
+// The values of a polynomial at zero and over a subgroup.
+#[derive(Drop)]
+struct SubgroupValues<F: FftField, D: EvaluationDomain<F>> {
+    at_zero: F,
+    all: Evaluations<F, D>,
+}
+
 // The values at points from those over a subgroup and at zero, where each of the points is a root's power at
 // a place times a rest.
 fn looked_up<F: FftField, D: EvaluationDomain<F>>(
@@ -136,25 +144,25 @@ fn looked_up<F: FftField, D: EvaluationDomain<F>>(
     points: &[F],
     rests: &[F],
     places: &[usize],
-    all: &Evaluations<F, D>,
-    at_zero: F,
+    known: &SubgroupValues<F, D>,
 ) -> Result<Option<Vec<F>>, PolyError>
     requires rests { length rests.now ≡ length points.now }
     requires places { length places.now ≡ length points.now }
-    requires subgroup { (D.domain all.now.domain).offset ≡ F.field.one }
+    requires subgroup { (D.domain known.now.all.domain).offset ≡ F.field.one }
     requires below { (i : ℕ) → i < length points.now
-        → get_or places.now i 0 < (D.domain all.now.domain).size }
+        → get_or places.now i 0 < (D.domain known.now.all.domain).size }
     requires products { (i : ℕ) → i < length points.now → of_list F.field points.now i
         ≡ F.field.times (of_list F.field rests.now i)
-        (power F.field (D.domain all.now.domain).root (get_or places.now i 0)) }
+        (power F.field (D.domain known.now.all.domain).root (get_or places.now i 0)) }
     ensures values { IfOk result (λ found. IfSome found (λ v. (p : ℕ → F)
-        → AreValues F.field (D.domain all.now.domain) p all.now.evals → IsValue F.field p F.field.zero at_zero
+        → AreValues F.field (D.domain known.now.all.domain) p known.now.all.evals
+        → IsValue F.field p F.field.zero known.now.at_zero
         → AreValuesAt F.field points.now v.items p)) }
     ensures memory { IsOkUnless result PolyError.Memory }
 {
     let mut values = Vec::with_capacity(alloc, points.len())?;
     for i in 0..points.len() {
-        let Some(value) = value_at_place(points[i], rests[i], places[i], all, at_zero) else {
+        let Some(value) = value_at_place(points[i], rests[i], places[i], known) else {
             return Ok(None);
         };
         values.push(value)?;
@@ -167,20 +175,20 @@ fn value_at_place<F: FftField, D: EvaluationDomain<F>>(
     point: F,
     rest: F,
     place: usize,
-    all: &Evaluations<F, D>,
-    at_zero: F,
+    known: &SubgroupValues<F, D>,
 ) -> Option<F>
-    requires subgroup { (D.domain all.now.domain).offset ≡ F.field.one }
-    requires below { place < (D.domain all.now.domain).size }
-    requires product { point ≡ F.field.times rest (power F.field (D.domain all.now.domain).root place) }
+    requires subgroup { (D.domain known.now.all.domain).offset ≡ F.field.one }
+    requires below { place < (D.domain known.now.all.domain).size }
+    requires product { point ≡ F.field.times rest (power F.field (D.domain known.now.all.domain).root place) }
     ensures { IfSome result (λ y. (p : ℕ → F)
-        → AreValues F.field (D.domain all.now.domain) p all.now.evals → IsValue F.field p F.field.zero at_zero
+        → AreValues F.field (D.domain known.now.all.domain) p known.now.all.evals
+        → IsValue F.field p F.field.zero known.now.at_zero
         → IsValue F.field p point y) }
 {
     if rest.is_one() {
-        Some(all[place])
+        Some(known.all[place])
     } else if point.is_zero() {
-        Some(at_zero)
+        Some(known.at_zero)
     } else {
         None
     }

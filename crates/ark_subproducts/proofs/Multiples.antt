@@ -12,7 +12,6 @@ use Rattle.ark_math.proofs.Algebra.Solve.{◌⊗◌, ◌⊕◌, unit}
 use Rattle.ark_math.proofs.Algebra.Sums.{sum_below-same, sum_below-scale}
 use Rattle.ark_math.proofs.Polynomials.UnivariateLists.{of_list-past}
 use Rattle.ark_math.proofs.Polynomials.UnivariateLoops.{cut, cut-inside, cut-outside}
-use Rattle.ark_subproducts.specs.Tree.{IsScaledRemainderBefore}
 
 module _ {F : Type 0} (K : FieldOn F) (N : IsField K) where
   pub product-scaled : (c a : ℕ → F) (s : F) (j : ℕ) → product K c (scaled K s a) j ≡ K.times s (product K c a j)
@@ -23,10 +22,6 @@ module _ {F : Type 0} (K : FieldOn F) (N : IsField K) where
 
   pub scaled-one : (a : ℕ → F) → scaled K K.one a ≡ a
   scaled-one a = fun_ext (λ i. one_times K N (a i))
-
-  -- what stands for a polynomial does so by one as a factor
-  pub remainder_by_one : (end n : ℕ) (m p s : ℕ → F) (one : F) → one ≡ K.one → IsScaledRemainderBefore K end n m p s → IsScaledRemainderBefore K end n m p (scaled K one s)
-  remainder_by_one end n m p s one is = subst (IsScaledRemainderBefore K end n m p) (sym (ap (λ f. scaled K f s) is ∙ scaled-one s))
 
   -- by a factor, and by half of it twice as much
   pub scaled_by_half : (s half : F) (a : ℕ → F) → K.times (K.plus K.one K.one) half ≡ K.one → scaled K (K.times s half) (added K a a) ≡ scaled K s a

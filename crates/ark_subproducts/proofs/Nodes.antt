@@ -16,13 +16,11 @@ use Rattle.ark_math.proofs.Polynomials.UnivariateValues.{has_value}
 use Rattle.ark_math.proofs.Callers.Remainders.{linear_root, divided_root}
 use Rattle.ark_math.proofs.Polynomials.LinearFactors.{before, linear-product, nodes-joined}
 use Rattle.ark_math.specs.Nodes.{nodes}
-use Rattle.ark_subproducts.specs.Tree.{HasRoom, IsBlockTreeOver, IsEnd, Represents, IsHalved, IsMonic, IsTreeOver, whole, whole_of_blocks}
+use Rattle.ark_subproducts.specs.Tree.{HasRoom, IsEnd, Represents, IsHalved, IsMonic}
 use Rattle.ark_subproducts.specs.declared.few.FewProducts.{FewProducts}
-use Rattle.ark_subproducts.specs.declared.tree.Leaf.{Leaf}
-use Rattle.ark_subproducts.specs.declared.tree.Leaf.TheVariants.{Plain, Blocks}
 use Rattle.ark_subproducts.specs.declared.tree.Tree.{Tree}
 use Rattle.ark_subproducts.specs.declared.tree.Tree.TheVariants.{Few, Halves'}
-use Rattle.ark_blocks.specs.Blocks.{AreFirstValues, size_of}
+use Rattle.ark_blocks.specs.Blocks.{AreFirstValues}
 
 module _ {F : Type 0} (K : FieldOn F) (N : IsField K) where
   pub nodes-below : (zs : List F) → IsBelow K (length zs + 1) (nodes K zs)
@@ -102,21 +100,6 @@ module _ {F : Type 0} (K : FieldOn F) (N : IsField K) where
   -- the second half as slices spell it
   pub nodes-parts : (zs : List F) (h : ℕ) → product K (nodes K (take h zs)) (nodes K (take (length zs - h) (drop h zs))) ≡ nodes K zs
   nodes-parts zs h = ap (λ t. product K (nodes K (take h zs)) (nodes K t)) (tail zs h) ∙ nodes-halves zs h
-
-  -- what a tree by a table has for all of its points
-  pub blocks-whole : (roots : List F) (count : ℕ) (points : List F) (t : Tree (FewProducts F) (List F) (Vec F Global)) → IsBlockTreeOver K roots count points t → of_list K (whole_of_blocks t) ≡ nodes K points
-  blocks-whole roots count points (Few p) h = h.whole
-  blocks-whole roots count points (Halves' p a low v b high w) h = h.0
-
-  -- as its list of coefficients shows it
-  pub blocks-listed : (roots : List F) (count : ℕ) (points : List F) (t u : Tree (FewProducts F) (List F) (Vec F Global)) (coeffs : List F) → IsBlockTreeOver K roots count points t → u ≡ t → coeffs ≡ whole_of_blocks u → of_list K coeffs ≡ nodes K points
-  blocks-listed roots count points t u coeffs h same is = ap (of_list K) is ∙ blocks-whole roots count points u (subst (IsBlockTreeOver K roots count points) (sym same) h)
-
-  -- and products for any number of points
-  pub tree-whole : (points : List F) (t : Tree (Leaf F) (List F) Unit) → IsTreeOver K points t → of_list K (whole t) ≡ nodes K points
-  tree-whole points (Few (Plain p)) h = h
-  tree-whole points (Few (Blocks roots tree)) h = blocks-whole roots (size_of roots) points tree.value h.1
-  tree-whole points (Halves' p a low v b high w) h = h.1
 
 -- what is below the points' number may end there
 pub own_end : {F : Type 0} (t : Tree (FewProducts F) (List F) (Vec F Global)) (n count end : ℕ) → end ≡ n → n ≤ count → IsEnd t n count end

@@ -46,10 +46,9 @@ begun_by K table coeffs values count n power within few V =
     subst (λ m. IsPowerOfTwo m × (m ≤ n) × (length coeffs ≤ m + m) × AreFirstValues K table m (of_list K coeffs) values) (sym V.len) (power, within, few, V)
 
 -- and so do values at half of n elements of a polynomial with no more than one coefficient more than these, where they are known
-pub begun_from_half : {F : Type 0} (K : FieldOn F) (table coeffs : List F) (known : Option (Vec F Global)) (n : ℕ) (a : ℕ → F) → 1 < n → IsPowerOfTwo n → length coeffs ≤ n / 2 + 1 → of_list K coeffs ≡ a → IfSome known (λ v. AreFirstValues K table (n / 2) a v.items) → IsBegun K table n coeffs known
-begun_from_half K table coeffs None n a many power few is h = omega (arith, many, few)
-begun_from_half K table coeffs (Some v) n a many power few is h =
-    begun_by K table coeffs v.items (n / 2) n (half_is_power n many power) (omega arith) (omega (arith, many, few)) (subst (λ t. AreFirstValues K table (n / 2) t v.items) (sym is) h)
+pub begun_from_half : {F : Type 0} (K : FieldOn F) (table coeffs : List F) (known : Option (Vec F Global)) (n : ℕ) → 1 < n → IsPowerOfTwo n → length coeffs ≤ n / 2 + 1 → IfSome known (λ v. AreFirstValues K table (n / 2) (of_list K coeffs) v.items) → IsBegun K table n coeffs known
+begun_from_half K table coeffs None n many power few h = omega (arith, many, few)
+begun_from_half K table coeffs (Some v) n many power few h = begun_by K table coeffs v.items (n / 2) n (half_is_power n many power) (omega arith) (omega (arith, many, few)) h
 
 module _ {F : Type 0} (K : FieldOn F) (N : IsField K) where
   -- from what has the values of a polynomial at n elements where x ^ n is one: those from n on are subtracted, and put behind

@@ -22,8 +22,23 @@ use Rattle.ark_math.proofs.AtPoints.Lagrange.{through_values}
 use Rattle.ark_subproducts.proofs.Nodes.{nodes-halves, nodes-zero, nodes_monic}
 use Rattle.ark_blocks.proofs.PowersOfTwo.{some_power}
 
--- at all elements the product m g has p's values
-module _ {F : Type 0} (K : FieldOn F) (N : IsField K) (size n : ℕ) (x m p g u v : ℕ → F) (rev : AreReversed K size x) (different : AreDifferent size x) (two : IsPowerOfTwo size) (room : n ≤ size) (some : 0 < size) (monic : IsMonic K n m) (M : HasValues K size x u m) (G : HasValues K size x v g) (P : HasValues K size x (λ i. K.times (u i) (v i)) p) (short : IsBelow K size p) (below : IsBelow K size g) where
+-- elements in bit-reversed order, all different, as many as a power of two
+pub record AreElements {F : Type 0} (K : FieldOn F) (size : ℕ) (x : ℕ → F) : Type 0 where
+  pub reversed : AreReversed K size x
+  pub different : AreDifferent size x
+  pub power : IsPowerOfTwo size
+
+-- at all elements p has the values of the product of m, of degree n, and g
+pub record IsProductAt {F : Type 0} (K : FieldOn F) (size n : ℕ) (x m p g u v : ℕ → F) : Type 0 where
+  pub room : n ≤ size
+  pub monic : IsMonic K n m
+  pub divisor : HasValues K size x u m
+  pub quotient : HasValues K size x v g
+  pub dividend : HasValues K size x (λ i. K.times (u i) (v i)) p
+  pub short : IsBelow K size p
+  pub below : IsBelow K size g
+
+module _ {F : Type 0} (K : FieldOn F) (N : IsField K) (size n : ℕ) (x m p g u v : ℕ → F) (table : AreElements K size x) (at : IsProductAt K size n x m p g u v) where
   whole : ℕ → F
   whole = product K m g
 
@@ -32,11 +47,11 @@ module _ {F : Type 0} (K : FieldOn F) (N : IsField K) (size n : ℕ) (x m p g u 
 
   whole_below : IsBelow K (size + size) whole
   unfolding whole
-  whole_below i l = product-below K N (n + 1) size m g monic.below below i (omega (arith, l, room, some))
+  whole_below i l = product-below K N (n + 1) size m g at.monic.below at.below i (omega (arith, l, at.room, some_power size table.power))
 
   whole_values : HasValues K size x (λ i. K.times (u i) (v i)) whole
   unfolding whole
-  whole_values j b = value-product K N m g (x j) (u j) (v j) (M j b) (G j b)
+  whole_values j b = value-product K N m g (x j) (u j) (v j) (at.divisor j b) (at.quotient j b)
 
   -- what is past the elements' number counts as what is before
   is_wrapped : (i : ℕ) → i < size → p i ≡ added K whole high i
@@ -44,12 +59,12 @@ module _ {F : Type 0} (K : FieldOn F) (N : IsField K) (size n : ℕ) (x m p g u 
   is_wrapped i l =
       let r : ℕ → F = cut K size (added K whole high) in
       ap (λ t. t i)
-      (same_from_values K N size p r x short (cut-outside K size (added K whole high)) different
+      (same_from_values K N size p r x at.short (cut-outside K size (added K whole high)) table.different
       (λ j b.
       let z = x j in
-      sym (value_is K N size p z (K.times (u j) (v j)) short (P j b))
+      sym (value_is K N size p z (K.times (u j) (v j)) at.short (at.dividend j b))
       ∙ value_is K N (size + size) whole z (K.times (u j) (v j)) whole_below (whole_values j b)
-      ∙ value_by_halves K N size whole z K.one (power_at_first K N size size x rev two (omega arith) j b)
+      ∙ value_by_halves K N size whole z K.one (power_at_first K N size size x table.reversed table.power (omega arith) j b)
       ∙ ap (K.plus (value_below K size whole z)) (one_times K N (value_below K size high z))
       ∙ sym (value_below-added K N size whole high z)
       ∙ value_of_same K N size (added K whole high) r z (λ k c. sym (cut-inside K size (added K whole high) k c))))
@@ -68,14 +83,26 @@ module _ {F : Type 0} (K : FieldOn F) (N : IsField K) (size n : ℕ) (x m p g u 
       let none : K.plus at_low (K.times own at_high) ≡ K.zero =
       sym (value_by_halves K N size whole z own refl)
       ∙ sym (value_is K N (size + size) whole z (K.times K.zero (value_below K size g z)) whole_below
-      (value-product K N m g z K.zero (value_below K size g z) zero_there (has_value K N size g z below)))
+      (value-product K N m g z K.zero (value_below K size g z) zero_there (has_value K N size g z at.below)))
       ∙ N.times_comm K.zero (value_below K size g z) ∙ times_zero K N (value_below K size g z) in
       subst (IsValue K p z)
       (value_of_same K N size p (added K whole high) z is_wrapped
       ∙ value_below-added K N size whole high z
       ∙ ring3_by K N (λ a t h. (a ⊕ h, h ⊗ (unit ⊖ t), a ⊕ t ⊗ h, nought)) refl at_low own at_high none
       ∙ ap (λ t. K.times t (minus K K.one own)) is)
-      (has_value K N size p z short)
+      (has_value K N size p z at.short)
+
+-- what calls make of a list by the product over points: quotients by its values u, at the points the values ys of what the
+-- quotients' polynomial times it has past the elements' number, and these times what is left of one without a power
+pub record AreMadeByQuotients {F : Type 0} (K : FieldOn F) (roots points known u v ys zs powers : List F) : Type 0 where
+  pub room : length points ≤ size_of roots
+  pub product : AreFirstValues K roots (size_of roots) (nodes K points) u
+  pub len : length v ≡ size_of roots
+  pub quotients : (i : ℕ) → i < size_of roots → of_list K known i ≡ K.times (of_list K u i) (of_list K v i)
+  pub raised : ArePowers K (size_of roots) points powers
+  pub past : (q : ℕ → F) → IsBelow K (size_of roots) q → AreFirstValues K roots (size_of roots) q v
+      → HasValues K (length points) (of_list K points) (of_list K ys) (λ j. product K (nodes K points) q (j + size_of roots))
+  pub values : (i : ℕ) → i < length points → of_list K zs i ≡ K.times (of_list K ys i) (minus K K.one (of_list K powers i))
 
 module _ {F : Type 0} (K : FieldOn F) (N : IsField K) (roots points : List F) where
   size : ℕ
@@ -89,26 +116,29 @@ module _ {F : Type 0} (K : FieldOn F) (N : IsField K) (roots points : List F) wh
       (values-product K N (element_of K roots) 0 count (nodes K (take (length points / 2) points)) (nodes K (drop (length points / 2) points)) low high all L H (len ∙ L.len) (λ i l. each i (omega (arith, l, L.len))))
 
   -- from quotients by these the values at the points
-  pub values_by_quotients : (known u v ys zs powers : List F) (p : ℕ → F) → AreReversed K (size_of roots) (element_of K roots) → AreDifferent (size_of roots) (element_of K roots) → IsPowerOfTwo (size_of roots) → length points ≤ size_of roots → AreFirstValues K roots (size_of roots) (nodes K points) u → length v ≡ size_of roots
-      → ((i : ℕ) → i < size_of roots → of_list K known i ≡ K.times (of_list K u i) (of_list K v i)) → ArePowers K (size_of roots) points powers
-      → ((q : ℕ → F) → IsBelow K (size_of roots) q → AreFirstValues K roots (size_of roots) q v → HasValues K (length points) (of_list K points) (of_list K ys) (λ j. product K (nodes K points) q (j + size_of roots)))
-      → ((i : ℕ) → i < length points → of_list K zs i ≡ K.times (of_list K ys i) (minus K K.one (of_list K powers i)))
-      → IsBelow K (size_of roots) p → AreFirstValues K roots (size_of roots) p known → HasValues K (length points) (of_list K points) (of_list K zs) p
+  pub values_by_quotients : (known u v ys zs powers : List F) (p : ℕ → F) → AreElements K (size_of roots) (element_of K roots) → AreMadeByQuotients K roots points known u v ys zs powers → IsBelow K (size_of roots) p → AreFirstValues K roots (size_of roots) p known → HasValues K (length points) (of_list K points) (of_list K zs) p
   unfolding size
-  values_by_quotients known u v ys zs powers p rev different two room U len quotient raised sent each short P i l =
+  values_by_quotients known u v ys zs powers p table made short P i l =
       let x = element_of K roots in
-      let some : 0 < size = some_power size two in
       let at : (a : ℕ → F) (w : List F) → AreFirstValues K roots size a w → HasValues K size x (of_list K w) a = λ a w h j b.
       (let place : 0 + j ≡ j = omega arith in subst (λ k. IsValue K a (x k) (of_list K w j)) place (h.values j b)) in
-      let h = through_values K N x size (of_list K v) different in
+      let h = through_values K N x size (of_list K v) table.different in
       let q : ℕ → F = h.0 in
       let z = of_list K points i in
       let y = of_list K ys i in
-      subst (IsValue K p z) (ap (λ t. K.times y (minus K K.one t)) (sym (raised.each i l)) ∙ sym (each i l))
-      (share_of_quotient K N size (length points) x (nodes K points) p q (of_list K u) (of_list K v) rev different two room some (nodes_monic K N points) (at (nodes K points) u U) h.2
-      (λ j b. subst (IsValue K p (x j)) (quotient j b) (at p known P j b))
-      short h.1 z y (nodes-zero K N points i l)
-      (sent q h.1 (record {
-        len = len;
+      subst (IsValue K p z) (ap (λ t. K.times y (minus K K.one t)) (sym (made.raised.each i l)) ∙ sym (made.values i l))
+      (share_of_quotient K N size (length points) x (nodes K points) p q (of_list K u) (of_list K v) table
+      (record {
+        room = made.room;
+        monic = nodes_monic K N points;
+        divisor = at (nodes K points) u made.product;
+        quotient = h.2;
+        dividend = λ j b. subst (IsValue K p (x j)) (made.quotients j b) (at p known P j b);
+        short = short;
+        below = h.1;
+      })
+      z y (nodes-zero K N points i l)
+      (made.past q h.1 (record {
+        len = made.len;
         values = λ j b. (let place : j ≡ 0 + j = omega arith in subst (λ k. IsValue K q (x k) (of_list K v j)) place (h.2 j b));
       }) i l))

@@ -1,7 +1,7 @@
 -- Sums of weights times products without a factor, and the derivative of such a product.
 use Rattle.std.proofs.Common.{◌≡◌, ◌≢◌, ℕ, zero, suc, ◌+◌, ◌<◌, ◌≤◌, List, [], ◌∷◌, ◌++◌, length, take, drop, refl, sym, ◌∙◌, ap, ap₂, subst, arith}
 use mathlib.Core.Path.{fun_ext}
-use Rattle.std.proofs.lemmas.List.{get_or-drop, get_or-take, length-take-le, take-append-drop}
+use Rattle.std.proofs.lemmas.List.{get_or-append_right, get_or_append_left, length-take-le, take-append-drop}
 use Rattle.ark_math.specs.Field.{FieldOn, IsField, minus, natural}
 use Rattle.ark_math.specs.Linear.{linear_factor}
 use Rattle.ark_math.specs.Univariate.{IsBelow, IsValue, added, monomial, of_list, product, scaled}
@@ -66,16 +66,22 @@ module _ {F : Type 0} (K : FieldOn F) (N : IsField K) where
       ap₂ (λ s t. added K (scaled K s (nodes K zs)) (product K (linear_factor K z) t)) (h 0 (omega arith))
       (weighed-same zs (λ i. w (suc i)) (λ i. v (suc i)) (λ i l. h (suc i) (omega arith)))
 
+  -- of two parts, and their weights
+  pub weighed-parts : (xs ys us vs : List F) → length us ≡ length xs → added K (product K (weighed K xs (of_list K us)) (nodes K ys)) (product K (weighed K ys (of_list K vs)) (nodes K xs)) ≡ weighed K (xs ++ ys) (of_list K (us ++ vs))
+  weighed-parts xs ys us vs same =
+      ap₂ (λ s t. added K (product K s (nodes K ys)) (product K t (nodes K xs)))
+      (weighed-same xs (of_list K us) (of_list K (us ++ vs)) (λ i b. sym (get_or_append_left us vs K.zero i (omega (arith, b, same)))))
+      (weighed-same ys (of_list K vs) (λ i. of_list K (us ++ vs) (length xs + i)) (λ i b.
+      let place : i ≡ length xs + i - length xs = omega arith in
+      ap (of_list K vs) place ∙ sym (get_or-append_right us vs (length xs) (length xs + i) K.zero same (omega arith))))
+      ∙ sym (weighed-joined xs ys (of_list K (us ++ vs)))
+
   -- of the parts before h and from there on
   pub weighed-halves : (zs ws : List F) (h : ℕ) → h ≤ length zs → length ws ≡ length zs
       → added K (product K (weighed K (take h zs) (of_list K (take h ws))) (nodes K (drop h zs))) (product K (weighed K (drop h zs) (of_list K (drop h ws))) (nodes K (take h zs))) ≡ weighed K zs (of_list K ws)
   weighed-halves zs ws h l same =
-      let count : length (take h zs) ≡ h = length-take-le h zs l in
-      ap₂ (λ s t. added K (product K s (nodes K (drop h zs))) (product K t (nodes K (take h zs))))
-      (weighed-same (take h zs) (of_list K (take h ws)) (of_list K ws) (λ i b. get_or-take h ws i K.zero (omega (arith, b, count))))
-      (weighed-same (drop h zs) (of_list K (drop h ws)) (λ i. of_list K ws (length (take h zs) + i)) (λ i b. get_or-drop h ws i K.zero ∙ ap (λ t. of_list K ws (t + i)) (sym count)))
-      ∙ sym (weighed-joined (take h zs) (drop h zs) (of_list K ws))
-      ∙ ap (λ t. weighed K t (of_list K ws)) (take-append-drop h zs)
+      weighed-parts (take h zs) (drop h zs) (take h ws) (drop h ws) (length-take-le h ws (omega (arith, l, same)) ∙ sym (length-take-le h zs l))
+      ∙ ap₂ (λ t u. weighed K t (of_list K u)) (take-append-drop h zs) (take-append-drop h ws)
 
   -- at one of the list: its weight times what the others make there
   pub weighed-value : (zs : List F) (w : ℕ → F) (i : ℕ) (d : F) → i < length zs → IsValue K (cofactor K N zs i) (of_list K zs i) d → IsValue K (weighed K zs w) (of_list K zs i) (K.times (w i) d)
@@ -122,23 +128,3 @@ module _ {F : Type 0} (K : FieldOn F) (N : IsField K) where
       (subst (IsValue K (added K c (product K rest (linear_factor K z))) z)
       (ring2 K N (λ a b. (a ⊕ (b ⊗ nought), a)) refl d _)
       (value-added K N c (product K rest (linear_factor K z)) z d _ h (value-product K N rest (linear_factor K z) z _ K.zero there (linear_root K N z))))
-
-  -- weights that make the y of the slopes make a polynomial with these values
-  pub weighed_values : (zs : List F) (w s y : ℕ → F) → HasValues K (length zs) (of_list K zs) s (derived K (nodes K zs)) → ((i : ℕ) → i < length zs → K.times (w i) (s i) ≡ y i) → HasValues K (length zs) (of_list K zs) y (weighed K zs w)
-  weighed_values zs w s y slopes make i l =
-      let z : F = of_list K zs i in
-      let rest : ℕ → F = cofactor K N zs i in
-      let own = has_value K N (length zs) rest z (cofactor-below K N zs i l) in
-      let slope = slope-value (nodes K zs) rest (length zs) z _ (cofactor-below K N zs i l) (cofactor-whole K N zs i l) own in
-      let same = one_value K N (derived K (nodes K zs)) z (s i) _ (slopes i l) slope in
-      subst (IsValue K (weighed K zs w) z) (ap (K.times (w i)) (sym same) ∙ make i l) (weighed-value zs w i _ l own)
-
-  -- where no slope is zero no two of the list are one
-  pub slopes_differ : (zs : List F) (s : ℕ → F) → HasValues K (length zs) (of_list K zs) s (derived K (nodes K zs)) → ((i : ℕ) → i < length zs → s i ≢ K.zero) → AreDifferent (length zs) (of_list K zs)
-  slopes_differ zs s slopes some i j l b e =
-      let z : F = of_list K zs i in
-      let first : i < length zs = omega arith in
-      let rest : ℕ → F = cofactor K N zs i in
-      let none : IsValue K rest z K.zero = subst (λ t. IsValue K rest t K.zero) (sym e) (cofactor-other K N zs i j first b (λ same. omega (arith, same, l))) in
-      some i first (one_value K N (derived K (nodes K zs)) z (s i) K.zero (slopes i first)
-      (slope-value (nodes K zs) rest (length zs) z K.zero (cofactor-below K N zs i first) (cofactor-whole K N zs i first) none))

@@ -6,7 +6,10 @@ use Rattle.ark_math.specs.Linear.{linear_factor}
 use Rattle.ark_math.specs.Univariate.{IsBelow, IsValue, added, nothing, of_list, product, scaled}
 use Rattle.ark_blocks.specs.Blocks.{AreFirstValues, IsPowerOfTwo, size_of}
 use Rattle.ark_math.specs.Nodes.{nodes}
+use Rattle.ark_subproducts.specs.declared.blocks.Factors.{Factors}
 use Rattle.ark_subproducts.specs.declared.few.FewProducts.{FewProducts}
+use Rattle.ark_subproducts.specs.declared.halves.Part.{Part}
+use Rattle.ark_subproducts.specs.declared.multiple.Multiple.{Multiple}
 use Rattle.ark_subproducts.specs.declared.tree.Leaf.{Leaf}
 use Rattle.ark_subproducts.specs.declared.tree.Leaf.TheVariants.{Plain, Blocks}
 use Rattle.ark_subproducts.specs.declared.tree.Tree.{Tree}
@@ -59,22 +62,10 @@ IsBlockTreeOver K roots count points (Halves' p a low v b high w) =
     × IsBlockTreeOver K roots (count / 2) (take (length points / 2) points) low
     × IsBlockTreeOver K roots (count / 2) (drop (length points / 2) points) high
 
--- what such a tree has for all of its points
-abbrev pub whole_of_blocks : {F : Type 0} → Tree (FewProducts F) (List F) (Vec F Global) → List F
-whole_of_blocks (Few p) = p.whole
-whole_of_blocks (Halves' p a low v b high w) = p
-
 -- a list represents a for such a tree: by its coefficients, or where the tree has halves by its values over as many elements as told
 abbrev pub Represents : {F : Type 0} → FieldOn F → List F → Tree (FewProducts F) (List F) (Vec F Global) → ℕ → (ℕ → F) → List F → Type 0
 Represents K roots (Few p) count a c = of_list K c ≡ a
 Represents K roots (Halves' p q low v b high w) count a c = AreFirstValues K roots count a c
-
--- a list represents a polynomial below n of which this multiple is a
-pub record RepresentsMultiple {F : Type 0} (K : FieldOn F) (roots : List F) (tree : Tree (FewProducts F) (List F) (Vec F Global)) (count n : ℕ) (c : List F) (scale : F) (a : ℕ → F) : Type 0 where
-  pub own : ℕ → F
-  pub below : IsBelow K n own
-  pub given : Represents K roots tree count own c
-  pub multiple : scaled K scale own ≡ a
 
 -- the lengths of such lists, for a below n
 abbrev pub HasRoom : {F : Type 0} → Tree (FewProducts F) (List F) (Vec F Global) → ℕ → ℕ → ℕ → Type 0
@@ -91,11 +82,62 @@ abbrev pub IsEnd : {F : Type 0} → Tree (FewProducts F) (List F) (Vec F Global)
 IsEnd (Few p) n count end = end ≡ n
 IsEnd (Halves' p q low v b high w) n count end = (n ≤ end) × (end ≤ count)
 
--- what the products have for all of their points
-abbrev pub whole : {F : Type 0} → Tree (Leaf F) (List F) Unit → List F
-whole (Few (Plain p)) = p
-whole (Few (Blocks roots tree)) = whole_of_blocks tree.value
-whole (Halves' p a low v b high w) = p
+-- coefficients of the product over points, one more than these
+pub record IsProductOver {F : Type 0} (K : FieldOn F) (points coeffs : List F) : Type 0 where
+  pub is : of_list K coeffs ≡ nodes K points
+  pub len : length coeffs ≡ length points + 1
+
+-- so many elements of a table, a power of two, with room for the points
+pub record IsPart {F : Type 0} (part : Part F) : Type 0 where
+  pub power : IsPowerOfTwo part.count
+  pub within : part.count ≤ size_of part.blocks.now
+  pub room : length part.points.now ≤ part.count
+
+-- these of a part's points, with half of its elements
+pub record IsHalfOf {F : Type 0} (part : Part F) (own : List F) (half : Part F) : Type 0 where
+  pub blocks : half.blocks.now ≡ part.blocks.now
+  pub points : half.points.now ≡ own
+  pub count : half.count ≡ part.count / 2
+
+-- the values of a at a part's elements
+abbrev pub AreValuesOver : {F : Type 0} → FieldOn F → Part F → (ℕ → F) → List F → Type 0
+AreValuesOver K part a v = AreFirstValues K part.blocks.now part.count a v
+
+-- a tree over a part's points, with values over its elements
+abbrev pub IsTreeOfPart : {F : Type 0} → FieldOn F → Part F → Tree (FewProducts F) (List F) (Vec F Global) → Type 0
+IsTreeOfPart K part tree = IsBlockTreeOver K part.blocks.now part.count part.points.now tree
+
+-- what such a tree can be given: a list of the length that it takes, and where it ends
+pub record IsGivenTo {F : Type 0} (part : Part F) (tree : Tree (FewProducts F) (List F) (Vec F Global)) (given : Multiple F) : Type 0 where
+  pub room : HasRoom tree (length part.points.now) part.count (length given.items.items)
+  pub end : IsEnd tree (length part.points.now) part.count given.end
+
+-- what is given to such a tree is a
+pub record RepresentsMultiple {F : Type 0} (K : FieldOn F) (part : Part F) (tree : Tree (FewProducts F) (List F) (Vec F Global)) (given : Multiple F) (a : ℕ → F) : Type 0 where
+  pub own : ℕ → F
+  pub below : IsBelow K given.end own
+  pub represents : Represents K part.blocks.now tree part.count own given.items.items
+  pub multiple : scaled K given.scale own ≡ a
+
+-- twice as many values of a factor and of what is given as a part has elements, with a place for each of its points
+pub record HasMiddle {F : Type 0} (part : Part F) (others : List F) (given : Multiple F) : Type 0 where
+  pub within : part.count + part.count ≤ size_of part.blocks.now
+  pub factor : length others ≡ part.count + part.count
+  pub items : length given.items.items ≡ part.count + part.count
+  pub start : length part.points.now ≤ given.end
+  pub end : given.end ≤ part.count + part.count
+
+-- t has the coefficients of a product before the end of what is given, as many as a part has points; the product is so short
+-- that as many values as the part's elements twice give these
+pub record IsMiddle {F : Type 0} (K : FieldOn F) (part : Part F) (given : Multiple F) (whole t : ℕ → F) : Type 0 where
+  pub short : IsBelow K (given.end - length part.points.now + (part.count + part.count)) whole
+  pub below : IsBelow K (length part.points.now) t
+  pub items : (i : ℕ) → i < length part.points.now → t i ≡ whole (given.end - length part.points.now + i)
+
+-- values of f and of the factor a, over as many elements of a table
+pub record AreFactors {F : Type 0} (K : FieldOn F) (table : List F) (both : Factors F) (f a : ℕ → F) : Type 0 where
+  pub own : AreFirstValues K table (length both.values.items) f both.values.items
+  pub factor : AreFirstValues K table (length both.values.items) a both.factor.now
 
 -- the product over these points, with a tree of products by a table of as many roots, or with the products over both halves
 abbrev pub IsTreeOver : {F : Type 0} → FieldOn F → List F → Tree (Leaf F) (List F) Unit → Type 0

@@ -4,20 +4,23 @@
 //! Values go down it as down a scaled remainder tree: each half is given the middle product of what the whole has and the
 //! product over the other half, which is the transposed way of summing products up the tree.
 
-ghost use Rattle.std.specs.Prelude.{◌≡◌, ℕ, ◌+◌, ◌-◌, ◌/◌, ◌<◌, ◌≤◌, drop, length, take, IfOk, IfSome, OnOk};
+ghost use Rattle.std.specs.Prelude.{◌≡◌, ℕ, ◌+◌, ◌/◌, ◌<◌, ◌≤◌, drop, length, take, IfOk, IfSome, List, OnOk};
 ghost use Rattle.ark_blocks.specs.Blocks.{AreFirstValues, IsPowerOfTwo, size_of};
 ghost use Rattle.ark_math.specs.Univariate.{IsBelow, added, of_list, product, scaled};
 ghost use Rattle.ark_math.specs.AtPoints.{HasValues};
 ghost use Rattle.ark_math.specs.Nodes.{nodes};
-ghost use Rattle.ark_subproducts.specs.Tree.{HasRoom, IsBlockTreeOver, IsEnd, Represents, RepresentsMultiple, IsScaledRemainderBefore};
-ghost use Rattle.ark_subproducts.specs.Tree.{IsScaledRemainder, weighed, whole_of_blocks};
+ghost use Rattle.ark_subproducts.specs.Tree.{AreFactors, AreValuesOver, HasMiddle, HasRoom, IsBlockTreeOver, IsGivenTo, IsMiddle};
+ghost use Rattle.ark_subproducts.specs.Tree.{IsPart, IsProductOver, IsScaledRemainder, IsScaledRemainderBefore};
+ghost use Rattle.ark_subproducts.specs.Tree.{IsTreeOfPart, Represents, RepresentsMultiple, weighed};
 
 use crate::few::{FEW_POINTS, FewProducts, weighed_few, write_few_values};
-use crate::products::{coefficients, extended};
+use crate::halves::Part;
+use crate::multiple::Multiple;
+use crate::products::coefficients;
 use crate::tree::Tree;
 use ark_blocks::BlockRoots;
 use ark_blocks::items::{add_products, multiply_places, place_products};
-use ark_traits::FftField;
+use ark_traits::{FftField, Field};
 use ark_univariate::DenseUVPolynomial;
 use ark_univariate::univariate::DensePolynomial;
 use std::alloc::{AllocError, Global};
@@ -27,48 +30,40 @@ use std::alloc::{AllocError, Global};
 pub type BlockTree<F> = Tree<FewProducts<F>, DensePolynomial<F>, Vec<F>>;
 
 impl<F: FftField> BlockTree<F> {
-    /// Over these points, in their order, with values over `count` elements.
-    pub fn new(
-        alloc: Global,
-        blocks: &BlockRoots<F>,
-        points: &[F],
-        count: usize,
-    ) -> Result<Box<Self>, AllocError>
-        requires power { IsPowerOfTwo count }
-        requires within { count ≤ size_of blocks.now }
-        requires room { length points.now ≤ count }
-        ensures tree { IfOk result (λ t. IsBlockTreeOver F.field blocks.now count points.now t.value) }
+    /// Over the points of a part, in their order, with values over its elements.
+    pub fn new(alloc: Global, part: &Part<'_, F>) -> Result<Box<Self>, AllocError>
+        requires part { IsPart part.now }
+        ensures tree { IfOk result (λ t. IsTreeOfPart F.field part.now t.value) }
     {
-        Ok(BlockTree::with_values(alloc, blocks, points, count)?.0)
+        Ok(BlockTree::with_values(alloc, part)?.0)
     }
 
     // The same; and where the tree has halves the product's values over these elements.
     fn with_values(
         alloc: Global,
-        blocks: &BlockRoots<F>,
-        points: &[F],
-        count: usize,
+        part: &Part<'_, F>,
     ) -> Result<(Box<Self>, Option<Vec<F>>), AllocError>
-        requires power { IsPowerOfTwo count }
-        requires within { count ≤ size_of blocks.now }
-        requires room { length points.now ≤ count }
-        ensures tree { IfOk result (λ t. IsBlockTreeOver F.field blocks.now count points.now t.0.value) }
-        ensures values { IfOk result (λ t. IfSome t.1 (λ v. AreFirstValues F.field blocks.now count
-            (nodes F.field points.now) v.items)) }
+        requires part { IsPart part.now }
+        ensures tree { IfOk result (λ t. IsTreeOfPart F.field part.now t.0.value) }
+        ensures values { IfOk result (λ t. IfSome t.1 (λ v. AreValuesOver F.field part.now
+            (nodes F.field part.now.points.now) v.items)) }
     {
-        if points.len() <= FEW_POINTS {
-            let products = FewProducts::new(alloc, points)?;
+        if part.points.len() <= FEW_POINTS {
+            let products = FewProducts::new(alloc, part.points)?;
             return Ok((Box::new(alloc, Tree::Few(products))?, None));
         }
-        let half = points.len() / 2;
-        let low = BlockTree::with_values(alloc, blocks, &points[..half], count / 2)?;
-        let high = BlockTree::with_values(alloc, blocks, &points[half..], count / 2)?;
-        joined(alloc, blocks, points, count, low, high)
+        let low_part = part.low();
+        let low = BlockTree::with_values(alloc, &low_part)?;
+        let high_part = part.high();
+        let high = BlockTree::with_values(alloc, &high_part)?;
+        joined(alloc, part, low, high)
     }
 
     /// The product of x - z over all points.
     pub fn product(&self) -> &DensePolynomial<F>
-        ensures { result.now ≡ whole_of_blocks self.now }
+        ensures { (roots : List F) (count : ℕ) (points : List F)
+            → IsBlockTreeOver F.field roots count points self.now
+            → of_list F.field result.now ≡ nodes F.field points }
     {
         match self {
             Tree::Few(products) => &products.whole,
@@ -76,169 +71,116 @@ impl<F: FftField> BlockTree<F> {
         }
     }
 
+    // Its coefficients.
+    fn coeffs(&self) -> &[F]
+        ensures { (roots : List F) (count : ℕ) (points : List F)
+            → IsBlockTreeOver F.field roots count points self.now → IsProductOver F.field points result.now }
+    {
+        self.product().coeffs()
+    }
+
     /// Writes the values at the points, in their order, of the polynomial whose scaled remainder has these
     /// coefficients.
     pub fn write_values(
         &self,
         alloc: Global,
-        blocks: &BlockRoots<F>,
-        points: &[F],
+        part: &Part<'_, F>,
         coeffs: &[F],
         values: &mut [F],
-        count: usize,
     ) -> Result<(), AllocError>
-        requires power { IsPowerOfTwo count }
-        requires within { count ≤ size_of blocks.now }
-        requires room { length points.now ≤ count }
-        requires not_empty { 0 < length points.now }
-        requires tree { IsBlockTreeOver F.field blocks.now count points.now self.now }
-        requires few { length coeffs.now ≤ length points.now }
-        requires len { length values.old ≡ length points.now }
+        requires part { IsPart part.now }
+        requires not_empty { 0 < length part.now.points.now }
+        requires tree { IsTreeOfPart F.field part.now self.now }
+        requires few { length coeffs.now ≤ length part.now.points.now }
+        requires len { length values.old ≡ length part.now.points.now }
         ensures len { length values.new ≡ length values.old }
-        ensures values { OnOk result ((p : ℕ → F) → IsScaledRemainder F.field (length points.now)
-            (nodes F.field points.now) p (of_list F.field coeffs.now) → HasValues F.field (length points.now)
-            (of_list F.field points.now) (of_list F.field values.new) p) }
+        ensures values { OnOk result ((p : ℕ → F) → IsScaledRemainder F.field (length part.now.points.now)
+            (nodes F.field part.now.points.now) p (of_list F.field coeffs.now)
+            → HasValues F.field (length part.now.points.now) (of_list F.field part.now.points.now)
+            (of_list F.field values.new) p) }
     {
-        let given = represented(alloc, blocks, self, coeffs, count)?;
-        self.write_values_from(
-            alloc,
-            blocks,
-            points,
-            &given,
-            F::one(),
-            values,
-            count,
-            points.len(),
-        )
+        let items = represented(alloc, part, self, coeffs)?;
+        let given = Multiple {
+            items,
+            scale: F::one(),
+            end: part.points.len(),
+        };
+        self.write_values_from(alloc, part, &given, values)
     }
 
-    /// The same, where a multiple of a polynomial below `end`, which a list represents for the tree, has the scaled
-    /// remainder as its last coefficients, as many as there are points.
+    /// The same, where what is given has the scaled remainder as its last coefficients, as many as there are points.
     pub fn write_values_from(
         &self,
         alloc: Global,
-        blocks: &BlockRoots<F>,
-        points: &[F],
-        given: &[F],
-        scale: F,
+        part: &Part<'_, F>,
+        given: &Multiple<F>,
         values: &mut [F],
-        count: usize,
-        end: usize,
     ) -> Result<(), AllocError>
-        requires power { IsPowerOfTwo count }
-        requires within { count ≤ size_of blocks.now }
-        requires room { length points.now ≤ count }
-        requires not_empty { 0 < length points.now }
-        requires tree { IsBlockTreeOver F.field blocks.now count points.now self.now }
-        requires given { HasRoom self.now (length points.now) count (length given.now) }
-        requires end { IsEnd self.now (length points.now) count end }
-        requires len { length values.old ≡ length points.now }
+        requires part { IsPart part.now }
+        requires not_empty { 0 < length part.now.points.now }
+        requires tree { IsTreeOfPart F.field part.now self.now }
+        requires given { IsGivenTo part.now self.now given.now }
+        requires len { length values.old ≡ length part.now.points.now }
         ensures len { length values.new ≡ length values.old }
-        ensures values { OnOk result ((p s : ℕ → F) → IsBelow F.field end s
-            → Represents F.field blocks.now self.now count s given.now
-            → IsScaledRemainderBefore F.field end (length points.now) (nodes F.field points.now) p (scaled F.field scale s)
-            → HasValues F.field (length points.now) (of_list F.field points.now) (of_list F.field values.new) p) }
+        ensures values { OnOk result ((p s : ℕ → F) → RepresentsMultiple F.field part.now self.now given.now s
+            → IsScaledRemainderBefore F.field given.now.end (length part.now.points.now)
+            (nodes F.field part.now.points.now) p s
+            → HasValues F.field (length part.now.points.now) (of_list F.field part.now.points.now)
+            (of_list F.field values.new) p) }
     {
         match self {
-            Tree::Few(products) => write_few_values(alloc, products, points, given, scale, values),
+            Tree::Few(products) => write_few_values(alloc, products, part.points, given, values),
             Tree::Halves(_, low, low_values, high, high_values) => {
-                let half = points.len() / 2;
-                let low_points = &points[..half];
-                let high_points = &points[half..];
-                let part = count / 2;
-                let (to_low, to_high) = values.split_at_mut(half);
-                let (for_low, by) = middle_product(
-                    alloc,
-                    blocks,
-                    low,
-                    high_values,
-                    given,
-                    scale,
-                    end - low_points.len(),
-                    end,
-                    part,
-                )?;
-                low.write_values_from(
-                    alloc,
-                    blocks,
-                    low_points,
-                    &for_low,
-                    by,
-                    to_low,
-                    part,
-                    low_points.len(),
-                )?;
-                let (for_high, by) = middle_product(
-                    alloc,
-                    blocks,
-                    high,
-                    low_values,
-                    given,
-                    scale,
-                    end - high_points.len(),
-                    end,
-                    part,
-                )?;
-                high.write_values_from(
-                    alloc,
-                    blocks,
-                    high_points,
-                    &for_high,
-                    by,
-                    to_high,
-                    part,
-                    high_points.len(),
-                )
+                let (to_low, to_high) = values.split_at_mut(part.points.len() / 2);
+                let low_part = part.low();
+                let for_low = middle_product(alloc, &low_part, low, high_values, given)?;
+                low.write_values_from(alloc, &low_part, &for_low, to_low)?;
+                let high_part = part.high();
+                let for_high = middle_product(alloc, &high_part, high, low_values, given)?;
+                high.write_values_from(alloc, &high_part, &for_high, to_high)
             }
         }
     }
 
-    /// The sum of each weight times the product of x - z over the other points; and its values over `count` elements, where
-    /// the tree has halves.
+    /// The sum of each weight times the product of x - z over the other points; and its values over the part's elements,
+    /// where the tree has halves.
     pub fn weighed(
         &self,
         alloc: Global,
-        blocks: &BlockRoots<F>,
-        points: &[F],
+        part: &Part<'_, F>,
         weights: &[F],
-        count: usize,
     ) -> Result<(Vec<F>, Option<Vec<F>>), AllocError>
-        requires power { IsPowerOfTwo count }
-        requires within { count ≤ size_of blocks.now }
-        requires room { length points.now ≤ count }
-        requires tree { IsBlockTreeOver F.field blocks.now count points.now self.now }
-        requires weights { length weights.now ≡ length points.now }
+        requires part { IsPart part.now }
+        requires tree { IsTreeOfPart F.field part.now self.now }
+        requires weights { length weights.now ≡ length part.now.points.now }
         ensures sum { IfOk result (λ p. of_list F.field p.0.items
-            ≡ weighed F.field points.now (of_list F.field weights.now)) }
-        ensures few { IfOk result (λ p. length p.0.items ≤ count) }
-        ensures values { IfOk result (λ p. IfSome p.1 (λ v. AreFirstValues F.field blocks.now count
+            ≡ weighed F.field part.now.points.now (of_list F.field weights.now)) }
+        ensures few { IfOk result (λ p. length p.0.items ≤ part.now.count) }
+        ensures values { IfOk result (λ p. IfSome p.1 (λ v. AreValuesOver F.field part.now
             (of_list F.field p.0.items) v.items)) }
     {
         match self {
-            Tree::Few(products) => Ok((
-                weighed_few(alloc, &products.whole, points, weights)?,
-                None,
-            )),
+            Tree::Few(products) => {
+                let sum = weighed_few(alloc, &products.whole, part.points, weights)?;
+                Ok((sum, None))
+            }
             Tree::Halves(_, low, low_values, high, high_values) => {
-                let half = points.len() / 2;
-                let part = count / 2;
-                let (low_sum, low_known) = low.weighed(
-                    alloc,
-                    blocks,
-                    &points[..half],
-                    &weights[..half],
-                    part,
-                )?;
-                let first = extended(alloc, blocks, &low_sum, low_known, count)?;
-                let (high_sum, high_known) = high.weighed(
-                    alloc,
-                    blocks,
-                    &points[half..],
-                    &weights[half..],
-                    part,
-                )?;
-                let second = extended(alloc, blocks, &high_sum, high_known, count)?;
-                sum_of_products(alloc, blocks, first, high_values, &second, low_values)
+                let (low_weights, high_weights) = weights.split_at(part.points.len() / 2);
+                let low_part = part.low();
+                let (low_sum, low_known) = low.weighed(alloc, &low_part, low_weights)?;
+                let first = part.values_from_half(alloc, &low_sum, low_known)?;
+                let high_part = part.high();
+                let (high_sum, high_known) = high.weighed(alloc, &high_part, high_weights)?;
+                let second = part.values_from_half(alloc, &high_sum, high_known)?;
+                let first = Factors {
+                    values: first,
+                    factor: high_values,
+                };
+                let second = Factors {
+                    values: second,
+                    factor: low_values,
+                };
+                sum_of_products(alloc, part.blocks, first, second)
             }
         }
     }
@@ -247,38 +189,34 @@ impl<F: FftField> BlockTree<F> {
 // The tree over all points from those over their halves, and its product's values.
 fn joined<F: FftField>(
     alloc: Global,
-    blocks: &BlockRoots<F>,
-    points: &[F],
-    count: usize,
+    part: &Part<'_, F>,
     low: (Box<BlockTree<F>>, Option<Vec<F>>),
     high: (Box<BlockTree<F>>, Option<Vec<F>>),
 ) -> Result<(Box<BlockTree<F>>, Option<Vec<F>>), AllocError>
-    requires power { IsPowerOfTwo count }
-    requires within { count ≤ size_of blocks.now }
-    requires many { 2 < length points.now }
-    requires room { length points.now ≤ count }
-    requires low { IsBlockTreeOver F.field blocks.now (count / 2) (take (length points.now / 2) points.now)
-        low.0.value }
-    requires high { IsBlockTreeOver F.field blocks.now (count / 2) (drop (length points.now / 2) points.now)
-        high.0.value }
-    requires low_values { IfSome low.1 (λ v. AreFirstValues F.field blocks.now (count / 2)
-        (nodes F.field (take (length points.now / 2) points.now)) v.items) }
-    requires high_values { IfSome high.1 (λ v. AreFirstValues F.field blocks.now (count / 2)
-        (nodes F.field (drop (length points.now / 2) points.now)) v.items) }
-    ensures tree { IfOk result (λ t. IsBlockTreeOver F.field blocks.now count points.now t.0.value) }
-    ensures values { IfOk result (λ t. IfSome t.1 (λ v. AreFirstValues F.field blocks.now count
-        (nodes F.field points.now) v.items)) }
+    requires part { IsPart part.now }
+    requires many { 2 < length part.now.points.now }
+    requires low { IsBlockTreeOver F.field part.now.blocks.now (part.now.count / 2)
+        (take (length part.now.points.now / 2) part.now.points.now) low.0.value }
+    requires high { IsBlockTreeOver F.field part.now.blocks.now (part.now.count / 2)
+        (drop (length part.now.points.now / 2) part.now.points.now) high.0.value }
+    requires low_values { IfSome low.1 (λ v. AreFirstValues F.field part.now.blocks.now (part.now.count / 2)
+        (nodes F.field (take (length part.now.points.now / 2) part.now.points.now)) v.items) }
+    requires high_values { IfSome high.1 (λ v. AreFirstValues F.field part.now.blocks.now (part.now.count / 2)
+        (nodes F.field (drop (length part.now.points.now / 2) part.now.points.now)) v.items) }
+    ensures tree { IfOk result (λ t. IsTreeOfPart F.field part.now t.0.value) }
+    ensures values { IfOk result (λ t. IfSome t.1 (λ v. AreValuesOver F.field part.now
+        (nodes F.field part.now.points.now) v.items)) }
 {
     let (low, low_known) = low;
     let (high, high_known) = high;
-    let low_values = extended(alloc, blocks, low.product().coeffs(), low_known, count)?;
-    let high_values = extended(alloc, blocks, high.product().coeffs(), high_known, count)?;
+    let left = low.coeffs();
+    let right = high.coeffs();
+    let low_values = part.values_from_half(alloc, left, low_known)?;
+    let high_values = part.values_from_half(alloc, right, high_known)?;
     // With room for as many more values.
-    let room = count.saturating_add(count);
+    let room = part.count.saturating_add(part.count);
     let values = place_products(alloc, &low_values, &high_values, room)?;
-    let left = low.product().coeffs();
-    let right = high.product().coeffs();
-    let coeffs = coefficients(alloc, blocks, &values, left, right)?;
+    let coeffs = coefficients(alloc, part.blocks, &values, left, right)?;
     let product = DensePolynomial::from_coefficients_vec(coeffs);
     let tree = Tree::Halves(product, low, low_values, high, high_values);
     Ok((Box::new(alloc, tree)?, Some(values)))
@@ -287,125 +225,119 @@ fn joined<F: FftField>(
 // The list that represents this polynomial for the tree.
 fn represented<F: FftField>(
     alloc: Global,
-    blocks: &BlockRoots<F>,
+    part: &Part<'_, F>,
     tree: &BlockTree<F>,
     coeffs: &[F],
-    count: usize,
 ) -> Result<Vec<F>, AllocError>
-    requires power { IsPowerOfTwo count }
-    requires within { count ≤ size_of blocks.now }
-    requires few { length coeffs.now ≤ count }
-    ensures room { IfOk result (λ v. (n : ℕ) → length coeffs.now ≤ n → HasRoom tree.now n count (length v.items)) }
-    ensures given { IfOk result (λ v. Represents F.field blocks.now tree.now count (of_list F.field coeffs.now) v.items) }
+    requires part { IsPart part.now }
+    requires few { length coeffs.now ≤ part.now.count }
+    ensures room { IfOk result (λ v. (n : ℕ) → length coeffs.now ≤ n
+        → HasRoom tree.now n part.now.count (length v.items)) }
+    ensures given { IfOk result (λ v. Represents F.field part.now.blocks.now tree.now part.now.count
+        (of_list F.field coeffs.now) v.items) }
 {
     match tree {
         Tree::Few(_) => Vec::from_slice(alloc, coeffs),
-        Tree::Halves(_, _, _, _, _) => blocks.values(alloc, coeffs, count),
+        Tree::Halves(_, _, _, _, _) => part.blocks.values(alloc, coeffs, part.count),
     }
 }
 
-// The middle product of two polynomials, one with these values and the other with the given ones, over twice `count` elements:
-// the coefficients of their product from `start` on and below `end`, as a list that represents a polynomial for a tree, and by
-// what this is to be multiplied so that it is the scale's multiple. Where the tree takes it by values it is twice the middle
-// product, which costs least.
+// The middle product for a part of what its whole was given and of the product over the other points, which has these values:
+// as many coefficients as the part has points, the last of them before `end`. Where the tree takes values it is twice that by
+// half of the scale, which costs least.
 fn middle_product<F: FftField>(
     alloc: Global,
-    blocks: &BlockRoots<F>,
+    part: &Part<'_, F>,
     tree: &BlockTree<F>,
-    left: &[F],
-    right: &[F],
-    scale: F,
-    start: usize,
-    end: usize,
-    count: usize,
-) -> Result<(Vec<F>, F), AllocError>
-    requires power { IsPowerOfTwo count }
-    requires within { count + count ≤ size_of blocks.now }
-    requires left { length left.now ≡ count + count }
-    requires right { length right.now ≡ count + count }
-    requires order { start ≤ end }
-    requires room { end ≤ count + count }
-    requires few { end - start ≤ count }
-    ensures room { IfOk result (λ h. HasRoom tree.now (end - start) count (length h.0.items)) }
-    ensures given { IfOk result (λ h. (a b c : ℕ → F)
-        → AreFirstValues F.field blocks.now (count + count) a left.now
-        → AreFirstValues F.field blocks.now (count + count) b right.now
-        → IsBelow F.field (start + (count + count)) (product F.field a b)
-        → IsBelow F.field (end - start) c
-        → ((i : ℕ) → start + i < end → c i ≡ product F.field a b (start + i))
-        → RepresentsMultiple F.field blocks.now tree.now count (end - start) h.0.items h.1 (scaled F.field scale c)) }
+    factor: &[F],
+    given: &Multiple<F>,
+) -> Result<Multiple<F>, AllocError>
+    requires part { IsPart part.now }
+    requires middle { HasMiddle part.now factor.now given.now }
+    ensures given { IfOk result (λ m. IsGivenTo part.now tree.now m) }
+    ensures end { IfOk result (λ m. m.end ≡ length part.now.points.now) }
+    ensures middle { IfOk result (λ m. (a s t : ℕ → F)
+        → AreFirstValues F.field part.now.blocks.now (part.now.count + part.now.count) a factor.now
+        → AreFirstValues F.field part.now.blocks.now (part.now.count + part.now.count) s given.now.items.items
+        → IsMiddle F.field part.now given.now (product F.field a s) t
+        → RepresentsMultiple F.field part.now tree.now m (scaled F.field given.now.scale t)) }
 {
+    let len = part.points.len();
     if let Tree::Halves(_, _, _, _, _) = tree {
-        if start == count && end - start == count {
-            let doubled = blocks.twice_upper_half(alloc, left, right, count)?;
-            return Ok((doubled, scale * blocks.half()));
+        if len == part.count && given.end - len == len {
+            let doubled = part
+                .blocks
+                .twice_upper_half(alloc, factor, &given.items, part.count)?;
+            return Ok(Multiple {
+                items: doubled,
+                scale: given.scale * part.blocks.half(),
+                end: len,
+            });
         }
     }
-    let given = middle_coefficients(alloc, blocks, tree, left, right, start, end, count)?;
-    Ok((given, scale))
+    let items = middle_coefficients(alloc, part, tree, factor, given)?;
+    Ok(Multiple {
+        items,
+        scale: given.scale,
+        end: len,
+    })
 }
 
-// The list that represents these coefficients of such a product for a tree.
+// The same without the scale: the list that represents these coefficients for the tree.
 fn middle_coefficients<F: FftField>(
     alloc: Global,
-    blocks: &BlockRoots<F>,
+    part: &Part<'_, F>,
     tree: &BlockTree<F>,
-    left: &[F],
-    right: &[F],
-    start: usize,
-    end: usize,
-    count: usize,
+    factor: &[F],
+    given: &Multiple<F>,
 ) -> Result<Vec<F>, AllocError>
-    requires power { IsPowerOfTwo count }
-    requires within { count + count ≤ size_of blocks.now }
-    requires left { length left.now ≡ count + count }
-    requires right { length right.now ≡ count + count }
-    requires order { start ≤ end }
-    requires room { end ≤ count + count }
-    requires few { end - start ≤ count }
-    ensures room { IfOk result (λ v. HasRoom tree.now (end - start) count (length v.items)) }
-    ensures given { IfOk result (λ v. (a b c : ℕ → F)
-        → AreFirstValues F.field blocks.now (count + count) a left.now
-        → AreFirstValues F.field blocks.now (count + count) b right.now
-        → IsBelow F.field (start + (count + count)) (product F.field a b)
-        → IsBelow F.field (end - start) c
-        → ((i : ℕ) → start + i < end → c i ≡ product F.field a b (start + i))
-        → Represents F.field blocks.now tree.now count c v.items) }
+    requires part { IsPart part.now }
+    requires middle { HasMiddle part.now factor.now given.now }
+    ensures room { IfOk result (λ v. HasRoom tree.now (length part.now.points.now) part.now.count
+        (length v.items)) }
+    ensures middle { IfOk result (λ v. (a s t : ℕ → F)
+        → AreFirstValues F.field part.now.blocks.now (part.now.count + part.now.count) a factor.now
+        → AreFirstValues F.field part.now.blocks.now (part.now.count + part.now.count) s given.now.items.items
+        → IsMiddle F.field part.now given.now (product F.field a s) t
+        → Represents F.field part.now.blocks.now tree.now part.now.count t v.items) }
 {
-    let mut coeffs = place_products(alloc, left, right, left.len())?;
-    blocks.interpolate(coeffs.as_mut_slice());
-    represented(alloc, blocks, tree, &coeffs[start..end], count)
+    let mut coeffs = place_products(alloc, factor, &given.items, factor.len())?;
+    part.blocks.interpolate(coeffs.as_mut_slice());
+    let start = given.end - part.points.len();
+    represented(alloc, part, tree, &coeffs[start..given.end])
 }
 
-// From values of four polynomials the sum of the first two's product and the other two's, and its values.
+// The values of a polynomial, and those of a factor.
+#[derive(Drop)]
+struct Factors<'a, F: Field> {
+    values: Vec<F>,
+    factor: &'a [F],
+}
+
+// The sum of two products, and its values.
 fn sum_of_products<F: FftField>(
     alloc: Global,
     blocks: &BlockRoots<F>,
-    first: Vec<F>,
-    first_factor: &[F],
-    second: &[F],
-    second_factor: &[F],
+    first: Factors<'_, F>,
+    second: Factors<'_, F>,
 ) -> Result<(Vec<F>, Option<Vec<F>>), AllocError>
-    requires power { IsPowerOfTwo (length first.items) }
-    requires within { length first.items ≤ size_of blocks.now }
-    requires first_factor { length first_factor.now ≡ length first.items }
-    requires second { length second.now ≡ length first.items }
-    requires second_factor { length second_factor.now ≡ length first.items }
+    requires power { IsPowerOfTwo (length first.values.items) }
+    requires within { length first.values.items ≤ size_of blocks.now }
+    requires first_factor { length first.factor.now ≡ length first.values.items }
+    requires second { length second.values.items ≡ length first.values.items }
+    requires second_factor { length second.factor.now ≡ length first.values.items }
     ensures sum { IfOk result (λ p. (f a s b : ℕ → F)
-        → AreFirstValues F.field blocks.now (length first.items) f first.items
-        → AreFirstValues F.field blocks.now (length first.items) a first_factor.now
-        → AreFirstValues F.field blocks.now (length first.items) s second.now
-        → AreFirstValues F.field blocks.now (length first.items) b second_factor.now
-        → IsBelow F.field (length first.items) (added F.field (product F.field f a) (product F.field s b))
+        → AreFactors F.field blocks.now first.entry f a → AreFactors F.field blocks.now second.entry s b
+        → IsBelow F.field (length first.entry.values.items) (added F.field (product F.field f a) (product F.field s b))
         → (of_list F.field p.0.items ≡ added F.field (product F.field f a) (product F.field s b))
-        × IfSome p.1 (λ v. AreFirstValues F.field blocks.now (length first.items)
+        × IfSome p.1 (λ v. AreFirstValues F.field blocks.now (length first.entry.values.items)
         (of_list F.field p.0.items) v.items)) }
-    ensures few { IfOk result (λ p. length p.0.items ≡ length first.items) }
+    ensures few { IfOk result (λ p. length p.0.items ≡ length first.entry.values.items) }
 {
-    let mut values = first;
+    let mut values = first.values;
     let items = values.as_mut_slice();
-    multiply_places(items, first_factor);
-    add_products(items, second, second_factor);
+    multiply_places(items, first.factor);
+    add_products(items, &second.values, second.factor);
     let mut coeffs = Vec::from_slice(alloc, &values)?;
     blocks.interpolate(coeffs.as_mut_slice());
     Ok((coeffs, Some(values)))

@@ -7,6 +7,7 @@ ghost use Rattle.ark_subproducts.specs.Steps.{power_sum};
 ghost use Rattle.ark_math.specs.Nodes.{nodes};
 ghost use Rattle.ark_subproducts.specs.Tree.{AreFewProducts, IsScaledRemainder, weighed};
 
+use crate::multiple::Multiple;
 use crate::parts::write_part;
 use ark_blocks::items::{clear, multiply_places, scale_each, sum_of};
 use ark_blocks::product_of_few;
@@ -54,28 +55,27 @@ fn whole_product<F: Field>(
     Ok(DensePolynomial::from_coefficients_vec(coeffs))
 }
 
-/// Writes the values at few points of the polynomial whose scaled remainder is this multiple of the given one, a half of the
-/// points at a time.
+/// Writes the values at few points of the polynomial whose scaled remainder is what is given, by its coefficients, a half of
+/// the points at a time.
 pub fn write_few_values<F: Field>(
     alloc: Global,
     products: &FewProducts<F>,
     points: &[F],
-    given: &[F],
-    scale: F,
+    given: &Multiple<F>,
     values: &mut [F],
 ) -> Result<(), AllocError>
     requires products { AreFewProducts F.field points.now products.now }
-    requires few { length given.now ≤ length points.now }
+    requires few { length given.now.items.items ≤ length points.now }
     requires len { length values.old ≡ length points.now }
     ensures len { length values.new ≡ length values.old }
     ensures values { OnOk result ((p : ℕ → F) → IsScaledRemainder F.field (length points.now) (nodes F.field points.now) p
-        (scaled F.field scale (of_list F.field given.now)) → HasValues F.field (length points.now)
+        (scaled F.field given.now.scale (of_list F.field given.now.items.items)) → HasValues F.field (length points.now)
         (of_list F.field points.now) (of_list F.field values.new) p) }
 {
     let half = points.len() / 2;
     let mut room = zeros(alloc, points.len())?;
     let remainders = room.as_mut_slice();
-    halve_remainder(remainders, products, points, given, scale);
+    halve_remainder(remainders, products, points, given);
     let (for_low, for_high) = remainders.split_at_mut(half);
     let (to_low, to_high) = values.split_at_mut(half);
     write_values_of_remainder(&products.low, &points[..half], for_low, to_low);
@@ -83,31 +83,30 @@ pub fn write_few_values<F: Field>(
     Ok(())
 }
 
-// Puts the scaled remainder over the first half of the points, from the multiple of the given one over all, in the items' place,
-// and behind it that over the others: middle products with the products over the other halves.
+// Puts the scaled remainder over the first half of the points, from the one given over all, in the items' place, and behind it
+// that over the others: middle products with the products over the other halves.
 fn halve_remainder<F: Field>(
     items: &mut [F],
     products: &FewProducts<F>,
     points: &[F],
-    given: &[F],
-    scale: F,
+    given: &Multiple<F>,
 )
     requires len { length items.old ≡ length points.now }
     requires products { AreFewProducts F.field points.now products.now }
     ensures len { length items.new ≡ length items.old }
     ensures low { (j : ℕ) → j < length points.now / 2 → of_list F.field items.new j ≡ F.field.times
-        (product F.field (nodes F.field (drop (length points.now / 2) points.now)) (of_list F.field given.now)
-        (length points.now - length points.now / 2 + j)) scale }
+        (product F.field (nodes F.field (drop (length points.now / 2) points.now)) (of_list F.field given.now.items.items)
+        (length points.now - length points.now / 2 + j)) given.now.scale }
     ensures high { (j : ℕ) → j < length points.now - length points.now / 2
         → of_list F.field items.new (length points.now / 2 + j) ≡ F.field.times
-        (product F.field (nodes F.field (take (length points.now / 2) points.now)) (of_list F.field given.now)
-        (length points.now / 2 + j)) scale }
+        (product F.field (nodes F.field (take (length points.now / 2) points.now)) (of_list F.field given.now.items.items)
+        (length points.now / 2 + j)) given.now.scale }
 {
     let half = points.len() / 2;
     let (for_low, for_high) = items.split_at_mut(half);
-    write_part(for_low, &products.high, given, points.len() - half);
-    write_part(for_high, &products.low, given, half);
-    scale_each(items, scale);
+    write_part(for_low, &products.high, &given.items, points.len() - half);
+    write_part(for_high, &products.low, &given.items, half);
+    scale_each(items, given.scale);
 }
 
 // Writes the values at the points of the polynomial with the given scaled remainder: those of the product times it from the

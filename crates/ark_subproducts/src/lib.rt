@@ -4,6 +4,8 @@
 
 mod blocks;
 mod few;
+mod halves;
+mod multiple;
 mod parts;
 mod products;
 mod quotients;

@@ -5,17 +5,26 @@ ghost use Rattle.ark_blocks.specs.Blocks.{AreFirstValues, AreReversed, IsPowerOf
 ghost use Rattle.ark_math.specs.Field.{power};
 ghost use Rattle.ark_math.specs.Univariate.{IsValue, of_list};
 ghost use Rattle.ark_math.specs.AtPoints.{AreValuesAt, HasValues};
-ghost use Rattle.ark_subproducts.specs.Steps.{AreOffRoots, ArePowers, IsOffRoot};
+ghost use Rattle.ark_subproducts.specs.Steps.{AreOffRoots, ArePowers, IsKnown, IsOffRoot};
 ghost use Rattle.ark_subproducts.specs.Tree.{IsBlockTreeOver};
 
 use crate::blocks::BlockTree;
+use crate::halves::Part;
 use crate::table::powers_of;
 use crate::values::naive_evaluate_at;
 use ark_blocks::BlockRoots;
 use ark_traits::{FftField, Field, PolyError};
 use ark_univariate::DenseUVPolynomial;
 use ark_univariate::univariate::DensePolynomial;
-use std::alloc::Global;
+use std::alloc::{AllocError, Global};
+
+/// A polynomial, and its values at all elements of a table, of which there are no fewer than coefficients.
+#[derive(Drop)]
+pub struct Known<'a, F: FftField> {
+    pub blocks: &'a BlockRoots<F>,
+    pub polynomial: &'a DensePolynomial<F>,
+    pub values: &'a [F],
+}
 
 /// The values at points, in their order, of a polynomial with no more coefficients than the table has elements.
 pub fn values_by_table<F: FftField>(
@@ -31,9 +40,14 @@ pub fn values_by_table<F: FftField>(
     ensures memory { IsOkUnless result PolyError.Memory }
 {
     let size = blocks.size();
-    let known = blocks.values(alloc, polynomial.coeffs(), size)?;
+    let values = blocks.values(alloc, polynomial.coeffs(), size)?;
     let powers = powers_of(alloc, points, size)?;
-    values_off_roots(alloc, blocks, polynomial, points, powers, &known)
+    let known = Known {
+        blocks,
+        polynomial,
+        values: &values,
+    };
+    values_off_roots(alloc, &known, points, powers)
 }
 
 /// The same of any polynomial, with a tree over the points by a table for as many.
@@ -54,64 +68,94 @@ pub fn values_by_tree<F: FftField>(
     if polynomial.coeffs().len() > size {
         return naive_evaluate_at(alloc, polynomial, points);
     }
-    let known = blocks.values(alloc, polynomial.coeffs(), size)?;
+    let values = blocks.values(alloc, polynomial.coeffs(), size)?;
     let powers = powers_of(alloc, points, size)?;
-    match tree.values(alloc, blocks, points, &powers, &known, size)? {
-        Some(values) => Ok(values),
-        None => values_off_roots(alloc, blocks, polynomial, points, powers, &known),
+    let part = Part {
+        blocks,
+        points,
+        count: size,
+    };
+    if let Some(found) = tree.values(alloc, &part, &powers, &values)? {
+        return Ok(found);
     }
+    let known = Known {
+        blocks,
+        polynomial,
+        values: &values,
+    };
+    values_off_roots(alloc, &known, points, powers)
 }
 
-/// The values of a polynomial with these values at the table's elements; each point's power is that for their number.
-/// In place of a root of unity zero goes down the tree.
+/// The values of a known polynomial; each point's power is that for the number of the table's elements. In place of a root
+/// of unity zero goes down the tree.
 pub fn values_off_roots<F: FftField>(
     alloc: Global,
-    blocks: &BlockRoots<F>,
-    polynomial: &DensePolynomial<F>,
+    known: &Known<'_, F>,
     points: &[F],
     powers: Vec<F>,
-    known: &[F],
 ) -> Result<Vec<F>, PolyError>
     requires not_empty { 0 < length points.now }
-    requires room { length points.now ≤ size_of blocks.now }
-    requires few { length polynomial.now ≤ size_of blocks.now }
-    requires powers { ArePowers F.field (size_of blocks.now) points.now powers.items }
-    requires known { AreFirstValues F.field blocks.now (size_of blocks.now) (of_list F.field polynomial.now)
-        known.now }
-    ensures values { IfOk result (λ v. AreValuesAt F.field points.now v.items (of_list F.field polynomial.now)) }
+    requires room { length points.now ≤ size_of known.now.blocks.now }
+    requires powers { ArePowers F.field (size_of known.now.blocks.now) points.now powers.items }
+    requires known { IsKnown F.field known.now }
+    ensures values { IfOk result (λ v. AreValuesAt F.field points.now v.items
+        (of_list F.field known.now.polynomial.now)) }
     ensures memory { IsOkUnless result PolyError.Memory }
+{
+    let (others, powers) = without_roots(alloc, points, powers)?;
+    let mut values = values_of_others(alloc, known, &others, &powers)?;
+    put_back(
+        known.blocks,
+        points,
+        &others,
+        known.values,
+        values.as_mut_slice(),
+    );
+    Ok(values)
+}
+
+// The points, with zero in place of the roots of unity, and the powers of these.
+fn without_roots<F: Field>(
+    alloc: Global,
+    points: &[F],
+    powers: Vec<F>,
+) -> Result<(Vec<F>, Vec<F>), AllocError>
+    requires { length powers.items ≡ length points.now }
+    ensures others { IfOk result (λ p. (n : ℕ) → 0 < n → ArePowers F.field n points.now powers.items
+        → AreOffRoots F.field n points.now p.0.items) }
+    ensures powers { IfOk result (λ p. (n : ℕ) → 0 < n → ArePowers F.field n points.now powers.items
+        → ArePowers F.field n p.0.items p.1.items) }
 {
     let mut others = Vec::from_slice(alloc, points)?;
     let mut powers = powers;
     take_out_roots(others.as_mut_slice(), powers.as_mut_slice());
-    let mut values = values_of_others(alloc, blocks, polynomial, &others, &powers, known)?;
-    put_back(blocks, points, &others, known, values.as_mut_slice());
-    Ok(values)
+    Ok((others, powers))
 }
 
-// The same where none of the points is a root of unity.
+// The values of a known polynomial where none of the points is a root of unity.
 fn values_of_others<F: FftField>(
     alloc: Global,
-    blocks: &BlockRoots<F>,
-    polynomial: &DensePolynomial<F>,
+    known: &Known<'_, F>,
     points: &[F],
     powers: &[F],
-    known: &[F],
 ) -> Result<Vec<F>, PolyError>
     requires not_empty { 0 < length points.now }
-    requires room { length points.now ≤ size_of blocks.now }
-    requires few { length polynomial.now ≤ size_of blocks.now }
-    requires powers { ArePowers F.field (size_of blocks.now) points.now powers.now }
-    requires known { AreFirstValues F.field blocks.now (size_of blocks.now) (of_list F.field polynomial.now)
-        known.now }
-    ensures values { IfOk result (λ v. AreValuesAt F.field points.now v.items (of_list F.field polynomial.now)) }
+    requires room { length points.now ≤ size_of known.now.blocks.now }
+    requires powers { ArePowers F.field (size_of known.now.blocks.now) points.now powers.now }
+    requires known { IsKnown F.field known.now }
+    ensures values { IfOk result (λ v. AreValuesAt F.field points.now v.items
+        (of_list F.field known.now.polynomial.now)) }
     ensures memory { IsOkUnless result PolyError.Memory }
 {
-    let count = count_for(blocks, points.len());
-    let tree = BlockTree::new(alloc, blocks, points, count)?;
-    match tree.values(alloc, blocks, points, powers, known, count)? {
+    let part = Part {
+        blocks: known.blocks,
+        points,
+        count: count_for(known.blocks, points.len()),
+    };
+    let tree = BlockTree::new(alloc, &part)?;
+    match tree.values(alloc, &part, powers, known.values)? {
         Some(values) => Ok(values),
-        None => naive_evaluate_at(alloc, polynomial, points),
+        None => naive_evaluate_at(alloc, known.polynomial, points),
     }
 }
 

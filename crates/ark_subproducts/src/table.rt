@@ -1,17 +1,18 @@
 //! Values at the points of a tree by its table of roots of unity, where none of the points is one of these:
 //! there the polynomial's values are divided by those of the product of x - z, and go down the tree as they are.
 
-ghost use Rattle.std.specs.Prelude.{◌≡◌, ◌≢◌, ℕ, ◌+◌, ◌<◌, ◌≤◌, length, IfOk, IfSome, OnOk};
+ghost use Rattle.std.specs.Prelude.{◌≡◌, ◌≢◌, ℕ, ◌+◌, ◌<◌, length, IfOk, IfSome, OnOk};
 ghost use Rattle.ark_blocks.specs.Blocks.{AreFirstValues, IsPowerOfTwo, size_of};
 ghost use Rattle.ark_math.specs.Nodes.{nodes};
 ghost use Rattle.ark_math.specs.Univariate.{IsBelow, of_list, product};
 ghost use Rattle.ark_math.specs.AtPoints.{AreValuesAt, HasValues};
 ghost use Rattle.ark_subproducts.specs.Steps.{ArePowers};
-ghost use Rattle.ark_subproducts.specs.Tree.{IsBlockTreeOver, IsHalved};
+ghost use Rattle.ark_subproducts.specs.Tree.{IsHalved, IsPart, IsTreeOfPart};
 
 use crate::blocks::BlockTree;
+use crate::halves::Part;
+use crate::multiple::Multiple;
 use crate::tree::Tree;
-use ark_blocks::BlockRoots;
 use ark_blocks::items::{has_zero, multiply_by_gaps, multiply_places, place_products, raise_each};
 use ark_coeffs::dense::zeros;
 use ark_traits::{FftField, Field, batch_inversion};
@@ -25,35 +26,31 @@ impl<F: FftField> BlockTree<F> {
     pub fn values(
         &self,
         alloc: Global,
-        blocks: &BlockRoots<F>,
-        points: &[F],
+        part: &Part<'_, F>,
         powers: &[F],
         known: &[F],
-        count: usize,
     ) -> Result<Option<Vec<F>>, AllocError>
-        requires power { IsPowerOfTwo count }
-        requires within { count ≤ size_of blocks.now }
-        requires room { length points.now ≤ count }
-        requires not_empty { 0 < length points.now }
-        requires tree { IsBlockTreeOver F.field blocks.now count points.now self.now }
-        requires powers { ArePowers F.field (size_of blocks.now) points.now powers.now }
-        requires known { length known.now ≡ size_of blocks.now }
+        requires part { IsPart part.now }
+        requires not_empty { 0 < length part.now.points.now }
+        requires tree { IsTreeOfPart F.field part.now self.now }
+        requires powers { ArePowers F.field (size_of part.now.blocks.now) part.now.points.now powers.now }
+        requires known { length known.now ≡ size_of part.now.blocks.now }
         ensures values { IfOk result (λ found. IfSome found (λ v. (p : ℕ → F)
-            → IsBelow F.field (size_of blocks.now) p
-            → AreFirstValues F.field blocks.now (size_of blocks.now) p known.now
-            → AreValuesAt F.field points.now v.items p)) }
+            → IsBelow F.field (size_of part.now.blocks.now) p
+            → AreFirstValues F.field part.now.blocks.now (size_of part.now.blocks.now) p known.now
+            → AreValuesAt F.field part.now.points.now v.items p)) }
     {
-        let size = blocks.size();
-        let Some(divisors) = self.product_values(alloc, blocks, points, count, size)? else {
+        let size = part.blocks.size();
+        let Some(divisors) = self.product_values(alloc, part, size)? else {
             return Ok(None);
         };
         if has_zero(&divisors) {
             return Ok(None);
         }
         let quotients = quotients(alloc, known, divisors)?;
-        let mut values = zeros(alloc, points.len())?;
+        let mut values = zeros(alloc, part.points.len())?;
         let items = values.as_mut_slice();
-        self.write_values_past(alloc, blocks, points, quotients, items, count)?;
+        self.write_values_past(alloc, part, quotients, items)?;
         multiply_by_gaps(items, F::one(), powers);
         Ok(Some(values))
     }
@@ -62,27 +59,23 @@ impl<F: FftField> BlockTree<F> {
     fn product_values(
         &self,
         alloc: Global,
-        blocks: &BlockRoots<F>,
-        points: &[F],
-        count: usize,
+        part: &Part<'_, F>,
         size: usize,
     ) -> Result<Option<Vec<F>>, AllocError>
-        requires power { IsPowerOfTwo count }
-        requires size { IsPowerOfTwo size }
-        requires all { size ≡ size_of blocks.now }
-        requires within { count ≤ size }
-        requires room { length points.now ≤ count }
-        requires not_empty { 0 < length points.now }
-        requires tree { IsBlockTreeOver F.field blocks.now count points.now self.now }
+        requires part { IsPart part.now }
+        requires not_empty { 0 < length part.now.points.now }
+        requires tree { IsTreeOfPart F.field part.now self.now }
+        requires size { size ≡ size_of part.now.blocks.now }
+        requires power { IsPowerOfTwo size }
         ensures halved { IfOk result (λ found. IfSome found (λ v. IsHalved self.now)) }
-        ensures values { IfOk result (λ found. IfSome found (λ v. AreFirstValues F.field blocks.now
-            (size_of blocks.now) (nodes F.field points.now) v.items)) }
+        ensures values { IfOk result (λ found. IfSome found (λ v. AreFirstValues F.field part.now.blocks.now
+            (size_of part.now.blocks.now) (nodes F.field part.now.points.now) v.items)) }
     {
         let Tree::Halves(product, _, low_values, _, high_values) = self else {
             return Ok(None);
         };
         let mut values = place_products(alloc, low_values, high_values, size)?;
-        blocks.extend(&mut values, product.coeffs(), size)?;
+        part.blocks.extend(&mut values, product.coeffs(), size)?;
         Ok(Some(values))
     }
 
@@ -91,42 +84,35 @@ impl<F: FftField> BlockTree<F> {
     fn write_values_past(
         &self,
         alloc: Global,
-        blocks: &BlockRoots<F>,
-        points: &[F],
+        part: &Part<'_, F>,
         factor: Vec<F>,
         values: &mut [F],
-        count: usize,
     ) -> Result<(), AllocError>
-        requires power { IsPowerOfTwo count }
-        requires within { count ≤ size_of blocks.now }
-        requires room { length points.now ≤ count }
-        requires not_empty { 0 < length points.now }
-        requires tree { IsBlockTreeOver F.field blocks.now count points.now self.now }
+        requires part { IsPart part.now }
+        requires not_empty { 0 < length part.now.points.now }
+        requires tree { IsTreeOfPart F.field part.now self.now }
         requires halved { IsHalved self.now }
-        requires factor { length factor.items ≡ size_of blocks.now }
-        requires len { length values.old ≡ length points.now }
+        requires factor { length factor.items ≡ size_of part.now.blocks.now }
+        requires len { length values.old ≡ length part.now.points.now }
         ensures len { length values.new ≡ length values.old }
-        ensures values { OnOk result ((q : ℕ → F) → IsBelow F.field (size_of blocks.now) q
-            → AreFirstValues F.field blocks.now (size_of blocks.now) q factor.items
-            → HasValues F.field (length points.now) (of_list F.field points.now) (of_list F.field values.new)
-            (λ j. product F.field (nodes F.field points.now) q (j + size_of blocks.now))) }
+        ensures values { OnOk result ((q : ℕ → F) → IsBelow F.field (size_of part.now.blocks.now) q
+            → AreFirstValues F.field part.now.blocks.now (size_of part.now.blocks.now) q factor.items
+            → HasValues F.field (length part.now.points.now) (of_list F.field part.now.points.now)
+            (of_list F.field values.new)
+            (λ j. product F.field (nodes F.field part.now.points.now) q (j + size_of part.now.blocks.now))) }
     {
-        if blocks.size() == count {
-            return self.write_values_from(
-                alloc,
-                blocks,
-                points,
-                &factor,
-                F::one(),
-                values,
-                count,
-                count,
-            );
+        if part.blocks.size() == part.count {
+            let given = Multiple {
+                items: factor,
+                scale: F::one(),
+                end: part.count,
+            };
+            return self.write_values_from(alloc, part, &given, values);
         }
         let mut coeffs = factor;
-        blocks.interpolate(coeffs.as_mut_slice());
-        let start = coeffs.len() - points.len();
-        self.write_values(alloc, blocks, points, &coeffs[start..], values, count)
+        part.blocks.interpolate(coeffs.as_mut_slice());
+        let start = coeffs.len() - part.points.len();
+        self.write_values(alloc, part, &coeffs[start..], values)
     }
 }
 

@@ -1,12 +1,15 @@
 //! Points halved over and over, and the product of x - z over the points of each part.
 
-ghost use Rattle.std.specs.Prelude.{◌≡◌, ◌/◌, ◌<◌, drop, length, take, IfOk, IsOkUnless};
-ghost use Rattle.ark_math.specs.Univariate.{of_list};
+ghost use Rattle.std.specs.Prelude.{◌≡◌, ◌/◌, ◌<◌, ◌≤◌, drop, length, take, IfOk, IsOkUnless, List};
+ghost use Rattle.ark_blocks.specs.Blocks.{size_of};
+ghost use Rattle.ark_math.specs.Univariate.{IsBelow, of_list};
 ghost use Rattle.ark_math.specs.AtPoints.{AreValuesAt};
-ghost use Rattle.ark_subproducts.specs.Tree.{IsTreeOver, weighed, whole};
+ghost use Rattle.ark_math.specs.Nodes.{nodes};
+ghost use Rattle.ark_subproducts.specs.Tree.{IsBlockTreeOver, IsMonic, IsTreeOver, weighed};
 
 use crate::blocks::BlockTree;
 use crate::few::{FEW_POINTS, weighed_few};
+use crate::halves::Part;
 use crate::quotients::{product_of, remainder};
 use crate::roots::values_by_tree;
 use crate::values::naive_evaluate_at;
@@ -14,7 +17,7 @@ use ark_blocks::{BlockRoots, product_of_few};
 use ark_traits::{FftField, PolyError, Polynomial};
 use ark_univariate::DenseUVPolynomial;
 use ark_univariate::univariate::DensePolynomial;
-use std::alloc::Global;
+use std::alloc::{AllocError, Global};
 
 /// What belongs to all of a list; and where it is long the same of both halves, with more of each.
 #[derive(Drop)]
@@ -44,7 +47,7 @@ impl<F: FftField> SubproductTree<F> {
             return Ok(Box::new(alloc, Tree::Few(Leaf::Plain(product)))?);
         }
         if let Some(blocks) = BlockRoots::new(alloc, points.len())? {
-            let tree = BlockTree::new(alloc, &blocks, points, blocks.size())?;
+            let tree = block_tree(alloc, &blocks, points)?;
             return Ok(Box::new(alloc, Tree::Few(Leaf::Blocks(blocks, tree)))?);
         }
         let half = points.len() / 2;
@@ -55,7 +58,18 @@ impl<F: FftField> SubproductTree<F> {
 
     /// The product of x - z over all points.
     pub fn product(&self) -> &DensePolynomial<F>
-        ensures { result.now ≡ whole self.now }
+        ensures product { (points : List F) → IsTreeOver F.field points self.now
+            → of_list F.field result.now ≡ nodes F.field points }
+        ensures monic { (points : List F) → IsTreeOver F.field points self.now
+            → IsMonic F.field (length points) (of_list F.field result.now) }
+    {
+        self.whole()
+    }
+
+    // What the tree keeps for all points.
+    fn whole(&self) -> &DensePolynomial<F>
+        ensures { (points : List F) → IsTreeOver F.field points self.now
+            → of_list F.field result.now ≡ nodes F.field points }
     {
         match self {
             Tree::Few(Leaf::Plain(product)) => product,
@@ -104,6 +118,7 @@ impl<F: FftField> SubproductTree<F> {
         requires len { length weights.now ≡ length points.now }
         ensures sum { IfOk result (λ p. of_list F.field p
             ≡ weighed F.field points.now (of_list F.field weights.now)) }
+        ensures below { IfOk result (λ p. IsBelow F.field (length points.now) (of_list F.field p)) }
         ensures memory { IsOkUnless result PolyError.Memory }
     {
         match self {
@@ -112,7 +127,12 @@ impl<F: FftField> SubproductTree<F> {
                 Ok(DensePolynomial::from_coefficients_vec(coeffs))
             }
             Tree::Few(Leaf::Blocks(blocks, tree)) => {
-                let (coeffs, _) = tree.weighed(alloc, blocks, points, weights, blocks.size())?;
+                let part = Part {
+                    blocks,
+                    points,
+                    count: blocks.size(),
+                };
+                let (coeffs, _) = tree.weighed(alloc, &part, weights)?;
                 Ok(DensePolynomial::from_coefficients_vec(coeffs))
             }
             Tree::Halves(_, low, _, high, _) => {
@@ -125,6 +145,23 @@ impl<F: FftField> SubproductTree<F> {
             }
         }
     }
+}
+
+// The tree of products by a table for as many points.
+fn block_tree<F: FftField>(
+    alloc: Global,
+    blocks: &BlockRoots<F>,
+    points: &[F],
+) -> Result<Box<BlockTree<F>>, AllocError>
+    requires { length points.now ≤ size_of blocks.now }
+    ensures tree { IfOk result (λ t. IsBlockTreeOver F.field blocks.now (size_of blocks.now) points.now t.value) }
+{
+    let part = Part {
+        blocks,
+        points,
+        count: blocks.size(),
+    };
+    BlockTree::new(alloc, &part)
 }
 
 // The product over all points with those over their halves.

@@ -5,7 +5,7 @@ use Rattle.ark_math.specs.AtPoints.{AreDifferent, HasValues, x_of, y_of}
 use Rattle.ark_subproducts.specs.Tree.{weighed}
 use Rattle.ark_math.proofs.AtPoints.Newton.{only_interpolation}
 use Rattle.ark_math.proofs.AtPoints.PairParts.{x_of_is}
-use Rattle.ark_subproducts.proofs.Weighed.{slopes_differ, weighed-below, weighed_values}
+use Rattle.ark_subproducts.proofs.Callers.Values.{slopes_differ, weighed_values}
 use Rattle.ark_points.proofs.interpolation.summed_up.Goals as goal
 
 pub returns-clause-through : goal.returns-clause-through
@@ -21,7 +21,7 @@ returns-clause-through g c =
     let ws = of_list K c.in_ok-weights.weights.items in
     let is : of_list K c.in_ok-sum.sum ≡ weighed K zs ws =
     c.in_ok-sum.ensures.sum ∙ ap (λ u. weighed K zs (of_list K u)) c.deref.ensures.value in
-    let below : IsBelow K (length points) (of_list K c.in_ok-sum.sum) = subst₂ (IsBelow K) count (sym is) (weighed-below K N zs ws) in
+    let below : IsBelow K (length points) (of_list K c.in_ok-sum.sum) = subst (λ n. IsBelow K n (of_list K c.in_ok-sum.sum)) count c.in_ok-sum.ensures.below in
     let values : HasValues K (length points) (x_of K points) (y_of K points) (of_list K c.in_ok-sum.sum) =
     subst (HasValues K (length points) (x_of K points) (y_of K points)) (sym is)
     (subst₂ (λ n x. HasValues K n x (y_of K points) (weighed K zs ws)) count xs

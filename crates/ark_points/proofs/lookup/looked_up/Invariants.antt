@@ -9,5 +9,5 @@ invariant-loop-i g l =
     let K = g.F.Field.field in
     record {
       len : length l.values.items ≡ l.i;
-      done : (p : ℕ → g.row.F.Denot) → AreValues K (g.D.EvaluationDomain.domain l.all.domain) p l.all.evals → IsValue K p K.zero l.at_zero → HasValues K l.i (of_list K l.points) (of_list K l.values.items) p;
+      done : (p : ℕ → g.row.F.Denot) → AreValues K (g.D.EvaluationDomain.domain l.known.all.domain) p l.known.all.evals → IsValue K p K.zero l.known.at_zero → HasValues K l.i (of_list K l.points) (of_list K l.values.items) p;
     }

@@ -1,8 +1,8 @@
 use Rattle.std.proofs.Common.{◌≡◌, ◌/◌, length, take, drop, sym, ap, ap₂, subst, ◌∙◌}
 use Rattle.ark_math.specs.Univariate.{of_list, product}
 use Rattle.ark_math.specs.Nodes.{nodes}
-use Rattle.ark_subproducts.specs.Tree.{IsTreeOver, whole}
-use Rattle.ark_subproducts.proofs.Nodes.{nodes-halves, tree-whole}
+use Rattle.ark_subproducts.specs.Tree.{IsTreeOver}
+use Rattle.ark_subproducts.proofs.Nodes.{nodes-halves}
 use Rattle.ark_subproducts.proofs.tree.joined.Goals as goal
 
 pub returns-clause-tree : goal.returns-clause-tree
@@ -12,9 +12,9 @@ returns-clause-tree g c =
     let points = c.args.points.now in
     let half = length points / 2 in
     let low : of_list K c.product.result.now ≡ nodes K (take half points) =
-    ap (of_list K) (c.product.ensures ∙ ap (λ t. whole t) c.deref.ensures) ∙ tree-whole K N (take half points) c.args.low.value c.requires.low in
+    c.product.ensures.product (take half points) (subst (IsTreeOver K (take half points)) (sym c.deref.ensures) c.requires.low) in
     let high : of_list K c.product-2.result.now ≡ nodes K (drop half points) =
-    ap (of_list K) (c.product-2.ensures ∙ ap (λ t. whole t) c.deref-2.ensures) ∙ tree-whole K N (drop half points) c.args.high.value c.requires.high in
+    c.product-2.ensures.product (drop half points) (subst (IsTreeOver K (drop half points)) (sym c.deref-2.ensures) c.requires.high) in
     subst (IsTreeOver K points) (sym c.in_ok-new.ensures.ok) (
       c.requires.many,
       c.in_ok-product.ensures.product ∙ ap₂ (product K) low high ∙ nodes-halves K N points half,

@@ -1,66 +1,31 @@
-use Rattle.std.proofs.Common.{rules, ◌≡◌, ◌-◌, ◌/◌, ◌<◌, length, take, drop, refl, sym, ap, subst, subst₂, ◌∙◌, arith, IfSome}
-use Rattle.std.proofs.lemmas.List.{length-drop, length-take-le, take_all}
+use Rattle.std.proofs.Common.{rules, ℕ, ◌≡◌, ◌-◌, ◌/◌, ◌<◌, ◌++◌, List, length, take, drop, sym, ap, ap₂, subst, subst₂, ◌∙◌, arith, IfOk, IfSome}
+use Rattle.std.proofs.lemmas.List.{length-drop, length-take-le, take-append-drop}
 use Rattle.std.proofs.lemmas.Result.{IfOk-weaker}
-use Rattle.ark_blocks.specs.Blocks.{AreFirstValues, AreValuesFrom, element_of}
+use Rattle.ark_blocks.specs.Blocks.{AreFirstValues}
 use Rattle.ark_math.specs.Univariate.{of_list}
 use Rattle.ark_math.specs.Nodes.{nodes}
-use Rattle.ark_subproducts.specs.Tree.{IsBlockTreeOver}
-use Rattle.ark_subproducts.proofs.BlockWeighed.{weighed_by_halves}
-use Rattle.ark_blocks.proofs.PowersOfTwo.{half_is_power, two_halves}
-use Rattle.ark_subproducts.proofs.TableProducts.{begun_from_half}
+use Rattle.ark_subproducts.specs.Tree.{AreFactors, weighed}
+use Rattle.ark_subproducts.specs.declared.blocks.Factors.{Factors}
+use Rattle.ark_subproducts.proofs.BlockWeighed.{AreWeighedParts, weighed_by_parts}
+use Rattle.ark_subproducts.proofs.MiddleProducts.{from_half, halves-joined, tree_of_half}
 use Rattle.ark_subproducts.proofs.blocks.BlockTree+F.+weighed.Goals as goal
-
-pub extended-requires-clause-begun : goal.extended-requires-clause-begun
-extended-requires-clause-begun g t c =
-    let K = g.F.Field.field in
-    let roots = c.args.blocks.now in
-    let count = c.args.count in
-    let tree = rw c.in-Halves.is at c.requires.tree in
-    let many : 1 < count = omega (arith, tree.1.many, c.requires.room) in
-    let sum = c.in_ok-low_sum-in-Halves in
-    let coeffs = c.deref-in-Halves.result.now in
-    let same = c.deref-in-Halves.ensures.value in
-    begun_from_half K roots coeffs sum.low_known count (of_list K coeffs) many c.requires.power (omega (arith, ap length same, sum.ensures.few)) refl
-    (subst (λ s. IfSome sum.low_known (λ v. AreFirstValues K roots (count / 2) (of_list K s) v.items)) (sym same) sum.ensures.values)
-
-pub extended-requires-in-Halves-clause-begun : goal.extended-requires-in-Halves-clause-begun
-extended-requires-in-Halves-clause-begun g t c =
-    let K = g.F.Field.field in
-    let roots = c.args.blocks.now in
-    let count = c.args.count in
-    let tree = rw c.in-Halves.is at c.requires.tree in
-    let many : 1 < count = omega (arith, tree.1.many, c.requires.room) in
-    let sum = c.in_ok-high_sum-in-Halves in
-    let coeffs = c.deref-in-Halves-3.result.now in
-    let same = c.deref-in-Halves-3.ensures.value in
-    begun_from_half K roots coeffs sum.high_known count (of_list K coeffs) many c.requires.power (omega (arith, ap length same, sum.ensures.few)) refl
-    (subst (λ s. IfSome sum.high_known (λ v. AreFirstValues K roots (count / 2) (of_list K s) v.items)) (sym same) sum.ensures.values)
 
 pub weighed-requires : goal.weighed-requires
 weighed-requires g t c κs within =
-    let points = c.args.points.now in
-    let weights = c.args.weights.now in
-    let count = c.args.count in
+    let part = c.args.part.now in
+    let points = part.points.now in
     let half = length points / 2 in
+    let low = c.low-low_part in
     let tree = rw c.in-Halves.is at c.requires.tree in
-    let many = tree.1.many in
-    let above : 1 < count = omega (arith, many, c.requires.room) in
-    let front : length (take half points) ≡ half = length-take-le half points (omega arith) in
-    let fewer : length (take half weights) ≡ half = length-take-le half weights (omega (arith, c.requires.weights)) in (
-      omega (arith, front, many),
+    let front = ap length low.ensures.half.points ∙ length-take-le half points (omega arith) in (
+      omega (arith, front, tree.1.many),
       (
         search rules,
         (
-          half_is_power count above c.requires.power,
+          low.ensures.part,
           (
-            omega (arith, c.requires.within),
-            (
-              omega (arith, front, c.requires.room),
-              (
-                subst (IsBlockTreeOver g.F.Field.field c.args.blocks.now (count / 2) (take half points)) (sym c.deref.ensures) tree.2,
-                fewer ∙ sym front,
-              ),
-            ),
+            tree_of_half g.F.Field.field part low.result (take half points) c.in-Halves.low.value _ low.ensures.half c.deref.ensures tree.2,
+            c.split_at.ensures.front_len ∙ sym front,
           ),
         ),
       ),
@@ -68,86 +33,102 @@ weighed-requires g t c κs within =
 
 pub weighed-requires-in-Halves : goal.weighed-requires-in-Halves
 weighed-requires-in-Halves g t c κs within =
-    let points = c.args.points.now in
-    let weights = c.args.weights.now in
-    let count = c.args.count in
-    let n = length points in
-    let half = n / 2 in
+    let part = c.args.part.now in
+    let points = part.points.now in
+    let half = length points / 2 in
+    let high = c.high-high_part in
     let tree = rw c.in-Halves.is at c.requires.tree in
-    let many = tree.1.many in
-    let above : 1 < count = omega (arith, many, c.requires.room) in
-    let twice = two_halves count above c.requires.power in
-    let all : take (n - half) (drop half points) ≡ drop half points = take_all (n - half) (drop half points) (omega (arith, length-drop half points)) in
-    let back : length (take (n - half) (drop half points)) ≡ n - half = ap length all ∙ length-drop half points in
-    let rest : length (take (length weights - half) (drop half weights)) ≡ length weights - half = length-take-le (length weights - half) (drop half weights) (omega (arith, length-drop half weights)) in (
-      omega (arith, back, many),
+    let back = ap length high.ensures.half.points ∙ length-drop half points in (
+      omega (arith, back, tree.1.many),
       (
         search rules,
         (
-          half_is_power count above c.requires.power,
+          high.ensures.part,
           (
-            omega (arith, c.requires.within),
-            (
-              omega (arith, back, c.requires.room, twice),
-              (
-                subst₂ (IsBlockTreeOver g.F.Field.field c.args.blocks.now (count / 2)) (sym all) (sym c.deref-in-Halves-2.ensures) tree.3,
-                omega (arith, rest, back, c.requires.weights),
-              ),
-            ),
+            tree_of_half g.F.Field.field part high.result (drop half points) c.in-Halves.high.value _ high.ensures.half c.deref-in-Halves-2.ensures tree.3,
+            omega (arith, c.split_at.ensures.back_len, back, c.requires.weights),
           ),
         ),
       ),
     )
 
-pub returns-in_ok-second-in-Halves-clause-sum : goal.returns-in_ok-second-in-Halves-clause-sum
-returns-in_ok-second-in-Halves-clause-sum g t c =
+pub values_from_half-requires : goal.values_from_half-requires
+values_from_half-requires g t c =
     let K = g.F.Field.field in
-    let N = g.met.F.Field.field_laws in
-    let x = element_of K c.args.blocks.now in
-    let points = c.args.points.now in
-    let weights = c.args.weights.now in
-    let count = c.args.count in
-    let half = length points / 2 in
-    let values = (rw c.in-Halves.is at c.requires.tree).1 in
-    let first = c.in_ok-first-in-Halves in
-    let second = c.in_ok-second-in-Halves in
-    IfOk-weaker c.sum_of_products.result _ _
-    (λ p h.
-    (weighed_by_halves K N x count (length first.first.items) points weights first.first.items c.deref-in-Halves-6.result.now c.deref-in-Halves-5.result.now c.deref-in-Halves-4.result.now _ _
-    (λ a. (of_list K p.0.items ≡ a) × IfSome p.1 (λ v. AreValuesFrom K x 0 (length first.first.items) (of_list K p.0.items) v.items))
-    c.requires.room c.requires.weights first.ensures.values.len
-    c.in_ok-low_sum-in-Halves.ensures.sum c.in_ok-high_sum-in-Halves.ensures.sum
-    (subst (λ v. AreValuesFrom K x 0 count (of_list K v) first.first.items) c.deref-in-Halves.ensures.value first.ensures.values)
-    (subst (AreValuesFrom K x 0 count (nodes K (drop half points))) (sym c.deref-in-Halves-4.ensures.value) values.high)
-    (subst (AreValuesFrom K x 0 count (of_list K c.in_ok-high_sum-in-Halves.high_sum.items)) (sym c.deref-in-Halves-5.ensures.value)
-    (subst (λ v. AreValuesFrom K x 0 count (of_list K v) second.second.items) c.deref-in-Halves-3.ensures.value second.ensures.values))
-    (subst (AreValuesFrom K x 0 count (nodes K (take half points))) (sym c.deref-in-Halves-6.ensures.value) values.low)
-    h).0)
-    c.sum_of_products.ensures.sum
+    let part = c.args.part.now in
+    let half = c.low-low_part in
+    let sum = c.in_ok-low_sum-in-Halves in
+    let same = c.deref-in-Halves.ensures.value in
+    let tree = rw c.in-Halves.is at c.requires.tree in
+    record {
+      part = c.requires.part;
+      many = omega (arith, tree.1.many, c.requires.part.room);
+      few = omega (arith, ap length same, sum.ensures.few, half.ensures.half.count);
+      known = subst (λ s. IfSome sum.low_known (λ v. AreFirstValues K part.blocks.now (part.count / 2) (of_list K s) v.items)) (sym same)
+          (from_half part half.result (take (length part.points.now / 2) part.points.now) half.ensures.half (λ r n zs. IfSome sum.low_known (λ v. AreFirstValues K r n (of_list K sum.low_sum.items) v.items)) sum.ensures.values);
+    }
 
-pub returns-in_ok-second-in-Halves-clause-values : goal.returns-in_ok-second-in-Halves-clause-values
-returns-in_ok-second-in-Halves-clause-values g t c =
+pub values_from_half-requires-in-Halves : goal.values_from_half-requires-in-Halves
+values_from_half-requires-in-Halves g t c =
+    let K = g.F.Field.field in
+    let part = c.args.part.now in
+    let half = c.high-high_part in
+    let sum = c.in_ok-high_sum-in-Halves in
+    let same = c.deref-in-Halves-3.ensures.value in
+    let tree = rw c.in-Halves.is at c.requires.tree in
+    record {
+      part = c.requires.part;
+      many = omega (arith, tree.1.many, c.requires.part.room);
+      few = omega (arith, ap length same, sum.ensures.few, half.ensures.half.count);
+      known = subst (λ s. IfSome sum.high_known (λ v. AreFirstValues K part.blocks.now (part.count / 2) (of_list K s) v.items)) (sym same)
+          (from_half part half.result (drop (length part.points.now / 2) part.points.now) half.ensures.half (λ r n zs. IfSome sum.high_known (λ v. AreFirstValues K r n (of_list K sum.high_sum.items) v.items)) sum.ensures.values);
+    }
+
+pub returns-in_ok-second-in-Halves : goal.returns-in_ok-second-in-Halves
+returns-in_ok-second-in-Halves g t c =
     let K = g.F.Field.field in
     let N = g.met.F.Field.field_laws in
-    let x = element_of K c.args.blocks.now in
-    let points = c.args.points.now in
+    let part = c.args.part.now in
+    let table = part.blocks.now in
+    let points = part.points.now in
     let weights = c.args.weights.now in
-    let count = c.args.count in
     let half = length points / 2 in
+    let low = c.low-low_part.result in
+    let high = c.high-high_part.result in
+    let first_half = c.low-low_part.ensures.half in
+    let second_half = c.high-high_part.ensures.half in
+    let cut = c.split_at in
+    let us = cut.result.0.now in
+    let vs = cut.result.1.now in
     let values = (rw c.in-Halves.is at c.requires.tree).1 in
     let first = c.in_ok-first-in-Halves in
     let second = c.in_ok-second-in-Halves in
+    let n = length first.first.items in
+    let len : n ≡ part.count = first.ensures.values.len in
+    let left : Factors g.row.F.Denot = record { values = first.first; factor = c.deref-in-Halves-4.result } in
+    let right : Factors g.row.F.Denot = record { values = second.second; factor = c.deref-in-Halves-5.result } in
+    let parts : AreWeighedParts points weights low.points.now high.points.now us vs = record {
+      joined = halves-joined part low high half first_half second_half;
+      weighted = ap₂ (λ s t. s ++ t) cut.ensures.front cut.ensures.back ∙ take-append-drop half weights;
+      len = cut.ensures.front_len ∙ sym (ap length first_half.points ∙ length-take-le half points (omega arith));
+    } in
+    let over : (m : ℕ) → m ≡ part.count → (a : ℕ → g.row.F.Denot) (v : List g.row.F.Denot) → AreFirstValues K table part.count a v → AreFirstValues K table m a v = λ m is a v h. subst (λ k. AreFirstValues K table k a v) (sym is) h in
+    let L : AreFactors K table left (weighed K low.points.now (of_list K us)) (nodes K high.points.now) = record {
+      own = over n len _ _ (subst (λ a. AreFirstValues K table part.count a first.first.items) (ap (of_list K) c.deref-in-Halves.ensures.value ∙ c.in_ok-low_sum-in-Halves.ensures.sum) first.ensures.values);
+      factor = over n len _ _ (subst₂ (λ zs v. AreFirstValues K table part.count (nodes K zs) v) (sym second_half.points) (sym c.deref-in-Halves-4.ensures.value) values.high);
+    } in
+    let R : AreFactors K table right (weighed K high.points.now (of_list K vs)) (nodes K low.points.now) = record {
+      own = over _ second.ensures.values.len _ _ (subst (λ a. AreFirstValues K table part.count a second.second.items) (ap (of_list K) c.deref-in-Halves-3.ensures.value ∙ c.in_ok-high_sum-in-Halves.ensures.sum) second.ensures.values);
+      factor = over _ second.ensures.values.len _ _ (subst₂ (λ zs v. AreFirstValues K table part.count (nodes K zs) v) (sym first_half.points) (sym c.deref-in-Halves-5.ensures.value) values.low);
+    } in
+    let both : IfOk c.sum_of_products.result (λ p. (of_list K p.0.items ≡ weighed K points (of_list K weights)) × IfSome p.1 (λ v. AreFirstValues K table n (of_list K p.0.items) v.items)) =
     IfOk-weaker c.sum_of_products.result _ _
     (λ p h.
-    subst (λ n. IfSome p.1 (λ v. AreValuesFrom K x 0 n (of_list K p.0.items) v.items)) first.ensures.values.len
-    (weighed_by_halves K N x count (length first.first.items) points weights first.first.items c.deref-in-Halves-6.result.now c.deref-in-Halves-5.result.now c.deref-in-Halves-4.result.now _ _
-    (λ a. (of_list K p.0.items ≡ a) × IfSome p.1 (λ v. AreValuesFrom K x 0 (length first.first.items) (of_list K p.0.items) v.items))
-    c.requires.room c.requires.weights first.ensures.values.len
-    c.in_ok-low_sum-in-Halves.ensures.sum c.in_ok-high_sum-in-Halves.ensures.sum
-    (subst (λ v. AreValuesFrom K x 0 count (of_list K v) first.first.items) c.deref-in-Halves.ensures.value first.ensures.values)
-    (subst (AreValuesFrom K x 0 count (nodes K (drop half points))) (sym c.deref-in-Halves-4.ensures.value) values.high)
-    (subst (AreValuesFrom K x 0 count (of_list K c.in_ok-high_sum-in-Halves.high_sum.items)) (sym c.deref-in-Halves-5.ensures.value)
-    (subst (λ v. AreValuesFrom K x 0 count (of_list K v) second.second.items) c.deref-in-Halves-3.ensures.value second.ensures.values))
-    (subst (AreValuesFrom K x 0 count (nodes K (take half points))) (sym c.deref-in-Halves-6.ensures.value) values.low)
-    h).1)
-    c.sum_of_products.ensures.sum
+    weighed_by_parts K N table points weights low.points.now high.points.now us vs parts left right n (omega (arith, len, c.requires.part.room)) L R
+    (λ a. (of_list K p.0.items ≡ a) × IfSome p.1 (λ v. AreFirstValues K table n (of_list K p.0.items) v.items)) h)
+    c.sum_of_products.ensures.sum in
+    record {
+      sum = IfOk-weaker c.sum_of_products.result _ _ (λ p h. h.0) both;
+      few = IfOk-weaker c.sum_of_products.result _ _ (λ p h. omega (arith, h, len)) c.sum_of_products.ensures.few;
+      values = IfOk-weaker c.sum_of_products.result _ _ (λ p h. subst (λ m. IfSome p.1 (λ v. AreFirstValues K table m (of_list K p.0.items) v.items)) len h.1) both;
+    }

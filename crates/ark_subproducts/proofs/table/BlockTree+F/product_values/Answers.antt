@@ -11,12 +11,12 @@ use Rattle.ark_subproducts.proofs.table.BlockTree+F.product_values.Goals as goal
 pub extend-requires-clause-few : goal.extend-requires-clause-few
 extend-requires-clause-few g c =
     let K = g.F.Field.field in
-    let points = c.args.points.now in
+    let points = c.args.part.now.points.now in
     let n = length points in
     let tree = rw c.in-Halves.is at c.requires.tree in
     let is : of_list K c.coeffs.result.now ≡ nodes K points = ap (of_list K) c.coeffs.ensures.same ∙ tree.0 in
     let short = trimmed_length K c.coeffs.result.now (n + 1) c.coeffs.ensures.trimmed (subst (IsBelow K (n + 1)) (sym is) (nodes-below K g.met.F.Field.field_laws points)) in
-    omega (arith, short, c.in_ok-values.ensures.len, ap length c.deref.ensures.value, tree.1.low.len, c.requires.room, c.requires.not_empty)
+    omega (arith, short, c.in_ok-values.ensures.len, ap length c.deref.ensures.value, tree.1.low.len, c.requires.part.room, c.requires.not_empty)
 
 pub returns-clause-halved : goal.returns-clause-halved
 returns-clause-halved g c = subst IsHalved (sym c.in-Halves.is) tt
@@ -24,19 +24,19 @@ returns-clause-halved g c = subst IsHalved (sym c.in-Halves.is) tt
 pub returns-clause-values : goal.returns-clause-values
 returns-clause-values g c =
     let K = g.F.Field.field in
-    let roots = c.args.blocks.now in
-    let points = c.args.points.now in
+    let roots = c.args.part.now.blocks.now in
+    let points = c.args.part.now.points.now in
     let m = nodes K points in
     let tree = rw c.in-Halves.is at c.requires.tree in
     let left = c.deref.ensures.value in
     let right = c.deref-2.ensures.value in
     let all = c.in_ok-values.values.items in
-    let D : AreFirstValues K roots c.args.count m all =
-    values_of_whole K g.met.F.Field.field_laws roots points c.args.count c.in-Halves.low_values.items c.in-Halves.high_values.items all tree.1.low tree.1.high
+    let D : AreFirstValues K roots c.args.part.now.count m all =
+    values_of_whole K g.met.F.Field.field_laws roots points c.args.part.now.count c.in-Halves.low_values.items c.in-Halves.high_values.items all tree.1.low tree.1.high
     (c.in_ok-values.ensures.len ∙ ap length left)
     (λ i l. c.in_ok-values.ensures.products i (omega (arith, l, ap length left)) ∙ ap₂ (λ s t. K.times (of_list K s i) (of_list K t i)) left right) in
     let is : m ≡ of_list K c.coeffs.result.now = sym (ap (of_list K) c.coeffs.ensures.same ∙ tree.0) in
     let new = c.extend.new.values.items in
     subst (λ a. AreFirstValues K roots (size_of roots) a new) (sym is)
-    (subst (λ k. AreFirstValues K roots k (of_list K c.coeffs.result.now) new) c.requires.all
+    (subst (λ k. AreFirstValues K roots k (of_list K c.coeffs.result.now) new) c.requires.size
     (c.in_ok-extend.ensures.values (subst (λ a. AreFirstValues K roots (length all) a all) is (subst (λ k. AreFirstValues K roots k m all) (sym D.len) D))))

@@ -6,7 +6,7 @@ use Rattle.ark_math.specs.Field.{minus}
 use Rattle.ark_math.specs.Univariate.{of_list}
 use Rattle.ark_math.proofs.Lists.Lists.{written_back}
 use Rattle.ark_math.specs.AtPoints.{AreDifferent, HasValues}
-use Rattle.ark_subproducts.proofs.TableQuotients.{values_by_quotients}
+use Rattle.ark_subproducts.proofs.TableQuotients.{AreElements, AreMadeByQuotients, values_by_quotients}
 use Rattle.ark_subproducts.proofs.table.BlockTree+F.values.Goals as goal
 
 pub quotients-requires-clause-not_zero : goal.quotients-requires-clause-not_zero
@@ -19,15 +19,16 @@ pub returns : goal.returns
 returns g c =
     let K = g.F.Field.field in
     let N = g.met.F.Field.field_laws in
-    let roots = c.args.blocks.now in
+    let roots = c.args.part.now.blocks.now in
     let x = element_of K roots in
-    let points = c.args.points.now in
+    let points = c.args.part.now.points.now in
     let n = length points in
     let size = size_of roots in
-    let is : c.size-size.result ≡ size = c.size-size.ensures.size in
-    let rev : AreReversed K size x = subst (λ t. AreReversed K t x) is c.size-size.ensures.elements in
-    let different : AreDifferent size x = subst (λ t. AreDifferent t x) is c.size-size.ensures.different in
-    let two : IsPowerOfTwo size = subst IsPowerOfTwo is c.size-size.ensures.power in
+    let elements : AreElements K size x = subst (λ t. AreElements K t x) c.size-size.ensures.size (record {
+      reversed = c.size-size.ensures.elements;
+      different = c.size-size.ensures.different;
+      power = c.size-size.ensures.power;
+    }) in
     let U : AreFirstValues K roots size (nodes K points) c.in-Some.divisors.items = rw c.in-Some.is at c.in_ok-divisors.ensures.values in
     let known = c.args.known.now in
     let vs = c.in_ok-quotients.quotients.items in
@@ -36,15 +37,21 @@ returns g c =
     let len : length last ≡ n = c.multiply_by_gaps.ensures.len ∙ c.write_values_past.ensures.len ∙ ap length (c.as_mut_slice-items.ensures.value ∙ c.in_ok-values.ensures) ∙ length-replicate n K.zero in
     let back = written_back last _ c.in_ok-values.values.len (omega (arith, c.multiply_by_gaps.ensures.len, c.write_values_past.ensures.len, c.as_mut_slice-items.ensures.len)) in
     let one : c.one.result ≡ K.one = c.one.ensures ∙ g.met.F.Field.one_law in
+    let made : AreMadeByQuotients K roots points known c.in-Some.divisors.items vs ys last c.args.powers.now = record {
+      room = omega (arith, c.requires.part.room, c.requires.part.within);
+      product = U;
+      len = c.in_ok-quotients.ensures.len ∙ c.requires.known;
+      quotients = λ i l. c.in_ok-quotients.ensures.quotients i (omega (arith, l, c.requires.known));
+      raised = c.requires.powers;
+      past = c.in_ok-write_values_past.ensures.values;
+      values = λ i l.
+          c.multiply_by_gaps.ensures.products i (omega (arith, l, c.requires.powers.len))
+          ∙ ap (λ t. K.times (of_list K ys i) (minus K t (of_list K c.args.powers.now i))) one;
+    } in
     record {
       values = λ p short P. record {
         len = ap length back ∙ len;
         values = subst (λ v. HasValues K n (of_list K points) (of_list K v) p) (sym back)
-            (values_by_quotients K N roots points known c.in-Some.divisors.items vs ys last c.args.powers.now p rev different two (omega (arith, c.requires.room, c.requires.within)) U
-            (c.in_ok-quotients.ensures.len ∙ c.requires.known)
-            (λ i l. c.in_ok-quotients.ensures.quotients i (omega (arith, l, c.requires.known)))
-            c.requires.powers c.in_ok-write_values_past.ensures.values
-            (λ i l. c.multiply_by_gaps.ensures.products i (omega (arith, l, c.requires.powers.len)) ∙ ap (λ t. K.times (of_list K ys i) (minus K t (of_list K c.args.powers.now i))) one)
-            short P);
+            (values_by_quotients K N roots points known c.in-Some.divisors.items vs ys last c.args.powers.now p elements made short P);
       };
     }

@@ -3,30 +3,25 @@ use Rattle.std.proofs.lemmas.List.{length-drop, take_all}
 use Rattle.ark_math.specs.Univariate.{of_list}
 use Rattle.ark_math.specs.Nodes.{nodes}
 use Rattle.ark_math.specs.AtPoints.{AreValuesAt}
-use Rattle.ark_subproducts.specs.Tree.{IsMonic, whole}
-use Rattle.ark_subproducts.proofs.Nodes.{nodes_monic, tree-whole}
+use Rattle.ark_subproducts.specs.Tree.{IsTreeOver}
 use Rattle.ark_subproducts.proofs.Remainders.{values_by_halves}
 use Rattle.ark_subproducts.proofs.tree.SubproductTree+F.+values.Goals as goal
 
 pub remainder-requires : goal.remainder-requires
 remainder-requires g t c =
     let K = g.F.Field.field in
-    let N = g.met.F.Field.field_laws in
     let points = c.args.points.now in
     let front = take (length points / 2) points in
     let tree = rw c.in-Halves.is at c.requires.tree in
-    let is : of_list K c.product.result.now ≡ nodes K front = ap (of_list K) (c.product.ensures ∙ ap (λ t. whole t) c.deref-in-Halves.ensures) ∙ tree-whole K N front c.in-Halves.low.value tree.2 in
-    record { monic = (length front, subst (IsMonic K (length front)) (sym is) (nodes_monic K N front)) }
+    record { monic = (length front, c.product.ensures.monic front (subst (IsTreeOver K front) (sym c.deref-in-Halves.ensures) tree.2)) }
 
 pub remainder-requires-in-Halves : goal.remainder-requires-in-Halves
 remainder-requires-in-Halves g t c =
     let K = g.F.Field.field in
-    let N = g.met.F.Field.field_laws in
     let points = c.args.points.now in
     let back = drop (length points / 2) points in
     let tree = rw c.in-Halves.is at c.requires.tree in
-    let is : of_list K c.product-in-Halves.result.now ≡ nodes K back = ap (of_list K) (c.product-in-Halves.ensures ∙ ap (λ t. whole t) c.deref-in-Halves-2.ensures) ∙ tree-whole K N back c.in-Halves.high.value tree.3 in
-    record { monic = (length back, subst (IsMonic K (length back)) (sym is) (nodes_monic K N back)) }
+    record { monic = (length back, c.product-in-Halves.ensures.monic back (subst (IsTreeOver K back) (sym c.deref-in-Halves-2.ensures) tree.3)) }
 
 pub returns-in_ok-extend_from_slice-in-Halves-clause-values : goal.returns-in_ok-extend_from_slice-in-Halves-clause-values
 returns-in_ok-extend_from_slice-in-Halves-clause-values g t c =
@@ -38,8 +33,8 @@ returns-in_ok-extend_from_slice-in-Halves-clause-values g t c =
     let back = drop half points in
     let a = of_list K c.args.polynomial.now in
     let tree = rw c.in-Halves.is at c.requires.tree in
-    let is_low : of_list K c.product.result.now ≡ nodes K front = ap (of_list K) (c.product.ensures ∙ ap (λ t. whole t) c.deref-in-Halves.ensures) ∙ tree-whole K N front c.in-Halves.low.value tree.2 in
-    let is_high : of_list K c.product-in-Halves.result.now ≡ nodes K back = ap (of_list K) (c.product-in-Halves.ensures ∙ ap (λ t. whole t) c.deref-in-Halves-2.ensures) ∙ tree-whole K N back c.in-Halves.high.value tree.3 in
+    let is_low : of_list K c.product.result.now ≡ nodes K front = c.product.ensures.product front (subst (IsTreeOver K front) (sym c.deref-in-Halves.ensures) tree.2) in
+    let is_high : of_list K c.product-in-Halves.result.now ≡ nodes K back = c.product-in-Halves.ensures.product back (subst (IsTreeOver K back) (sym c.deref-in-Halves-2.ensures) tree.3) in
     let rest : take (length points - half) back ≡ back = take_all (length points - half) back (omega (arith, length-drop half points)) in
     let v = c.in_ok-values-in-Halves.values.items in
     let w = c.in_ok-others-in-Halves.others.items in

@@ -1,9 +1,8 @@
-use Rattle.std.proofs.Common.{◌≡◌, ◌-◌, ◌/◌, length, take, drop, ap, ap₂, ◌∙◌, arith}
+use Rattle.std.proofs.Common.{◌≡◌, ◌-◌, ◌/◌, length, take, drop, sym, subst, ap, ap₂, ◌∙◌, arith}
 use Rattle.std.proofs.lemmas.List.{length-drop, take_all}
 use Rattle.ark_math.specs.Univariate.{added, of_list, product}
 use Rattle.ark_math.specs.Nodes.{nodes}
-use Rattle.ark_subproducts.specs.Tree.{weighed, whole}
-use Rattle.ark_subproducts.proofs.Nodes.{tree-whole}
+use Rattle.ark_subproducts.specs.Tree.{IsTreeOver, weighed}
 use Rattle.ark_subproducts.proofs.Weighed.{weighed-halves}
 use Rattle.ark_subproducts.proofs.tree.SubproductTree+F.+weighed.Goals as goal
 
@@ -17,8 +16,8 @@ returns-in_ok-add-in-Halves-clause-sum g t c =
     let front = take half points in
     let back = drop half points in
     let tree = rw c.in-Halves.is at c.requires.tree in
-    let high : of_list K c.product.result.now ≡ nodes K back = ap (of_list K) (c.product.ensures ∙ ap (λ t. whole t) c.deref-in-Halves-3.ensures) ∙ tree-whole K N back c.in-Halves.high.value tree.3 in
-    let low : of_list K c.product-in-Halves.result.now ≡ nodes K front = ap (of_list K) (c.product-in-Halves.ensures ∙ ap (λ t. whole t) c.deref-in-Halves-4.ensures) ∙ tree-whole K N front c.in-Halves.low.value tree.2 in
+    let high : of_list K c.product.result.now ≡ nodes K back = c.product.ensures.product back (subst (IsTreeOver K back) (sym c.deref-in-Halves-3.ensures) tree.3) in
+    let low : of_list K c.product-in-Halves.result.now ≡ nodes K front = c.product-in-Halves.ensures.product front (subst (IsTreeOver K front) (sym c.deref-in-Halves-4.ensures) tree.2) in
     let upper : take (length points - half) back ≡ back = take_all (length points - half) back (omega (arith, length-drop half points)) in
     let more : take (length weights - half) (drop half weights) ≡ drop half weights = take_all (length weights - half) (drop half weights) (omega (arith, length-drop half weights)) in
     let left : of_list K c.in_ok-first-in-Halves.first ≡ product K (weighed K front (of_list K (take half weights))) (nodes K back) =
