@@ -6,7 +6,7 @@ use Rattle.ark_math.proofs.Polynomials.UnivariateLoops.{cut, cut-inside, cut-out
 use Rattle.ark_math.proofs.Polynomials.UnivariateProducts.{value-product}
 use Rattle.ark_math.proofs.Polynomials.UnivariateValues.{value-added}
 use Rattle.ark_blocks.specs.Blocks.{AreReversed, AreValuesFrom, IsPowerOfTwo}
-use Rattle.ark_blocks.proofs.Runs.{values_wrapped}
+use Rattle.ark_blocks.proofs.Callers.Runs.{values_wrapped}
 
 module _ {F : Type 0} (K : FieldOn F) (N : IsField K) where
   -- what has the values of a polynomial below start + n at n elements where x ^ n is one has its coefficients from start on

@@ -3,7 +3,7 @@
 use Rattle.std.proofs.Common.{◌≡◌, ℕ, ◌+◌, ◌-◌, ◌/◌, ◌<◌, ◌≤◌, List, ◌++◌, length, take, drop, Vec, sym, ◌∙◌, ap, ap₂, subst, arith}
 use Rattle.std.proofs.lemmas.List.{take-append-drop}
 use Rattle.std.specs.declared.alloc.Global.{Global}
-use Rattle.ark_blocks.proofs.PowersOfTwo.{two_halves}
+use Rattle.ark_blocks.proofs.Callers.PowersOfTwo.{two_halves}
 use Rattle.ark_blocks.specs.Blocks.{AreFirstValues, size_of}
 use Rattle.ark_math.specs.Field.{FieldOn, IsField}
 use Rattle.ark_math.specs.Univariate.{IsBelow, of_list, product, scaled}

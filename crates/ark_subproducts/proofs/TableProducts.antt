@@ -15,9 +15,9 @@ use Rattle.ark_math.proofs.Polynomials.UnivariateLists.{of_list-past}
 use Rattle.ark_math.proofs.Polynomials.UnivariateLoops.{cut, cut-inside, cut-outside}
 use Rattle.ark_math.proofs.Numbers.PowersOfTwo.{pow_twice}
 use Rattle.ark_blocks.specs.Blocks.{AreFirstValues, AreReversed, AreValuesFrom, IsPowerOfTwo}
-use Rattle.ark_blocks.proofs.PowersOfTwo.{half_is_power}
-use Rattle.ark_blocks.proofs.Padded.{item_behind, whole_blocks}
-use Rattle.ark_blocks.proofs.Runs.{values_wrapped}
+use Rattle.ark_blocks.proofs.Callers.PowersOfTwo.{half_is_power}
+use Rattle.ark_blocks.proofs.Callers.Padded.{item_behind, whole_blocks}
+use Rattle.ark_blocks.proofs.Callers.Runs.{values_wrapped}
 use Rattle.ark_subproducts.specs.Tree.{IsBegun}
 
 -- twice a power of two below 2 ^ 64 isn't above it

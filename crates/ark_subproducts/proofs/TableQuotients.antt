@@ -13,14 +13,14 @@ use Rattle.ark_math.proofs.Polynomials.UnivariateValues.{has_value, value_below-
 use Rattle.ark_math.proofs.Polynomials.Zeros.{same_from_values}
 use Rattle.ark_blocks.specs.Blocks.{AreFirstValues, AreReversed, IsPowerOfTwo, element_of, size_of}
 use Rattle.ark_math.specs.Nodes.{nodes}
-use Rattle.ark_blocks.proofs.Runs.{power_at_first, values-product}
-use Rattle.ark_blocks.proofs.Splits.{value_by_halves, value_of_same}
+use Rattle.ark_blocks.proofs.Callers.Runs.{power_at_first, values-product}
+use Rattle.ark_blocks.proofs.Callers.Splits.{value_by_halves, value_of_same}
 use Rattle.ark_math.specs.AtPoints.{AreDifferent, HasValues}
 use Rattle.ark_subproducts.specs.Steps.{ArePowers}
 use Rattle.ark_subproducts.specs.Tree.{IsMonic}
 use Rattle.ark_math.proofs.AtPoints.Lagrange.{through_values}
 use Rattle.ark_subproducts.proofs.Nodes.{nodes-halves, nodes-zero, nodes_monic}
-use Rattle.ark_blocks.proofs.PowersOfTwo.{some_power}
+use Rattle.ark_blocks.proofs.Callers.PowersOfTwo.{some_power}
 
 -- elements in bit-reversed order, all different, as many as a power of two
 pub record AreElements {F : Type 0} (K : FieldOn F) (size : ℕ) (x : ℕ → F) : Type 0 where

@@ -1,4 +1,4 @@
-//! SubproductTree and remainders of polynomials, through transforms where the field has domains for them.
+//! Products and remainders of polynomials, through transforms where the field has domains for them.
 
 ghost use Rattle.std.specs.Prelude.{◌≡◌, ℕ, IfOk, IsOkUnless};
 ghost use Rattle.ark_math.specs.Univariate.{IsQuotient, of_list, product};

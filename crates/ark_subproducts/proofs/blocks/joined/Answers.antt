@@ -1,7 +1,7 @@
 use Rattle.std.proofs.Common.{◌≡◌, ◌+◌, ◌-◌, ◌/◌, ◌<◌, length, take, drop, sym, ap, ap₂, subst, subst₂, ◌∙◌, arith, IfSome}
 use Rattle.std.proofs.lemmas.List.{length-drop, length-take-le}
 use Rattle.ark_blocks.specs.Blocks.{AreFirstValues, IsPowerOfTwo}
-use Rattle.ark_blocks.proofs.PowersOfTwo.{two_halves}
+use Rattle.ark_blocks.proofs.Callers.PowersOfTwo.{two_halves}
 use Rattle.ark_math.specs.Univariate.{of_list, product}
 use Rattle.ark_math.specs.Nodes.{nodes}
 use Rattle.ark_subproducts.specs.Tree.{AreValuesOver, IsBlockTreeOver, IsProductOver, IsTreeOfPart}

@@ -2,7 +2,7 @@ use Rattle.std.proofs.Common.{rules, ◌≢◌, ◌*◌, ◌/◌, ◌<◌, sym, 
 use Rattle.std.proofs.lemmas.Bool.{false≢true}
 use Rattle.ark_blocks.specs.Blocks.{element_of}
 use Rattle.ark_math.specs.Field.{power}
-use Rattle.ark_blocks.proofs.PowersOfTwo.{half_is_power, some_power, two_halves}
+use Rattle.ark_blocks.proofs.Callers.PowersOfTwo.{half_is_power, some_power, two_halves}
 use Rattle.ark_subproducts.proofs.RootPlaces.{second_root, square_of_root}
 use Rattle.ark_subproducts.proofs.roots.+index_of.Goals as goal
 

@@ -13,7 +13,7 @@ pub quotients-requires-clause-not_zero : goal.quotients-requires-clause-not_zero
 quotients-requires-clause-not_zero g c = λ i l.
     let K = g.F.Field.field in
     let U = (rw c.in-Some.is at c.in_ok-divisors.ensures.values) in
-    λ e. c.has_zero.ensures c.if-has_zero.false i (omega (arith, l, ap length c.deref.ensures.value, U.len, c.requires.known)) (ap (λ t. of_list K t i) c.deref.ensures.value ∙ e)
+    λ e. c.has_zero.ensures.none c.if-has_zero.false i (omega (arith, l, ap length c.deref.ensures.value, U.len, c.requires.known)) (ap (λ t. of_list K t i) c.deref.ensures.value ∙ e)
 
 pub returns : goal.returns
 returns g c =
