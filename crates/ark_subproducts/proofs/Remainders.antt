@@ -1,14 +1,10 @@
 -- Values at points of what is left of a polynomial by the product of x - z over them, and by those over both halves.
-use Rattle.std.proofs.Common.{◌≡◌, ℕ, ◌/◌, ◌<◌, List, ◌++◌, length, take, drop, refl, sym, ◌∙◌, subst, arith}
+use Rattle.std.proofs.Common.{◌≡◌, ℕ, ◌/◌, ◌<◌, List, ◌++◌, length, take, drop, ◌∙◌, subst, arith}
 use Rattle.std.proofs.lemmas.List.{length-append, length-drop, length-take-le, take-append-drop}
 use Rattle.ark_math.specs.Field.{FieldOn, IsField}
-use Rattle.ark_math.specs.Univariate.{IsQuotient, IsValue, added, of_list, product}
-use Rattle.ark_math.proofs.Algebra.Ring.{ring2}
-use Rattle.ark_math.proofs.Algebra.Solve.{◌⊗◌, ◌⊕◌, nought}
-use Rattle.ark_math.proofs.Polynomials.UnivariateProducts.{value-product}
-use Rattle.ark_math.proofs.Polynomials.UnivariateValues.{has_value, value-added}
+use Rattle.ark_math.specs.Univariate.{IsQuotient}
 use Rattle.ark_math.specs.Nodes.{nodes}
-use Rattle.ark_math.specs.AtPoints.{AreValuesAt, HasValues}
+use Rattle.ark_math.specs.AtPoints.{AreValuesAt}
 use Rattle.ark_subproducts.proofs.Callers.Values.{values_of_remainder}
 use Rattle.ark_subproducts.proofs.PointParts.{values-joined}
 

@@ -1,6 +1,6 @@
 -- Products by blocks: their coefficients from those of a polynomial with the same values at the first elements of a table, and the
 -- sizes that halves of the roots go by.
-use Rattle.std.proofs.Common.{◌≡◌, ℕ, zero, suc, ◌+◌, ◌-◌, ◌*◌, ◌/◌, ◌^◌, ◌<◌, ◌≤◌, List, ◌++◌, length, take, Option, Some, None, IfSome, Vec, refl, sym, ◌∙◌, ap, ap₂, subst, arith, pow_mono, inl, inr}
+use Rattle.std.proofs.Common.{◌≡◌, ℕ, suc, ◌+◌, ◌-◌, ◌*◌, ◌/◌, ◌^◌, ◌<◌, ◌≤◌, List, ◌++◌, length, take, Option, Some, None, IfSome, Vec, refl, sym, ◌∙◌, ap, ap₂, subst, arith, pow_mono, inl, inr}
 use Rattle.std.specs.declared.alloc.Global.{Global}
 use mathlib.Core.Path.{fun_ext}
 use Rattle.std.proofs.lemmas.Bool.{cases_lt}

@@ -96,7 +96,7 @@ module _ {F : Type 0} (K : FieldOn F) (N : IsField K) (size n : ℕ) (x m p g u 
 -- quotients' polynomial times it has past the elements' number, and these times what is left of one without a power
 pub record AreMadeByQuotients {F : Type 0} (K : FieldOn F) (roots points known u v ys zs powers : List F) : Type 0 where
   pub room : length points ≤ size_of roots
-  pub product : AreFirstValues K roots (size_of roots) (nodes K points) u
+  pub divisors : AreFirstValues K roots (size_of roots) (nodes K points) u
   pub len : length v ≡ size_of roots
   pub quotients : (i : ℕ) → i < size_of roots → of_list K known i ≡ K.times (of_list K u i) (of_list K v i)
   pub raised : ArePowers K (size_of roots) points powers
@@ -131,7 +131,7 @@ module _ {F : Type 0} (K : FieldOn F) (N : IsField K) (roots points : List F) wh
       (record {
         room = made.room;
         monic = nodes_monic K N points;
-        divisor = at (nodes K points) u made.product;
+        divisor = at (nodes K points) u made.divisors;
         quotient = h.2;
         dividend = λ j b. subst (IsValue K p (x j)) (made.quotients j b) (at p known P j b);
         short = short;

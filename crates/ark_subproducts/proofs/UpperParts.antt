@@ -1,21 +1,16 @@
 -- What a product has from a place on, by what its factors have.
-use Rattle.std.proofs.Common.{◌≡◌, ℕ, suc, ◌+◌, ◌-◌, ◌*◌, ◌<◌, ◌≤◌, List, length, drop, min, sym, ◌∙◌, ap, ap₂, refl, arith, inl, inr}
+use Rattle.std.proofs.Common.{◌≡◌, ℕ, suc, ◌+◌, ◌-◌, ◌<◌, ◌≤◌, List, length, drop, min, sym, ◌∙◌, ap, ap₂, arith, inl, inr}
 use mathlib.Core.Path.{fun_ext}
 use Rattle.std.proofs.lemmas.Bool.{cases_lt}
 use Rattle.std.proofs.lemmas.List.{get_or-drop}
-use Rattle.ark_math.specs.Field.{FieldOn, IsField, minus, power}
+use Rattle.ark_math.specs.Field.{FieldOn, IsField}
 use Rattle.ark_math.specs.Module.{itself, sum_below}
-use Rattle.ark_math.specs.Domain.{Domain}
-use Rattle.ark_math.specs.Univariate.{IsBelow, IsQuotient, added, difference, monomial, of_list, product}
-use Rattle.ark_math.specs.Points.{vanishing}
+use Rattle.ark_math.specs.Univariate.{IsBelow, of_list, product}
 use Rattle.ark_math.proofs.Algebra.Groups.{itself_is_module, scale_zero, zero_plus, zero_scale}
 use Rattle.ark_math.proofs.Algebra.Regrouped.{sum_below-past, sum_below-zero}
-use Rattle.ark_math.proofs.Algebra.Solve.{◌⊕◌, ◌⊖◌, ◌⊗◌, nought, unit}
 use Rattle.ark_math.proofs.Algebra.Sums.{sum_below-add, sum_below-same}
-use Rattle.ark_math.proofs.Algebra.Ring.{ring2}
-use Rattle.ark_math.proofs.OverDomains.Vanishing.{vanishing-quotient}
 use Rattle.ark_math.proofs.Polynomials.UnivariateLists.{of_list-below, of_list-past}
-use Rattle.ark_math.proofs.Polynomials.UnivariateProducts.{difference-product, monomial-product_past, product-below, product_assoc, product_comm}
+use Rattle.ark_math.proofs.Polynomials.UnivariateProducts.{product-below}
 
 -- the coefficients from a place on, moved down to zero
 abbrev pub past : {F : Type 0} → ℕ → (ℕ → F) → ℕ → F

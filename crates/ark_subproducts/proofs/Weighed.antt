@@ -1,5 +1,5 @@
 -- Sums of weights times products without a factor, and the derivative of such a product.
-use Rattle.std.proofs.Common.{◌≡◌, ◌≢◌, ℕ, zero, suc, ◌+◌, ◌<◌, ◌≤◌, List, [], ◌∷◌, ◌++◌, length, take, drop, refl, sym, ◌∙◌, ap, ap₂, subst, arith}
+use Rattle.std.proofs.Common.{◌≡◌, ℕ, zero, suc, ◌+◌, ◌-◌, ◌<◌, ◌≤◌, List, [], ◌∷◌, ◌++◌, length, take, drop, refl, sym, ◌∙◌, ap, ap₂, subst, arith}
 use mathlib.Core.Path.{fun_ext}
 use Rattle.std.proofs.lemmas.List.{get_or-append_right, get_or_append_left, length-take-le, take-append-drop}
 use Rattle.ark_math.specs.Field.{FieldOn, IsField, minus, natural}
@@ -13,8 +13,7 @@ use Rattle.ark_math.proofs.Polynomials.UnivariateLists.{of_list-below}
 use Rattle.ark_math.proofs.Polynomials.UnivariateProducts.{product_comm, product_assoc, product-added, added-product, product-below, one-product, nothing-product, constant-product, value-product}
 use Rattle.ark_math.proofs.Polynomials.UnivariateValues.{has_value, one_value, value-added, value-scaled}
 use Rattle.ark_math.proofs.Polynomials.LinearFactors.{linear-product, nodes-joined}
-use Rattle.ark_subproducts.proofs.Nodes.{cofactor, cofactor-below, cofactor-other, cofactor-whole, nodes-below, nodes-zero}
-use Rattle.ark_math.specs.AtPoints.{AreDifferent, HasValues}
+use Rattle.ark_subproducts.proofs.Nodes.{cofactor, cofactor-below, nodes-below, nodes-zero}
 use Rattle.ark_math.specs.Nodes.{nodes}
 use Rattle.ark_subproducts.specs.Tree.{derived, weighed}
 

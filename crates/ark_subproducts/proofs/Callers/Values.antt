@@ -1,6 +1,6 @@
 -- Values at the points of a subproduct tree: of what is left by the product of x - z over them, and of sums of weights times the
 -- products over the others.
-use Rattle.std.proofs.Common.{◌≡◌, ◌≢◌, ℕ, ◌<◌, List, length, sym, ◌∙◌, ap, subst, arith}
+use Rattle.std.proofs.Common.{◌≡◌, ◌≢◌, ℕ, ◌<◌, List, length, refl, sym, ◌∙◌, ap, subst, arith}
 use Rattle.ark_math.specs.Field.{FieldOn, IsField}
 use Rattle.ark_math.specs.Univariate.{IsQuotient, IsValue, added, of_list, product}
 use Rattle.ark_math.proofs.Algebra.Ring.{ring2}

@@ -1,4 +1,4 @@
-use Rattle.std.proofs.Common.{◌≡◌, ◌+◌, ◌-◌, ◌/◌, ◌<◌, length, take, drop, sym, ap, ap₂, subst, subst₂, ◌∙◌, arith, IfSome}
+use Rattle.std.proofs.Common.{◌≡◌, ◌/◌, length, take, drop, sym, ap, ap₂, subst, subst₂, ◌∙◌, arith, IfSome}
 use Rattle.std.proofs.lemmas.List.{length-drop, length-take-le}
 use Rattle.ark_blocks.specs.Blocks.{AreFirstValues, IsPowerOfTwo}
 use Rattle.ark_blocks.proofs.Callers.PowersOfTwo.{two_halves}

@@ -1,4 +1,4 @@
-use Rattle.std.proofs.Common.{rules, ℕ, ◌≡◌, ◌-◌, ◌/◌, ◌<◌, ◌++◌, List, length, take, drop, sym, ap, ap₂, subst, subst₂, ◌∙◌, arith, IfOk, IfSome}
+use Rattle.std.proofs.Common.{rules, ℕ, ◌≡◌, ◌/◌, ◌++◌, List, length, take, drop, sym, ap, ap₂, subst, subst₂, ◌∙◌, arith, IfOk, IfSome}
 use Rattle.std.proofs.lemmas.List.{length-drop, length-take-le, take-append-drop}
 use Rattle.std.proofs.lemmas.Result.{IfOk-weaker}
 use Rattle.ark_blocks.specs.Blocks.{AreFirstValues}

@@ -1,13 +1,11 @@
-use Rattle.std.proofs.Common.{rules, ◌≡◌, ◌+◌, ◌-◌, ◌/◌, ◌<◌, ◌≤◌, ◌++◌, length, take, drop, refl, sym, ap, subst, subst₂, ◌∙◌, arith}
+use Rattle.std.proofs.Common.{rules, ◌≡◌, ◌-◌, ◌/◌, ◌<◌, ◌++◌, length, take, drop, sym, ap, subst, subst₂, ◌∙◌, arith}
 use Rattle.std.proofs.lemmas.List.{length-drop, length-take-le}
 use Rattle.std.proofs.lemmas.Result.{on_ok_weaker}
-use Rattle.ark_math.specs.Univariate.{of_list, scaled}
+use Rattle.ark_math.specs.Univariate.{scaled}
 use Rattle.ark_math.specs.Nodes.{nodes}
-use Rattle.ark_blocks.specs.Blocks.{AreFirstValues}
 use Rattle.ark_subproducts.specs.Tree.{AreValuesOver, IsGivenTo, IsScaledRemainderBefore, IsScaledRemainder, Represents, RepresentsMultiple}
 use Rattle.ark_subproducts.proofs.PointParts.{high_part, low_part, values-joined}
-use Rattle.ark_subproducts.proofs.MiddleProducts.{GoesDown, HasEnough, half-count, half-middle, halves-joined, tree_of_half, values_of_half, values_over_half}
-use Rattle.ark_subproducts.proofs.Nodes.{own_end}
+use Rattle.ark_subproducts.proofs.MiddleProducts.{half-count, half-middle, halves-joined, tree_of_half, values_of_half, values_over_half}
 use Rattle.ark_subproducts.proofs.blocks.BlockTree+F.+write_values_from.Goals as goal
 
 pub middle_product-requires-clause-middle : goal.middle_product-requires-clause-middle
@@ -30,7 +28,7 @@ write_values_from-requires g t c κs within =
     let tree = rw c.in-Halves.is at c.requires.tree in
     let some : 0 < length half.points.now = omega (arith, ap length is.points, length-take-le (length points / 2) points (omega arith), tree.1.many) in
     let fewer : length half.points.now < length points = omega (arith, ap length is.points, length-take-le (length points / 2) points (omega arith), tree.1.many) in (
-      fewer,
+      omega (arith, fewer),
       (
         search rules,
         (
@@ -69,7 +67,7 @@ write_values_from-requires-in-Halves g t c κs within =
     let tree = rw c.in-Halves.is at c.requires.tree in
     let some : 0 < length half.points.now = omega (arith, ap length is.points, length-drop (length points / 2) points, tree.1.many) in
     let fewer : length half.points.now < length points = omega (arith, ap length is.points, length-drop (length points / 2) points, tree.1.many) in (
-      fewer,
+      omega (arith, fewer),
       (
         search rules,
         (

@@ -1,4 +1,4 @@
-use Rattle.std.proofs.Common.{◌∙◌, ap, length}
+use Rattle.std.proofs.Common.{◌∙◌, ap}
 use Rattle.ark_math.specs.Univariate.{of_list}
 use Rattle.ark_subproducts.proofs.Nodes.{nodes-length}
 use Rattle.ark_subproducts.proofs.blocks.BlockTree+F.coeffs.Goals as goal

@@ -1,4 +1,3 @@
-use Rattle.std.proofs.Common.{length}
 use Rattle.ark_subproducts.proofs.TableProducts.{begun_from_half}
 use Rattle.ark_subproducts.proofs.halves.Part.values_from_half.Goals as goal
 

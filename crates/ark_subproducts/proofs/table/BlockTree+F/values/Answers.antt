@@ -1,11 +1,11 @@
 use Rattle.std.proofs.Common.{◌≡◌, length, sym, ap, subst, ◌∙◌, arith}
 use Rattle.std.proofs.lemmas.List.{length-replicate}
-use Rattle.ark_blocks.specs.Blocks.{AreFirstValues, AreReversed, IsPowerOfTwo, element_of, size_of}
+use Rattle.ark_blocks.specs.Blocks.{AreFirstValues, element_of, size_of}
 use Rattle.ark_math.specs.Nodes.{nodes}
 use Rattle.ark_math.specs.Field.{minus}
 use Rattle.ark_math.specs.Univariate.{of_list}
 use Rattle.ark_math.proofs.Lists.Lists.{written_back}
-use Rattle.ark_math.specs.AtPoints.{AreDifferent, HasValues}
+use Rattle.ark_math.specs.AtPoints.{HasValues}
 use Rattle.ark_subproducts.proofs.TableQuotients.{AreElements, AreMadeByQuotients, values_by_quotients}
 use Rattle.ark_subproducts.proofs.table.BlockTree+F.values.Goals as goal
 
@@ -39,7 +39,7 @@ returns g c =
     let one : c.one.result ≡ K.one = c.one.ensures ∙ g.met.F.Field.one_law in
     let made : AreMadeByQuotients K roots points known c.in-Some.divisors.items vs ys last c.args.powers.now = record {
       room = omega (arith, c.requires.part.room, c.requires.part.within);
-      product = U;
+      divisors = U;
       len = c.in_ok-quotients.ensures.len ∙ c.requires.known;
       quotients = λ i l. c.in_ok-quotients.ensures.quotients i (omega (arith, l, c.requires.known));
       raised = c.requires.powers;

@@ -1,9 +1,9 @@
-use Rattle.std.proofs.Common.{◌≡◌, ◌-◌, ◌/◌, length, take, drop, sym, subst, ap, ap₂, ◌∙◌, arith}
+use Rattle.std.proofs.Common.{◌≡◌, ◌-◌, ◌/◌, length, take, drop, sym, subst, ap₂, ◌∙◌, arith}
 use Rattle.std.proofs.lemmas.List.{length-drop, take_all}
-use Rattle.ark_math.specs.Univariate.{added, of_list, product}
+use Rattle.ark_math.specs.Univariate.{IsBelow, added, of_list, product}
 use Rattle.ark_math.specs.Nodes.{nodes}
 use Rattle.ark_subproducts.specs.Tree.{IsTreeOver, weighed}
-use Rattle.ark_subproducts.proofs.Weighed.{weighed-halves}
+use Rattle.ark_subproducts.proofs.Weighed.{weighed-below, weighed-halves}
 use Rattle.ark_subproducts.proofs.tree.SubproductTree+F.+weighed.Goals as goal
 
 pub returns-in_ok-add-in-Halves-clause-sum : goal.returns-in_ok-add-in-Halves-clause-sum
@@ -25,3 +25,18 @@ returns-in_ok-add-in-Halves-clause-sum g t c =
     let right : of_list K c.in_ok-second-in-Halves.second ≡ product K (weighed K back (of_list K (drop half weights))) (nodes K front) =
     c.in_ok-second-in-Halves.ensures.product ∙ ap₂ (product K) (c.in_ok-of_high-in-Halves.ensures.sum ∙ ap₂ (λ t u. weighed K t (of_list K u)) upper more) low in
     c.in_ok-add-in-Halves.ensures.sum ∙ ap₂ (added K) left right ∙ weighed-halves K N points weights half (omega arith) c.requires.len
+
+pub returns-in_ok-coeffs-in-Few-Plain-clause-below : goal.returns-in_ok-coeffs-in-Few-Plain-clause-below
+returns-in_ok-coeffs-in-Few-Plain-clause-below g t c =
+    subst (IsBelow g.F.Field.field (length c.args.points.now)) (sym (c.from_coefficients_vec.ensures.coefficients ∙ c.in_ok-coeffs-in-Few-Plain.ensures.sum))
+    (weighed-below g.F.Field.field g.met.F.Field.field_laws c.args.points.now (of_list g.F.Field.field c.args.weights.now))
+
+pub returns-in_ok-coeffs-in-Few-Blocks-clause-below : goal.returns-in_ok-coeffs-in-Few-Blocks-clause-below
+returns-in_ok-coeffs-in-Few-Blocks-clause-below g t c =
+    subst (IsBelow g.F.Field.field (length c.args.points.now)) (sym (c.from_coefficients_vec-in-Few-Blocks.ensures.coefficients ∙ c.in_ok-coeffs-in-Few-Blocks.ensures.sum))
+    (weighed-below g.F.Field.field g.met.F.Field.field_laws c.args.points.now (of_list g.F.Field.field c.args.weights.now))
+
+pub returns-in_ok-add-in-Halves-clause-below : goal.returns-in_ok-add-in-Halves-clause-below
+returns-in_ok-add-in-Halves-clause-below g t c =
+    subst (IsBelow g.F.Field.field (length c.args.points.now)) (sym (returns-in_ok-add-in-Halves-clause-sum g t c))
+    (weighed-below g.F.Field.field g.met.F.Field.field_laws c.args.points.now (of_list g.F.Field.field c.args.weights.now))
