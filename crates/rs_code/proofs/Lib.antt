@@ -3,6 +3,7 @@ pub mod ChosenFactors
 pub mod Distance
 pub mod Divided
 pub mod Factors
+pub mod FirstPlaces
 pub mod Kept
 pub mod Locators
 pub mod Lost
@@ -14,4 +15,3 @@ pub mod Refused
 pub mod Restored
 pub mod Sizes
 pub mod Spent
-pub mod Systematic

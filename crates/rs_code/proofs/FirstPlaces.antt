@@ -1,8 +1,8 @@
 -- Words of which the first places alone are kept.
-use Rattle.std.proofs.Common.{◌≡◌, ℕ, zero, suc, ◌+◌, ◌-◌, ◌<◌, ◌≤◌, inl, inr, Bool, true, false, List, ◌++◌, length, get_or, take, cond, length-append, sym, ◌∙◌, ap, refl, arith, true≢false}
+use Rattle.std.proofs.Common.{◌≡◌, ℕ, zero, suc, ◌+◌, ◌-◌, ◌<◌, ◌≤◌, inl, inr, Bool, true, false, List, ◌++◌, length, get_or, map, take, cond, length-append, sym, ◌∙◌, ap, refl, arith, true≢false}
 use Rattle.std.specs.Prelude.{replicate}
 use Rattle.std.proofs.lemmas.Bool.{cases_lt}
-use Rattle.std.proofs.lemmas.List.{ext_get_or, get_or-take, length-replicate, length-take-le}
+use Rattle.std.proofs.lemmas.List.{ext_get_or, get_or-take, length-map, length-replicate, length-take-le, map-append, take-append-le, take_all}
 use Rattle.std.proofs.lemmas.List.Sums.{sum_by-cons}
 use Rattle.ark_math.specs.Module.{ModuleOn, item}
 use Rattle.rs_code.specs.Codeword.{AgreesElsewhere, after_first, mark_count}
@@ -69,3 +69,20 @@ module _ {F M : Type 0} (V : ModuleOn F M) (k n : ℕ) (message word : List M) w
   agrees_at_first other begins is i e =
       let l = first_kept k n i e in
       sym (get_or-take k other i V.zero l) ∙ ap (λ t. get_or t i V.zero) (begins ∙ sym is) ∙ get_or-take k word i V.zero l
+
+-- a message with more behind it, and its meanings
+module _ {F M X : Type 0} (V : ModuleOn F M) (meaning : X → M) (k n : ℕ) (message more word : List X) (len : length message ≡ k) (is : word ≡ message ++ more) where
+  first : take k (map meaning word) ≡ map meaning message
+  first =
+      ap (λ w. take k (map meaning w)) is ∙ ap (take k) (map-append meaning message more)
+      ∙ take-append-le k (map meaning message) (map meaning more) (omega (arith, len, length-map message meaning))
+      ∙ take_all k (map meaning message) (omega (arith, len, length-map message meaning))
+
+  long : k ≤ length (map meaning word)
+  long = omega (arith, len, length-map word meaning, ap length is, length-append message more)
+
+  pub begins_with_message : (c : List M) → k ≤ length c → AgreesElsewhere V (after_first k n) (map meaning word) c → take k c ≡ map meaning message
+  begins_with_message c room agrees = begins_with V k n (map meaning message) (map meaning word) c room long first agrees
+
+  pub agrees_by_message : (other : List M) → take k other ≡ map meaning message → AgreesElsewhere V (after_first k n) (map meaning word) other
+  agrees_by_message other begins = agrees_at_first V k n (map meaning message) (map meaning word) other begins first
