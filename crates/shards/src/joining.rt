@@ -82,14 +82,14 @@ pub fn join_file<C: StripeCode, R: Files + Eprint + AllocGlobal>(
     let mut output = Vec::new(alloc);
     output.push(String::from_str(alloc, words.file)?)?;
     let names = &names[..code.k()];
-    let open = OpenPieces {
+    let opened = OpenPieces {
         chosen: first_needed(&code, &pieces, &places),
         digest: pieces[0].header.digest,
         names,
         sources: open_bodies(rt, alloc, names)?,
     };
     let file = create_beside(rt, alloc, words.file, words.force)?;
-    let written = write_file(rt, &code, words, open, file);
+    let written = write_file(rt, &code, words, opened, file);
     finish(rt, alloc, &output, written)
 }
 
@@ -188,17 +188,17 @@ fn write_file<C: StripeCode, R: Files + Eprint + AllocGlobal>(
     rt: &R,
     code: &C,
     words: &JoinWords<'_>,
-    open: OpenPieces<'_, R::File>,
+    opened: OpenPieces<'_, R::File>,
     output: R::File,
 ) -> Result<()>
-    requires places { length open.chosen.places.now ≡ C.k_of code.now }
-    requires below { (a : ℕ) → a < length open.chosen.places.now → get_or open.chosen.places.now a 0 < C.n_of code.now }
-    requires sources { length open.sources.items ≡ C.k_of code.now }
+    requires places { length opened.chosen.places.now ≡ C.k_of code.now }
+    requires below { (a : ℕ) → a < length opened.chosen.places.now → get_or opened.chosen.places.now a 0 < C.n_of code.now }
+    requires sources { length opened.sources.items ≡ C.k_of code.now }
 {
-    let mut sources = open.sources;
+    let mut sources = opened.sources;
     let mut sink = Watched::new(IoSink::new(output), rt, words.progress, "joined");
-    match join_into(rt.alloc(), code, &open.chosen, &mut sources, &mut sink) {
-        Ok(digest) if digest == open.digest => {
+    match join_into(rt.alloc(), code, &opened.chosen, &mut sources, &mut sink) {
+        Ok(digest) if digest == opened.digest => {
             let file = sink.into_inner().into_inner();
             file.sync_all()
                 .context(format_args!("writing {}", words.file))
@@ -206,7 +206,7 @@ fn write_file<C: StripeCode, R: Files + Eprint + AllocGlobal>(
         Ok(_) => bail!("the pieces do not give the file"),
         Err(StreamError::Read(i)) => bail!(
             "reading {} failed",
-            open.names.get(i).copied().unwrap_or("a piece")
+            opened.names.get(i).copied().unwrap_or("a piece")
         ),
         Err(StreamError::Write(_)) => bail!("writing {} failed", words.file),
         Err(error) => bail!("{error}"),

@@ -108,13 +108,12 @@ impl<F: NumberField, const N: usize> StripeCode for RowCode<F, N> {
     ) -> Result<(), AllocError> {
         let decoder = self.decoder(alloc, given.places)?;
         let weights = self.weights(alloc, &decoder, given.places)?;
-        let restorer = Restorer {
-            code: self,
+        let way = Restoration {
             given,
-            decoder,
+            decoder: &decoder,
             weights,
         };
-        restorer.restore_groups(alloc, items)
+        self.restore_groups(alloc, &way, items)
     }
 }
 
@@ -178,6 +177,69 @@ impl<F: NumberField, const N: usize> RowCode<F, N> {
         }
     }
 
+    // The items of all stripes, a group at a time.
+    fn restore_groups(
+        &self,
+        alloc: Global,
+        way: &Restoration<'_, F, N>,
+        items: &mut [u16],
+    ) -> Result<(), AllocError>
+        requires way { Restores F.field F.root self.now.code self.now.n way.now.decoder.now
+            way.now.given.now.places.now way.now.weights.items }
+        requires items { length items.old ≡ way.now.given.now.stripes * self.now.code.k }
+        ensures { OnOk result ((s : ℕ) (stripe : ℕ → ℕ) → s < way.now.given.now.stripes
+            → ((j : ℕ) → j < self.now.code.k → stripe j < 2 ^ 16)
+            → ((a : ℕ) → a < self.now.code.k
+            → get_or way.now.given.now.numbers.now (a * way.now.given.now.stripes + s) 0
+            ≡ number_at_place F.field F.root F.number self.now.code.k self.now.n stripe
+            (get_or way.now.given.now.places.now a 0))
+            → (j : ℕ) → j < self.now.code.k → get_or items.new (s * self.now.code.k + j) 0 ≡ stripe j) }
+    {
+        let stripes = way.given.stripes;
+        for index in 0..groups(stripes, N) {
+            let first = index * N;
+            let group = StripeGroup {
+                first,
+                count: N.min(stripes - first),
+                all: stripes,
+            };
+            self.restore_group(alloc, way, group, items)?;
+        }
+        Ok(())
+    }
+
+    // The items of a group.
+    fn restore_group(
+        &self,
+        alloc: Global,
+        way: &Restoration<'_, F, N>,
+        group: StripeGroup,
+        items: &mut [u16],
+    ) -> Result<(), AllocError>
+        requires way { Restores F.field F.root self.now.code self.now.n way.now.decoder.now
+            way.now.given.now.places.now way.now.weights.items }
+        requires count { group.count ≤ N }
+        requires stripes { group.all ≡ way.now.given.now.stripes }
+        requires items { length items.old ≡ group.all * self.now.code.k }
+        ensures written { OnOk result ((t : ℕ) (stripe : ℕ → ℕ) → t < group.count
+            → ((j : ℕ) → j < self.now.code.k → stripe j < 2 ^ 16)
+            → ((a : ℕ) → a < self.now.code.k
+            → get_or way.now.given.now.numbers.now (a * group.all + (group.first + t)) 0
+            ≡ number_at_place F.field F.root F.number self.now.code.k self.now.n stripe
+            (get_or way.now.given.now.places.now a 0))
+            → (j : ℕ) → j < self.now.code.k
+            → get_or items.new ((group.first + t) * self.now.code.k + j) 0 ≡ stripe j) }
+        ensures kept { OnOk result ((p : ℕ) → p < group.first * self.now.code.k
+            → get_or items.new p 0 ≡ get_or items.old p 0) }
+    {
+        let k = self.code.k();
+        let size = self.code.n();
+        let word = word_rows::<F, N>(alloc, size, way.given, group)?;
+        let message = self.messages(alloc, way, &word)?;
+        put_stripes(&message, k, group, items);
+        Ok(())
+    }
+
     // What each value at a kept place counts in the items of a message, the inverse of a Vandermonde matrix, where the
     // items are no more than the lanes; else nothing.
     fn weights(
@@ -201,6 +263,30 @@ impl<F: NumberField, const N: usize> RowCode<F, N> {
         }
         let units = unit_rows::<F, N>(alloc, size, places)?;
         self.message(alloc, decoder, &units)
+    }
+
+    // The messages of which words have the values at the given places.
+    fn messages(
+        &self,
+        alloc: Global,
+        way: &Restoration<'_, F, N>,
+        word: &[Row<F, N>],
+    ) -> Result<Vec<Row<F, N>>, AllocError>
+        requires way { Restores F.field F.root self.now.code self.now.n way.now.decoder.now
+            way.now.given.now.places.now way.now.weights.items }
+        requires len { length word.now ≡ self.now.code.domain.size }
+        ensures len { IfOk result (λ m. length m.items ≡ self.now.code.k) }
+        ensures only { IfOk result (λ m. (t : ℕ) (items : ℕ → F) → t < N
+            → ((a : ℕ) → a < self.now.code.k → entry F.field word.now (get_or way.now.given.now.places.now a 0) t
+            ≡ value_at_place F.field F.root self.now.code.k self.now.n items
+            (get_or way.now.given.now.places.now a 0))
+            → (j : ℕ) → j < self.now.code.k → entry F.field m.items j t ≡ items j) }
+    {
+        let weights: &[Row<F, N>] = &way.weights;
+        if weights.is_empty() {
+            return self.message(alloc, way.decoder, word);
+        }
+        combined(alloc, weights, word, way.given.places)
     }
 
     // The messages of which words have the values at the kept places. As many places as a message has items are kept, so
@@ -228,90 +314,12 @@ impl<F: NumberField, const N: usize> RowCode<F, N> {
     }
 }
 
-// Stripes that are restored from their numbers at places: by weights, where there are some, else by transforms.
+// Stripes that are restored from their numbers at places: by weights, where there are some, else by the decoder.
 #[derive(Drop)]
-struct Restorer<'a, F: NumberField, const N: usize> {
-    code: &'a RowCode<F, N>,
+struct Restoration<'a, F: NumberField, const N: usize> {
     given: &'a PlacedNumbers<'a>,
-    decoder: DomainDecoder<F, Radix2EvaluationDomain<F>>,
+    decoder: &'a DomainDecoder<F, Radix2EvaluationDomain<F>>,
     weights: Vec<Row<F, N>>,
-}
-
-impl<'a, F: NumberField, const N: usize> Restorer<'a, F, N> {
-    // The items of all stripes, a group at a time.
-    fn restore_groups(&self, alloc: Global, items: &mut [u16]) -> Result<(), AllocError>
-        requires way { Restores F.field F.root self.now.code.now.code self.now.code.now.n self.now.decoder
-            self.now.given.now.places.now self.now.weights.items }
-        requires items { length items.old ≡ self.now.given.now.stripes * self.now.code.now.code.k }
-        ensures { OnOk result ((s : ℕ) (stripe : ℕ → ℕ) → s < self.now.given.now.stripes
-            → ((j : ℕ) → j < self.now.code.now.code.k → stripe j < 2 ^ 16)
-            → ((a : ℕ) → a < self.now.code.now.code.k
-            → get_or self.now.given.now.numbers.now (a * self.now.given.now.stripes + s) 0
-            ≡ number_at_place F.field F.root F.number self.now.code.now.code.k self.now.code.now.n stripe
-            (get_or self.now.given.now.places.now a 0))
-            → (j : ℕ) → j < self.now.code.now.code.k → get_or items.new (s * self.now.code.now.code.k + j) 0 ≡ stripe j) }
-    {
-        let stripes = self.given.stripes;
-        for index in 0..groups(stripes, N) {
-            let first = index * N;
-            let group = StripeGroup {
-                first,
-                count: N.min(stripes - first),
-                all: stripes,
-            };
-            self.restore_group(alloc, group, items)?;
-        }
-        Ok(())
-    }
-
-    // The items of a group.
-    fn restore_group(
-        &self,
-        alloc: Global,
-        group: StripeGroup,
-        items: &mut [u16],
-    ) -> Result<(), AllocError>
-        requires way { Restores F.field F.root self.now.code.now.code self.now.code.now.n self.now.decoder
-            self.now.given.now.places.now self.now.weights.items }
-        requires count { group.count ≤ N }
-        requires stripes { group.all ≡ self.now.given.now.stripes }
-        requires items { length items.old ≡ group.all * self.now.code.now.code.k }
-        ensures written { OnOk result ((t : ℕ) (stripe : ℕ → ℕ) → t < group.count
-            → ((j : ℕ) → j < self.now.code.now.code.k → stripe j < 2 ^ 16)
-            → ((a : ℕ) → a < self.now.code.now.code.k
-            → get_or self.now.given.now.numbers.now (a * group.all + (group.first + t)) 0
-            ≡ number_at_place F.field F.root F.number self.now.code.now.code.k self.now.code.now.n stripe
-            (get_or self.now.given.now.places.now a 0))
-            → (j : ℕ) → j < self.now.code.now.code.k
-            → get_or items.new ((group.first + t) * self.now.code.now.code.k + j) 0 ≡ stripe j) }
-        ensures kept { OnOk result ((p : ℕ) → p < group.first * self.now.code.now.code.k
-            → get_or items.new p 0 ≡ get_or items.old p 0) }
-    {
-        let k = self.code.code.k();
-        let size = self.code.code.n();
-        let word = word_rows::<F, N>(alloc, size, self.given, group)?;
-        let message = self.messages(alloc, &word)?;
-        put_stripes(&message, k, group, items);
-        Ok(())
-    }
-
-    // The messages of which words have the values at the given places.
-    fn messages(&self, alloc: Global, word: &[Row<F, N>]) -> Result<Vec<Row<F, N>>, AllocError>
-        requires way { Restores F.field F.root self.now.code.now.code self.now.code.now.n self.now.decoder
-            self.now.given.now.places.now self.now.weights.items }
-        requires len { length word.now ≡ self.now.code.now.code.domain.size }
-        ensures len { IfOk result (λ m. length m.items ≡ self.now.code.now.code.k) }
-        ensures only { IfOk result (λ m. (t : ℕ) (items : ℕ → F) → t < N
-            → ((a : ℕ) → a < self.now.code.now.code.k → entry F.field word.now (get_or self.now.given.now.places.now a 0) t
-            ≡ value_at_place F.field F.root self.now.code.now.code.k self.now.code.now.n items
-            (get_or self.now.given.now.places.now a 0))
-            → (j : ℕ) → j < self.now.code.now.code.k → entry F.field m.items j t ≡ items j) }
-    {
-        if self.weights.is_empty() {
-            return self.code.message(alloc, &self.decoder, word);
-        }
-        combined(alloc, &self.weights, word, self.given.places)
-    }
 }
 
 // What refused memory is here: no other error comes.

@@ -1,12 +1,11 @@
 use Rattle.std.proofs.Common.{rules}
-use Rattle.shards_lib.proofs.Room.{last_part}
 use Rattle.shards_lib.proofs.stripes.RowCodeStripeCode.restore.Goals as goal
 
 pub restore_groups-requires : goal.restore_groups-requires
 restore_groups-requires g c = (
   search rules,
   (
-    search (rules, last_part),
+    search rules,
     (
       record {
         code_is = c.in_ok-decoder.ensures.code;

@@ -1,19 +1,18 @@
 use Rattle.std.proofs.Common.{◌≡◌, ℕ, ◌+◌, ◌*◌, ◌<◌, get_or, inl, inr, arith, rules, refl, sym, ◌∙◌, subst}
 use Rattle.shards_lib.specs.Numbers.{number_at_place}
 use Rattle.shards_lib.proofs.Windows.{below_rows, in_group, row_place}
-use Rattle.shards_lib.proofs.Room.{last_part}
-use Rattle.shards_lib.proofs.stripes.Restorer.restore_groups.Goals as goal
+use Rattle.shards_lib.proofs.stripes.RowCode.restore_groups.Goals as goal
 
 pub loop-index-preserved : goal.loop-index-preserved
 loop-index-preserved g c = λ s stripe l h small.
     let self = c.args.self.now in
-    let code = self.code.now in
-    let k = code.code.k in
+    let way = c.args.way.now in
+    let k = self.code.k in
     let group = c.loop-index.index in
-    let stripes = self.given.now.stripes in
-    let number = number_at_place g.F.Field.field g.F.FftField.root g.F.NumberField.number k code.n stripe in
-    let places = self.given.now.places.now in
-    let numbers = self.given.now.numbers.now in
+    let stripes = way.given.now.stripes in
+    let number = number_at_place g.F.Field.field g.F.FftField.root g.F.NumberField.number k self.n stripe in
+    let places = way.given.now.places.now in
+    let numbers = way.given.now.numbers.now in
     elim (in_group group g.row.N s l) [
       | inl before ↦ λ numbered j m.
           let p = row_place s j (group * g.row.N) k before m in
@@ -38,7 +37,7 @@ pub restore_group-requires : goal.restore_group-requires
 restore_group-requires g c = (
   search rules,
   (
-    search (rules, last_part),
+    search rules,
     (
       c.requires.way,
       (

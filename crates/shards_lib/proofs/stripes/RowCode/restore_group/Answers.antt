@@ -4,7 +4,7 @@ use Rattle.shards_lib.specs.Numbers.{value_at_place}
 use Rattle.shards_lib.specs.Rows.{entry}
 use Rattle.shards_lib.proofs.Windows.{below_rows}
 use Rattle.shards_lib.proofs.Room.{last_part}
-use Rattle.shards_lib.proofs.stripes.Restorer.restore_group.Goals as goal
+use Rattle.shards_lib.proofs.stripes.RowCode.restore_group.Goals as goal
 
 pub word_rows-requires : goal.word_rows-requires
 word_rows-requires g c = (
@@ -13,8 +13,8 @@ word_rows-requires g c = (
     c.requires.count,
     (
       c.requires.stripes,
-      λ a l. subst (λ m. get_or c.args.self.now.given.now.places.now a 0 < m) (sym c.n-size.ensures)
-          (let below = c.requires.way.below a l in let room = c.args.self.now.code.now.room in omega (arith, below, room)),
+      λ a l. subst (λ m. get_or c.args.way.now.given.now.places.now a 0 < m) (sym c.n-size.ensures)
+          (let below = c.requires.way.below a l in let room = c.args.self.now.room in omega (arith, below, room)),
     ),
   ),
 )
@@ -23,10 +23,13 @@ pub messages-requires : goal.messages-requires
 messages-requires g c = (
   search rules,
   (
-    search (rules, last_part),
+    search rules,
     (
-      c.requires.way,
-      ap length c.deref.ensures.value ∙ c.in_ok-word.ensures.len ∙ c.n-size.ensures,
+      search (rules, last_part),
+      (
+        c.requires.way,
+        ap length c.deref.ensures.value ∙ c.in_ok-word.ensures.len ∙ c.n-size.ensures,
+      ),
     ),
   ),
 )
@@ -53,12 +56,12 @@ returns-clause-written g c = λ t stripe b small numbered j l.
     let number = g.F.NumberField.number in
     let root = g.F.FftField.root in
     let self = c.args.self.now in
-    let k = self.code.now.code.k in
-    let n = self.code.now.n in
+    let k = self.code.k in
+    let n = self.n in
     let q = c.k-k.result in
     let e : q ≡ k = c.k-k.ensures in
     let first = c.args.group.first in
-    let places = self.given.now.places.now in
+    let places = c.args.way.now.given.now.places.now in
     let inside : j < q = subst (λ x. j < x) (sym e) l in
     let rows = c.deref-2.result.now in
     let count = c.requires.count in
