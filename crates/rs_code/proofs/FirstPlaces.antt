@@ -1,10 +1,10 @@
 -- Words of which the first places alone are kept.
-use Rattle.std.proofs.Common.{◌≡◌, ℕ, zero, suc, ◌+◌, ◌-◌, ◌<◌, ◌≤◌, inl, inr, Bool, true, false, List, ◌++◌, length, get_or, map, take, cond, length-append, sym, ◌∙◌, ap, refl, arith, true≢false}
+use Rattle.std.proofs.Common.{◌≡◌, ℕ, zero, suc, ◌-◌, ◌<◌, ◌≤◌, inl, inr, Bool, true, false, List, ◌++◌, length, get_or, map, take, drop, cond, length-append, sym, ◌∙◌, ap, refl, arith, true≢false}
 use Rattle.std.specs.Prelude.{replicate}
 use Rattle.std.proofs.lemmas.Bool.{cases_lt}
-use Rattle.std.proofs.lemmas.List.{ext_get_or, get_or-take, length-map, length-replicate, length-take-le, map-append, take-append-le, take_all}
+use Rattle.std.proofs.lemmas.List.{drop-append-le, drop_all, ext_get_or, get_or-take, length-map, length-replicate, length-take-le, map-append, take-append-le, take_all}
 use Rattle.std.proofs.lemmas.List.Sums.{sum_by-cons}
-use Rattle.ark_math.specs.Module.{ModuleOn, item}
+use Rattle.ark_math.specs.Module.{ModuleOn}
 use Rattle.rs_code.specs.Codeword.{AgreesElsewhere, after_first, mark_count}
 
 marked : (m : ℕ) → mark_count (replicate m true) ≡ m
@@ -46,9 +46,9 @@ front (suc k) (suc i) marks l = front k i marks (omega (arith, l))
 -- a place without a mark is one of the first k
 pub first_kept : (k n i : ℕ) → get_or (after_first k n) i true ≡ false → i < k
 first_kept k n i e = elim (cases_lt i k) [
-    | inl l ↦ l
-    | inr past ↦ absurd (true≢false (sym (behind k (n - k) i past) ∙ e))
-  ]
+  | inl l ↦ l
+  | inr past ↦ absurd (true≢false (sym (behind k (n - k) i past) ∙ e))
+]
 
 -- and these have none
 pub kept_first : (k n i : ℕ) → i < k → get_or (after_first k n) i true ≡ false
@@ -70,13 +70,21 @@ module _ {F M : Type 0} (V : ModuleOn F M) (k n : ℕ) (message word : List M) w
       let l = first_kept k n i e in
       sym (get_or-take k other i V.zero l) ∙ ap (λ t. get_or t i V.zero) (begins ∙ sym is) ∙ get_or-take k word i V.zero l
 
+-- what stands behind so many items
+pub behind_first : {M : Type 0} (k : ℕ) (xs ys zs : List M) → length xs ≡ k → xs ++ ys ≡ zs → ys ≡ drop k zs
+behind_first k xs ys zs len is =
+    sym (drop-append-le k xs ys (omega (arith, len)) ∙ ap (λ t. t ++ ys) (drop_all k xs (omega (arith, len)))) ∙ ap (drop k) is
+
+-- and these
+pub first_of : {M : Type 0} (k : ℕ) (xs ys : List M) → length xs ≡ k → take k (xs ++ ys) ≡ xs
+first_of k xs ys len = take-append-le k xs ys (omega (arith, len)) ∙ take_all k xs (omega (arith, len))
+
 -- a message with more behind it, and its meanings
 module _ {F M X : Type 0} (V : ModuleOn F M) (meaning : X → M) (k n : ℕ) (message more word : List X) (len : length message ≡ k) (is : word ≡ message ++ more) where
   first : take k (map meaning word) ≡ map meaning message
   first =
       ap (λ w. take k (map meaning w)) is ∙ ap (take k) (map-append meaning message more)
-      ∙ take-append-le k (map meaning message) (map meaning more) (omega (arith, len, length-map message meaning))
-      ∙ take_all k (map meaning message) (omega (arith, len, length-map message meaning))
+      ∙ first_of k (map meaning message) (map meaning more) (length-map message meaning ∙ len)
 
   long : k ≤ length (map meaning word)
   long = omega (arith, len, length-map word meaning, ap length is, length-append message more)

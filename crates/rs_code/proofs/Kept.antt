@@ -1,6 +1,6 @@
 -- The marked places of a subgroup and the kept ones: together they are the roots of x ^ n - 1, so at a marked place the
 -- derivative of the one polynomial comes from the value of the other.
-use Rattle.std.proofs.Common.{◌≡◌, ◌≢◌, ℕ, zero, suc, ◌+◌, ◌-◌, ◌<◌, Bool, true, false, List, [], ◌∷◌, ◌++◌, length, map, get_or, cond, sym, ◌∙◌, ap, ap₂, refl, subst, arith, ⊎_elim}
+use Rattle.std.proofs.Common.{◌≡◌, ◌≢◌, ℕ, zero, suc, ◌+◌, ◌<◌, Bool, true, false, List, [], ◌∷◌, ◌++◌, length, map, get_or, cond, sym, ◌∙◌, ap, ap₂, refl, subst, arith, ⊎_elim}
 use mathlib.Core.Path.{fun_ext}
 use Rattle.std.specs.Prelude.{not}
 use Rattle.std.proofs.lemmas.Bool.{cases_eq}

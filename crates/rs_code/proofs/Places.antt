@@ -1,10 +1,9 @@
 -- Reads of places, beginnings of lists, and words with places erased as marks and values.
-use Rattle.std.proofs.Common.{◌≡◌, ℕ, zero, suc, ◌+◌, ◌-◌, ◌<◌, ◌≤◌, Bool, true, false, List, [], ◌∷◌, ◌++◌, length, map, get_or, take, drop, length-drop, Option, Some, None, unwrap_or, cond, if◌then◌else◌, sym, ◌∙◌, ap, ap₂, refl, arith, true≢false, ⊎_elim}
+use Rattle.std.proofs.Common.{◌≡◌, ℕ, zero, suc, ◌<◌, ◌≤◌, Bool, true, false, List, [], ◌∷◌, length, map, get_or, drop, Option, Some, None, unwrap_or, cond, if◌then◌else◌, sym, ◌∙◌, ap, ap₂, refl, arith, true≢false, ⊎_elim}
 use Rattle.std.specs.Prelude.{is_none}
 use Rattle.std.proofs.lemmas.Bool.{cases_lt}
 use Rattle.std.proofs.lemmas.Option.{none-some}
 use Rattle.std.proofs.lemmas.List.{get_or-map, get_or_past, length-map}
-use Rattle.std.proofs.Math.Seq.{take-length}
 use Rattle.std.proofs.lemmas.List.Sums.{sum_by-cons}
 use Rattle.ark_math.specs.Field.{FieldOn, IsField}
 use Rattle.ark_math.specs.Module.{ModuleOn, IsModule}

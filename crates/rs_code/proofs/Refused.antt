@@ -1,12 +1,12 @@
 -- Refusals: that one is right, and one told in other words.
-use Rattle.std.proofs.Common.{◌≡◌, ◌≢◌, ℕ, ◌+◌, ◌≤◌, List, Result, Err, subst, subst₂, arith}
+use Rattle.std.proofs.Common.{◌≡◌, ◌≢◌, ◌⊎◌, inl, inr, ℕ, ◌+◌, ◌≤◌, List, Result, Ok, Err, IfErr, refl, subst, subst₂, arith}
 use Rattle.ark_math.specs.Field.{FieldOn}
 use Rattle.ark_math.specs.Module.{ModuleOn}
 use Rattle.rs_code.specs.Code.{CodeOver}
 use Rattle.rs_code.specs.Codeword.{IsCodeword}
 use Rattle.rs_code.specs.Refusals.{RefusesRightly}
 use Rattle.rs_code.specs.declared.error.RsError.{RsError}
-use Rattle.rs_code.specs.declared.error.RsError.TheVariants.{WrongLength, TooManyErased, NoCodeword}
+use Rattle.rs_code.specs.declared.error.RsError.TheVariants.{Memory, WrongLength, TooManyErased, NoCodeword}
 
 module _ {F M X : Type 0} (K : FieldOn F) (V : ModuleOn F M) (r : Result X RsError) where
   -- of a word with values that no codeword has, where a place is to spare
@@ -30,3 +30,11 @@ module _ {F M X : Type 0} (K : FieldOn F) (V : ModuleOn F M) (r : Result X RsErr
         always = h.always;
       } in
       subst (λ x. RefusesRightly K V x more others Same r) code (subst₂ (λ p e. RefusesRightly K V c p e Same r) places_are erased_are first)
+
+-- that no other errors come
+pub few_errors : {X : Type 0} (r : Result X RsError) → r ≢ Err TooManyErased → r ≢ Err NoCodeword → IfErr r (λ e. (e ≡ Memory) ⊎ (e ≡ WrongLength))
+few_errors (Ok x) many none = tt
+few_errors (Err Memory) many none = inl refl
+few_errors (Err WrongLength) many none = inr refl
+few_errors (Err TooManyErased) many none = absurd (many refl)
+few_errors (Err NoCodeword) many none = absurd (none refl)

@@ -1,11 +1,64 @@
-use Rattle.std.proofs.Common.{ℕ}
+-- The word is the message with zeros behind it, and all places but the first k are marked.
+use Rattle.std.proofs.Common.{◌≡◌, ◌-◌, ◌≤◌, ◌++◌, length, map, take, subst, sym, ap, ◌∙◌, arith}
+use Rattle.std.specs.Prelude.{replicate}
+use Rattle.std.proofs.lemmas.List.{take_all}
+use Rattle.std.specs.Vec.{vec_len}
+use Rattle.ark_math.proofs.Callers.Transforms.{transform-length}
+use Rattle.ark_math.proofs.Outcomes.Results.{IfOk_both, IfOk_more}
+use Rattle.rs_code.specs.Codeword.{AgreesElsewhere, IsCodeword, mark_count}
+use Rattle.rs_code.proofs.FirstPlaces.{agrees_by_message, begins_with_message, mark_count-after_first}
+use Rattle.rs_code.proofs.Refused.{few_errors}
 use Rattle.rs_code.proofs.code.DomainCode.encode_systematic.Goals as goal
 
 pub returns-clause-systematic : goal.returns-clause-systematic
-returns-clause-systematic g c = let a : ℕ = c.in_ok-extend_from_slice.ensures.items in ?
+returns-clause-systematic g c =
+    let K = g.F.Field.field in
+    let V = g.T.DomainCoeff.group in
+    let m = g.T.DomainCoeff.meaning in
+    let code = c.args.self.now in
+    let n = code.domain.size in
+    let message = c.args.message.now in
+    let fits : code.k ≤ n = subst (λ r. r.k ≤ r.domain.size) c.self.view_is c.self.invariant.fits in
+    let len : length message ≡ code.k = omega (arith, c.if-message-self.false, ap (λ r. r.k) c.self.view_is) in
+    let zeros = replicate (c.n-2.result - vec_len c.extend_from_slice.new.self) c.zero.result in
+    let is : c.deref.result.now ≡ message ++ zeros =
+    c.deref.ensures.value ∙ c.in_ok-resize.ensures.items
+    ∙ ap (λ t. t ++ zeros) (ap (take c.n-2.result) (c.in_ok-extend_from_slice.ensures.items ∙ ap (λ t. t ++ message) c.in_ok-word.ensures.items)
+    ∙ take_all c.n-2.result message (omega (arith, len, fits, c.n-2.ensures))) in
+    IfOk_both c.restore.result
+    (λ v agrees codeword.
+    begins_with_message V m code.k n message zeros c.deref.result.now len is (map m v.items)
+    (omega (arith, fits, ap length codeword.2, transform-length K V c.in_ok-decoder.decoder.code.domain codeword.0, ap (λ r. r.domain.size) c.in_ok-decoder.ensures.code))
+    (subst (λ e. AgreesElsewhere V e (map m c.deref.result.now) (map m v.items)) c.in_ok-decoder.ensures.erased agrees))
+    c.restore.ensures.agrees c.restore.ensures.codeword
 
 pub returns-clause-only : goal.returns-clause-only
-returns-clause-only g c = let a : ℕ = c.in_ok-resize.ensures.items in ?
+returns-clause-only g c =
+    let K = g.F.Field.field in
+    let V = g.T.DomainCoeff.group in
+    let m = g.T.DomainCoeff.meaning in
+    let code = c.args.self.now in
+    let n = code.domain.size in
+    let message = c.args.message.now in
+    let fits : code.k ≤ n = subst (λ r. r.k ≤ r.domain.size) c.self.view_is c.self.invariant.fits in
+    let len : length message ≡ code.k = omega (arith, c.if-message-self.false, ap (λ r. r.k) c.self.view_is) in
+    let zeros = replicate (c.n-2.result - vec_len c.extend_from_slice.new.self) c.zero.result in
+    let is : c.deref.result.now ≡ message ++ zeros =
+    c.deref.ensures.value ∙ c.in_ok-resize.ensures.items
+    ∙ ap (λ t. t ++ zeros) (ap (take c.n-2.result) (c.in_ok-extend_from_slice.ensures.items ∙ ap (λ t. t ++ message) c.in_ok-word.ensures.items)
+    ∙ take_all c.n-2.result message (omega (arith, len, fits, c.n-2.ensures))) in
+    IfOk_more c.restore.result
+    (λ v only other codeword begins.
+    only other
+    (subst (λ r. IsCodeword K V r.domain r.k other) (sym c.in_ok-decoder.ensures.code) codeword)
+    (subst (λ e. AgreesElsewhere V e (map m c.deref.result.now) other) (sym c.in_ok-decoder.ensures.erased)
+    (agrees_by_message V m code.k n message zeros c.deref.result.now len is other begins)))
+    c.restore.ensures.only
 
 pub returns-clause-errors : goal.returns-clause-errors
-returns-clause-errors g c = let a : ℕ = c.restore.ensures.refused in ?
+returns-clause-errors g c =
+    let code = c.args.self.now in
+    let fits : code.k ≤ code.domain.size = subst (λ r. r.k ≤ r.domain.size) c.self.view_is c.self.invariant.fits in
+    few_errors c.restore.result c.restore.ensures.never_too_many
+    (c.restore.ensures.refused.always
+    (omega (arith, fits, ap (λ r. r.k) c.in_ok-decoder.ensures.code, ap (λ r. r.domain.size) c.in_ok-decoder.ensures.code, ap mark_count c.in_ok-decoder.ensures.erased, mark_count-after_first code.k code.domain.size)))
