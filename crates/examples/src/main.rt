@@ -227,7 +227,12 @@ fn print_held<R: Print>(rt: &R, alloc: Global) -> anyhow::Result<()> {
     let values = held(alloc, &message)?;
     print_list(rt, alloc, "of eight values, five of them lost", &values)?;
     let items = held_as_they_are(alloc, &message)?;
-    print_list(rt, alloc, "of eight values, the first three and two more lost", &items)?;
+    print_list(
+        rt,
+        alloc,
+        "of eight values, the first three and two more lost",
+        &items,
+    )?;
     let right = with_sixth(alloc, &message, F65537::from(56578))?;
     print_list(rt, alloc, "of eight values, all of them right", &right)?;
     if let Err(refused) = with_sixth(alloc, &message, F65537::from(0)) {

@@ -109,12 +109,11 @@ fn reading_failed(file: &str, error: StreamError) -> anyhow::Error {
     }
 }
 
-// The files of the pieces, in the order of their names, with nothing written yet.
+// The files of the pieces, in the order of their names.
 #[derive(Drop)]
 struct PieceFiles<'a, F: Write + Drop> {
     names: &'a [String],
     writers: Vec<PieceWriter<IoSink<F>>>,
-    ghost new: { (i : ℕ) (d : _) → i < length writers.items → HasHashed (get_or writers.items i d) [] },
 }
 
 // Writes the pieces beside their names, to the end: that a disk is full may come late.
@@ -126,6 +125,8 @@ fn write_pieces<C: StripeCode, R: Files + Eprint + AllocGlobal>(
     pieces: PieceFiles<'_, R::File>,
 ) -> Result<()>
     requires writers { length pieces.writers.items ≡ C.n_of code.now }
+    requires new { (i : ℕ) (d : _) → i < length pieces.writers.items
+        → HasHashed (get_or pieces.writers.items i d) [] }
 {
     let PieceFiles { names, mut writers } = pieces;
     let mut source = open_watched(rt, words, "split")?;
@@ -162,7 +163,7 @@ fn new_writers<R: Files>(
     ensures new { IfOk result (λ writers. (i : ℕ) (d : _) → i < length writers.items
         → HasHashed (get_or writers.items i d) []) }
 {
-    // With room for all, so that none is made that is not handed on.
+    // With room for all, so that each that is made is given back.
     let mut writers = Vec::with_capacity(alloc, names.len())?;
     for i in 0..names.len() {
         match create_beside(rt, alloc, &names[i], force) {
