@@ -99,6 +99,7 @@ impl<M: PrimeModulus> PrimeField<M> {
         self.value
     }
 
+    // The element of a word, by a division.
     fn reduce(value: u64) -> Self
         ensures { result.value ≡ value % M.MODULUS }
     {

@@ -5,43 +5,9 @@ ghost use Rattle.ark_math.specs.Field.{minus, power};
 ghost use Rattle.ark_math.specs.Module.{itself, sum_below};
 ghost use Rattle.ark_math.specs.Univariate.{of_list};
 
+use ark_coeffs::dense::multiply_each;
 use ark_traits::Field;
 use std::alloc::{AllocError, Global};
-
-/// Multiplies each item by the other list's.
-pub fn multiply_places<F: Field>(items: &mut [F], others: &[F])
-    requires { length others.now ≡ length items.old }
-    ensures len { length items.new ≡ length items.old }
-    ensures products { (i : ℕ) → i < length items.old → of_list F.field items.new i
-        ≡ F.field.times (of_list F.field items.old i) (of_list F.field others.now i) }
-{
-    for i in 0..others.len() {
-        items[i] = items[i] * others[i];
-    }
-}
-
-/// Subtracts from each item the other list's, as far as that goes.
-pub fn subtract<F: Field>(items: &mut [F], others: &[F])
-    requires { length others.now ≤ length items.old }
-    ensures len { length items.new ≡ length items.old }
-    ensures differences { (i : ℕ) → i < length items.old → of_list F.field items.new i
-        ≡ minus F.field (of_list F.field items.old i) (of_list F.field others.now i) }
-{
-    for i in 0..others.len() {
-        items[i] = items[i] - others[i];
-    }
-}
-
-/// Multiplies each item by the factor.
-pub fn scale_each<F: Field>(items: &mut [F], factor: F)
-    ensures len { length items.new ≡ length items.old }
-    ensures products { (i : ℕ) → i < length items.old → of_list F.field items.new i
-        ≡ F.field.times (of_list F.field items.old i) factor }
-{
-    for i in 0..items.len() {
-        items[i] = items[i] * factor;
-    }
-}
 
 /// Whether an item is zero.
 pub fn has_zero<F: Field>(items: &[F]) -> bool
@@ -124,7 +90,7 @@ pub fn place_products<F: Field>(
 {
     let mut products = Vec::with_capacity(alloc, room)?;
     products.extend_from_slice(left)?;
-    multiply_places(products.as_mut_slice(), right);
+    multiply_each(products.as_mut_slice(), right);
     Ok(products)
 }
 
@@ -150,21 +116,6 @@ pub fn add_products<F: Field>(items: &mut [F], left: &[F], right: &[F])
     for i in 0..items.len() {
         items[i] = items[i] + left[i] * right[i];
     }
-}
-
-/// The powers of an element from 0 on, so many.
-pub fn powers<F: Field>(alloc: Global, element: F, count: usize) -> Result<Vec<F>, AllocError>
-    ensures len { IfOk result (λ v. length v.items ≡ count) }
-    ensures powers { IfOk result (λ v. (i : ℕ) → i < count
-        → of_list F.field v.items i ≡ power F.field element i) }
-{
-    let mut powers = Vec::with_capacity(alloc, count)?;
-    let mut next = F::one();
-    for _ in 0..count {
-        powers.push(next)?;
-        next *= element;
-    }
-    Ok(powers)
 }
 
 /// Multiplies each item by the factor's power at its place.

@@ -7,8 +7,9 @@ ghost use Rattle.ark_blocks.specs.Blocks.{AreFirstValues, AreReversed, AreRoots,
 
 use crate::backward::backward;
 use crate::forward::forward;
-use crate::items::{multiply_places, scale_each, subtract};
+use crate::items::place_products;
 use crate::table::BlockRoots;
+use ark_coeffs::dense::{add_scaled, scale_each, subtract_each};
 use ark_traits::{FftField, Field};
 use std::alloc::{AllocError, Global};
 use std::ops::Range;
@@ -107,7 +108,7 @@ impl<F: FftField> BlockRoots<F> {
             → AreFirstValues F.field self.now half c v.items) }
     {
         let levels = half.ilog2();
-        let mut turned = products(alloc, &left[half..], &right[half..])?;
+        let mut turned = place_products(alloc, &left[half..], &right[half..], half)?;
         let items = turned.as_mut_slice();
         backward(items, &self.inverses, 1, levels);
         scale_each(items, self.half.pow(levels as u64));
@@ -186,9 +187,9 @@ fn fold_in<F: Field>(low: &mut [F], high: &[F], roots: &[F], block: usize)
         (F.field.times (x block) (of_list F.field high.now i)) }
 {
     if block == 1 {
-        subtract(low, high);
+        subtract_each(low, high);
     } else {
-        add_multiples(low, high, element(roots, block));
+        add_scaled(low, element(roots, block), high);
     }
 }
 
@@ -200,30 +201,6 @@ pub(crate) fn element<F: Field>(roots: &[F], index: usize) -> F
 {
     let root = roots[index / 2];
     if index % 2 == 0 { root } else { -root }
-}
-
-// Adds to each item the other list's times the factor, as far as that goes.
-fn add_multiples<F: Field>(items: &mut [F], others: &[F], factor: F)
-    requires { length others.now ≤ length items.old }
-    ensures len { length items.new ≡ length items.old }
-    ensures sums { (i : ℕ) → i < length items.old → of_list F.field items.new i
-        ≡ F.field.plus (of_list F.field items.old i) (F.field.times factor (of_list F.field others.now i)) }
-{
-    for i in 0..others.len() {
-        items[i] = items[i] + factor * others[i];
-    }
-}
-
-// The products of the items of two lists.
-fn products<F: Field>(alloc: Global, left: &[F], right: &[F]) -> Result<Vec<F>, AllocError>
-    requires { length left.now ≡ length right.now }
-    ensures len { IfOk result (λ v. length v.items ≡ length left.now) }
-    ensures products { IfOk result (λ v. (i : ℕ) → i < length left.now → of_list F.field v.items i
-        ≡ F.field.times (of_list F.field left.now i) (of_list F.field right.now i)) }
-{
-    let mut products = Vec::from_slice(alloc, left)?;
-    multiply_places(products.as_mut_slice(), right);
-    Ok(products)
 }
 
 // Puts what is left of the products of two lists' items without each item in its place.

@@ -1,5 +1,5 @@
 -- What several writes append together.
-use Rattle.std.proofs.Common.{◌≡◌, ℕ, ◌+◌, length, List, [], ◌∷◌, ◌++◌, append_assoc, append-nil, length-append, inl, inr, Result, Ok, Err, refl, sym, ap, ◌∙◌, subst}
+use Rattle.std.proofs.Common.{◌≡◌, ℕ, ◌+◌, length, List, [], ◌∷◌, ◌++◌, append_assoc, length-append, inl, inr, Result, Ok, Err, refl, sym, ap, ◌∙◌, subst}
 use Rattle.std.proofs.KnownBytes.{Appends-trans}
 use Rattle.ark_math.specs.Format.{Format, ◌⊗◌, word, number, items, HaveSpellings, list, lawful, either}
 use Rattle.ark_bytes.specs.Writing.{SinkState, Puts, PutsSpelling, Stops, Writes}
@@ -45,11 +45,6 @@ module _ {X : Type 0} (item : Format X) where
   pub HaveSpellings-push : (xs : List X) (v : X) → HaveSpellings item xs → item.HasSpelling v → HaveSpellings item (xs ++ v ∷ [])
   HaveSpellings-push [] v h has = (has, tt)
   HaveSpellings-push (x ∷ xs) v h has = (h.0, HaveSpellings-push xs v h.1 has)
-
-  pub items-push : (count : ℕ) (xs : List X) (v : X) → word.spelling count ++ items item (xs ++ v ∷ []) ≡ (word.spelling count ++ items item xs) ++ item.spelling v
-  items-push count xs v =
-      ap (λ l. word.spelling count ++ l) (items-append xs (v ∷ []) ∙ ap (λ l. items item xs ++ l) (append-nil (item.spelling v)))
-      ∙ sym (append_assoc (word.spelling count) (items item xs) (item.spelling v))
 
   -- the length and these items were written
   pub record PutsItems (a b : SinkState) (count : ℕ) (xs : List X) : Type 0 where

@@ -1,4 +1,4 @@
--- Rows that are made by pushing, and the powers that they take in turn.
+-- Lists that are made by pushing, and the powers that they take in turn.
 use Rattle.std.proofs.Common.{◌≡◌, ℕ, suc, ◌+◌, ◌<◌, List, [], ◌∷◌, ◌++◌, length, get_or, refl, sym, ap, ap₂, subst, ◌∙◌, add-one, arith}
 use Rattle.std.proofs.lemmas.List.{get_or_append_left, get_or_push}
 use borrow.Author.Count.{below_more}

@@ -1,9 +1,9 @@
 //! Sums, differences, multiples and values of the lists behind the forms of polynomials: of coefficients, and
-//! of terms; and rows of powers.
+//! of terms; and geometric progressions.
 #![tactic(auto)]
 
 pub mod dense;
 pub mod draws;
 pub mod multiple;
-pub mod rows;
+pub mod progressions;
 pub mod sparse;

@@ -57,6 +57,7 @@ fn corner_point<F: Field>(alloc: Global, num_vars: usize, index: usize) -> Resul
     Ok(point)
 }
 
+// The coordinate of a corner: one where its index has the bit, and zero elsewhere.
 fn bit_of<F: Field>(index: usize, variable: usize) -> F
     requires { variable < 64 }
     ensures { result ≡ (if bit index variable then F.field.one else F.field.zero) }

@@ -108,7 +108,7 @@ fn bind_last<F: Field>(table: &mut Vec<F>, x: F)
 }
 
 /// The value at a point of a table's extension: all its variables are bound, the last one first, since then
-/// the values of a pair lie in two rows. The first one to be bound is bound over a copy of the lower half.
+/// the values of a pair lie half a table apart. The first one to be bound is bound over a copy of the lower half.
 pub fn value_of_table<F: Field>(alloc: Global, table: &[F], point: &[F]) -> Result<F, AllocError>
     requires { length table.now ≡ 2 ^ length point.now }
     ensures { IfOk result (λ y. y ≡ extension F.field (of_list F.field table.now) point.now) }
@@ -132,8 +132,11 @@ pub fn value_of_table<F: Field>(alloc: Global, table: &[F], point: &[F]) -> Resu
 /// moves.
 #[derive(Clone, Copy)]
 pub struct Exchange {
+    /// The first variable of the lower or the upper window.
     pub first: usize,
+    /// The first variable of the other.
     pub second: usize,
+    /// How many variables a window has.
     pub count: usize,
 }
 

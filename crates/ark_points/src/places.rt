@@ -4,8 +4,9 @@ ghost use Rattle.std.specs.Prelude.{◌≡◌, ℕ, ◌+◌, ◌*◌, ◌/◌, �
 ghost use Rattle.ark_math.specs.Field.{power};
 ghost use Rattle.ark_math.specs.Univariate.{of_list};
 
-use ark_base::Field;
-use ark_blocks::items::{powers, raise_each};
+use ark_base::{FftField, Field};
+use ark_blocks::items::raise_each;
+use ark_fft::domain::radix2::fft::powers;
 use std::alloc::{AllocError, Global};
 
 // A place's digits are to bases of at most so much.
@@ -16,7 +17,7 @@ const MOST: usize = 16;
 ///
 /// A place's lowest digit stands in the power whose exponent is the size by the digit's base, and the others
 /// are found alike once the digit is taken out.
-pub fn take_places<F: Field>(
+pub fn take_places<F: FftField>(
     alloc: Global,
     items: &mut [F],
     root: F,
@@ -59,7 +60,7 @@ fn base_of(size: usize) -> usize
 }
 
 // Of each item a digit: where the item's power is one of the root's, below the base, that one's exponent.
-fn digits<F: Field>(
+fn digits<F: FftField>(
     alloc: Global,
     items: &[F],
     root: F,
@@ -97,7 +98,7 @@ fn place_of<F: Field>(table: &[F], item: F) -> usize
 }
 
 // Multiplies each item by the root's power whose exponent is the digit at the item's place.
-fn multiply_by_powers<F: Field>(
+fn multiply_by_powers<F: FftField>(
     alloc: Global,
     items: &mut [F],
     root: F,

@@ -40,7 +40,7 @@ fn push_multiples<F: Field>(
     Ok(())
 }
 
-// All products of two terms, row by row, in a list with room for this many.
+// All products of two terms, those of one left term after those of the last, in a list with room for this many.
 fn all_products<F: Field>(
     alloc: Global,
     left: &[(usize, F)],

@@ -19,7 +19,8 @@ use crate::multiple::Multiple;
 use crate::products::coefficients;
 use crate::tree::Tree;
 use ark_blocks::BlockRoots;
-use ark_blocks::items::{add_products, multiply_places, place_products};
+use ark_blocks::items::{add_products, place_products};
+use ark_coeffs::dense::multiply_each;
 use ark_traits::{FftField, Field};
 use ark_univariate::DenseUVPolynomial;
 use ark_univariate::univariate::DensePolynomial;
@@ -336,7 +337,7 @@ fn sum_of_products<F: FftField>(
 {
     let mut values = first.values;
     let items = values.as_mut_slice();
-    multiply_places(items, first.factor);
+    multiply_each(items, first.factor);
     add_products(items, &second.values, second.factor);
     let mut coeffs = Vec::from_slice(alloc, &values)?;
     blocks.interpolate(coeffs.as_mut_slice());

@@ -9,9 +9,9 @@ ghost use Rattle.ark_subproducts.specs.Tree.{AreFewProducts, IsScaledRemainder, 
 
 use crate::multiple::Multiple;
 use crate::parts::write_part;
-use ark_blocks::items::{clear, multiply_places, scale_each, sum_of};
+use ark_blocks::items::{clear, sum_of};
 use ark_blocks::product_of_few;
-use ark_coeffs::dense::{naive_product, zeros};
+use ark_coeffs::dense::{multiply_each, naive_product, scale_each, zeros};
 use ark_traits::Field;
 use ark_univariate::DenseUVPolynomial;
 use ark_univariate::univariate::DensePolynomial;
@@ -208,7 +208,7 @@ fn power_sums<F: Field>(alloc: Global, points: &[F], weights: &[F]) -> Result<Ve
     let mut sums = zeros(alloc, points.len())?;
     for place in (0..points.len()).rev() {
         sums[place] = sum_of(&terms);
-        multiply_places(terms.as_mut_slice(), points);
+        multiply_each(terms.as_mut_slice(), points);
     }
     Ok(sums)
 }

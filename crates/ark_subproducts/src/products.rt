@@ -7,8 +7,8 @@ ghost use Rattle.ark_math.specs.Univariate.{of_list, product};
 ghost use Rattle.ark_subproducts.specs.Tree.{IsBegun};
 
 use crate::quotients::product_of;
-use ark_blocks::items::{multiply_places, subtract};
 use ark_blocks::{BlockRoots, product_of_few};
+use ark_coeffs::dense::{multiply_each, subtract_each};
 use ark_traits::{FftField, Field, PolyError};
 use ark_univariate::DenseUVPolynomial;
 use ark_univariate::univariate::DensePolynomial;
@@ -119,7 +119,7 @@ fn joined<F: FftField>(
     let (high, high_known) = high;
     let mut values = extended(alloc, table, &low, low_known, count)?;
     let others = extended(alloc, table, &high, high_known, count)?;
-    multiply_places(values.as_mut_slice(), &others);
+    multiply_each(values.as_mut_slice(), &others);
     let coeffs = coefficients(alloc, table, &values, &low, &high)?;
     Ok((coeffs, Some(values)))
 }
@@ -172,7 +172,7 @@ pub(crate) fn coefficients<F: FftField>(
     coeffs.extend_from_slice(values)?;
     table.interpolate(coeffs.as_mut_slice());
     let upper = coefficients_past(alloc, left, right, values.len())?;
-    subtract(coeffs.as_mut_slice(), &upper);
+    subtract_each(coeffs.as_mut_slice(), &upper);
     coeffs.extend_from_slice(&upper)?;
     coeffs.truncate(len);
     Ok(coeffs)

@@ -13,8 +13,8 @@ use crate::blocks::BlockTree;
 use crate::halves::Part;
 use crate::multiple::Multiple;
 use crate::tree::Tree;
-use ark_blocks::items::{has_zero, multiply_by_gaps, multiply_places, place_products, raise_each};
-use ark_coeffs::dense::zeros;
+use ark_blocks::items::{has_zero, multiply_by_gaps, place_products, raise_each};
+use ark_coeffs::dense::{multiply_each, zeros};
 use ark_traits::{FftField, Field, batch_inversion};
 use ark_univariate::DenseUVPolynomial;
 use std::alloc::{AllocError, Global};
@@ -130,7 +130,7 @@ fn quotients<F: FftField>(
 {
     let mut quotients = divisors;
     batch_inversion(alloc, quotients.as_mut_slice())?;
-    multiply_places(quotients.as_mut_slice(), values);
+    multiply_each(quotients.as_mut_slice(), values);
     Ok(quotients)
 }
 

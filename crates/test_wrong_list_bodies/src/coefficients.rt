@@ -9,7 +9,7 @@ ghost use Rattle.ark_math.specs.Univariate.{added, difference, monomial, opposit
 use ark_coeffs::dense::{
     divided_by_binomial, is_trimmed, multiplied_by_binomial, naive_product, reduce_by_binomial,
 };
-use ark_coeffs::rows::indicator;
+use ark_coeffs::progressions::indicator;
 use ark_coeffs::sparse::{difference_of_terms, is_sparse, merged_terms};
 use ark_traits::{Field, PolyError};
 use std::alloc::{AllocError, Global};

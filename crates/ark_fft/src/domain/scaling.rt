@@ -19,8 +19,8 @@ fn scale_each<F: FftField, T: DomainCoeff<F>>(work: &mut Work, xs: &mut [T], fac
     }
 }
 
-// Scales item i by start times the factor to the i. Two rows of powers take turns, so that no product waits for the
-// last.
+// Scales item i by start times the factor to the i. Two sequences of powers take turns, so that no product
+// waits for the last.
 pub(crate) fn scale_by_powers<F: FftField, T: DomainCoeff<F>>(
     work: &mut Work,
     xs: &mut [T],

@@ -24,7 +24,7 @@ use crate::polynomial::DenseUVPolynomial;
 use crate::polynomial::univariate::{DensePolynomial, SparsePolynomial};
 use ark_bytes::{CanonicalDeserialize, CanonicalSerialize};
 use ark_coeffs::dense::multiply_each;
-use ark_coeffs::rows::{indicator, inverted_row_less, spaced_row};
+use ark_coeffs::progressions::{indicator, inverted_progression_less, spaced_progression};
 pub use ark_fft::domain::Coset;
 use ark_fft::domain::first_items;
 pub use ark_traits::DomainCoeff;
@@ -349,7 +349,7 @@ pub trait EvaluationDomain<F: FftField>: Copy
                     * self.coset_offset_pow_size()
                     * inverse;
                 let first = tau * constant * self.coset_offset_inv();
-                inverted_row_less(alloc, self.size(), first, self.group_gen_inv(), constant)
+                inverted_progression_less(alloc, self.size(), first, self.group_gen_inv(), constant)
             }
         }
     }
@@ -413,7 +413,7 @@ pub trait EvaluationDomain<F: FftField>: Copy
         }
         let start = subdomain.size_as_field_element() * self.size_inv();
         let ratio = subdomain.coset_offset_inv().pow(subdomain.size() as u64);
-        let coeffs = spaced_row(alloc, self.size(), subdomain.size(), start, ratio)?;
+        let coeffs = spaced_progression(alloc, self.size(), subdomain.size(), start, ratio)?;
         Ok(DensePolynomial::from_coefficients_vec(coeffs))
     }
 

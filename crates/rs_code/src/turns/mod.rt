@@ -25,7 +25,7 @@ use crate::turns::products::values_over;
 use crate::turns::sorted::{Sorted, sorted_by_turns};
 use ark_base::{FftField, Field};
 use ark_blocks::BlockRoots;
-use ark_blocks::items::scale_each;
+use ark_coeffs::dense::scale_each;
 use ark_poly::EvaluationDomain;
 use std::alloc::{AllocError, Global};
 use std::marker::Model;

@@ -17,6 +17,7 @@ use std::alloc::Global;
 type Fields<F> = ((u64, u32), (((F, F), (F, F)), ((F, F), F)));
 
 impl<F: FftField> Coset<F> {
+    // All of it, as it is spelled.
     fn fields(&self) -> Fields<F>
         ensures { result ≡ all_fields self.now }
     {

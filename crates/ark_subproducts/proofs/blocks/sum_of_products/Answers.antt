@@ -18,8 +18,8 @@ returns-clause-sum g c =
     let sums = c.add_products.new.items in
     let made = c.interpolate.new.values in
     let w = c.as_mut_slice.result.now in
-    let size : length sums ≡ n = c.add_products.ensures.len ∙ c.multiply_places.ensures.len ∙ ap length own in
-    let all : length sums ≡ c.args.first.values.len = omega (arith, c.add_products.ensures.len, c.multiply_places.ensures.len, c.as_mut_slice-items.ensures.len) in
+    let size : length sums ≡ n = c.add_products.ensures.len ∙ c.multiply_each.auto.items ∙ ap length own in
+    let all : length sums ≡ c.args.first.values.len = omega (arith, c.add_products.ensures.len, c.multiply_each.auto.items, c.as_mut_slice-items.ensures.len) in
     let every : length made ≡ c.in_ok-coeffs.coeffs.len = omega (arith, c.interpolate.ensures.len, c.as_mut_slice.ensures.len) in
     let kept = written_back sums _ c.args.first.values.len all in
     let back = written_back made _ c.in_ok-coeffs.coeffs.len every in
@@ -31,9 +31,9 @@ returns-clause-sum g c =
     values_of_sums K N x n f a s b first c.args.first.factor.now second c.args.second.factor.now sums left.own left.factor (all_values s second right.own) (all_values b c.args.second.factor.now right.factor) size
     (λ i l.
     let inside = subst (λ t. i < t) (sym (ap length own)) l in
-    c.add_products.ensures.sums i (omega (arith, inside, c.multiply_places.ensures.len))
+    c.add_products.ensures.sums i (omega (arith, inside, c.multiply_each.auto.items))
     ∙ ap₂ (λ t u. K.plus t (K.times (of_list K u i) (of_list K c.args.second.factor.now i)))
-    (c.multiply_places.ensures.products i inside ∙ ap (λ t. K.times (of_list K t i) (of_list K c.args.first.factor.now i)) own)
+    (c.multiply_each.ensures i ∙ ap (λ t. K.times (of_list K t i) (of_list K c.args.first.factor.now i)) own)
     c.deref.ensures.value) in
     let len : n ≡ length w = sym (ap length copy ∙ size) in
     let coeffs =

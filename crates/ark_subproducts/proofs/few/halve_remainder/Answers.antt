@@ -1,5 +1,5 @@
 use Rattle.std.proofs.Common.{◌≡◌, ◌+◌, ◌-◌, ◌/◌, length, drop, take, ap, ap₂, ◌∙◌, arith}
-use Rattle.std.proofs.lemmas.List.{get_or-append_right, get_or_append_left, length-append}
+use Rattle.std.proofs.lemmas.List.{get_or-append_right, get_or_append_left}
 use Rattle.ark_math.specs.Univariate.{of_list, product}
 use Rattle.ark_math.specs.Nodes.{nodes}
 use Rattle.ark_subproducts.proofs.few.halve_remainder.Goals as goal
@@ -14,7 +14,8 @@ returns-clause-low g c j l =
     let front : length low ≡ half = c.write_part.ensures.len ∙ c.split_at_mut-for_low.ensures.front_len in
     let back : length high ≡ n - half = omega (arith, c.write_part-2.ensures.len, c.split_at_mut-for_low.ensures.back_len, c.requires.len) in
     let own : of_list K c.deref.result.now ≡ nodes K (drop half c.args.points.now) = ap (of_list K) c.deref.ensures.value ∙ c.requires.products.high in
-    c.scale_each.ensures.products j (omega (arith, l, front, back, length-append low high))
+    ap (λ t. t j) c.scale_each.ensures
+    ∙ g.met.F.Field.field_laws.times_comm _ _
     ∙ ap (λ t. K.times t c.args.given.now.scale)
     (get_or_append_left low high K.zero j (omega (arith, l, front))
     ∙ c.write_part.ensures.part j (omega (arith, l, front, c.write_part.ensures.len))
@@ -31,7 +32,8 @@ returns-clause-high g c j l =
     let back : length high ≡ n - half = omega (arith, c.write_part-2.ensures.len, c.split_at_mut-for_low.ensures.back_len, c.requires.len) in
     let own : of_list K c.deref-3.result.now ≡ nodes K (take half c.args.points.now) = ap (of_list K) c.deref-3.ensures.value ∙ c.requires.products.low in
     let place : half + j - half ≡ j = omega arith in
-    c.scale_each.ensures.products (half + j) (omega (arith, l, front, back, length-append low high))
+    ap (λ t. t (half + j)) c.scale_each.ensures
+    ∙ g.met.F.Field.field_laws.times_comm _ _
     ∙ ap (λ t. K.times t c.args.given.now.scale)
     (get_or-append_right low high half (half + j) K.zero front (omega arith)
     ∙ ap (of_list K high) place

@@ -31,7 +31,7 @@ loop-place-preserved g c =
     let more : suc (n - c.loop-place.place) ≡ n - place = omega (arith, next, below) in
     let given : c.as_mut_slice.result.now ≡ terms = c.as_mut_slice.ensures.value in
     let size : length c.as_mut_slice.result.now ≡ n = ap length given ∙ v.count in
-    let back = written_back c.multiply_places.new.items _ _ (omega (arith, c.multiply_places.ensures.len, c.as_mut_slice.ensures.len)) in
+    let back = written_back c.multiply_each.new.items _ _ (omega (arith, c.multiply_each.auto.items, c.as_mut_slice.ensures.len)) in
     let is : sum ≡ power_sum K points w (n - 1 - place) =
     c.sum_of.ensures
     ∙ ap (λ t. sum_below (itself K) (length t) (of_list K t)) c.deref.ensures.value
@@ -40,10 +40,10 @@ loop-place-preserved g c =
     (λ i l. v.terms i l ∙ ap (λ t. K.times (w i) (power K (z i) t)) exponent) in
     record {
       len = length-set sums place sum ∙ v.len;
-      count = ap length back ∙ c.multiply_places.ensures.len ∙ size;
+      count = ap length back ∙ c.multiply_each.auto.items ∙ size;
       terms = λ i l.
           ap (λ t. of_list K t i) back
-          ∙ c.multiply_places.ensures.products i (omega (arith, l, size))
+          ∙ c.multiply_each.ensures i
           ∙ ap (λ t. K.times t (z i)) (ap (λ t. of_list K t i) given ∙ v.terms i l)
           ∙ ring3 K g.met.F.Field.field_laws (λ w p z. ((w ⊗ p) ⊗ z, w ⊗ (z ⊗ p))) refl (w i) (power K (z i) (n - c.loop-place.place)) (z i)
           ∙ ap (λ t. K.times (w i) (power K (z i) t)) more;

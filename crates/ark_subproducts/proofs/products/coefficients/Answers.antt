@@ -26,13 +26,13 @@ returns-clause-product g c V =
     let x = element_of K c.args.table.now in
     let w = c.as_mut_slice.result.now in
     let made = c.interpolate.new.values in
-    let low = c.subtract.new.items in
+    let low = c.subtract_each.new.coeffs in
     let high = c.in_ok-upper.upper.items in
     let copy : w ≡ values = c.as_mut_slice.ensures.value ∙ c.in_ok-extend_from_slice.ensures.items ∙ ap (λ t. t ++ values) c.in_ok-coeffs.ensures.items in
     let back : c.as_mut_slice-2.result.now ≡ made =
     c.as_mut_slice-2.ensures.value ∙ written_back made _ _ (omega (arith, c.interpolate.ensures.len, c.as_mut_slice.ensures.len)) in
-    let len : length low ≡ n = c.subtract.ensures.len ∙ ap length back ∙ c.interpolate.ensures.len ∙ ap length copy in
-    let all = c.in_ok-extend_from_slice-2.ensures.items ∙ ap₂ (λ s t. s ++ t) (written_back low _ _ (omega (arith, c.subtract.ensures.len, c.as_mut_slice-2.ensures.len))) c.deref-2.ensures.value in
+    let len : length low ≡ n = c.subtract_each.auto.coeffs ∙ ap length back ∙ c.interpolate.ensures.len ∙ ap length copy in
+    let all = c.in_ok-extend_from_slice-2.ensures.items ∙ ap₂ (λ s t. s ++ t) (written_back low _ _ (omega (arith, c.subtract_each.auto.coeffs, c.as_mut_slice-2.ensures.len))) c.deref-2.ensures.value in
     let below : IsBelow K count p = λ i l.
     product-below K N (length left) (length right) (of_list K left) (of_list K right) (of_list-below K left) (of_list-below K right) i (omega (arith, l)) in
     let only : (r : ℕ → g.row.F.Denot) → IsBelow K n r → AreValuesFrom K x 0 n r values → of_list K made ≡ r = λ r short R.
@@ -40,7 +40,7 @@ returns-clause-product g c V =
     let whole : of_list K (low ++ high) ≡ p = unwrapped K N _ n x p values made low high c.interpolate.ensures.elements c.requires.power c.requires.within
     (λ i l. below i (omega (arith, l, c.requires.room, c.requires.right))) V only len
     (λ i l.
-    c.subtract.ensures.differences i (omega (arith, l, len, c.subtract.ensures.len))
+    ap (λ t. t i) c.subtract_each.ensures
     ∙ ap₂ (λ s t. minus K (of_list K s i) (of_list K t i)) back c.deref.ensures.value)
     c.in_ok-upper.ensures.past in
     ap (of_list K) (c.truncate.ensures.items ∙ ap (take count) all) ∙ truncated K N count p (low ++ high) below whole

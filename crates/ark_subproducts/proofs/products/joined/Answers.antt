@@ -15,17 +15,17 @@ returns g c =
     let b = of_list K c.args.high.0.items in
     let values = c.in_ok-values.values.items in
     let others = c.in_ok-others.others.items in
-    let all = c.multiply_places.new.items in
+    let all = c.multiply_each.new.items in
     let coeffs = c.in_ok-coeffs.coeffs.items in
     let V : AreValuesFrom K x 0 count a values = subst (λ s. AreValuesFrom K x 0 count (of_list K s) values) c.deref.ensures.value c.in_ok-values.ensures.values in
     let W : AreValuesFrom K x 0 count b others = subst (λ s. AreValuesFrom K x 0 count (of_list K s) others) c.deref-2.ensures.value c.in_ok-others.ensures.values in
     let same = c.as_mut_slice.ensures.value in
-    let len : length all ≡ count = c.multiply_places.ensures.len ∙ ap length same ∙ V.len in
+    let len : length all ≡ count = c.multiply_each.auto.items ∙ ap length same ∙ V.len in
     let whole : AreValuesFrom K x 0 count (product K a b) all = values-product K g.met.F.Field.field_laws x 0 count a b values others all V W len
     (λ i l.
-    c.multiply_places.ensures.products i (omega (arith, l, ap length same, V.len))
+    c.multiply_each.ensures i
     ∙ ap₂ (λ s t. K.times (of_list K s i) (of_list K t i)) same c.deref-3.ensures.value) in
-    let back = written_back all _ c.in_ok-values.values.len (omega (arith, c.multiply_places.ensures.len, c.as_mut_slice.ensures.len)) in
+    let back = written_back all _ c.in_ok-values.values.len (omega (arith, c.multiply_each.auto.items, c.as_mut_slice.ensures.len)) in
     let given = c.deref-4.ensures.value ∙ back in
     let low = c.deref-5.ensures.value in
     let high = c.deref-6.ensures.value in

@@ -1,4 +1,4 @@
-use Rattle.std.proofs.Common.{◌≡◌, ◌<◌, ◌^◌, length, sym, ap₂, ◌∙◌, subst}
+use Rattle.std.proofs.Common.{◌≡◌, ◌<◌, ◌^◌, length, sym, ap, ap₂, ◌∙◌, subst}
 use Rattle.ark_blocks.specs.Blocks.{AreInverseRoots, AreValuesFrom, element_of}
 use Rattle.ark_blocks.proofs.Evaluations.{at_first_block, halved, same_polynomial}
 use Rattle.ark_blocks.proofs.Callers.Padded.{log_is}
@@ -22,8 +22,9 @@ returns-clause-coefficients g c = λ a below V.
     let size : n ≡ 2 ^ levels = log_is n levels c.requires.power e.power_le e.next_power_gt in
     let inverse : AreInverseRoots K x c.deref.result.now = subst (AreInverseRoots K x) (sym c.deref.ensures.value) table.inverse in
     let own : AreValuesFrom K x 0 n a values = subst (λ t. AreValuesFrom K (element_of K t) 0 n a values) (sym c.self.view_is) V in
-    same_polynomial K N n a c.scale_each.new.items below (c.scale_each.ensures.len ∙ c.backward.ensures.len) (λ i l.
-    c.scale_each.ensures.products i (subst (λ t. i < t) (sym c.backward.ensures.len) l)
+    same_polynomial K N n a c.scale_each.new.coeffs below (c.scale_each.auto.coeffs ∙ c.backward.ensures.len) (λ i l.
+    ap (λ t. t i) c.scale_each.ensures
+    ∙ N.times_comm _ _
     ∙ ap₂ K.times
     (c.backward.ensures.coefficients x a inverse (at_first_block K N x n (2 ^ levels) a values size below own) i (subst (λ t. i < t) size l))
     c.pow.ensures

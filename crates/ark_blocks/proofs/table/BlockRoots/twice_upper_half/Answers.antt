@@ -22,7 +22,7 @@ forward-requires-clause-size g c =
     let e = c.ilog2-levels.ensures in
     let made = c.in_ok-turned.ensures.len in
     let from = length-take-le (length c.args.left.now - c.args.half) (drop c.args.half c.args.left.now) (omega (arith, length-drop c.args.half c.args.left.now)) in
-    let len : length c.scale_each.new.items ≡ c.args.half = omega (arith, made, from, c.requires.left, ap length c.as_mut_slice-items.ensures.value, c.scale_each.ensures.len, c.backward.ensures.len) in
+    let len : length c.scale_each.new.coeffs ≡ c.args.half = omega (arith, made, from, c.requires.left, ap length c.as_mut_slice-items.ensures.value, c.scale_each.auto.coeffs, c.backward.ensures.len) in
     len ∙ log_is c.args.half c.ilog2-levels.result c.requires.power e.power_le e.next_power_gt
 
 pub returns-clause-values : goal.returns-clause-values
@@ -38,7 +38,7 @@ returns-clause-values g c = λ a b d A B below few upper.
     let right = c.args.right.now in
     let first = c.in_ok-turned.turned.items in
     let items = c.as_mut_slice-items.result.now in
-    let scaled = c.scale_each.new.items in
+    let scaled = c.scale_each.new.coeffs in
     let last = c.subtract_from_products.new.items in
     let table = c.args.self.now in
     let x = element_of K table in
@@ -51,7 +51,7 @@ returns-clause-values g c = λ a b d A B below few upper.
     let size : s ≡ m = log_is s levels c.requires.power e.power_le e.next_power_gt in
     let from = length-take-le (length left - s) (drop s left) (omega (arith, length-drop s left)) in
     let len : length items ≡ s = omega (arith, c.in_ok-turned.ensures.len, from, c.requires.left, ap length c.as_mut_slice-items.ensures.value) in
-    let many : length scaled ≡ s = omega (arith, len, c.scale_each.ensures.len, c.backward.ensures.len) in
+    let many : length scaled ≡ s = omega (arith, len, c.scale_each.auto.coeffs, c.backward.ensures.len) in
     let whole : length last ≡ s = omega (arith, many, c.subtract_from_products.ensures.len, c.forward.ensures.len) in
     let back = written_back last (drop (length last) first) c.in_ok-turned.turned.len (omega (arith, whole, len, c.as_mut_slice-items.ensures.len)) in
     -- the products at the second block's elements
@@ -65,7 +65,8 @@ returns-clause-values g c = λ a b d A B below few upper.
     ∙ ap₂ (λ t j. value_below K t (turned K N s p) (x j)) size place in
     -- the coefficients
     let coefficients : (i : ℕ) → i < m → of_list K scaled i ≡ turned K N s p i = λ i l.
-    c.scale_each.ensures.products i (omega (arith, l, size, len, c.backward.ensures.len))
+    ap (λ t. t i) c.scale_each.ensures
+    ∙ N.times_comm _ _
     ∙ ap₂ K.times (c.backward.ensures.coefficients x (turned K N s p) I there i l) c.pow.ensures
     ∙ halved K N half own.half_of levels (turned K N s p i) in
     -- and their values at the first block's elements

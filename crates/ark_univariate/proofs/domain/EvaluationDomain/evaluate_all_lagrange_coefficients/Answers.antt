@@ -30,7 +30,7 @@ returns-in-Some-clause-weights g c =
     let K = g.F.Field.field in
     let times = g.met.F.Field.mul_law in
     let size = c.size-in-Some.ensures in
-    IfOk_both c.inverted_row_less.result
+    IfOk_both c.inverted_progression_less.result
     (λ ws len inverses.
     weights_of_inverses (lawful g c.args.self.now) c.args.tau c.evaluate_vanishing_polynomial-vanishing.result c.in-Some.inverse c.mul-constant.result c.coset_offset_inv.result c.group_gen_inv.result c.mul-first.result ws.items
     c.evaluate_vanishing_polynomial-vanishing.ensures.value
@@ -41,9 +41,9 @@ returns-in-Some-clause-weights g c =
     (times _ _ _ c.mul-first.ensures ∙ ap (λ t. K.times t c.coset_offset_inv.result) (times _ _ _ c.mul-in-Some.ensures))
     (len ∙ size)
     (λ i l. inverses i (subst (λ n. i < n) (sym size) l)))
-    c.inverted_row_less.ensures.len
-    c.inverted_row_less.ensures.inverses
+    c.inverted_progression_less.ensures.len
+    c.inverted_progression_less.ensures.inverses
 
 pub returns-in-Some-clause-only : goal.returns-in-Some-clause-only
 returns-in-Some-clause-only g c =
-    IfOk_more c.inverted_row_less.result (λ ws. one_weights (lawful g c.args.self.now) c.args.tau ws.items) (returns-in-Some-clause-weights g c)
+    IfOk_more c.inverted_progression_less.result (λ ws. one_weights (lawful g c.args.self.now) c.args.tau ws.items) (returns-in-Some-clause-weights g c)

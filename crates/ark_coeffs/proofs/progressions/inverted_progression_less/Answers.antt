@@ -2,7 +2,7 @@ use Rattle.std.proofs.Common.{◌≡◌, length, subst₂, sym, ap, ◌∙◌, a
 use Rattle.ark_math.specs.Univariate.{of_list}
 use Rattle.ark_math.specs.Points.{IsPlaceQuotient}
 use Rattle.ark_math.proofs.Lists.Lists.{written_back}
-use Rattle.ark_coeffs.proofs.rows.inverted_row_less.Goals as goal
+use Rattle.ark_coeffs.proofs.progressions.inverted_progression_less.Goals as goal
 
 pub returns-clause-len : goal.returns-clause-len
 returns-clause-len g c =

@@ -2,8 +2,8 @@ use Rattle.std.proofs.Common.{◌≡◌, ◌≢◌, ◌<◌, ℕ, sym, ap, subst
 use Rattle.ark_math.specs.Field.{power}
 use Rattle.ark_coeffs.proofs.Pushed.{pushed_more, power_after, power_two_on}
 use Rattle.std.proofs.lemmas.Bool.{true≢false}
-use Rattle.ark_coeffs.proofs.rows.indicator.Goals as goal
-use Rattle.ark_coeffs.proofs.rows.indicator.Goals.{then-eq, else-eq}
+use Rattle.ark_coeffs.proofs.progressions.indicator.Goals as goal
+use Rattle.ark_coeffs.proofs.progressions.indicator.Goals.{then-eq, else-eq}
 
 pub loop-init : goal.loop-init
 loop-init g c =

@@ -1,6 +1,6 @@
 use Rattle.std.proofs.Common.{◌≡◌, ℕ, ◌<◌, ◌+◌, get_or, vec_len}
 use Rattle.ark_math.specs.Field.{power, minus}
-use Rattle.ark_coeffs.proofs.rows.geometric_row_less.Given as goal
+use Rattle.ark_coeffs.proofs.progressions.progression_less.Given as goal
 
 abbrev pub invariant-loop : goal.invariant-loop
 invariant-loop g l =

@@ -1,7 +1,7 @@
 use Rattle.std.proofs.Common.{◌≡◌, ◌+◌, ◌-◌, length}
 use Rattle.ark_math.specs.Field.{power}
 use Rattle.ark_math.proofs.Lists.Spaced.{IsSpaced}
-use Rattle.ark_coeffs.proofs.rows.spaced_row.Given as goal
+use Rattle.ark_coeffs.proofs.progressions.spaced_progression.Given as goal
 
 abbrev pub invariant-loop-k : goal.invariant-loop-k
 invariant-loop-k g l =

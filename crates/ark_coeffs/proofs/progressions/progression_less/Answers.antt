@@ -1,7 +1,7 @@
 use Rattle.std.proofs.Common.{◌≡◌, ◌+◌, ◌<◌, ℕ, get_or, sym, ap, subst, ◌∙◌, arith}
 use Rattle.ark_math.specs.Field.{power, minus}
 use Rattle.ark_coeffs.proofs.Pushed.{pushed_more, power_after, power_two_on}
-use Rattle.ark_coeffs.proofs.rows.geometric_row_less.Goals as goal
+use Rattle.ark_coeffs.proofs.progressions.progression_less.Goals as goal
 
 pub loop-init : goal.loop-init
 loop-init g c =

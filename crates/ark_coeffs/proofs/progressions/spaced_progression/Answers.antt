@@ -3,7 +3,7 @@ use Rattle.ark_math.specs.Field.{power}
 use Rattle.ark_math.proofs.Algebra.Solve.{◌⊗◌}
 use Rattle.ark_math.proofs.Algebra.Ring.{ring3}
 use Rattle.ark_math.proofs.Lists.Spaced.{spaced-set, multiple_within}
-use Rattle.ark_coeffs.proofs.rows.spaced_row.Goals as goal
+use Rattle.ark_coeffs.proofs.progressions.spaced_progression.Goals as goal
 
 pub loop-k-preserved : goal.loop-k-preserved
 loop-k-preserved g c =

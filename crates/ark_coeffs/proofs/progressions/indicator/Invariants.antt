@@ -1,6 +1,6 @@
 use Rattle.std.proofs.Common.{◌≡◌, ◌≢◌, ℕ, ◌<◌, ◌+◌, get_or, vec_len}
 use Rattle.ark_math.specs.Field.{power}
-use Rattle.ark_coeffs.proofs.rows.indicator.Given as goal
+use Rattle.ark_coeffs.proofs.progressions.indicator.Given as goal
 
 abbrev pub invariant-loop : goal.invariant-loop
 invariant-loop g l =

@@ -1,4 +1,4 @@
-//! Rows of powers: geometric ones, indicators, rows spaced by zeros.
+//! Geometric progressions: indicators, and progressions less a constant, inverted, or spaced by zeros.
 
 ghost use Rattle.std.specs.Prelude.{◌≡◌, ◌≢◌, ℕ, ◌+◌, ◌-◌, ◌*◌, ◌/◌, ◌%◌, ◌<◌, length, IfOk, IsOkUnless};
 ghost use Rattle.ark_math.specs.Field.{power, minus};
@@ -9,8 +9,8 @@ use crate::dense::zeros;
 use ark_traits::{Field, PolyError, batch_inversion};
 use std::alloc::{AllocError, Global};
 
-/// One where the element `offset * root^i` is `tau`, and zero elsewhere, for the `i` below `size`. Two rows
-/// of elements take turns, so that no product waits for the last.
+/// One where the element `offset * root^i` is `tau`, and zero elsewhere, for the `i` below `size`. Two
+/// progressions take turns, so that no product waits for the last.
 pub fn indicator<F: Field>(
     alloc: Global,
     size: usize,
@@ -37,9 +37,9 @@ pub fn indicator<F: Field>(
     Ok(items)
 }
 
-/// The items `first * ratio^i - constant` for the `i` below `size`. Two rows of powers take turns, so that no
+/// The items `first * ratio^i - constant` for the `i` below `size`. Two progressions take turns, so that no
 /// product waits for the last.
-pub fn geometric_row_less<F: Field>(
+pub fn progression_less<F: Field>(
     alloc: Global,
     size: usize,
     first: F,
@@ -65,7 +65,7 @@ pub fn geometric_row_less<F: Field>(
 
 /// The inverses of `first * ratio^i - constant` for the `i` below `size`, by one batch inversion: zero where
 /// that is.
-pub fn inverted_row_less<F: Field>(
+pub fn inverted_progression_less<F: Field>(
     alloc: Global,
     size: usize,
     first: F,
@@ -77,13 +77,13 @@ pub fn inverted_row_less<F: Field>(
         (minus F.field (F.field.times first (power F.field ratio i)) constant) (of_list F.field l.items i)) }
     ensures memory { IsOkUnless result PolyError.Memory }
 {
-    let mut items = geometric_row_less(alloc, size, first, ratio, constant)?;
+    let mut items = progression_less(alloc, size, first, ratio, constant)?;
     batch_inversion(alloc, items.as_mut_slice())?;
     Ok(items)
 }
 
 /// The items `start * ratio^k` at the multiples `k * step` below `size`, and zeros between them.
-pub fn spaced_row<F: Field>(
+pub fn spaced_progression<F: Field>(
     alloc: Global,
     size: usize,
     step: usize,
@@ -94,7 +94,7 @@ pub fn spaced_row<F: Field>(
     requires apart { 0 < step }
     requires divides { size % step ≡ 0 }
     ensures len { IfOk result (λ l. length l.items ≡ size - step + 1) }
-    ensures row { IfOk result (λ l. (k : ℕ) → k < size / step → of_list F.field l.items (step * k)
+    ensures items { IfOk result (λ l. (k : ℕ) → k < size / step → of_list F.field l.items (step * k)
         ≡ F.field.times start (power F.field ratio k)) }
     ensures zeros { IfOk result (λ l. (k r : ℕ) → 0 < r → r < step → of_list F.field l.items (step * k + r)
         ≡ F.field.zero) }
