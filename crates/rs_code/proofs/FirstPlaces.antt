@@ -1,8 +1,8 @@
 -- Words of which the first places alone are kept.
-use Rattle.std.proofs.Common.{◌≡◌, ℕ, zero, suc, ◌-◌, ◌<◌, ◌≤◌, inl, inr, Bool, true, false, List, ◌++◌, length, get_or, map, take, drop, cond, length-append, sym, ◌∙◌, ap, refl, arith, true≢false}
+use Rattle.std.proofs.Common.{◌≡◌, ℕ, zero, suc, ◌-◌, ◌<◌, ◌≤◌, inl, inr, Bool, true, false, List, ◌++◌, length, get_or, map, take, drop, cond, length-append, length-take, sym, ◌∙◌, ap, refl, arith, true≢false}
 use Rattle.std.specs.Prelude.{replicate}
 use Rattle.std.proofs.lemmas.Bool.{cases_lt}
-use Rattle.std.proofs.lemmas.List.{drop-append-le, drop_all, ext_get_or, get_or-take, length-map, length-replicate, length-take-le, map-append, take-append-le, take_all}
+use Rattle.std.proofs.lemmas.List.{drop-append-le, drop_all, ext_get_or, get_or-take, length-drop, length-map, length-replicate, length-take-le, take-append-le, take-map, take_all}
 use Rattle.std.proofs.lemmas.List.Sums.{sum_by-cons}
 use Rattle.ark_math.specs.Module.{ModuleOn}
 use Rattle.rs_code.specs.Codeword.{AgreesElsewhere, after_first, mark_count}
@@ -79,15 +79,17 @@ behind_first k xs ys zs len is =
 pub first_of : {M : Type 0} (k : ℕ) (xs ys : List M) → length xs ≡ k → take k (xs ++ ys) ≡ xs
 first_of k xs ys len = take-append-le k xs ys (omega (arith, len)) ∙ take_all k xs (omega (arith, len))
 
--- a message with more behind it, and its meanings
-module _ {F M X : Type 0} (V : ModuleOn F M) (meaning : X → M) (k n : ℕ) (message more word : List X) (len : length message ≡ k) (is : word ≡ message ++ more) where
+-- a slice from a place on is what stands behind so many items
+pub slice_from : {X : Type 0} (k : ℕ) (xs : List X) → take (length xs - k) (drop k xs) ≡ drop k xs
+slice_from k xs = take_all (length xs - k) (drop k xs) (omega (arith, length-drop k xs))
+
+-- a word that begins with a message, and their meanings
+module _ {F M X : Type 0} (V : ModuleOn F M) (meaning : X → M) (k n : ℕ) (message word : List X) (len : length message ≡ k) (is : take k word ≡ message) where
   first : take k (map meaning word) ≡ map meaning message
-  first =
-      ap (λ w. take k (map meaning w)) is ∙ ap (take k) (map-append meaning message more)
-      ∙ first_of k (map meaning message) (map meaning more) (length-map message meaning ∙ len)
+  first = take-map meaning k word ∙ ap (map meaning) is
 
   long : k ≤ length (map meaning word)
-  long = omega (arith, len, length-map word meaning, ap length is, length-append message more)
+  long = omega (arith, len, length-map word meaning, ap length is, length-take k word)
 
   pub begins_with_message : (c : List M) → k ≤ length c → AgreesElsewhere V (after_first k n) (map meaning word) c → take k c ≡ map meaning message
   begins_with_message c room agrees = begins_with V k n (map meaning message) (map meaning word) c room long first agrees

@@ -8,7 +8,7 @@ use crate::decoder::DomainDecoder;
 use crate::error::RsError;
 use ark_base::{DomainCoeff, FftField};
 use ark_poly::EvaluationDomain;
-use std::alloc::Global;
+use std::alloc::{AllocError, Global};
 
 impl<F: FftField, D: EvaluationDomain<F>> DomainCode<F, D> {
     /// The decoder for words of which the first `k` places alone are kept: made once, it extends any number of messages.
@@ -31,7 +31,8 @@ impl<F: FftField, D: EvaluationDomain<F>> DomainCode<F, D> {
     /// let codeword = code.encode_systematic(alloc, &message)?; // codeword[..k] is the message
     /// ```
     ///
-    /// Its other message, that of `encode`, is the list of coefficients of the polynomial with these values.
+    /// Its other message, that of `encode`, is the list of coefficients of the polynomial with these values. Each call
+    /// makes a decoder; for many messages, make a `systematic_decoder` and restore each message with anything behind it.
     pub fn encode_systematic<T: DomainCoeff<F>>(
         &self,
         alloc: Global,
@@ -50,10 +51,19 @@ impl<F: FftField, D: EvaluationDomain<F>> DomainCode<F, D> {
             return Err(RsError::WrongLength);
         }
         let decoder = self.systematic_decoder(alloc)?;
+        let word = self.padded(alloc, message)?;
+        decoder.restore(alloc, &word)
+    }
+
+    // The message with zeros at the places behind it.
+    fn padded<T: DomainCoeff<F>>(&self, alloc: Global, message: &[T]) -> Result<Vec<T>, AllocError>
+        requires { length message.now ≡ self.now.k }
+        ensures { IfOk result (λ w. take self.now.k w.items ≡ message.now) }
+    {
         let mut word = Vec::with_capacity(alloc, self.n())?;
         word.extend_from_slice(message)?;
         word.resize(self.n(), T::zero())?;
-        decoder.restore(alloc, &word)
+        Ok(word)
     }
 
     /// The values at the `n - k` places behind the first `k` of the only codeword that has the message's items at these:

@@ -1,8 +1,5 @@
--- The word is the message with zeros behind it, and all places but the first k are marked.
-use Rattle.std.proofs.Common.{◌≡◌, ◌-◌, ◌≤◌, ◌++◌, length, map, take, subst, sym, ap, ◌∙◌, arith}
-use Rattle.std.specs.Prelude.{replicate}
-use Rattle.std.proofs.lemmas.List.{take_all}
-use Rattle.std.specs.Vec.{vec_len}
+-- The word begins with the message, and all places but the first k are marked.
+use Rattle.std.proofs.Common.{◌≡◌, ◌≤◌, length, map, take, subst, sym, ap, ◌∙◌, arith}
 use Rattle.ark_math.proofs.Callers.Transforms.{transform-length}
 use Rattle.ark_math.proofs.Outcomes.Results.{IfOk_both, IfOk_more}
 use Rattle.rs_code.specs.Codeword.{AgreesElsewhere, IsCodeword, mark_count}
@@ -16,20 +13,14 @@ returns-clause-systematic g c =
     let V = g.T.DomainCoeff.group in
     let m = g.T.DomainCoeff.meaning in
     let code = c.args.self.now in
-    let n = code.domain.size in
-    let message = c.args.message.now in
-    let fits : code.k ≤ n = subst (λ r. r.k ≤ r.domain.size) c.self.view_is c.self.invariant.fits in
-    let len : length message ≡ code.k = omega (arith, c.if-message-self.false, ap (λ r. r.k) c.self.view_is) in
-    let zeros = replicate (c.n-2.result - vec_len c.extend_from_slice.new.self) c.zero.result in
-    let is : c.deref.result.now ≡ message ++ zeros =
-    c.deref.ensures.value ∙ c.in_ok-resize.ensures.items
-    ∙ ap (λ t. t ++ zeros) (ap (take c.n-2.result) (c.in_ok-extend_from_slice.ensures.items ∙ ap (λ t. t ++ message) c.in_ok-word.ensures.items)
-    ∙ take_all c.n-2.result message (omega (arith, len, fits, c.n-2.ensures))) in
+    let word = c.deref.result.now in
+    let fits : code.k ≤ code.domain.size = subst (λ r. r.k ≤ r.domain.size) c.self.view_is c.self.invariant.fits in
+    let len : length c.args.message.now ≡ code.k = omega (arith, c.if-message-self.false, ap (λ r. r.k) c.self.view_is) in
     IfOk_both c.restore.result
     (λ v agrees codeword.
-    begins_with_message V m code.k n message zeros c.deref.result.now len is (map m v.items)
+    begins_with_message V m code.k code.domain.size c.args.message.now word len (ap (take code.k) c.deref.ensures.value ∙ c.in_ok-word.ensures) (map m v.items)
     (omega (arith, fits, ap length codeword.2, transform-length K V c.in_ok-decoder.decoder.code.domain codeword.0, ap (λ r. r.domain.size) c.in_ok-decoder.ensures.code))
-    (subst (λ e. AgreesElsewhere V e (map m c.deref.result.now) (map m v.items)) c.in_ok-decoder.ensures.erased agrees))
+    (subst (λ e. AgreesElsewhere V e (map m word) (map m v.items)) c.in_ok-decoder.ensures.erased agrees))
     c.restore.ensures.agrees c.restore.ensures.codeword
 
 pub returns-clause-only : goal.returns-clause-only
@@ -38,21 +29,14 @@ returns-clause-only g c =
     let V = g.T.DomainCoeff.group in
     let m = g.T.DomainCoeff.meaning in
     let code = c.args.self.now in
-    let n = code.domain.size in
-    let message = c.args.message.now in
-    let fits : code.k ≤ n = subst (λ r. r.k ≤ r.domain.size) c.self.view_is c.self.invariant.fits in
-    let len : length message ≡ code.k = omega (arith, c.if-message-self.false, ap (λ r. r.k) c.self.view_is) in
-    let zeros = replicate (c.n-2.result - vec_len c.extend_from_slice.new.self) c.zero.result in
-    let is : c.deref.result.now ≡ message ++ zeros =
-    c.deref.ensures.value ∙ c.in_ok-resize.ensures.items
-    ∙ ap (λ t. t ++ zeros) (ap (take c.n-2.result) (c.in_ok-extend_from_slice.ensures.items ∙ ap (λ t. t ++ message) c.in_ok-word.ensures.items)
-    ∙ take_all c.n-2.result message (omega (arith, len, fits, c.n-2.ensures))) in
+    let word = c.deref.result.now in
+    let len : length c.args.message.now ≡ code.k = omega (arith, c.if-message-self.false, ap (λ r. r.k) c.self.view_is) in
     IfOk_more c.restore.result
     (λ v only other codeword begins.
     only other
     (subst (λ r. IsCodeword K V r.domain r.k other) (sym c.in_ok-decoder.ensures.code) codeword)
-    (subst (λ e. AgreesElsewhere V e (map m c.deref.result.now) other) (sym c.in_ok-decoder.ensures.erased)
-    (agrees_by_message V m code.k n message zeros c.deref.result.now len is other begins)))
+    (subst (λ e. AgreesElsewhere V e (map m word) other) (sym c.in_ok-decoder.ensures.erased)
+    (agrees_by_message V m code.k code.domain.size c.args.message.now word len (ap (take code.k) c.deref.ensures.value ∙ c.in_ok-word.ensures) other begins)))
     c.restore.ensures.only
 
 pub returns-clause-errors : goal.returns-clause-errors

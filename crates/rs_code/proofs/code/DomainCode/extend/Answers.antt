@@ -1,9 +1,9 @@
 -- The codeword is what it begins with, and what stands behind that.
-use Rattle.std.proofs.Common.{◌≡◌, ◌-◌, ◌≤◌, ◌++◌, length, map, drop, subst, sym, ap, ap₂, ◌∙◌, arith}
-use Rattle.std.proofs.lemmas.List.{drop-map, length-drop, length-take-le, take-append-drop, take_all}
+use Rattle.std.proofs.Common.{◌≡◌, ◌≤◌, ◌++◌, length, map, drop, subst, sym, ap, ap₂, ◌∙◌, arith}
+use Rattle.std.proofs.lemmas.List.{drop-map, length-take-le, take-append-drop}
 use Rattle.ark_math.proofs.Callers.Transforms.{transform-length}
 use Rattle.rs_code.specs.Codeword.{IsCodeword}
-use Rattle.rs_code.proofs.FirstPlaces.{behind_first, first_of}
+use Rattle.rs_code.proofs.FirstPlaces.{behind_first, first_of, slice_from}
 use Rattle.rs_code.proofs.code.DomainCode.extend.Goals as goal
 
 pub returns-clause-codeword : goal.returns-clause-codeword
@@ -15,9 +15,7 @@ returns-clause-codeword g c =
     let word = c.in_ok-codeword.codeword.items in
     let slice = c.deref.result.now in
     let rest : c.in_ok-from_slice.field-0.items ≡ drop code.k word =
-    c.in_ok-from_slice.ensures.items
-    ∙ take_all (length slice - c.self.inside.k) (drop c.self.inside.k slice) (omega (arith, length-drop c.self.inside.k slice))
-    ∙ ap₂ drop (ap (λ r. r.k) c.self.view_is) c.deref.ensures.value in
+    c.in_ok-from_slice.ensures.items ∙ slice_from c.self.inside.k slice ∙ ap₂ drop (ap (λ r. r.k) c.self.view_is) c.deref.ensures.value in
     let whole : map m c.args.message.now ++ map m c.in_ok-from_slice.field-0.items ≡ map m word =
     ap₂ (λ s t. s ++ t) (sym c.in_ok-codeword.ensures.systematic) (ap (map m) rest ∙ sym (drop-map m code.k word))
     ∙ take-append-drop code.k (map m word) in
@@ -33,9 +31,7 @@ returns-clause-only g c = λ others is.
     let slice = c.deref.result.now in
     let message = map m c.args.message.now in
     let rest : c.in_ok-from_slice.field-0.items ≡ drop code.k word =
-    c.in_ok-from_slice.ensures.items
-    ∙ take_all (length slice - c.self.inside.k) (drop c.self.inside.k slice) (omega (arith, length-drop c.self.inside.k slice))
-    ∙ ap₂ drop (ap (λ r. r.k) c.self.view_is) c.deref.ensures.value in
+    c.in_ok-from_slice.ensures.items ∙ slice_from c.self.inside.k slice ∙ ap₂ drop (ap (λ r. r.k) c.self.view_is) c.deref.ensures.value in
     let codeword = c.in_ok-codeword.ensures.codeword in
     let fits : code.k ≤ code.domain.size = subst (λ r. r.k ≤ r.domain.size) c.self.view_is c.self.invariant.fits in
     let size : length (map m word) ≡ code.domain.size = ap length codeword.2 ∙ transform-length K V code.domain codeword.0 in

@@ -2,10 +2,8 @@ use Rattle.std.proofs.Common.{refl, ◌≡◌, ◌<◌, ℕ, map, length, get_or
 use Rattle.std.proofs.lemmas.List.{get_or_read}
 use Rattle.ark_math.specs.Module.{item}
 use Rattle.ark_traits.proofs.Cost.{none_grown, grows_twice}
-use Rattle.ark_fft.proofs.Counts.{below_is_within, ended}
+use Rattle.ark_fft.proofs.Counts.{ended}
 use Rattle.ark_fft.proofs.Butterflies.{none_crossed, one_crossed}
-use borrow.Author.Rules.{scaled_Fits}
-use borrow.Author.Count.{falls}
 use Rattle.ark_fft.proofs.domain.radix2.fft.butterflies.Goals as goal
 
 pub loop-i-preserved : goal.loop-i-preserved
@@ -35,24 +33,3 @@ returns-clause-differences g c = λ i l. c.loop-i.invariant.crossed.done_hi i (s
 
 pub loop-i-init : goal.loop-i-init
 loop-i-init g c = record { counted = none_grown _; crossed = none_crossed g.T.DomainCoeff.meaning g.T.DomainCoeff.group.zero _ _ c.args.lo.now c.args.hi.now }
-
-pub offset_bounds-lo-i : goal.offset_bounds-lo-i
-offset_bounds-lo-i g c = let inside : c.loop-i.i < length c.args.lo.now = c.loop-i-test.true in search scaled_Fits
-
-pub bounds-lo-i : goal.bounds-lo-i
-bounds-lo-i g c = subst (λ k. c.loop-i.i < k) (sym c.loop-i.auto.lo) c.loop-i-test.true
-
-pub offset_bounds-hi-i : goal.offset_bounds-hi-i
-offset_bounds-hi-i g c = let inside : c.loop-i.i < length c.args.hi.now = subst (λ k. c.loop-i.i < k) c.requires.same c.loop-i-test.true in search scaled_Fits
-
-pub bounds-hi-i : goal.bounds-hi-i
-bounds-hi-i g c = subst (λ k. c.loop-i.i < k) (sym (c.loop-i.auto.hi ∙ sym c.requires.same)) c.loop-i-test.true
-
-pub offset_bounds-twiddles-i : goal.offset_bounds-twiddles-i
-offset_bounds-twiddles-i g c = below_is_within _ _ (subst (λ k. c.loop-i.i < k) c.requires.enough c.loop-i-test.true)
-
-pub bounds-twiddles-i : goal.bounds-twiddles-i
-bounds-twiddles-i g c = subst (λ k. c.loop-i.i < k) c.requires.enough c.loop-i-test.true
-
-pub loop-i-smaller : goal.loop-i-smaller
-loop-i-smaller g c = falls (length c.args.lo.now) c.loop-i.i c.loop-i-test.true
