@@ -4,9 +4,8 @@ ghost use Rattle.std.specs.Prelude.{◌≡◌, ℕ, ◌+◌, ◌*◌, ◌/◌, �
 ghost use Rattle.ark_math.specs.Field.{power};
 ghost use Rattle.ark_math.specs.Univariate.{of_list};
 
-use ark_base::{FftField, Field};
+use ark_base::Field;
 use ark_blocks::items::raise_each;
-use ark_fft::domain::radix2::fft::powers;
 use std::alloc::{AllocError, Global};
 
 // A place's digits are to bases of at most so much.
@@ -17,7 +16,7 @@ const MOST: usize = 16;
 ///
 /// A place's lowest digit stands in the power whose exponent is the size by the digit's base, and the others
 /// are found alike once the digit is taken out.
-pub fn take_places<F: FftField>(
+pub fn take_places<F: Field>(
     alloc: Global,
     items: &mut [F],
     root: F,
@@ -60,7 +59,7 @@ fn base_of(size: usize) -> usize
 }
 
 // Of each item a digit: where the item's power is one of the root's, below the base, that one's exponent.
-fn digits<F: FftField>(
+fn digits<F: Field>(
     alloc: Global,
     items: &[F],
     root: F,
@@ -82,6 +81,21 @@ fn digits<F: FftField>(
     Ok(digits)
 }
 
+// The powers of an element from 0 on, so many.
+fn powers<F: Field>(alloc: Global, element: F, count: usize) -> Result<Vec<F>, AllocError>
+    ensures len { IfOk result (λ v. length v.items ≡ count) }
+    ensures powers { IfOk result (λ v. (i : ℕ) → i < count
+        → of_list F.field v.items i ≡ power F.field element i) }
+{
+    let mut powers = Vec::with_capacity(alloc, count)?;
+    let mut next = F::one();
+    for _ in 0..count {
+        powers.push(next)?;
+        next *= element;
+    }
+    Ok(powers)
+}
+
 // The last place of an item in a table, and the first one if it isn't there. It looks at all places, so that
 // no branch depends on them.
 fn place_of<F: Field>(table: &[F], item: F) -> usize
@@ -98,7 +112,7 @@ fn place_of<F: Field>(table: &[F], item: F) -> usize
 }
 
 // Multiplies each item by the root's power whose exponent is the digit at the item's place.
-fn multiply_by_powers<F: FftField>(
+fn multiply_by_powers<F: Field>(
     alloc: Global,
     items: &mut [F],
     root: F,
