@@ -1,8 +1,8 @@
 -- Words of which the first places alone are kept.
-use Rattle.std.proofs.Common.{◌≡◌, ℕ, zero, suc, ◌-◌, ◌<◌, ◌≤◌, inl, inr, Bool, true, false, List, ◌++◌, length, get_or, map, take, drop, cond, length-append, length-take, sym, ◌∙◌, ap, refl, arith, true≢false}
+use Rattle.std.proofs.Common.{◌≡◌, ℕ, zero, suc, ◌-◌, ◌<◌, ◌≤◌, inl, inr, Bool, true, false, List, ◌++◌, length, get_or, map, take, drop, cond, length-take, sym, ◌∙◌, ap, refl, arith, true≢false}
 use Rattle.std.specs.Prelude.{replicate}
 use Rattle.std.proofs.lemmas.Bool.{cases_lt}
-use Rattle.std.proofs.lemmas.List.{drop-append-le, drop_all, ext_get_or, get_or-take, length-drop, length-map, length-replicate, length-take-le, take-append-le, take-map, take_all}
+use Rattle.std.proofs.lemmas.List.{drop-append-le, drop_all, ext_get_or, get_or-take, length-drop, length-map, length-take-le, take-append-le, take-map, take_all}
 use Rattle.std.proofs.lemmas.List.Sums.{sum_by-cons}
 use Rattle.ark_math.specs.Module.{ModuleOn}
 use Rattle.rs_code.specs.Codeword.{AgreesElsewhere, after_first, mark_count}
@@ -24,9 +24,6 @@ unmarked (suc k) marks =
 -- all but k places are marked
 pub mark_count-after_first : (k n : ℕ) → mark_count (after_first k n) ≡ n - k
 mark_count-after_first k n = unmarked k (replicate (n - k) true) ∙ marked (n - k)
-
-pub length-after_first : (k n : ℕ) → k ≤ n → length (after_first k n) ≡ n
-length-after_first k n l = omega (arith, l, length-append (replicate k false) (replicate (n - k) true), length-replicate k false, length-replicate (n - k) true)
 
 last : (m i : ℕ) → get_or (replicate m true) i true ≡ true
 last zero i = refl
