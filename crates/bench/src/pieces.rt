@@ -8,8 +8,8 @@ use crate::draws::Draws;
 use ark_base::PolyError;
 use sha2::{Digest, Sha256};
 use shards_format::{
-    JoinError, PART, PART_SIZE, Piece, PlacedNumbers, StripeCode, append, block_of, blocks, chunk, join,
-    parts_of_block, read_part, split, stripes,
+    JoinError, PART, PART_SIZE, Piece, PlacedNumbers, StripeCode, append, block_of, blocks, chunk,
+    join, parts_of_block, read_part, split, stripes,
 };
 use std::alloc::{AllocError, Global};
 use std::io::Print;

@@ -105,11 +105,7 @@ impl<F: NumberField, const N: usize> StripeCode for RowCode<F, N> {
         Ok(())
     }
 
-    fn restorer(
-        &self,
-        alloc: Global,
-        places: &[usize],
-    ) -> Result<RowRestorer<F, N>, AllocError> {
+    fn restorer(&self, alloc: Global, places: &[usize]) -> Result<RowRestorer<F, N>, AllocError> {
         let decoder = self.decoder(alloc, places)?;
         let weights = self.weights(alloc, &decoder, places)?;
         Ok(RowRestorer { decoder, weights })
