@@ -8,8 +8,8 @@ use crate::draws::Draws;
 use ark_base::PolyError;
 use sha2::{Digest, Sha256};
 use shards_format::{
-    JoinError, PART, PART_SIZE, Piece, StripeCode, append, block_of, blocks, chunk, join,
-    parts_of_block, read_part, split, stripes,
+    JoinError, PART, PART_SIZE, Piece, PlacedNumbers, StripeCode, append, block_of, blocks, chunk,
+    join, parts_of_block, read_part, split, stripes,
 };
 use std::alloc::{AllocError, Global};
 use std::io::Print;
@@ -171,12 +171,18 @@ fn join_bodies<C: StripeCode>(
     let k = code.k();
     let size = 2 * k * PART;
     let places = last_places(alloc, code)?;
+    let restorer = code.restorer(alloc, &places)?;
     let mut file = Vec::new(alloc);
     for b in 0..blocks(k, FILE) {
         let want = size.min(FILE - b * size);
         let count = stripes(k, want);
         let numbers = numbers_of_parts(alloc, bodies, b, count)?;
-        let block = block_of(alloc, code, &places, &numbers, count)?;
+        let given = PlacedNumbers {
+            places: &places,
+            stripes: count,
+            numbers: &numbers,
+        };
+        let block = block_of(alloc, code, &restorer, &given)?;
         append(&mut file, &block[..want])?;
     }
     Ok(file)

@@ -84,34 +84,26 @@ fn fill_items(bytes: &[u8], items: &mut [u16])
     }
 }
 
-/// The bytes of a block of so many stripes from their numbers at `k` places, those at the first of these first. The bytes
-/// end with those that filled the last stripe.
+/// The bytes of a block from the numbers that its stripes have at the places that the restorer is for. The bytes end with
+/// those that filled the last stripe.
 pub fn block_of<C: StripeCode>(
     alloc: Global,
     code: &C,
-    places: &[usize],
-    numbers: &[u32],
-    count: usize,
+    restorer: &C::Restorer,
+    given: &PlacedNumbers<'_>,
 ) -> Result<Vec<u8>, AllocError>
-    requires places { length places.now ≡ C.k_of code.now }
-    requires below { (a : ℕ) → a < length places.now → get_or places.now a 0 < C.n_of code.now }
-    requires apart { (a b : ℕ) → a < b → b < length places.now → get_or places.now a 0 ≢ get_or places.now b 0 }
-    requires numbers { length numbers.now ≡ C.k_of code.now * count }
-    requires few { count ≤ PART }
-    ensures len { IfOk result (λ bytes. length bytes.items ≡ 2 * (count * C.k_of code.now)) }
+    requires places { C.is_for code.now restorer.now given.now.places.now }
+    requires few { given.now.stripes ≤ PART }
+    ensures len { IfOk result (λ bytes. length bytes.items ≡ 2 * (given.now.stripes * C.k_of code.now)) }
     ensures block { IfOk result (λ bytes. (block : List ℕ) → ((i : ℕ) → get_or block i 0 < 256)
-        → count ≡ stripes (C.k_of code.now) (length block)
-        → ((a s : ℕ) → a < C.k_of code.now → s < count → get_or numbers.now (a * count + s) 0
-        ≡ C.number (C.k_of code.now) (C.n_of code.now) (stripe (C.k_of code.now) block s) (get_or places.now a 0))
+        → given.now.stripes ≡ stripes (C.k_of code.now) (length block)
+        → ((a s : ℕ) → a < C.k_of code.now → s < given.now.stripes
+        → get_or given.now.numbers.now (a * given.now.stripes + s) 0
+        ≡ C.number (C.k_of code.now) (C.n_of code.now) (stripe (C.k_of code.now) block s) (get_or given.now.places.now a 0))
         → take (length block) bytes.items ≡ block) }
 {
-    let mut items = vec![in alloc; 0u16; count * code.k()]?;
-    let given = PlacedNumbers {
-        places,
-        stripes: count,
-        numbers,
-    };
-    code.restore(alloc, &given, items.as_mut_slice())?;
+    let mut items = vec![in alloc; 0u16; given.stripes * code.k()]?;
+    code.restore(alloc, restorer, given, items.as_mut_slice())?;
     let bytes = bytes_of(alloc, &items)?;
     Ok(bytes)
 }

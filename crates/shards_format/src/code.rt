@@ -1,6 +1,6 @@
 //! What splitting and joining ask of a code.
 
-ghost use Rattle.std.specs.Prelude.{◌≡◌, ◌≢◌, ℕ, ◌+◌, ◌*◌, ◌<◌, ◌≤◌, ◌^◌, ◌↔◌, length, get_or, IsSome, IfSome, OnOk};
+ghost use Rattle.std.specs.Prelude.{◌≡◌, ◌≢◌, ℕ, ◌+◌, ◌*◌, ◌<◌, ◌≤◌, ◌^◌, ◌↔◌, List, length, get_or, IsSome, IfOk, IfSome, OnOk};
 
 use std::alloc::{AllocError, Global};
 
@@ -20,6 +20,10 @@ pub struct PlacedNumbers<'a> {
 /// A code for stripes. A stripe is `k` items below 2^16; it has a number of at most 2^16 at each of `n` places, and the
 /// numbers at any `k` places tell the stripe.
 pub trait StripeCode: Drop + Sized {
+    /// What stripes are restored by from their numbers at certain places. It is made once for these, and restores any
+    /// number of stripes.
+    type Restorer: Drop;
+
     // The number of a stripe's items at a place: `number k n items place`.
     ghost number: { ℕ → ℕ → (ℕ → ℕ) → ℕ → ℕ };
 
@@ -29,6 +33,9 @@ pub trait StripeCode: Drop + Sized {
 
     // Whether there is a code for `k` items and `n` places.
     ghost has: { ℕ → ℕ → Type 0 };
+
+    // Whether a restorer was made by the code for these places.
+    ghost is_for: { Self → Self.Restorer → List ℕ → Type 0 };
 
     /// The code for `k` items and `n` places, and `None` exactly where there is none.
     fn new(k: usize, n: usize) -> Option<Self>
@@ -61,15 +68,22 @@ pub trait StripeCode: Drop + Sized {
         ensures { OnOk result ((i s : ℕ) → i < Self.n_of self.now → s < stripes → get_or numbers.new (i * stripes + s) 0
             ≡ number (Self.k_of self.now) (Self.n_of self.now) (λ j. get_or items.now (s * Self.k_of self.now + j) 0) i) };
 
-    /// The items of stripes from their numbers at `k` places.
+    /// What restores stripes from their numbers at these `k` places.
+    fn restorer(&self, alloc: Global, places: &[usize]) -> Result<Self::Restorer, AllocError>
+        requires places { length places.now ≡ Self.k_of self.now }
+        requires below { (a : ℕ) → a < length places.now → get_or places.now a 0 < Self.n_of self.now }
+        requires apart { (a b : ℕ) → a < b → b < length places.now → get_or places.now a 0 ≢ get_or places.now b 0 }
+        ensures { IfOk result (λ restorer. is_for self.now restorer places.now) };
+
+    /// The items of stripes from their numbers at the places that the restorer is for.
     fn restore(
         &self,
         alloc: Global,
+        restorer: &Self::Restorer,
         given: &PlacedNumbers<'_>,
         items: &mut [u16],
     ) -> Result<(), AllocError>
-        requires places { length given.now.places.now ≡ Self.k_of self.now }
-        requires below { (a : ℕ) → a < length given.now.places.now → get_or given.now.places.now a 0 < Self.n_of self.now }
+        requires places { is_for self.now restorer.now given.now.places.now }
         requires items { length items.old ≡ given.now.stripes * Self.k_of self.now }
         ensures { OnOk result ((s : ℕ) (stripe : ℕ → ℕ) → s < given.now.stripes
             → ((j : ℕ) → j < Self.k_of self.now → stripe j < 2 ^ 16)

@@ -9,7 +9,7 @@ ghost use Rattle.shards_format.specs.Given.{AreGiven, AreOfCode, AreOfOneFile, n
 ghost use Rattle.shards_format.specs.declared.piece.Piece.{Piece};
 
 use crate::block_parts::{block_of, stripes};
-use crate::code::StripeCode;
+use crate::code::{PlacedNumbers, StripeCode};
 use crate::parts::{PART, read_part};
 use crate::piece::{Piece, are_same, blocks};
 use crate::splitting::{append, chunk};
@@ -39,12 +39,18 @@ fn join_bodies<C: StripeCode>(
 {
     let k = code.k();
     let size = 2 * k * PART;
+    let restorer = code.restorer(alloc, places)?;
     let mut joined = Vec::new(alloc);
     for b in 0..blocks(k, len) {
         let want = size.min(len - b * size);
         let count = stripes(k, want);
         let numbers = numbers_of_parts(alloc, bodies, b, count)?;
-        let block = block_of(alloc, code, places, &numbers, count)?;
+        let given = PlacedNumbers {
+            places,
+            stripes: count,
+            numbers: &numbers,
+        };
+        let block = block_of(alloc, code, &restorer, &given)?;
         append(&mut joined, &block[..want])?;
     }
     Ok(joined)

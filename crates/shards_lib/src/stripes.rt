@@ -47,6 +47,8 @@ pub struct RowCode<F: NumberField, const N: usize> {
 impl<F: NumberField, const N: usize> StripeCode for RowCode<F, N> {
     ghost use Rattle.shards_lib.specs.Numbers.{number_at_place, number_below};
 
+    type Restorer = RowRestorer<F, N>;
+
     ghost number = { number_at_place F.field F.root F.number };
 
     ghost k_of = { λ c. c.code.k };
@@ -54,6 +56,9 @@ impl<F: NumberField, const N: usize> StripeCode for RowCode<F, N> {
     ghost n_of = { λ c. c.n };
 
     ghost has = { HasCode N };
+
+    ghost is_for = { λ c restorer places. Restores F.field F.root c.code c.n restorer.decoder places
+        restorer.weights.items };
 
     ghost number_below = { number_below F.field F.root F.number };
 
@@ -100,21 +105,31 @@ impl<F: NumberField, const N: usize> StripeCode for RowCode<F, N> {
         Ok(())
     }
 
+    fn restorer(&self, alloc: Global, places: &[usize]) -> Result<RowRestorer<F, N>, AllocError> {
+        let decoder = self.decoder(alloc, places)?;
+        let weights = self.weights(alloc, &decoder, places)?;
+        Ok(RowRestorer { decoder, weights })
+    }
+
     fn restore(
         &self,
         alloc: Global,
+        restorer: &RowRestorer<F, N>,
         given: &PlacedNumbers<'_>,
         items: &mut [u16],
     ) -> Result<(), AllocError> {
-        let decoder = self.decoder(alloc, given.places)?;
-        let weights = self.weights(alloc, &decoder, given.places)?;
-        let way = Restoration {
-            given,
-            decoder: &decoder,
-            weights,
-        };
+        let way = Restoration { given, restorer };
         self.restore_groups(alloc, &way, items)
     }
+}
+
+/// What restores stripes from their numbers at `k` places: by weights, where there are some, else by the decoder.
+///
+/// Contracts see both.
+#[derive(Drop)]
+pub struct RowRestorer<F: NumberField, const N: usize> {
+    decoder: DomainDecoder<F, Radix2EvaluationDomain<F>>,
+    weights: Vec<Row<F, N>>,
 }
 
 impl<F: NumberField, const N: usize> RowCode<F, N> {
@@ -184,8 +199,8 @@ impl<F: NumberField, const N: usize> RowCode<F, N> {
         way: &Restoration<'_, F, N>,
         items: &mut [u16],
     ) -> Result<(), AllocError>
-        requires way { Restores F.field F.root self.now.code self.now.n way.now.decoder.now
-            way.now.given.now.places.now way.now.weights.items }
+        requires way { Restores F.field F.root self.now.code self.now.n way.now.restorer.now.decoder
+            way.now.given.now.places.now way.now.restorer.now.weights.items }
         requires items { length items.old ≡ way.now.given.now.stripes * self.now.code.k }
         ensures { OnOk result ((s : ℕ) (stripe : ℕ → ℕ) → s < way.now.given.now.stripes
             → ((j : ℕ) → j < self.now.code.k → stripe j < 2 ^ 16)
@@ -216,8 +231,8 @@ impl<F: NumberField, const N: usize> RowCode<F, N> {
         group: StripeGroup,
         items: &mut [u16],
     ) -> Result<(), AllocError>
-        requires way { Restores F.field F.root self.now.code self.now.n way.now.decoder.now
-            way.now.given.now.places.now way.now.weights.items }
+        requires way { Restores F.field F.root self.now.code self.now.n way.now.restorer.now.decoder
+            way.now.given.now.places.now way.now.restorer.now.weights.items }
         requires count { group.count ≤ N }
         requires stripes { group.all ≡ way.now.given.now.stripes }
         requires items { length items.old ≡ group.all * self.now.code.k }
@@ -272,8 +287,8 @@ impl<F: NumberField, const N: usize> RowCode<F, N> {
         way: &Restoration<'_, F, N>,
         word: &[Row<F, N>],
     ) -> Result<Vec<Row<F, N>>, AllocError>
-        requires way { Restores F.field F.root self.now.code self.now.n way.now.decoder.now
-            way.now.given.now.places.now way.now.weights.items }
+        requires way { Restores F.field F.root self.now.code self.now.n way.now.restorer.now.decoder
+            way.now.given.now.places.now way.now.restorer.now.weights.items }
         requires len { length word.now ≡ self.now.code.domain.size }
         ensures len { IfOk result (λ m. length m.items ≡ self.now.code.k) }
         ensures only { IfOk result (λ m. (t : ℕ) (items : ℕ → F) → t < N
@@ -282,9 +297,9 @@ impl<F: NumberField, const N: usize> RowCode<F, N> {
             (get_or way.now.given.now.places.now a 0))
             → (j : ℕ) → j < self.now.code.k → entry F.field m.items j t ≡ items j) }
     {
-        let weights: &[Row<F, N>] = &way.weights;
+        let weights: &[Row<F, N>] = &way.restorer.weights;
         if weights.is_empty() {
-            return self.message(alloc, way.decoder, word);
+            return self.message(alloc, &way.restorer.decoder, word);
         }
         combined(alloc, weights, word, way.given.places)
     }
@@ -314,12 +329,11 @@ impl<F: NumberField, const N: usize> RowCode<F, N> {
     }
 }
 
-// Stripes that are restored from their numbers at places: by weights, where there are some, else by the decoder.
-#[derive(Drop)]
+// Numbers, and what their stripes are restored by.
+#[derive(Clone, Copy)]
 struct Restoration<'a, F: NumberField, const N: usize> {
     given: &'a PlacedNumbers<'a>,
-    decoder: &'a DomainDecoder<F, Radix2EvaluationDomain<F>>,
-    weights: Vec<Row<F, N>>,
+    restorer: &'a RowRestorer<F, N>,
 }
 
 // What refused memory is here: no other error comes.

@@ -13,7 +13,7 @@ use crate::error::StreamError;
 use crate::reading::take_bytes;
 use ark_bytes::{Sink, Source};
 use sha2::{Digest, Sha256};
-use shards_format::{PART, StripeCode, block_of, blocks, read_part, stripes};
+use shards_format::{PART, PlacedNumbers, StripeCode, block_of, blocks, read_part, stripes};
 use std::alloc::Global;
 
 /// The pieces that a file is joined of, by their places, which differ.
@@ -63,12 +63,18 @@ pub fn join_into<C: StripeCode, R: Source, W: Sink>(
 {
     let k = code.k();
     let size = 2 * k * PART;
+    let restorer = code.restorer(alloc, chosen.places)?;
     let mut hasher = Sha256::new();
     for b in 0..blocks(k, chosen.file_len) {
         let want = size.min(chosen.file_len - b * size);
         let count = stripes(k, want);
         let numbers = take_parts(alloc, sources, count)?;
-        let block = block_of(alloc, code, chosen.places, &numbers, count)?;
+        let given = PlacedNumbers {
+            places: chosen.places,
+            stripes: count,
+            numbers: &numbers,
+        };
+        let block = block_of(alloc, code, &restorer, &given)?;
         put(sink, &mut hasher, &block[..want])?;
     }
     Ok(hasher.finalize())

@@ -12,11 +12,11 @@ returns-clause-block g c =
     let whole = take_at c.restore.new.items (drop (length c.restore.new.items) c.in_ok-items.items.items) c.in_ok-items.items.len long in
     let items_are = c.deref.ensures.value ∙ whole in
     let some : 0 < k = subst (λ n. 0 < n) c.k.ensures.k c.k.ensures.positive in
-    let count_k : c.args.count * c.k.result ≡ c.args.count * k = ap (λ m. c.args.count * m) c.k.ensures.k in
+    let count_k : c.args.given.now.stripes * c.k.result ≡ c.args.given.now.stripes * k = ap (λ m. c.args.given.now.stripes * m) c.k.ensures.k in
     let same_len = ap length items_are in
-    let items_len : length c.deref.result.now ≡ c.args.count * k = omega (arith, same_len, long, c.in_ok-items.ensures.len, count_k) in
+    let items_len : length c.deref.result.now ≡ c.args.given.now.stripes * k = omega (arith, same_len, long, c.in_ok-items.ensures.len, count_k) in
     λ block few count_is numbered.
-    restored_block k c.args.count c.in_ok-bytes.bytes.items block c.deref.result.now some c.in_ok-bytes.ensures.bytes few
+    restored_block k c.args.given.now.stripes c.in_ok-bytes.bytes.items block c.deref.result.now some c.in_ok-bytes.ensures.bytes few
     (c.in_ok-bytes.ensures.len ∙ ap (λ n. 2 * n) items_len) count_is
     (λ j l. c.in_ok-bytes.ensures.items j (subst (λ n. j < n) (sym items_len) l))
     (λ s j l b. subst (λ (xs : List ℕ). get_or xs (s * k + j) 0 ≡ stripe k block s j) (sym items_are)
