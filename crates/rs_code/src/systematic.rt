@@ -1,6 +1,6 @@
 //! Codewords in systematic form: a message stands at the first places, and is extended by the values at the others.
 
-ghost use Rattle.std.specs.Prelude.{◌≡◌, ◌≢◌, ◌↔◌, ◌⊎◌, ◌++◌, List, length, map, take, Err, IfErr, IfOk, IsOkUnless};
+ghost use Rattle.std.specs.Prelude.{◌≡◌, ◌≢◌, ◌↔◌, ◌⊎◌, ◌≤◌, ◌++◌, List, length, map, take, Err, IfErr, IfOk, IsOkUnless};
 ghost use Rattle.rs_code.specs.Codeword.{IsCodeword, after_first};
 
 use crate::code::DomainCode;
@@ -51,19 +51,8 @@ impl<F: FftField, D: EvaluationDomain<F>> DomainCode<F, D> {
             return Err(RsError::WrongLength);
         }
         let decoder = self.systematic_decoder(alloc)?;
-        let word = self.padded(alloc, message)?;
+        let word = padded::<F, T>(alloc, message, self.n())?;
         decoder.restore(alloc, &word)
-    }
-
-    // The message with zeros at the places behind it.
-    fn padded<T: DomainCoeff<F>>(&self, alloc: Global, message: &[T]) -> Result<Vec<T>, AllocError>
-        requires { length message.now ≡ self.now.k }
-        ensures { IfOk result (λ w. take self.now.k w.items ≡ message.now) }
-    {
-        let mut word = Vec::with_capacity(alloc, self.n())?;
-        word.extend_from_slice(message)?;
-        word.resize(self.n(), T::zero())?;
-        Ok(word)
     }
 
     /// The values at the `n - k` places behind the first `k` of the only codeword that has the message's items at these:
@@ -81,4 +70,20 @@ impl<F: FftField, D: EvaluationDomain<F>> DomainCode<F, D> {
         let codeword = self.encode_systematic(alloc, message)?;
         Ok(Vec::from_slice(alloc, &codeword[self.k..])?)
     }
+}
+
+// The message with zeros behind it, so many items in all.
+fn padded<F: FftField, T: DomainCoeff<F>>(
+    alloc: Global,
+    message: &[T],
+    size: usize,
+) -> Result<Vec<T>, AllocError>
+    requires { length message.now ≤ size }
+    ensures len { IfOk result (λ word. length word.items ≡ size) }
+    ensures begins { IfOk result (λ word. take (length message.now) word.items ≡ message.now) }
+{
+    let mut word = Vec::with_capacity(alloc, size)?;
+    word.extend_from_slice(message)?;
+    word.resize(size, T::zero())?;
+    Ok(word)
 }

@@ -7,6 +7,12 @@ use Rattle.rs_code.proofs.FirstPlaces.{agrees_by_message, begins_with_message, m
 use Rattle.rs_code.proofs.Refused.{few_errors}
 use Rattle.rs_code.proofs.code.DomainCode.encode_systematic.Goals as goal
 
+pub padded-requires : goal.padded-requires
+padded-requires g c =
+    let code = c.args.self.now in
+    let fits : code.k ≤ code.domain.size = subst (λ r. r.k ≤ r.domain.size) c.self.view_is c.self.invariant.fits in
+    omega (arith, fits, c.n.ensures, c.if-message-self.false, ap (λ r. r.k) c.self.view_is)
+
 pub returns-clause-systematic : goal.returns-clause-systematic
 returns-clause-systematic g c =
     let K = g.F.Field.field in
@@ -16,9 +22,10 @@ returns-clause-systematic g c =
     let word = c.deref.result.now in
     let fits : code.k ≤ code.domain.size = subst (λ r. r.k ≤ r.domain.size) c.self.view_is c.self.invariant.fits in
     let len : length c.args.message.now ≡ code.k = omega (arith, c.if-message-self.false, ap (λ r. r.k) c.self.view_is) in
+    let front : take code.k word ≡ c.args.message.now = subst (λ m. take m word ≡ c.args.message.now) len (ap (take (length c.args.message.now)) c.deref.ensures.value ∙ c.in_ok-word.ensures.begins) in
     IfOk_both c.restore.result
     (λ v agrees codeword.
-    begins_with_message V m code.k code.domain.size c.args.message.now word len (ap (take code.k) c.deref.ensures.value ∙ c.in_ok-word.ensures) (map m v.items)
+    begins_with_message V m code.k code.domain.size c.args.message.now word len front (map m v.items)
     (omega (arith, fits, ap length codeword.2, transform-length K V c.in_ok-decoder.decoder.code.domain codeword.0, ap (λ r. r.domain.size) c.in_ok-decoder.ensures.code))
     (subst (λ e. AgreesElsewhere V e (map m word) (map m v.items)) c.in_ok-decoder.ensures.erased agrees))
     c.restore.ensures.agrees c.restore.ensures.codeword
@@ -31,12 +38,13 @@ returns-clause-only g c =
     let code = c.args.self.now in
     let word = c.deref.result.now in
     let len : length c.args.message.now ≡ code.k = omega (arith, c.if-message-self.false, ap (λ r. r.k) c.self.view_is) in
+    let front : take code.k word ≡ c.args.message.now = subst (λ m. take m word ≡ c.args.message.now) len (ap (take (length c.args.message.now)) c.deref.ensures.value ∙ c.in_ok-word.ensures.begins) in
     IfOk_more c.restore.result
     (λ v only other codeword begins.
     only other
     (subst (λ r. IsCodeword K V r.domain r.k other) (sym c.in_ok-decoder.ensures.code) codeword)
     (subst (λ e. AgreesElsewhere V e (map m word) other) (sym c.in_ok-decoder.ensures.erased)
-    (agrees_by_message V m code.k code.domain.size c.args.message.now word len (ap (take code.k) c.deref.ensures.value ∙ c.in_ok-word.ensures) other begins)))
+    (agrees_by_message V m code.k code.domain.size c.args.message.now word len front other begins)))
     c.restore.ensures.only
 
 pub returns-clause-errors : goal.returns-clause-errors
