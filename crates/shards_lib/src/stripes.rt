@@ -330,7 +330,7 @@ impl<F: NumberField, const N: usize> RowCode<F, N> {
 }
 
 // Numbers, and what their stripes are restored by.
-#[derive(Clone, Copy)]
+#[derive(Drop)]
 struct Restoration<'a, F: NumberField, const N: usize> {
     given: &'a PlacedNumbers<'a>,
     restorer: &'a RowRestorer<F, N>,
