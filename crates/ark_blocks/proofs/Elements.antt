@@ -13,14 +13,6 @@ use Rattle.ark_blocks.specs.Blocks.{AreReversed}
 half_place : (b m i : ℕ) → (b * (2 * m) + i) / 2 ≡ b * m + i / 2
 half_place b m i = omega arith
 
--- a block is named by no later element than those that it has
-pub block_within : (n l b i : ℕ) → b * 2 ^ l + i < n → b < n
-block_within n l b i h =
-    let p = 2 ^ l - 1 in
-    let e : 2 ^ l ≡ suc p = omega (arith, pow_pos l) in
-    let whole : b * 2 ^ l ≡ b + b * p = ap (λ t. b * t) e ∙ omega arith in
-    omega (arith, h, whole)
-
 module _ {F : Type 0} (K : FieldOn F) (N : IsField K) (n : ℕ) (x : ℕ → F) (R : AreReversed K n x) where
   -- the elements of a block, to the power of how many they are, are the element that it is named by
   pub power_of_block : (l b i : ℕ) → i < 2 ^ l → b * 2 ^ l + i < n → power K (x (b * 2 ^ l + i)) (2 ^ l) ≡ x b

@@ -1,6 +1,6 @@
 //! Loops over lists of field elements.
 
-ghost use Rattle.std.specs.Prelude.{◌≡◌, ◌≢◌, ℕ, ◌+◌, ◌*◌, ◌/◌, ◌<◌, ◌≤◌, false, true, length, IfOk};
+ghost use Rattle.std.specs.Prelude.{◌≡◌, ◌≢◌, ℕ, ◌+◌, ◌*◌, ◌/◌, ◌<◌, ◌≤◌, false, true, length, map, IfOk};
 ghost use Rattle.ark_math.specs.Field.{minus, power};
 ghost use Rattle.ark_math.specs.Module.{itself, sum_below};
 ghost use Rattle.ark_math.specs.Univariate.{of_list};
@@ -49,15 +49,13 @@ pub fn raise_each<F: Field>(items: &mut [F], exponent: usize)
     }
 }
 
-// Squares each item.
-fn square_each<F: Field>(items: &mut [F])
-    ensures len { length items.new ≡ length items.old }
-    ensures squares { (i : ℕ) → i < length items.old → of_list F.field items.new i
-        ≡ F.field.times (of_list F.field items.old i) (of_list F.field items.old i) }
+/// Squares each item.
+pub fn square_each<F: Field>(items: &mut [F])
+    ensures squares { items.new ≡ map (λ item. F.field.times item item) items.old }
 {
     for i in 0..items.len() {
-        let own = items[i];
-        items[i] = own * own;
+        let item = items[i];
+        items[i] = item * item;
     }
 }
 

@@ -75,9 +75,6 @@ module _ {M X : Type 0} (m : X → M) (z : M) (xs : List X) (n : ℕ) (a b c d :
   third_len : length third_written ≡ length xs
   third_len = length-set second_written (n + 2) c ∙ second_len
 
-  pub four_len : length four_written ≡ length xs
-  four_len = length-set third_written (n + 3) d ∙ third_len
-
   pub written_first : get_or (map m four_written) n z ≡ m a
   written_first =
       written_other m z third_written (n + 3) n d (omega arith)

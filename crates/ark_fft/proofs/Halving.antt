@@ -31,10 +31,6 @@ few_levels n l =
 pub shifted : (k : ℕ) → k < 64 → 1 * 2 ^ k % 18446744073709551616 ≡ 2 ^ k
 shifted k l = mod-eq_of_lt (omega (arith, pow-lt l)) ∙ one-mul (2 ^ k)
 
-pub one_item : (n size : ℕ) → size ≡ 2 ^ n → size ≤ 1 → n ≡ 0
-one_item zero size is l = refl
-one_item (suc n) size is l = absurd (omega (arith, pow_twice n, pow_pos n))
-
 -- the butterflies of e levels of 2 ^ n items: those of the topmost, and those of its halves
 pub count_levels : (n e : ℕ) → 0 < e → e ≤ n → 2 ^ n / 2 * e ≡ 2 ^ (n - 1) + (2 ^ (n - 1) / 2 * (e - 1) + 2 ^ (n - 1) / 2 * (e - 1))
 count_levels zero e some within = absurd (omega arith)

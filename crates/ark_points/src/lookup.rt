@@ -1,5 +1,9 @@
 //! Values at elements of a domain that has not many more of them: they are looked up among the values over
 //! all of it.
+//!
+//! This is a faster way and nothing else: with it values at 4096 points over 65537 take the time of some 20
+//! transforms in place of 60. Who wants the plain way alone deletes it, with `places.rt`, and lets `evaluate_at`
+//! go down the tree always.
 
 ghost use Rattle.std.specs.Prelude.{◌≡◌, ℕ, ◌<◌, ◌↔◌, ◌⊎◌, length, get_or, IfOk, IfSome, IsOkUnless, IsTrue};
 ghost use Rattle.ark_math.specs.Field.{power};

@@ -104,7 +104,7 @@ fn fails_where_a_write_fails_or_takes_nothing(rt: HostRuntime) -> Result<(), Fai
     Ok(())
 }
 
-// Takes so many bytes at each `write`, up to `room` bytes in all, and counts the calls.
+/// Takes so many bytes at each `write`, up to `room` bytes in all, and counts the calls.
 #[derive(Drop)]
 pub struct Measured {
     pub at_a_time: usize,

@@ -54,10 +54,6 @@ module _ {F : Type 0} (K : FieldOn F) (N : IsField K) where
     values-scaled c a u w U len each =
         record { len = len; values = λ i l. subst (IsValue K (scaled K c a) (x (s + i))) (sym (each i l)) (value-scaled K N c a (x (s + i)) _ (U.values i l)) }
 
-    -- the values of one polynomial are the same, item by item
-    pub one_item : (a : ℕ → F) (u v : List F) → AreValuesFrom K x s n a u → AreValuesFrom K x s n a v → (i : ℕ) → i < n → of_list K u i ≡ of_list K v i
-    one_item a u v U V i l = one_value K N a (x (s + i)) _ _ (U.values i l) (V.values i l)
-
     -- values of a polynomial below a bound, from the sums of its parts
     pub values_from : (k : ℕ) (a : ℕ → F) (u : List F) → IsBelow K k a → length u ≡ n → ((i : ℕ) → i < n → of_list K u i ≡ value_below K k a (x (s + i))) → AreValuesFrom K x s n a u
     values_from k a u below len each = record { len = len; values = λ i l. (k, below, each i l) }

@@ -22,13 +22,13 @@ use Rattle.ark_math.proofs.OverDomains.PlaceValues.{values-length, one_interpola
 use Rattle.ark_math.proofs.OverDomains.Vanishing.{interpolated_quotient, interpolated_remainder, interpolated_product}
 use Rattle.ark_math.proofs.OverDomains.Weights.{weights_at_element, weights_elsewhere, one_list_of_weights}
 use Rattle.ark_math.proofs.Domains.Contained.{is_element, contained_size, contained_offset, contained_from}
-use Rattle.ark_math.proofs.OverDomains.Filters.{Inside, IsRow, row_is_filter}
+use Rattle.ark_math.proofs.OverDomains.Filters.{Inside, IsProgression, progression_is_filter}
 use Rattle.ark_math.proofs.OverDomains.OneFilter.{contained_inside, has_filter, one_filter, filter-degree, filter-value_inside, filter-value_elsewhere}
 
 module _ {F : Type 0} (K : FieldOn F) (N : IsField K) where
   -- b * (tau / e - 1), times e
-  row_times_element : (tau b p q h w : F) → K.times h p ≡ K.one → K.times w q ≡ K.one → K.times (minus K (K.times (K.times (K.times tau b) p) q) b) (K.times h w) ≡ K.times b (minus K tau (K.times h w))
-  row_times_element tau b p q h w e f =
+  item_times_element : (tau b p q h w : F) → K.times h p ≡ K.one → K.times w q ≡ K.one → K.times (minus K (K.times (K.times (K.times tau b) p) q) b) (K.times h w) ≡ K.times b (minus K tau (K.times h w))
+  item_times_element tau b p q h w e f =
       ring6 K N (λ t b p q h w. ((((t ⊗ b) ⊗ p) ⊗ q ⊖ b) ⊗ (h ⊗ w), (t ⊗ b) ⊗ ((h ⊗ p) ⊗ (w ⊗ q)) ⊖ b ⊗ (h ⊗ w))) refl tau b p q h w
       ∙ ap₂ (λ x y. minus K (K.times (K.times tau b) (K.times x y)) (K.times b (K.times h w))) e f
       ∙ ring4 K N (λ t b h w. ((t ⊗ b) ⊗ (unit ⊗ unit) ⊖ b ⊗ (h ⊗ w), b ⊗ (t ⊖ h ⊗ w))) refl tau b h w
@@ -135,7 +135,7 @@ module _ {F : Type 0} {K : FieldOn F} {s : Adicity} {root : ℕ → F} {d : Doma
       (λ i l.
       inverse_is_weight K N tau b z m (element K d i) (minus K (K.times first (power K u i)) b) (of_list K ws i) whole m_some (outside i l)
       (ap (λ t. K.times (minus K (K.times t (power K u i)) b) (element K d i)) begin
-      ∙ row_times_element K N tau b p (power K u i) d.offset (power K d.root i) offset (powers_inverse K N d.root u i back))
+      ∙ item_times_element K N tau b p (power K u i) d.offset (power K d.root i) offset (powers_inverse K N d.root u i back))
       (inverted i l)
       ∙ ap (λ t. K.times t (element K d i)) is)
 
@@ -189,7 +189,7 @@ module _ {F : Type 0} {K : FieldOn F} {s : Adicity} {root : ℕ → F} {d : Doma
               ∙ ap (K.times n) (vanishing_value K N d x z g)),
         )
 
-    -- ---- the row that a filter's coefficients are
+    -- ---- the progression that a filter's coefficients are
 
     quotient_whole : IsContained K e d → e.size * (d.size / e.size) ≡ d.size
     quotient_whole h = omega (arith, mod-add-div d.size e.size, contained_divides h)
@@ -208,16 +208,16 @@ module _ {F : Type 0} {K : FieldOn F} {s : Adicity} {root : ℕ → F} {d : Doma
         }
 
     module _ (h : IsContained K e d) (v q : F) (f : K.times (natural K d.size) v ≡ K.one) (g : K.times e.offset q ≡ K.one) (c : List F) (count : length c ≡ d.size - e.size + 1) (at : (k : ℕ) → k < d.size / e.size → of_list K c (e.size * k) ≡ K.times (K.times (natural K e.size) v) (power K (power K q e.size) k)) (apart : (k r : ℕ) → 0 < r → r < e.size → of_list K c (e.size * k + r) ≡ K.zero) where
-      listed_row : IsRow K e d (inside_by h v q f g) (of_list K c)
-      listed_row = record { short = subst (λ n. IsBelow K n (of_list K c)) count (of_list-below K c); at = at; apart = λ k r l. apart k r }
+      listed : IsProgression K e d (inside_by h v q f g) (of_list K c)
+      listed = record { short = subst (λ n. IsBelow K n (of_list K c)) count (of_list-below K c); at = at; apart = λ k r l. apart k r }
 
-      filter_of_row : IsFilter K e d (of_list K c)
-      filter_of_row = row_is_filter K N e d (inside_by h v q f g) (of_list K c) listed_row
+      filter_of_items : IsFilter K e d (of_list K c)
+      filter_of_items = progression_is_filter K N e d (inside_by h v q f g) (of_list K c) listed
 
-    -- the same of a row over sizes, a start and a ratio that are these
+    -- the same of one over sizes, a start and a ratio that are these
     pub filter_of_spaced : IsContained K e d → (v q start ratio : F) (n m : ℕ) (c : List F) → K.times (natural K d.size) v ≡ K.one → K.times e.offset q ≡ K.one → n ≡ d.size → m ≡ e.size → start ≡ K.times (natural K e.size) v → ratio ≡ power K q e.size → length c ≡ n - m + 1 → ((k : ℕ) → k < n / m → of_list K c (m * k) ≡ K.times start (power K ratio k)) → ((k r : ℕ) → 0 < r → r < m → of_list K c (m * k + r) ≡ K.zero) → IsFilter K e d (of_list K c)
     filter_of_spaced h v q start ratio n m c f g whole part begin by count at apart =
-        filter_of_row h v q f g c (count ∙ ap₂ (λ a b. a - b + 1) whole part)
+        filter_of_items h v q f g c (count ∙ ap₂ (λ a b. a - b + 1) whole part)
         (λ k l.
         ap (λ t. of_list K c (t * k)) (sym part)
         ∙ at k (subst (λ t. k < t) (sym (ap₂ (λ a b. a / b) whole part)) l)

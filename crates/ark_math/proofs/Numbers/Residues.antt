@@ -26,6 +26,3 @@ inverts p P x h ne =
 
 pub power_mod-below : {p : ℕ} → IsPrime p → (v n : ℕ) → power_mod p 32 v n < p
 power_mod-below P v n = mod-lt _ (le_of_lt P.above_one)
-
-pub below_modulus : {p : ℕ} → IsPrime p → (r v n : ℕ) → r ≡ power_mod p 32 v n → r < p
-below_modulus {p} P r v n e = subst (λ x. x < p) (sym e) (power_mod-below P v n)

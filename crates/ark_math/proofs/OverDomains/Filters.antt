@@ -36,8 +36,8 @@ module _ {F : Type 0} (K : FieldOn F) (s d : Domain F) (c : Inside K s d) where
   abbrev pub ratio : F
   ratio = power K c.of_inner.of_offset s.size
 
-  -- a geometric row: start * ratio ^ k at k times the size of s, zero elsewhere
-  pub record IsRow (a : ℕ → F) : Type 0 where
+  -- a geometric progression: start * ratio ^ k at k times the size of s, zero elsewhere
+  pub record IsProgression (a : ℕ → F) : Type 0 where
     pub short : IsBelow K (d.size - s.size + 1) a
     pub at : (k : ℕ) → k < c.index → a (s.size * k) ≡ K.times start (power K ratio k)
     pub apart : (k r : ℕ) → k < c.index → 0 < r → r < s.size → a (s.size * k + r) ≡ K.zero
@@ -52,8 +52,8 @@ module _ {F : Type 0} (K : FieldOn F) (N : IsField K) (s d : Domain F) (c : Insi
   outer_positive : 0 < d.size
   outer_positive = positive K N d.size (factor_not_zero K N _ _ c.of_outer.size)
 
-  row-value : (a : ℕ → F) (x : F) → IsRow K s d c a → value_below K d.size a x ≡ K.times (start K s d c) (sum_below (itself K) c.index (power K (y x)))
-  row-value a x R =
+  progression-value : (a : ℕ → F) (x : F) → IsProgression K s d c a → value_below K d.size a x ≡ K.times (start K s d c) (sum_below (itself K) c.index (power K (y x)))
+  progression-value a x R =
       let m = itself_is_module K N in
       ap (λ t. value_below K t a x) (sym c.whole)
       ∙ sum_below-multiples m s.size c.index (λ i. K.times (power K x i) (a i)) inner_positive
@@ -83,19 +83,19 @@ module _ {F : Type 0} (K : FieldOn F) (N : IsField K) (s d : Domain F) (c : Insi
       ∙ N.times_one (power K x d.size)
 
   -- at a root of the inner vanishing polynomial
-  pub row-inside : (a : ℕ → F) (x : F) → IsRow K s d c a → power K x s.size ≡ power K s.offset s.size → value_below K d.size a x ≡ K.one
-  row-inside a x R e =
-      row-value a x R
+  pub progression-inside : (a : ℕ → F) (x : F) → IsProgression K s d c a → power K x s.size ≡ power K s.offset s.size → value_below K d.size a x ≡ K.one
+  progression-inside a x R e =
+      progression-value a x R
       ∙ ap (K.times (start K s d c)) (geometric_one K N (y x) c.index (ap (λ t. K.times t (ratio K s d c)) e ∙ ratio_inverse))
       ∙ ring3 K N (λ a v i. ((a ⊗ v) ⊗ i, (a ⊗ i) ⊗ v)) refl (natural K s.size) c.of_outer.of_size (natural K c.index)
       ∙ ap (λ t. K.times t c.of_outer.of_size) (sym (natural-mul K N s.size c.index) ∙ ap (natural K) c.whole)
       ∙ c.of_outer.size
 
-  row-outside : (a : ℕ → F) (x : F) → IsRow K s d c a → power K x s.size ≢ power K s.offset s.size → power K x d.size ≡ power K d.offset d.size → value_below K d.size a x ≡ K.zero
-  row-outside a x R ne e =
+  progression-outside : (a : ℕ → F) (x : F) → IsProgression K s d c a → power K x s.size ≢ power K s.offset s.size → power K x d.size ≡ power K d.offset d.size → value_below K d.size a x ≡ K.zero
+  progression-outside a x R ne e =
       let h = power K d.offset d.size in
       let g = power K s.offset s.size in
-      row-value a x R
+      progression-value a x R
       ∙ ap (K.times (start K s d c))
       (geometric_zero K N (y x) c.index
       (cancel_factor K N h (power K (y x) c.index) K.one outer_power_not_zero (y-power x ∙ e ∙ sym (one_times K N h)))
@@ -103,17 +103,17 @@ module _ {F : Type 0} (K : FieldOn F) (N : IsField K) (s d : Domain F) (c : Insi
       ∙ times_zero K N (start K s d c)
 
   -- at any point, multiplied out
-  pub row-anywhere : (a : ℕ → F) (x : F) → IsRow K s d c a →
+  pub progression-anywhere : (a : ℕ → F) (x : F) → IsProgression K s d c a →
       K.times (value_below K d.size a x) (K.times (K.times (natural K d.size) (power K d.offset d.size)) (minus K (power K x s.size) (power K s.offset s.size)))
       ≡ K.times (K.times (natural K s.size) (power K s.offset s.size)) (minus K (power K x d.size) (power K d.offset d.size))
-  row-anywhere a x R =
+  progression-anywhere a x R =
       let h = power K d.offset d.size in
       let g = power K s.offset s.size in
       let t = sum_below (itself K) c.index (power K (y x)) in
       let z = power K x s.size in
       let back : z ≡ K.times (y x) g =
       ring3_by K N (λ x r h. (x, (x ⊗ r) ⊗ h, x ⊗ unit, x ⊗ (h ⊗ r))) refl z (ratio K s d c) g (ap (K.times z) (sym ratio_inverse)) in
-      ap₂ (λ u w. K.times u (K.times (K.times (natural K d.size) h) (minus K w g))) (row-value a x R) back
+      ap₂ (λ u w. K.times u (K.times (K.times (natural K d.size) h) (minus K w g))) (progression-value a x R) back
       ∙ ring7 K N (λ a c t m h y g. (((a ⊗ c) ⊗ t) ⊗ ((m ⊗ h) ⊗ (y ⊗ g ⊖ g)), (m ⊗ c) ⊗ (((y ⊗ t ⊕ unit) ⊖ (t ⊕ unit)) ⊗ ((a ⊗ g) ⊗ h)))) refl
       (natural K s.size) c.of_outer.of_size t (natural K d.size) h (y x) g
       ∙ ap₂ (λ u w. K.times u (K.times (minus K w (K.plus t K.one)) (K.times (K.times (natural K s.size) g) h))) c.of_outer.size (geometric K N (y x) c.index)
@@ -126,22 +126,22 @@ module _ {F : Type 0} (K : FieldOn F) (N : IsField K) (s d : Domain F) (c : Insi
       let q = outer_positive in
       IsBelow-more K (d.size - s.size + 1) d.size a (omega arith) h
 
-  pub row_is_filter : (a : ℕ → F) → IsRow K s d c a → IsFilter K s d a
-  row_is_filter a R = record {
+  pub progression_is_filter : (a : ℕ → F) → IsProgression K s d c a → IsFilter K s d a
+  progression_is_filter a R = record {
     short = R.short;
-    on = λ i l. (d.size, below a R.short, sym (row-inside a (element K s i) R (element-power K N s c.inner i)));
+    on = λ i l. (d.size, below a R.short, sym (progression-inside a (element K s i) R (element-power K N s c.inner i)));
     off = λ j l ne. (
       d.size,
       below a R.short,
       sym
-          (row-outside a (element K d j) R
+          (progression-outside a (element K d j) R
           (λ e. outside K N s c.inner c.of_inner (element K d j) (λ i b f. ne i b (sym f)) (minus_same K N _ _ e))
           (element-power K N d c.outer j)),
     );
   }
 
-  pub row-degree : (a : ℕ → F) → IsRow K s d c a → IsDegree K a (d.size - s.size)
-  row-degree a R =
+  pub progression-degree : (a : ℕ → F) → IsProgression K s d c a → IsDegree K a (d.size - s.size)
+  progression-degree a R =
       let k = c.index - 1 in
       let p = inner_positive in
       let q = outer_positive in

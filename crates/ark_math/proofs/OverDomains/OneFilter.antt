@@ -15,7 +15,7 @@ use Rattle.ark_math.proofs.Polynomials.UnivariateLoops.{cut, cut-inside, cut-out
 use Rattle.ark_math.proofs.Polynomials.Zeros.{same_from_values}
 use Rattle.ark_math.proofs.Domains.Elements.{has_inverses, factor_not_zero, times_not_zero, minus_not_zero, cancel_factor, elements_differ, same_element}
 use Rattle.ark_math.proofs.Domains.Contained.{search_below, contained_size, contained_offset}
-use Rattle.ark_math.proofs.OverDomains.Filters.{Inside, IsRow, start, ratio, below, inner_positive, outer_power_not_zero, row_is_filter, row-inside, row-anywhere, row-degree}
+use Rattle.ark_math.proofs.OverDomains.Filters.{Inside, IsProgression, start, ratio, below, inner_positive, outer_power_not_zero, progression_is_filter, progression-inside, progression-anywhere, progression-degree}
 
 module _ {F : Type 0} (K : FieldOn F) (N : IsField K) (s d : Domain F) where
   inside_from : HasOrder K s.root s.size → HasOrder K d.root d.size → natural K d.size ≢ K.zero → s.offset ≢ K.zero → d.offset ≢ K.zero → d.size % s.size ≡ 0 → power K s.offset d.size ≡ power K d.offset d.size → Inside K s d
@@ -42,8 +42,8 @@ module _ {F : Type 0} (K : FieldOn F) (N : IsField K) (s d : Domain F) where
     abbrev all_items : ℕ → F
     all_items i = cond (eqb (i % s.size) 0) (K.times (start K s d c) (power K (ratio K s d c) (i / s.size))) K.zero
 
-    abbrev row : ℕ → F
-    row = cut K (d.size - s.size + 1) all_items
+    abbrev items : ℕ → F
+    items = cut K (d.size - s.size + 1) all_items
 
     at_step : (k r : ℕ) → r < s.size → (s.size * k + r) % s.size ≡ r
     at_step k r l = let e : s.size * k + r ≡ k * s.size + r = omega arith in ap (λ t. t % s.size) e ∙ mod-mul-add k s.size r l
@@ -51,8 +51,8 @@ module _ {F : Type 0} (K : FieldOn F) (N : IsField K) (s d : Domain F) where
     at_multiple : (k : ℕ) → s.size * k / s.size ≡ k
     at_multiple k = let e : s.size * k ≡ k * s.size + 0 = omega arith in ap (λ t. t / s.size) e ∙ div-mul-add k s.size 0 (inner_positive K N s d c)
 
-    row_is_row : IsRow K s d c row
-    row_is_row = record {
+    is_progression : IsProgression K s d c items
+    is_progression = record {
       short = cut-outside K (d.size - s.size + 1) all_items;
       at = λ k l.
           let more : s.size * (k + 1) ≤ s.size * c.index = mul-le-mul_left s.size (omega arith) in
@@ -70,7 +70,7 @@ module _ {F : Type 0} (K : FieldOn F) (N : IsField K) (s d : Domain F) where
     }
 
     pub has_filter : (a : ℕ → F) × IsFilter K s d a
-    has_filter = (row, row_is_filter K N s d c row row_is_row)
+    has_filter = (items, progression_is_filter K N s d c items is_progression)
 
     -- ---- and only one
 
@@ -105,14 +105,14 @@ module _ {F : Type 0} (K : FieldOn F) (N : IsField K) (s d : Domain F) where
     -- ---- its value
 
     module _ (h : IsContained K s d) (a : ℕ → F) (A : IsFilter K s d a) where
-      is_row : a ≡ row
-      is_row = one_filter h a row A (row_is_filter K N s d c row row_is_row)
+      is_row : a ≡ items
+      is_row = one_filter h a items A (progression_is_filter K N s d c items is_progression)
 
       pub filter-degree : IsDegree K a (d.size - s.size)
-      filter-degree = subst (λ t. IsDegree K t (d.size - s.size)) (sym is_row) (row-degree K N s d c row row_is_row)
+      filter-degree = subst (λ t. IsDegree K t (d.size - s.size)) (sym is_row) (progression-degree K N s d c items is_progression)
 
       pub filter-value_inside : (x : F) → power K x s.size ≡ power K s.offset s.size → IsValue K a x K.one
-      filter-value_inside x e = (d.size, below K N s d c a A.short, sym (ap (λ t. value_below K d.size t x) is_row ∙ row-inside K N s d c row x row_is_row e))
+      filter-value_inside x e = (d.size, below K N s d c a A.short, sym (ap (λ t. value_below K d.size t x) is_row ∙ progression-inside K N s d c items x is_progression e))
 
       -- (s * offset ^ s / (n * offset ^ n)) * Z / Z of s, multiplied out
       pub filter-value_elsewhere : (x y : F) → power K x s.size ≢ power K s.offset s.size →
@@ -126,5 +126,5 @@ module _ {F : Type 0} (K : FieldOn F) (N : IsField K) (s d : Domain F) where
             (times_not_zero K N _ _
             (times_not_zero K N (natural K d.size) (power K d.offset d.size) (factor_not_zero K N _ _ c.of_outer.size) (outer_power_not_zero K N s d c))
             (minus_not_zero K N _ _ ne))
-            (e ∙ sym (ap (λ t. K.times (value_below K d.size t x) (K.times (K.times (natural K d.size) (power K d.offset d.size)) (minus K (power K x s.size) (power K s.offset s.size)))) is_row ∙ row-anywhere K N s d c row x row_is_row)),
+            (e ∙ sym (ap (λ t. K.times (value_below K d.size t x) (K.times (K.times (natural K d.size) (power K d.offset d.size)) (minus K (power K x s.size) (power K s.offset s.size)))) is_row ∙ progression-anywhere K N s d c items x is_progression)),
       )

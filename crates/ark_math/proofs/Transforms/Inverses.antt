@@ -19,10 +19,6 @@ inverse_of_root : {F : Type 0} (K : FieldOn F) (w : F) (n : ℕ) → power K w n
 inverse_of_root K w zero h ne = absurd (ne refl)
 inverse_of_root K w (suc n) h ne = (power K w n, h)
 
--- what has an inverse isn't zero
-pub not_zero : {F : Type 0} (K : FieldOn F) → IsField K → (a b : F) → K.times a b ≡ K.one → a ≢ K.zero
-not_zero K N a b e z = N.one_not_zero (sym e ∙ (ap (λ t. K.times t b) z ∙ (N.times_comm K.zero b ∙ times_zero K N b)))
-
 module _ {F M : Type 0} {K : FieldOn F} {V : ModuleOn F M} (N : IsField K) (L : IsModule K V) where
   unscaled : (a b : F) (x : M) → K.times a b ≡ K.one → V.scale a (V.scale b x) ≡ x
   unscaled a b x e =

@@ -24,10 +24,6 @@ four_read marks q j l =
     ∙ ap₂ (λ s t. record { first = get_or marks j true; second = get_or marks (j + q) true; third = s; fourth = t }) (same (j + q + q) (omega (arith, l))) (same (j + q + q + q) l)
 
 module _ {F : Type 0} (K : FieldOn F) where
-  -- what is read of a list
-  pub read : (xs : List F) (i : ℕ) (x : F) → i < length xs → x ≡ get_or xs i x → x ≡ of_list K xs i
-  read xs i x l e = sym (is_read xs i x K.zero l e)
-
   -- the same values are multiplied
   pub eight_same : {a b c e f g h i a2 b2 c2 e2 f2 g2 h2 i2 : F} → a ≡ a2 → b ≡ b2 → c ≡ c2 → e ≡ e2 → f ≡ f2 → g ≡ g2 → h ≡ h2 → i ≡ i2 →
       product_of_eight K a b c e f g h i ≡ product_of_eight K a2 b2 c2 e2 f2 g2 h2 i2

@@ -9,6 +9,7 @@ ghost use Rattle.rs_code.specs.Turns.{AreSorted, IsTableOf, alternating, finishe
 
 use ark_base::{FftField, Field};
 use ark_blocks::BlockRoots;
+use ark_blocks::items::square_each;
 use std::alloc::{AllocError, Global};
 use std::marker::Model;
 
@@ -199,16 +200,6 @@ fn squares<F: Field>(items: Vec<F>) -> Vec<F>
     let mut items = items;
     square_each(items.as_mut_slice());
     items
-}
-
-// Puts the square of each item in its place.
-fn square_each<F: Field>(items: &mut [F])
-    ensures { items.new ≡ map (λ r. F.field.times r r) items.old }
-{
-    for i in 0..items.len() {
-        let item = items[i];
-        items[i] = item * item;
-    }
 }
 
 // The value with so many signs.

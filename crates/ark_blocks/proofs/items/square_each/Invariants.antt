@@ -1,12 +1,7 @@
-use Rattle.std.proofs.Common.{◌≡◌, ◌<◌, ◌≤◌, ℕ, length}
-use Rattle.ark_math.specs.Univariate.{of_list}
+use Rattle.std.proofs.Common.{◌≡◌, ◌++◌, map, take, drop}
 use Rattle.ark_blocks.proofs.items.square_each.Given as goal
 
 abbrev pub invariant-loop-i : goal.invariant-loop-i
 invariant-loop-i g l =
     let K = g.F.Field.field in
-    record {
-      len : length l.items ≡ length l.initial.items;
-      done : (k : ℕ) → k < l.i → of_list K l.items k ≡ K.times (of_list K l.initial.items k) (of_list K l.initial.items k);
-      rest : (k : ℕ) → l.i ≤ k → of_list K l.items k ≡ of_list K l.initial.items k;
-    }
+    l.items ≡ map (λ r. K.times r r) (take l.i l.initial.items) ++ drop l.i l.initial.items

@@ -14,9 +14,9 @@ returns-clause-len g c =
 pub returns-clause-inverses : goal.returns-clause-inverses
 returns-clause-inverses g c i l =
     let K = g.F.Field.field in
-    let row = c.as_mut_slice.result.now in
+    let items = c.as_mut_slice.result.now in
     let written = written_back c.batch_inversion.new.items _ _ (omega (arith, c.batch_inversion.auto.items, c.as_mut_slice.ensures.len)) in
-    let size : length row ≡ c.args.size = ap length c.as_mut_slice.ensures.value ∙ c.in_ok-items.ensures.len in
+    let size : length items ≡ c.args.size = ap length c.as_mut_slice.ensures.value ∙ c.in_ok-items.ensures.len in
     subst₂ (λ y w. IsPlaceQuotient K K.one y (of_list K w i))
     (ap (λ t. of_list K t i) c.as_mut_slice.ensures.value ∙ c.in_ok-items.ensures.items i l)
     (sym written)

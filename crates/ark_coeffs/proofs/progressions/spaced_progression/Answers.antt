@@ -13,7 +13,7 @@ loop-k-preserved g c =
     let ratio = c.args.ratio in
     let k = c.loop-k.k in
     let items = c.loop-k.items.items in
-    let row = λ (k : ℕ). K.times c.args.start (power K ratio k) in
+    let item = λ (k : ℕ). K.times c.args.start (power K ratio k) in
     let h = c.loop-k.invariant in
     let within = multiple_within c.args.size step k c.requires.divides c.loop-k-test.true in
     let inside : k * step < length items = omega (arith, h.len, within, c.requires.apart) in
@@ -23,6 +23,6 @@ loop-k-preserved g c =
           g.met.F.Field.mul_assign_law _ _ _ c.mul_assign.ensures.after
           ∙ ap (λ t. K.times t ratio) h.next_is
           ∙ ring3 K N (λ s p f. ((s ⊗ p) ⊗ f, s ⊗ (f ⊗ p))) refl c.args.start (power K ratio k) ratio
-          ∙ ap row (sym (add-one k));
-      row = spaced-set K step row k items c.loop-k.next c.requires.apart inside h.next_is h.row;
+          ∙ ap item (sym (add-one k));
+      spaced = spaced-set K step item k items c.loop-k.next c.requires.apart inside h.next_is h.spaced;
     }

@@ -9,5 +9,5 @@ invariant-loop-k g l =
     record {
       len : length l.items.items ≡ l.fn.size - l.fn.step + 1;
       next_is : l.next ≡ K.times l.fn.start (power K l.fn.ratio l.k);
-      row : IsSpaced K l.fn.step (λ k. K.times l.fn.start (power K l.fn.ratio k)) l.k l.items.items;
+      spaced : IsSpaced K l.fn.step (λ k. K.times l.fn.start (power K l.fn.ratio k)) l.k l.items.items;
     }

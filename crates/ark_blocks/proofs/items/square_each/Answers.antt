@@ -1,6 +1,6 @@
 use Rattle.std.proofs.Common.{◌∙◌, ap, set}
 use Rattle.std.proofs.lemmas.List.Edits.{map_over_more}
-use Rattle.rs_code.proofs.turns.sorted.square_each.Goals as goal
+use Rattle.ark_blocks.proofs.items.square_each.Goals as goal
 
 pub loop-i-preserved : goal.loop-i-preserved
 loop-i-preserved g c =
