@@ -2,7 +2,7 @@
 //! convolution of two lists, a combination of two polynomials, openings, exact costs, the first round of a sum-check,
 //! what chooses a value of a table, values that are lost and restored, a wrong one that is refused, a polynomial in a
 //! file, one error for a program, the values of a sparse polynomial, fields and a module of one's own, secrets in
-//! shares, and whole sum-checks. The program prints what each gives.
+//! shares, whole sum-checks, and bytes in pieces. The program prints what each gives.
 #![tactic(auto)]
 
 mod accepted;
@@ -14,6 +14,7 @@ mod errors;
 mod field;
 mod holders;
 mod interpolation;
+mod kept;
 mod large_field;
 mod module;
 mod one_pass_opening;
@@ -42,6 +43,7 @@ use errors::{CallError, value_of_saved};
 use field::{F97, quotient};
 use holders::{lost_and_restored, message_restored, restored_if_right};
 use interpolation::interpolated_value;
+use kept::from_last_pieces;
 use large_field::{F18446742974197923841, size_for_a_hundred_million};
 use module::{Point, points_of_curve};
 use opening::opening;
@@ -49,6 +51,8 @@ use protocols::print_protocols;
 use rs_code::{Code, RsError};
 use saving::{load, save, saved_and_loaded};
 use selector::selector;
+use shards_format::StripeCode;
+use shards_lib::FileCode;
 use sparse::values_of_terms;
 use std::alloc::Global;
 use std::fs::{self, File, Files};
@@ -101,7 +105,18 @@ fn main(rt: HostRuntime) -> anyhow::Result<()> {
         y: F433::from(y),
     });
     print_points(&rt, &curve(alloc, &coeffs)?)?;
-    print_protocols(&rt, alloc)
+    print_protocols(&rt, alloc)?;
+    print_kept::<FileCode, _>(&rt, alloc)
+}
+
+// Bytes that were kept in five pieces, of which three give them.
+fn print_kept<C: StripeCode, R: Print>(rt: &R, alloc: Global) -> anyhow::Result<()> {
+    if let Some(code) = C::new(3, 5) {
+        let bytes = from_last_pieces(alloc, &code, b"kept".as_slice())?;
+        let text = String::from_utf8_lossy(alloc, &bytes)?;
+        println!(rt; "bytes from the last three of five pieces: {text}")?;
+    }
+    Ok(())
 }
 
 // The values over the coset with this offset, for values over the domain with as many elements.

@@ -1,70 +1,111 @@
 //! Files that are written beside their names, and get these when they are whole.
 
+use crate::system::{FileId, System, above_standard};
 use anyhow::{Context, Result, bail};
-use std::alloc::Global;
-use std::fs::{self, File};
-use std::io::ErrorKind;
-use std::rt::Files;
+use std::fs::{self, File, Metadata, OpenOptions, TryLockError};
+use std::io::{self, ErrorKind};
+use std::os::unix::fs::OpenOptionsExt;
+use std::path::Path;
 
-/// A file beside this name, to be written. One that is there is written over where that is asked for, and else refused.
-pub fn create_beside<R: Files>(rt: &R, alloc: Global, name: &str, force: bool) -> Result<R::File> {
-    let unfinished = beside(alloc, name)?;
-    let created = if force {
-        fs::create(rt, &unfinished)
-    } else {
-        File::create_new(rt, &unfinished)
-    };
-    created.context(format_args!("writing {name}"))
-}
+/// What the name of a file ends in that is not whole yet.
+pub const UNFINISHED: &str = ".unfinished";
 
-/// The name beside `name` under which it is written.
-pub fn beside(alloc: Global, name: &str) -> Result<String> {
-    Ok(format!(in alloc; "{name}.unfinished")?)
-}
-
-/// Refuses where a file is there, under this name or beside it, that may not be written over.
-pub fn refuse_present(rt: &impl Files, alloc: Global, name: &str, force: bool) -> Result<()> {
-    refuse_file(rt, name, force)?;
-    refuse_file(rt, &beside(alloc, name)?, force)
-}
-
-// Refuses where what is there is no file, or one that may not be written over.
-fn refuse_file(rt: &impl Files, name: &str, force: bool) -> Result<()> {
-    // A link is no file here, wherever it leads.
-    match fs::symlink_metadata(rt, name) {
-        Ok(there) if !there.is_file() => bail!("{name} is there, and is no file"),
-        Ok(_) if !force => bail!("{name} is there already; --force writes over it"),
-        Ok(_) => Ok(()),
-        Err(error) if error.kind() == ErrorKind::NotFound => Ok(()),
-        Err(error) => Err(error).context(format_args!("looking for {name}")),
+/// What is at this path, a link itself included.
+pub fn present<R: System>(rt: &R, path: &str) -> Result<Option<Metadata>> {
+    match fs::symlink_metadata(rt, path) {
+        Ok(metadata) => Ok(Some(metadata)),
+        Err(error) if error.kind() == ErrorKind::NotFound => Ok(None),
+        Err(error) => Err(error).context(format_args!("looking for {path}")),
     }
 }
 
-/// Gives each file its name, where writing them went well, and otherwise removes what was written.
-pub fn finish(rt: &impl Files, alloc: Global, names: &[String], written: Result<()>) -> Result<()> {
-    let finished = match written {
-        Ok(()) => rename_all(rt, alloc, names),
-        Err(error) => Err(error),
-    };
-    if finished.is_err() {
-        remove_all(rt, alloc, names);
-    }
-    finished
+/// Creates a file that is not there, to be written, and locks it.
+pub fn create_new<R: System>(rt: &R, path: &str, mode: u32) -> io::Result<File> {
+    OpenOptions::new()
+        .write(true)
+        .create_new(true)
+        .mode(mode)
+        .open(rt, path)
+        .and_then(above_standard)
 }
 
-// Gives each file its name.
-fn rename_all(rt: &impl Files, alloc: Global, names: &[String]) -> Result<()> {
-    for name in names {
-        fs::rename(rt, &beside(alloc, name)?, name).context(format_args!("renaming {name}"))?;
+/// Creates a file that no other run may write to or remove while this one is at it. What an earlier run left there is
+/// removed.
+pub fn create_locked<R: System>(rt: &R, path: &str, mode: u32) -> Result<File> {
+    remove_left(rt, path)?;
+    let file = create_new(rt, path, mode).context(format_args!("writing {path}"))?;
+    lock(rt, path, &file)?;
+    Ok(file)
+}
+
+// Removes a file that an earlier run left unfinished.
+fn remove_left<R: System>(rt: &R, path: &str) -> Result<()> {
+    match present(rt, path)? {
+        None => Ok(()),
+        Some(there) if !there.is_file() => bail!("{path} is there, and is no file"),
+        Some(_) => {
+            let left = open_left(rt, path).context(format_args!("opening {path}"))?;
+            lock(rt, path, &left)?;
+            fs::remove_file(rt, path).context(format_args!("removing {path}"))
+        }
+    }
+}
+
+// Opens it, to be locked, by whichever permission it has.
+fn open_left<R: System>(rt: &R, path: &str) -> io::Result<File> {
+    match fs::open(rt, path) {
+        Err(error) if error.kind() == ErrorKind::PermissionDenied => {
+            OpenOptions::new().write(true).open(rt, path)
+        }
+        opened => opened,
+    }
+}
+
+/// Locks a file against other runs. The system unlocks it at the end of this one, however it ends.
+pub fn lock<R: System>(rt: &R, path: &str, file: &File) -> Result<()> {
+    match file.try_lock() {
+        Ok(()) => {}
+        Err(TryLockError::WouldBlock) => bail!("{path} is being written by another run"),
+        // Where a file system has no locks, runs at the same time are not told from each other.
+        Err(TryLockError::Error(_)) => {}
+    }
+    if !is_at(rt, path, file)? {
+        bail!("{path} was written by another run just now");
     }
     Ok(())
 }
 
-/// Removes what was written of these files.
-pub fn remove_all(rt: &impl Files, alloc: Global, names: &[String]) {
-    for name in names {
-        if let Ok(unfinished) = beside(alloc, name) {
-            let _ = fs::remove_file(rt, &unfinished);
-        }
+// Whether this file is the one at the path.
+fn is_at<R: System>(rt: &R, path: &str, file: &File) -> Result<bool> {
+    let opened = file.metadata().context(format_args!("opening {path}"))?;
+    let there = present(rt, path)?;
+    Ok(there.is_some_and(|there| FileId::of(&there) == FileId::of(&opened)))
+}
+
+/// The folder that a path is in.
+pub fn folder_of(path: &str) -> &str {
+    match Path::new(path).parent() {
+        Some(parent) if !parent.as_str().is_empty() => parent.as_str(),
+        _ => ".",
     }
+}
+
+/// Has the system keep the names in a folder, where it can.
+pub fn sync_folder<R: System>(rt: &R, folder: &str) -> Result<()> {
+    let synced = match fs::open(rt, folder) {
+        Ok(opened) => opened.sync_all(),
+        Err(error) => Err(error),
+    };
+    match synced {
+        Err(error) if !is_lacking(&error) => Err(error).context(format_args!("writing {folder}")),
+        _ => Ok(()),
+    }
+}
+
+// Whether a folder may not be read, or its file system keeps no such promise.
+fn is_lacking(error: &io::Error) -> bool {
+    matches!(
+        error.kind(),
+        ErrorKind::PermissionDenied | ErrorKind::InvalidInput | ErrorKind::Unsupported
+    )
 }

@@ -1,183 +1,212 @@
 //! `shards split`.
 
-ghost use Rattle.std.specs.Prelude.{◌≡◌, ℕ, ◌<◌, ◌^◌, [], length, get_or, IfOk};
+ghost use Rattle.std.specs.Prelude.{◌≡◌, ℕ, ◌<◌, [], length, get_or};
 ghost use Rattle.shards_streams.specs.Writers.{HasHashed};
 
-use crate::output::{create_beside, finish, refuse_present, remove_all};
-use crate::watch::Watched;
+use crate::errors::cause_of;
+use crate::folder::{Lock, Place};
+use crate::label::{LONGEST_LABEL, Label};
+use crate::progress::{Progress, Watched};
+use crate::renaming::{rename_all, restore, to_replace};
+use crate::streams::{BUFFER, FileSink, Tried};
+use crate::system::{System, say};
 use crate::words::SplitWords;
+use crate::writers::{new_writers, sync_all, unwritten};
 use anyhow::{Context, Result, anyhow, bail};
-use ark_bytes::{IoSink, IoSource};
-use shards_format::StripeCode;
-use shards_streams::{FileDigest, PieceWriter, StreamError, digest_of, split_into};
+use ark_bytes::IoSource;
+use shards_format::{StripeCode, places_from};
+use shards_streams::{PieceWriter, StreamError, split_into};
 use std::alloc::Global;
-use std::fs::{self, OpenFile};
-use std::io::{Eprint, Write};
+use std::fs::{self, Metadata};
+use std::io::{BufReader, Input, Read};
+use std::os::unix::fs::MetadataExt;
 use std::path::Path;
-use std::rt::Files;
-use std::time::SystemTime;
 
 /// Writes the pieces of a file.
-pub fn split_file<C: StripeCode, R: Files + Eprint + AllocGlobal>(
-    rt: &R,
-    words: &SplitWords<'_>,
-) -> Result<()> {
-    let alloc = rt.alloc();
+pub fn split_file<C: StripeCode, R: System>(rt: &R, words: &SplitWords<'_>) -> Result<()> {
     let (k, n) = (words.k, words.n);
     let Some(code) = C::new(k as usize, n as usize) else {
         bail!("no code has {k} of {n} pieces: 0 < K <= N <= 65536 is needed");
     };
-    let names = piece_names(alloc, words)?;
-    for name in &names {
-        refuse_present(rt, alloc, name, words.force)?;
+    if words.file == "-" {
+        return split_source(
+            rt,
+            &code,
+            &Job::new(rt.alloc(), words, "stdin"),
+            rt.reader(),
+        );
     }
-    let state = state_of(rt, words.file)?;
-    let file = digest_of_file(rt, alloc, words)?;
-    fs::create_dir_all(rt, words.folder).context(format_args!("making {}", words.folder))?;
-    let pieces = PieceFiles {
-        names: &names,
-        writers: new_writers(rt, alloc, &names, words.force)?,
-    };
-    let written = write_pieces(rt, &code, &file, words, pieces);
-    let written = match written {
-        Ok(()) => refuse_changed(rt, words.file, state),
-        Err(error) => Err(error),
-    };
-    finish(rt, alloc, &names, written)
-}
-
-// How long a file is, and when it was last written.
-fn state_of(rt: &impl Files, file: &str) -> Result<(u64, SystemTime)> {
-    let found = fs::metadata(rt, file).context(format_args!("opening {file}"))?;
-    let modified = found.modified().context(format_args!("opening {file}"))?;
-    Ok((found.len(), modified))
-}
-
-// Refuses where a file isn't as it was: it is read twice, and its pieces would not give it back.
-fn refuse_changed(rt: &impl Files, file: &str, (len, modified): (u64, SystemTime)) -> Result<()> {
-    let now = state_of(rt, file)?;
-    if now.0 != len || now.1 != modified {
-        bail!("{file} was changed while it was split");
-    }
-    Ok(())
-}
-
-// The names of the pieces.
-fn piece_names(alloc: Global, words: &SplitWords<'_>) -> Result<Vec<String>>
-    ensures { IfOk result (λ names. length names.items ≡ words.now.n) }
-{
-    let Some(base) = Path::new(words.file).file_name() else {
-        bail!("{} is not the name of a file", words.file);
-    };
-    let folder = words.folder;
-    let mut names = Vec::new(alloc);
-    for i in 0..words.n {
-        names.push(format!(in alloc; "{folder}/{base}.{i:03}.shard")?)?;
-    }
-    Ok(names)
-}
-
-// How many bytes the file has, and their SHA-256.
-fn digest_of_file<R: Files + Eprint>(
-    rt: &R,
-    alloc: Global,
-    words: &SplitWords<'_>,
-) -> Result<FileDigest> {
-    let mut source = open_watched(rt, words, "digested")?;
-    match digest_of(alloc, &mut source) {
-        Ok(found) => Ok(found),
-        Err(error) => Err(reading_failed(words.file, error)),
-    }
-}
-
-// The file, to be read.
-fn open_watched<'a, R: Files + Eprint>(
-    rt: &'a R,
-    words: &SplitWords<'_>,
-    verb: &'static str,
-) -> Result<Watched<'a, IoSource<R::File>, R>> {
     let file = words.file;
     let input = fs::open(rt, file).context(format_args!("opening {file}"))?;
-    Ok(Watched::new(IoSource::new(input), rt, words.progress, verb))
+    let metadata = input.metadata().context(format_args!("opening {file}"))?;
+    let job = Job::of_file(rt.alloc(), words, &metadata)?;
+    split_source(rt, &code, &job, input)?;
+    refuse_changes(rt, file, &metadata)
 }
 
-// Why a file was not read.
-fn reading_failed(file: &str, error: StreamError) -> anyhow::Error {
-    match error {
-        StreamError::Read(_) => anyhow!("reading {file} failed"),
-        _ => anyhow!("{file}: {error}"),
+// Tells by an error where a file was changed meanwhile.
+fn refuse_changes<R: System>(rt: &R, file: &str, before: &Metadata) -> Result<()> {
+    let Ok(after) = fs::metadata(rt, file) else {
+        return Ok(());
+    };
+    let was = (before.len(), before.mtime(), before.mtime_nsec());
+    if before.is_file() && was != (after.len(), after.mtime(), after.mtime_nsec()) {
+        bail!("{file} was changed meanwhile; the pieces are of what was read");
+    }
+    Ok(())
+}
+
+// What is split, and where to.
+#[derive(Drop)]
+struct Job<'a> {
+    words: &'a SplitWords<'a>,
+    place: Place<'a>,
+    // The label of the pieces.
+    label: Vec<u8>,
+    // The permissions of the pieces.
+    mode: u32,
+    // How many bytes the file has, where that is known.
+    len: Option<u64>,
+}
+
+impl<'a> Job<'a> {
+    // Of what nothing is known but a name.
+    fn new(alloc: Global, words: &'a SplitWords<'a>, base: &'a str) -> Job<'a> {
+        Job {
+            words,
+            place: Place {
+                folder: words.folder,
+                base,
+            },
+            label: Vec::new(alloc),
+            mode: 0o666,
+            len: None,
+        }
+    }
+
+    // Of a file with this metadata.
+    fn of_file(alloc: Global, words: &'a SplitWords<'a>, metadata: &Metadata) -> Result<Job<'a>> {
+        let file = words.file;
+        let Some(base) = Path::new(file).file_name() else {
+            bail!("{file} is not the name of a file");
+        };
+        if metadata.is_dir() {
+            bail!("{file} is a folder");
+        }
+        if !metadata.is_file() {
+            return Ok(Job::new(alloc, words, base));
+        }
+        Ok(Job {
+            label: label_of(alloc, base, metadata)?,
+            // Pieces are for those to read that may read the file.
+            mode: 0o600 | metadata.mode() & 0o066,
+            len: Some(metadata.len()),
+            ..Job::new(alloc, words, base)
+        })
     }
 }
 
-// The files of the pieces, in the order of their names.
-#[derive(Drop)]
-struct PieceFiles<'a, F: Write + Drop> {
-    names: &'a [String],
-    writers: Vec<PieceWriter<IoSink<F>>>,
+// The label of the pieces of a file with this name and metadata.
+fn label_of(alloc: Global, name: &str, metadata: &Metadata) -> Result<Vec<u8>> {
+    let label = Label {
+        permissions: metadata.mode() & 0o7777,
+        seconds: metadata.mtime().cast_unsigned(),
+        nanoseconds: u32::try_from(metadata.mtime_nsec()).unwrap_or(0),
+        name: Vec::from_slice(alloc, name.as_bytes())?,
+    };
+    Ok(label.to_bytes(alloc)?)
 }
 
-// Writes the pieces beside their names, to the end: that a disk is full may come late.
-fn write_pieces<C: StripeCode, R: Files + Eprint + AllocGlobal>(
+// Writes the pieces of what is read from a source, while no other run writes pieces of this name into the folder.
+fn split_source<C: StripeCode, R: System, S: Read + Drop>(
     rt: &R,
     code: &C,
-    file: &FileDigest,
-    words: &SplitWords<'_>,
-    pieces: PieceFiles<'_, R::File>,
-) -> Result<()>
-    requires writers { length pieces.writers.items ≡ C.n_of code.now }
-    requires new { (i : ℕ) (d : _) → i < length pieces.writers.items
-        → HasHashed (get_or pieces.writers.items i d) [] }
-{
-    let PieceFiles { names, mut writers } = pieces;
-    let mut source = open_watched(rt, words, "split")?;
-    match split_into(rt.alloc(), code, file, &mut source, writers.as_mut_slice()) {
-        Ok(()) => sync_all(writers, names),
-        Err(StreamError::Write(i)) => bail!("writing {} failed", name_at(names, i)),
-        Err(error) => Err(reading_failed(words.file, error)),
+    job: &Job<'_>,
+    source: S,
+) -> Result<()> {
+    let folder = job.place.folder;
+    fs::create_dir_all(rt, folder).context(format_args!("making {folder}"))?;
+    let mut lock = Lock::take(rt, &job.place)?;
+    restore(rt, &job.place, &mut lock)?;
+    let written = write_pieces(rt, code, job, &mut lock, source);
+    if written.is_err() {
+        if let Err(error) = restore(rt, &job.place, &mut lock) {
+            say(
+                rt,
+                format_args!("{error:#}: the next run does what is left to do in {folder}"),
+            );
+            return written;
+        }
     }
+    lock.release(rt);
+    written
 }
 
-// Has the system write what it still holds of the pieces.
-fn sync_all<F: Write + OpenFile + Drop>(
-    mut writers: Vec<PieceWriter<IoSink<F>>>,
-    names: &[String],
+// Writes the pieces, and gives them their names.
+fn write_pieces<C: StripeCode, R: System, S: Read + Drop>(
+    rt: &R,
+    code: &C,
+    job: &Job<'_>,
+    lock: &mut Lock,
+    source: S,
 ) -> Result<()> {
-    for i in (0..names.len()).rev() {
-        if let Some(writer) = writers.pop() {
-            let name = name_at(names, i);
-            let file = writer.into_sink().into_inner();
-            file.sync_all().context(format_args!("writing {name}"))?;
+    let alloc = rt.alloc();
+    let n = code.n();
+    let numbers = places_from(alloc, 0, n)?;
+    let replaced = to_replace(rt, &job.place, n, job.words.force)?;
+    let writers = new_writers(rt, &job.place, job.mode, &numbers)?;
+    write_unfinished(rt, code, job, writers, source)?;
+    rename_all(rt, &job.place, lock, &numbers, &replaced)?;
+    tell_removed(rt, &job.place, n, &replaced)
+}
+
+// Says which pieces are gone for which no new ones have come.
+fn tell_removed<R: System>(rt: &R, place: &Place<'_>, n: usize, replaced: &[usize]) -> Result<()> {
+    for number in replaced {
+        if *number >= n {
+            let path = place.piece(rt.alloc(), *number)?;
+            say(
+                rt,
+                format_args!("{path} was a piece of another set; it is removed"),
+            );
         }
     }
     Ok(())
 }
 
-// A writer of a new piece beside each name. Where one can't be made, the others are removed again.
-fn new_writers<R: Files>(
+// Writes the pieces to their ends: that a disk is full may come late.
+fn write_unfinished<C: StripeCode, R: System, S: Read + Drop>(
     rt: &R,
-    alloc: Global,
-    names: &[String],
-    force: bool,
-) -> Result<Vec<PieceWriter<IoSink<R::File>>>>
-    ensures len { IfOk result (λ writers. length writers.items ≡ length names.now) }
-    ensures new { IfOk result (λ writers. (i : ℕ) (d : _) → i < length writers.items
-        → HasHashed (get_or writers.items i d) []) }
+    code: &C,
+    job: &Job<'_>,
+    writers: Vec<PieceWriter<FileSink>>,
+    source: S,
+) -> Result<()>
+    requires writers { length writers.items ≡ C.n_of code.now }
+    requires new { (i : ℕ) (d : _) → i < length writers.items → HasHashed (get_or writers.items i d) [] }
 {
-    // With room for all, so that each that is made is given back.
-    let mut writers = Vec::with_capacity(alloc, names.len())?;
-    for i in 0..names.len() {
-        match create_beside(rt, alloc, &names[i], force) {
-            Ok(output) => writers.push(PieceWriter::new(IoSink::new(output)))?,
-            Err(error) => {
-                remove_all(rt, alloc, &names[..i]);
-                return Err(error);
-            }
-        }
+    if job.label.len() > LONGEST_LABEL {
+        bail!("the name of {} is too long", job.words.file);
     }
-    Ok(writers)
-}
-
-// The name of a piece.
-fn name_at(names: &[String], i: usize) -> &str {
-    names.get(i).map_or("a piece", |name| name.as_str())
+    let alloc = rt.alloc();
+    let numbers = places_from(alloc, 0, code.n())?;
+    let mut writers = writers;
+    let progress = Progress::new(rt, job.words.telling, "split", job.len);
+    let buffered = BufReader::with_capacity(alloc, BUFFER, Tried::new(source))?;
+    let mut source = Watched::new(IoSource::new(buffered), progress);
+    match split_into(alloc, code, &job.label, &mut source, writers.as_mut_slice()) {
+        Ok(_) => {
+            source.finish();
+            sync_all(alloc, &job.place, &numbers, writers)
+        }
+        Err(StreamError::Write(number)) => {
+            Err(unwritten(alloc, &job.place, &numbers, writers, number))
+        }
+        Err(StreamError::Read(_)) => {
+            let (_, failure) = source.into_inner().into_inner().into_inner().into_parts();
+            let (file, cause) = (job.words.file, cause_of(failure));
+            Err(anyhow!("reading {file}: {cause}"))
+        }
+        Err(error) => Err(anyhow!("{}: {error}", job.words.file)),
+    }
 }

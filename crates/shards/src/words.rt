@@ -1,5 +1,6 @@
 //! The words of the command line.
 
+use crate::progress::Telling;
 use clap::{Arg, ArgAction, ArgMatches, Command, value_parser};
 use std::alloc::{AllocError, Global};
 
@@ -10,65 +11,127 @@ pub struct SplitWords<'a> {
     pub k: u32,
     /// How many pieces are made.
     pub n: u32,
-    /// The file.
+    /// The file; `-` is standard input.
     pub file: &'a str,
     /// The folder of the pieces.
     pub folder: &'a str,
-    /// Whether files that are there may be written over.
+    /// Whether pieces that are there may be replaced.
     pub force: bool,
-    /// Whether progress is told.
-    pub progress: bool,
+    /// How progress is told.
+    pub telling: Telling,
 }
 
 /// What `join` is told.
 #[derive(Clone, Copy)]
 pub struct JoinWords<'a> {
-    /// The file to be written.
-    pub file: &'a str,
-    /// The pieces.
-    pub pieces: &'a [&'a str],
-    /// Whether a file that is there may be written over.
+    /// The file to be written, and pieces and folders, of which at least one is given.
+    pub words: &'a [&'a str],
+    /// Whether a file that is there may be replaced.
     pub force: bool,
-    /// Whether progress is told.
-    pub progress: bool,
+    /// How progress is told.
+    pub telling: Telling,
 }
 
-/// What `check` is told.
+/// What `repair` is told.
 #[derive(Clone, Copy)]
-pub struct CheckWords<'a> {
-    /// The pieces.
+pub struct RepairWords<'a> {
+    /// The folder of the pieces.
+    pub folder: &'a str,
+    /// How progress is told.
+    pub telling: Telling,
+}
+
+/// What `check` and `list` are told.
+#[derive(Clone, Copy)]
+pub struct PieceWords<'a> {
+    /// Pieces and folders.
     pub pieces: &'a [&'a str],
-    /// Whether progress is told.
-    pub progress: bool,
+    /// How progress is told.
+    pub telling: Telling,
 }
 
 /// The command, with its texts.
 pub fn command<'a>(alloc: Global) -> Result<Command<'a>, AllocError> {
-    let split = Command::new(alloc, "split")
-        .about("Writes N pieces of FILE into DIR, any K of which give it back")
-        .arg(count(alloc, "K"))?
-        .arg(count(alloc, "N"))?
-        .arg(Arg::new(alloc, "FILE").required(true))?
-        .arg(Arg::new(alloc, "DIR").required(true))?
-        .arg(force(alloc))?
-        .arg(progress(alloc))?;
-    let join = Command::new(alloc, "join")
-        .about("Writes OUT, the file that the pieces are of")
-        .arg(Arg::new(alloc, "OUT").required(true))?
-        .arg(list(alloc, "PIECE"))?
-        .arg(force(alloc))?
-        .arg(progress(alloc))?;
-    let check = Command::new(alloc, "check")
-        .about("Says what each piece is, and whether it is whole")
-        .arg(list(alloc, "PIECE"))?
-        .arg(progress(alloc))?;
     Command::new(alloc, "shards")
         .about("Keeps files in pieces, any K of N of which give them back")
-        .version("0.1.0")
+        .version("0.2.0")
         .subcommand_required(true)
-        .subcommand(split)?
-        .subcommand(join)?
-        .subcommand(check)
+        .subcommand(split(alloc)?)?
+        .subcommand(join(alloc)?)?
+        .subcommand(check(alloc)?)?
+        .subcommand(repair(alloc)?)?
+        .subcommand(list(alloc)?)
+}
+
+fn split<'a>(alloc: Global) -> Result<Command<'a>, AllocError> {
+    Command::new(alloc, "split")
+        .about(
+            "Writes N pieces of FILE, any K of which give it back, as DIR/FILE.000.shard and so on",
+        )
+        .arg(count(alloc, "K").help("How many pieces give the file back, at least 1"))?
+        .arg(count(alloc, "N").help("How many pieces are written, at least K and at most 65536"))?
+        .arg(
+            Arg::new(alloc, "FILE").required(true).help(
+                "The file, which is read once; - is standard input, whose pieces are called stdin",
+            ),
+        )?
+        .arg(
+            Arg::new(alloc, "DIR").default_value(".").help(
+                "The folder of the pieces, which is made where it is missing",
+            ),
+        )?
+        .arg(force(alloc).help(
+            "Replaces pieces of a file of this name that are in DIR, all of them, once the new ones are written",
+        ))?
+        .arg(progress(alloc))
+}
+
+fn join<'a>(alloc: Global) -> Result<Command<'a>, AllocError> {
+    Command::new(alloc, "join")
+        .about(
+            "Writes the file that the pieces are of: join OUT PIECE.. writes it to OUT, join - PIECE.. to standard \
+             output, and join PIECE.. into the current folder, by the name that the pieces keep",
+        )
+        .arg(
+            pieces(alloc, "WORD")
+                .value_names(&["OUT|- | PIECE|DIR"])
+                .help(
+                    "Pieces, and folders whose files *.shard are taken. The first word is OUT where it is no folder, \
+             does not end in .shard and has no piece",
+                ),
+        )?
+        .arg(force(alloc).help("Replaces a file that is there"))?
+        .arg(progress(alloc))
+}
+
+fn check<'a>(alloc: Global) -> Result<Command<'a>, AllocError> {
+    Command::new(alloc, "check")
+        .about(
+            "Reads each piece whole and says whether it is, and of each set whether it can be restored. The status \
+             is 0 only where all pieces are whole and each set can be restored",
+        )
+        .arg(pieces(alloc, "PIECE").help("Pieces, and folders whose files *.shard are taken"))?
+        .arg(progress(alloc))
+}
+
+fn repair<'a>(alloc: Global) -> Result<Command<'a>, AllocError> {
+    Command::new(alloc, "repair")
+        .about(
+            "Writes the lost and damaged pieces of each set in DIR anew, bit for bit, from those that are whole. The \
+             status is 0 only where all pieces of each set are whole then",
+        )
+        .arg(
+            Arg::new(alloc, "DIR")
+                .required(true)
+                .help("The folder whose files *.shard are the pieces"),
+        )?
+        .arg(progress(alloc))
+}
+
+fn list<'a>(alloc: Global) -> Result<Command<'a>, AllocError> {
+    Command::new(alloc, "list")
+        .about("Says of each piece what it says of itself, without reading it whole")
+        .arg(pieces(alloc, "PIECE").help("Pieces, and folders whose files *.shard are taken"))
 }
 
 fn count<'a>(alloc: Global, name: &'a str) -> Arg<'a> {
@@ -77,7 +140,7 @@ fn count<'a>(alloc: Global, name: &'a str) -> Arg<'a> {
         .value_parser(value_parser!(u32))
 }
 
-fn list<'a>(alloc: Global, name: &'a str) -> Arg<'a> {
+fn pieces<'a>(alloc: Global, name: &'a str) -> Arg<'a> {
     Arg::new(alloc, name)
         .required(true)
         .num_args(1..)
@@ -88,14 +151,13 @@ fn force<'a>(alloc: Global) -> Arg<'a> {
     Arg::new(alloc, "force")
         .long("force")
         .action(ArgAction::SetTrue)
-        .help("Writes over files that are there")
 }
 
 fn progress<'a>(alloc: Global) -> Arg<'a> {
     Arg::new(alloc, "progress")
         .long("progress")
         .action(ArgAction::SetTrue)
-        .help("Tells on standard error how far it is")
+        .help("Tells on standard error how far it is, as it does on a terminal without this")
 }
 
 /// What `split` is told.
@@ -104,32 +166,44 @@ pub fn split_words<'a>(matches: &ArgMatches<'a>, terminal: bool) -> SplitWords<'
         k: matches.get_one::<u32>("K").unwrap_or(0),
         n: matches.get_one::<u32>("N").unwrap_or(0),
         file: matches.get_str("FILE").unwrap_or(""),
-        folder: matches.get_str("DIR").unwrap_or(""),
+        folder: matches.get_str("DIR").unwrap_or("."),
         force: matches.get_flag("force"),
-        progress: terminal || matches.get_flag("progress"),
+        telling: telling(matches, terminal),
     }
 }
 
 /// What `join` is told.
 pub fn join_words<'b, 'a: 'b>(matches: &'b ArgMatches<'a>, terminal: bool) -> JoinWords<'b> {
-    let file: &'a str = matches.get_str("OUT").unwrap_or("");
     JoinWords {
-        file,
-        pieces: pieces(matches),
+        words: matches.get_strs("WORD").unwrap_or(&[]),
         force: matches.get_flag("force"),
-        progress: terminal || matches.get_flag("progress"),
+        telling: telling(matches, terminal),
     }
 }
 
-/// What `check` is told.
-pub fn check_words<'b, 'a: 'b>(matches: &'b ArgMatches<'a>, terminal: bool) -> CheckWords<'b> {
-    CheckWords {
-        pieces: pieces(matches),
-        progress: terminal || matches.get_flag("progress"),
+/// What `repair` is told.
+pub fn repair_words<'a>(matches: &ArgMatches<'a>, terminal: bool) -> RepairWords<'a> {
+    RepairWords {
+        folder: matches.get_str("DIR").unwrap_or("."),
+        telling: telling(matches, terminal),
     }
 }
 
-// The pieces that are named.
-fn pieces<'b, 'a: 'b>(matches: &'b ArgMatches<'a>) -> &'b [&'b str] {
-    matches.get_strs("PIECE").unwrap_or(&[])
+/// What `check` or `list` is told.
+pub fn piece_words<'b, 'a: 'b>(matches: &'b ArgMatches<'a>, terminal: bool) -> PieceWords<'b> {
+    PieceWords {
+        pieces: matches.get_strs("PIECE").unwrap_or(&[]),
+        telling: telling(matches, terminal),
+    }
+}
+
+// How progress is told.
+fn telling(matches: &ArgMatches<'_>, terminal: bool) -> Telling {
+    if terminal {
+        Telling::Terminal
+    } else if matches.get_flag("progress") {
+        Telling::Lines
+    } else {
+        Telling::Silent
+    }
 }

@@ -1,12 +1,14 @@
 -- A block's bytes, its items and its numbers.
-use Rattle.std.proofs.Common.{◌≡◌, ◌≢◌, ℕ, zero, suc, [], ◌∷◌, ◌++◌, ◌+◌, ◌*◌, ◌/◌, ◌%◌, ◌^◌, ◌<◌, ◌≤◌, List, length, get_or, take, drop, map, arith, sym, ◌∙◌, ap, subst, inl, inr, mod-lt}
-use Rattle.std.proofs.lemmas.List.{ext_get_or, get_or-take, get_or-drop, length-take-le, length-take, length-drop, length-map, map-append, get_or_append_left, get_or_push, get_or-map, length-set, get_or-set_same, get_or-set_other, map-set}
+use Rattle.std.proofs.Common.{◌≡◌, ◌≢◌, ℕ, zero, suc, [], ◌∷◌, ◌++◌, ◌+◌, ◌*◌, ◌-◌, ◌/◌, ◌%◌, ◌^◌, ◌<◌, ◌≤◌, List, length, get_or, take, drop, map, arith, sym, ◌∙◌, ap, subst, inl, inr, mod-lt}
+use Rattle.std.proofs.lemmas.List.{ext_get_or, get_or-take, get_or-drop, length-take-le, length-take, length-drop, length-map, map-append, get_or_append_left, get_or_push, get_or-map, get_or-set_other, map-set, get_or_past}
 use Rattle.std.proofs.Math.ListN.{set}
 use Rattle.std.proofs.lemmas.List.FromFn.{fill_by_all}
 use Rattle.std.proofs.Math.Nat.{mul-zero, div-lt_iff_lt-mul}
 use Rattle.std.proofs.lemmas.Nat.{div-add-mod'}
-use Rattle.std.proofs.lemmas.Bool.{cases_eq}
+use Rattle.std.proofs.lemmas.Bool.{cases_eq, cases_lt}
+use Rattle.std.proofs.lemmas.List.FromFn.{get_or-map-range_with_len, length-map-range_with_len}
 use Rattle.shards_format.specs.Stripes.{item, stripe, stripes, numbers_at, Numbering}
+use Rattle.shards_format.specs.Parts.{IsMarked, IsPart}
 
 -- ---- products
 
@@ -17,10 +19,20 @@ row_place i s n count h l = grind arith
 pub row_end : (i n count : ℕ) → i < n → i * count + count ≤ n * count
 row_end i n count h = grind arith
 
+-- what is read in a row that is cut out
+pub row_at : (a count s : ℕ) (xs : List ℕ) → s < count → get_or (take (a * count + count - a * count) (drop (a * count) xs)) s 0 ≡ get_or xs (a * count + s) 0
+row_at a count s xs h =
+    get_or-take (a * count + count - a * count) (drop (a * count) xs) s 0 (omega (arith, h)) ∙ get_or-drop (a * count) xs s 0
+
+pub row_len : (a rows count : ℕ) (xs : List ℕ) → a < rows → length xs ≡ rows * count → length (take (a * count + count - a * count) (drop (a * count) xs)) ≡ count
+row_len a rows count xs h len =
+    let end : a * count + count ≤ rows * count = row_end a rows count h in
+    simp (length-take, length-drop) (omega (arith, end, len))
+
 -- ---- stripes
 
 -- the stripes have room for the bytes
-pub stripes_room : (k len : ℕ) → 0 < k → len ≤ 2 * (stripes k len * k)
+pub stripes_room : (k len : ℕ) → 0 < k → len ≤ 2 * (k * stripes k len)
 stripes_room k len h = grind arith
 
 -- ---- bytes and items
@@ -39,7 +51,7 @@ by_pairs P n even odd i h = elim (cases_eq (i % 2) 0) [
 ]
 
 -- bytes whose items are a block's begin with it
-bytes_by_items : (xs block : List ℕ) (n : ℕ) → ((i : ℕ) → get_or xs i 0 < 256) → ((i : ℕ) → get_or block i 0 < 256)
+pub bytes_by_items : (xs block : List ℕ) (n : ℕ) → ((i : ℕ) → get_or xs i 0 < 256) → ((i : ℕ) → get_or block i 0 < 256)
     → length xs ≡ 2 * n → length block ≤ 2 * n → ((j : ℕ) → j < n → item xs j ≡ item block j) → take (length block) xs ≡ block
 bytes_by_items xs block n small few len room same =
     let long : length block ≤ length xs = omega arith in
@@ -57,33 +69,79 @@ by_rows P (suc k) n each i h =
     let row : i / suc k < n = (div-lt_iff_lt-mul {k = suc k} {x = i} {y = n} (omega arith)).1 h in
     subst P is (each (i / suc k) (i % suc k) row rest)
 
--- what is restored
-pub restored_block : (k count : ℕ) (bytes block items : List ℕ) → 0 < k → ((i : ℕ) → get_or bytes i 0 < 256) → ((i : ℕ) → get_or block i 0 < 256)
-    → length bytes ≡ 2 * (count * k) → count ≡ stripes k (length block)
-    → ((j : ℕ) → j < count * k → item bytes j ≡ get_or items j 0)
-    → ((s j : ℕ) → s < count → j < k → get_or items (s * k + j) 0 ≡ stripe k block s j)
+-- bytes whose rows are a block's begin with it
+pub block_by_rows : (k count : ℕ) (bytes block : List ℕ) → 0 < k → ((i : ℕ) → get_or bytes i 0 < 256) → ((i : ℕ) → get_or block i 0 < 256)
+    → length bytes ≡ 2 * (k * count) → count ≡ stripes k (length block)
+    → ((j s : ℕ) → j < k → s < count → item bytes (j * count + s) ≡ item block (j * count + s))
     → take (length block) bytes ≡ block
-restored_block k count bytes block items some small few len count_is are each =
-    let room : length block ≤ 2 * (count * k) = subst (λ c. length block ≤ 2 * (c * k)) (sym count_is) (stripes_room k (length block) some) in
-    bytes_by_items bytes block (count * k) small few len room (λ i l.
-    are i l ∙ by_rows (λ i. get_or items i 0 ≡ item block i) k count (λ s j a b. each s j a b) i l)
+block_by_rows k count bytes block some small few len count_is each =
+    let room : length block ≤ 2 * (k * count) = subst (λ c. length block ≤ 2 * (k * c)) (sym count_is) (stripes_room k (length block) some) in
+    bytes_by_items bytes block (k * count) small few len room (by_rows (λ i. item bytes i ≡ item block i) count k each)
 
--- the numbers at a place, in order
-pub row_of_numbers : (number : Numbering) (k n count i : ℕ) (block numbers : List ℕ) → i < n → length numbers ≡ n * count → count ≡ stripes k (length block)
-    → ((s : ℕ) → s < count → get_or numbers (i * count + s) 0 ≡ number k n (stripe k block s) i) → take count (drop (i * count) numbers) ≡ numbers_at number k n block i
-row_of_numbers number k n count i block numbers h len count_is each =
-    let end : i * count + count ≤ n * count = row_end i n count h in
-    let size : length (take count (drop (i * count) numbers)) ≡ count = simp (length-take, length-drop) (omega arith) in
-    fill_by_all (λ s. number k n (stripe k block s) i) (take count (drop (i * count) numbers)) (stripes k (length block)) 0 (size ∙ count_is) (λ s l.
-    let below : s < count = omega (arith, l, count_is) in
-    get_or-take count (drop (i * count) numbers) s 0 below ∙ get_or-drop (i * count) numbers s 0 ∙ each s below)
+-- numbers that fit below the end fit everywhere
+pub all_fit : (n : ℕ) (numbers : List ℕ) → length numbers ≡ n → ((p : ℕ) → p < n → get_or numbers p 0 ≤ 65536) → (p : ℕ) → get_or numbers p 0 ≤ 65536
+all_fit n numbers len each p = elim (cases_lt p (length numbers)) [
+  | inl h ↦ each p (subst (λ m. p < m) len h)
+  | inr h ↦ rw (get_or_past numbers p 0 h) (omega arith)
+]
+
+pub rows_fit : (rows count : ℕ) (numbers : List ℕ) → length numbers ≡ rows * count
+    → ((i s : ℕ) → i < rows → s < count → get_or numbers (i * count + s) 0 ≤ 65536) → (p : ℕ) → get_or numbers p 0 ≤ 65536
+rows_fit rows count numbers len each = all_fit (rows * count) numbers len (by_rows (λ p. get_or numbers p 0 ≤ 65536) count rows each)
 
 -- the items of small bytes
-pub stripe_small : (k s j : ℕ) (bytes : List ℕ) → ((i : ℕ) → get_or bytes i 0 < 256) → stripe k bytes s j < 2 ^ 16
-stripe_small k s j bytes small =
-    let low = small (2 * (s * k + j)) in
-    let high = small (2 * (s * k + j) + 1) in
+pub item_small : (bytes : List ℕ) (j : ℕ) → ((i : ℕ) → get_or bytes i 0 < 256) → item bytes j < 2 ^ 16
+item_small bytes j small =
+    let low = small (2 * j) in
+    let high = small (2 * j + 1) in
     omega (arith, low, high)
+
+pub small_rest : (x : ℕ) → x < 2 ^ 16 → x % 65536 ≡ x
+small_rest x h = omega (arith, h)
+
+-- ---- the parts of a block
+
+module _ (number : Numbering) (k n i : ℕ) (block : List ℕ) where
+  abbrev at_place : ℕ → ℕ
+  at_place s = number k n (stripe (stripes k (length block)) block s) i
+
+  pub numbers_len : length (numbers_at number k n block i) ≡ stripes k (length block)
+  numbers_len = length-map-range_with_len at_place 0 (stripes k (length block))
+
+  pub number_of : (s : ℕ) → s < stripes k (length block) → get_or (numbers_at number k n block i) s 0 ≡ number k n (stripe (stripes k (length block)) block s) i
+  number_of s h = get_or-map-range_with_len at_place 0 (stripes k (length block)) s s 0 h (omega arith)
+
+  -- a row of numbers is those at its place
+  pub row_of_numbers : (count b rows : ℕ) (numbers : List ℕ) → b < rows → length numbers ≡ rows * count → count ≡ stripes k (length block)
+      → ((s : ℕ) → s < count → get_or numbers (b * count + s) 0 ≡ number k n (stripe (stripes k (length block)) block s) i)
+      → take count (drop (b * count) numbers) ≡ numbers_at number k n block i
+  row_of_numbers count b rows numbers h len count_is each =
+      let end : b * count + count ≤ rows * count = row_end b rows count h in
+      let size : length (take count (drop (b * count) numbers)) ≡ count = simp (length-take, length-drop) (omega (arith, end, len)) in
+      fill_by_all at_place (take count (drop (b * count) numbers)) (stripes k (length block)) 0 (size ∙ count_is) (λ s l.
+      let below : s < count = omega (arith, l, count_is) in
+      get_or-take count (drop (b * count) numbers) s 0 below ∙ get_or-drop (b * count) numbers s 0 ∙ each s below)
+
+  -- the items of a row are a plain part
+  pub plain_row : (count : ℕ) (part : List ℕ) → count ≡ stripes k (length block) → i < k
+      → ((s : ℕ) → number k n (stripe (stripes k (length block)) block s) i ≡ stripe (stripes k (length block)) block s i)
+      → ((i : ℕ) → get_or part i 0 < 256) → length part ≡ 2 * count → ((s : ℕ) → s < count → item part s ≡ item block (i * count + s)) → IsPart k i (numbers_at number k n block i) part
+  plain_row count part count_is below same fits len items = record {
+    plain = λ _. record {
+      fits = fits;
+      len = len ∙ ap (λ m. 2 * m) (count_is ∙ sym numbers_len);
+      numbers = λ s h.
+          let inside : s < stripes k (length block) = subst (λ m. s < m) numbers_len h in
+          items s (subst (λ m. s < m) (sym count_is) inside) ∙ ap (λ c. item block (i * c + s)) count_is ∙ sym (same s) ∙ sym (number_of s inside);
+    };
+    marked = λ h. absurd (omega (arith, h, below));
+  }
+
+  pub marked_row : (part : List ℕ) → k ≤ i → IsMarked (numbers_at number k n block i) part → IsPart k i (numbers_at number k n block i) part
+  marked_row part from is = record {
+    plain = λ h. absurd (omega (arith, h, from));
+    marked = λ _. is;
+  }
 
 -- ---- a list that gains an item, by a view
 
@@ -99,11 +157,6 @@ pushed_here f xs y d j e = ap (λ l. get_or l j d) (map-append f xs (y ∷ [])) 
 
 pub view_at : {X Y : Type 0} (f : X → Y) (xs : List X) (i : ℕ) (x : X) (d : Y) → x ≡ get_or xs i x → i < length xs → get_or (map f xs) i d ≡ f x
 view_at f xs i x d is h = get_or-map f xs i x d h ∙ ap f (sym is)
-
-pub written_here : {X Y : Type 0} (f : X → Y) (xs : List X) (i : ℕ) (y : X) (d : Y) → i < length xs → get_or (map f (set xs i y)) i d ≡ f y
-written_here f xs i y d h =
-    let here : i < length (set xs i y) = subst (λ n. i < n) (sym (length-set xs i y)) h in
-    get_or-map f (set xs i y) i y d here ∙ ap f (get_or-set_same xs i y y h)
 
 pub written_other : {X Y : Type 0} (f : X → Y) (xs : List X) (i j : ℕ) (y : X) (d : Y) → j ≢ i → get_or (map f (set xs i y)) j d ≡ get_or (map f xs) j d
 written_other f xs i j y d ne = ap (λ l. get_or l j d) (map-set f xs i y) ∙ get_or-set_other (map f xs) i j (f y) d ne

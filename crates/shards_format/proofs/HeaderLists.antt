@@ -1,53 +1,41 @@
--- The parts of a header.
-use Rattle.std.proofs.Common.{◌≡◌, ℕ, ◌+◌, ◌*◌, ◌^◌, true, List, ◌++◌, length, take, drop, arith, sym, ◌∙◌, ap, ap₂, eqb}
-use Rattle.std.proofs.lemmas.List.{take-append-drop, drop-drop, length-take, length-drop, take_all, take_at, drop_at, length-append}
-use Rattle.std.specs.Cmp.Lexicographic.{pointwise, pointwise_decides}
-use Rattle.std.proofs.lemmas.Bool.Decides.{Decides-eqb}
-use Rattle.shards_format.specs.Stripes.{word}
-use Rattle.shards_format.specs.Headers.{IsHeader, magic}
-use Rattle.shards_format.specs.declared.header.Header.{Header}
+-- The numbers of a header.
+use Rattle.std.proofs.Common.{◌≡◌, ℕ, ◌<◌, ◌^◌, List, ◌++◌, length, take, drop, arith, sym, ◌∙◌, ap, ap₂}
+use Rattle.std.specs.Int.{w32, to_le_bytes, from_le_bytes}
+use Rattle.std.proofs.lemmas.List.{length-append, drop_at, nil_from_length}
+use Rattle.std.proofs.lemmas.Nat.{from_le_bytes-to_le_bytes_4}
+use Rattle.shards_format.specs.Headers.{header_bytes, head_bytes, magic, version}
 
-pub same_from_test : (xs ys : List ℕ) → pointwise eqb xs ys ≡ true → xs ≡ ys
-same_from_test xs ys h = (pointwise_decides Decides-eqb xs ys).0 h
+-- four bytes are one number
+one_number : (m n : ℕ) → m < 2 ^ 32 → n < 2 ^ 32 → to_le_bytes w32 m ≡ to_le_bytes w32 n → m ≡ n
+one_number m n a b same = sym (from_le_bytes-to_le_bytes_4 m a) ∙ ap (λ xs. from_le_bytes w32 xs) same ∙ from_le_bytes-to_le_bytes_4 n b
 
-pub test_from_same : (xs ys : List ℕ) → xs ≡ ys → pointwise eqb xs ys ≡ true
-test_from_same xs ys e = (pointwise_decides Decides-eqb xs ys).1 e
+module _ (k n number len k2 n2 number2 len2 : ℕ) (same : header_bytes k n number len ≡ header_bytes k2 n2 number2 len2) where
+  pub same_k : k < 2 ^ 32 → k2 < 2 ^ 32 → k ≡ k2
+  same_k a b = one_number k k2 a b (ap (λ xs. take 4 (drop 8 xs)) same)
 
-pub three_parts : (bytes : List ℕ) → length bytes ≡ 60 → bytes ≡ take 8 bytes ++ (take 20 (drop 8 bytes) ++ take 32 (drop 28 bytes))
-three_parts bytes len =
-    let rest : drop 20 (drop 8 bytes) ≡ drop 28 bytes = drop-drop 20 8 bytes in
-    let end : take 32 (drop 28 bytes) ≡ drop 28 bytes = take_all 32 (drop 28 bytes) (simp length-drop (omega arith)) in
-    sym (ap (λ xs. take 8 bytes ++ (take 20 (drop 8 bytes) ++ xs)) (end ∙ sym rest) ∙ ap (λ xs. take 8 bytes ++ xs) (take-append-drop 20 (drop 8 bytes)) ∙ take-append-drop 8 bytes)
+  pub same_n : n < 2 ^ 32 → n2 < 2 ^ 32 → n ≡ n2
+  same_n a b = one_number n n2 a b (ap (λ xs. take 4 (drop 12 xs)) same)
 
-pub header_read : (bytes : List ℕ) (h : Header) → length bytes ≡ 60 → take 8 bytes ≡ magic → take 32 (drop 28 bytes) ≡ h.digest
-    → word (take 20 (drop 8 bytes)) 0 ≡ h.k → word (take 20 (drop 8 bytes)) 2 ≡ h.n → word (take 20 (drop 8 bytes)) 4 ≡ h.number
-    → word (take 20 (drop 8 bytes)) 6 + 2 ^ 32 * word (take 20 (drop 8 bytes)) 8 ≡ h.len → IsHeader bytes h
-header_read bytes h len begins digest k n number size = record {
-  fields = take 20 (drop 8 bytes);
-  is = three_parts bytes len ∙ ap₂ (λ xs ys. xs ++ (take 20 (drop 8 bytes) ++ ys)) begins digest;
-  fields_len = simp (length-take, length-drop) (omega arith);
-  digest_len = ap length (sym digest) ∙ simp (length-take, length-drop) (omega arith);
-  k = k;
-  n = n;
-  number = number;
-  len = size;
-}
+  pub same_piece : number < 2 ^ 32 → number2 < 2 ^ 32 → number ≡ number2
+  same_piece a b = one_number number number2 a b (ap (λ xs. take 4 (drop 16 xs)) same)
 
-pub header_len : (bytes : List ℕ) (h : Header) → IsHeader bytes h → length bytes ≡ 60
-header_len bytes h is = ap length is.is ∙ simp (length-append) (omega (arith, is.fields_len, is.digest_len))
+  pub same_len : len < 2 ^ 32 → len2 < 2 ^ 32 → len ≡ len2
+  same_len a b = one_number len len2 a b (ap (λ xs. take 4 (drop 20 xs)) same)
 
-abbrev header_of : ℕ × ℕ → (ℕ × ℕ) × List ℕ → Header
-header_of p q = record { k = p.0; n = p.1; number = q.0.0; len = q.0.1; digest = q.1 }
+-- the texts of two pieces of one number of a set are equal only where their bodies are
+pub one_body : (k n i : ℕ) (label other body rest : List ℕ) → length label < 65536 → length other < 65536 → head_bytes k n i label ++ body ≡ head_bytes k n i other ++ rest → body ≡ rest
+one_body k n i label other body rest short small same =
+    let len : length label ≡ length other =
+    one_number (length label) (length other) (omega (arith, short)) (omega (arith, small)) (ap (λ xs. take 4 (drop 20 xs)) same) in
+    let behind : label ++ body ≡ other ++ rest = ap (drop 24) same in
+    sym (drop_at label body (length label) (let e : length label ≡ length label = omega arith in e)) ∙ ap (drop (length label)) behind ∙ drop_at other rest (length label) (sym len)
 
--- bytes are one header
-pub one_header : (bytes : List ℕ) (h other : Header) → IsHeader bytes h → IsHeader bytes other → h ≡ other
-one_header bytes h other a b =
-    let both : a.fields ++ h.digest ≡ b.fields ++ other.digest = cc (a.is, b.is) in
-    let fields : a.fields ≡ b.fields = sym (take_at a.fields h.digest 20 a.fields_len) ∙ ap (take 20) both ∙ take_at b.fields other.digest 20 b.fields_len in
-    let digest : h.digest ≡ other.digest = sym (drop_at a.fields h.digest 20 a.fields_len) ∙ ap (drop 20) both ∙ drop_at b.fields other.digest 20 b.fields_len in
-    let k : h.k ≡ other.k = sym a.k ∙ ap (λ f. word f 0) fields ∙ b.k in
-    let n : h.n ≡ other.n = sym a.n ∙ ap (λ f. word f 2) fields ∙ b.n in
-    let number : h.number ≡ other.number = sym a.number ∙ ap (λ f. word f 4) fields ∙ b.number in
-    let size : h.len ≡ other.len = sym a.len ∙ ap (λ f. word f 6 + 2 ^ 32 * word f 8) fields ∙ b.len in
-    let e = ap₂ (λ (p : ℕ × ℕ) (q : (ℕ × ℕ) × List ℕ). header_of p q) (ap₂ (λ x y. (x, y)) k n) (ap₂ (λ x y. (x, y)) (ap₂ (λ x y. (x, y)) number size) digest) in
-    e
+-- eight bytes, four numbers of four, and nothing behind
+pub four_numbers : (bytes start all a b c d : List ℕ) (k n number len : ℕ) → length bytes ≡ 24 → bytes ≡ start ++ all → start ≡ magic ++ version
+    → all ≡ to_le_bytes w32 k ++ a → a ≡ to_le_bytes w32 n ++ b → b ≡ to_le_bytes w32 number ++ c → c ≡ to_le_bytes w32 len ++ d
+    → bytes ≡ header_bytes k n number len
+four_numbers bytes start all a b c d k n number len size is begins first second third fourth =
+    let sizes : length d ≡ 0 =
+    omega (arith, size, ap length is, length-append start all, ap length begins, ap length first, ap length second, ap length third, ap length fourth) in
+    is ∙ ap₂ (λ (xs ys : List ℕ). xs ++ ys) begins (first ∙ ap (λ xs. to_le_bytes w32 k ++ xs) (second ∙ ap (λ xs. to_le_bytes w32 n ++ xs) (third ∙ ap (λ xs. to_le_bytes w32 number ++ xs)
+    (fourth ∙ ap (λ xs. to_le_bytes w32 len ++ xs) (nil_from_length d sizes)))))

@@ -2,8 +2,10 @@
 pub mod Marks
 pub mod UsedPlaces
 pub mod BlockLists
-pub mod HeaderLists
-pub mod WholePieces
 pub mod FileLists
 pub mod JoinLists
-pub mod GivenPieces
+pub mod PlaceLists
+pub mod PutRows
+pub mod TrailerLists
+pub mod HeaderLists
+pub mod OneBody

@@ -2,6 +2,7 @@
 pub mod Stripes
 pub mod Parts
 pub mod Headers
+pub mod Trailers
 pub mod Pieces
 pub mod Files
-pub mod Given
+pub mod Places

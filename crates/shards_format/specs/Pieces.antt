@@ -1,9 +1,10 @@
 -- What a piece of a file is.
-use Rattle.std.specs.Prelude.{◌≡◌, ℕ, ◌+◌, ◌-◌, ◌*◌, ◌/◌, ◌<◌, ◌≤◌, ◌^◌, List, ◌++◌, length, take, drop}
+use Rattle.std.specs.Prelude.{◌≡◌, ℕ, ◌+◌, ◌-◌, ◌*◌, ◌/◌, ◌<◌, ◌^◌, List, ◌++◌, length, get_or, take, drop, nat_le, if◌then◌else◌}
 use Rattle.sha2.specs.Sha256.{sha256}
 use Rattle.shards_format.specs.Stripes.{Numbering, stripes, numbers_at}
 use Rattle.shards_format.specs.Parts.{IsPart}
-use Rattle.shards_format.specs.Headers.{IsHeader}
+use Rattle.shards_format.specs.Headers.{header_bytes}
+use Rattle.shards_format.specs.Trailers.{trailer_bytes}
 use Rattle.shards_format.specs.declared.header.Header.{Header}
 
 -- the bytes of a file that a block of 1024 stripes has
@@ -14,13 +15,22 @@ block_size k = 2 * k * 1024
 abbrev pub blocks : ℕ → ℕ → ℕ
 blocks k len = (len + (block_size k - 1)) / block_size k
 
--- the bytes of a part of 1024 numbers
-abbrev pub part_size : ℕ
-part_size = 2052
+-- the bytes of the mark in a part of piece i
+abbrev pub mark_size : ℕ → ℕ → ℕ
+mark_size k i = if nat_le k i then 4 else 0
 
--- the bytes of a piece without header and digest: two for each stripe, and four for each block
-abbrev pub body_size : ℕ → ℕ → ℕ
-body_size k len = 4 * blocks k len + 2 * stripes k len
+-- the bytes of a part of piece i that has 1024 numbers
+abbrev pub part_size : ℕ → ℕ → ℕ
+part_size k i = mark_size k i + 2048
+
+-- the bytes of the body of piece i: two for each stripe, and those of a mark for each block
+abbrev pub body_size : ℕ → ℕ → ℕ → ℕ
+body_size k i len = mark_size k i * blocks k len + 2 * stripes k len
+
+-- bytes have the length of a part of piece i with these numbers, and are this part where those of the first k pieces are items
+pub record SpellsNumbers (k i : ℕ) (xs part : List ℕ) : Type 0 where
+  pub size : length part ≡ mark_size k i + 2 * length xs
+  pub is : (i < k → (s : ℕ) → s < length xs → get_or xs s 0 < 2 ^ 16) → IsPart k i xs part
 
 -- chunk b of a list that is cut in chunks of so many, the last one shorter
 abbrev pub chunk : ℕ → ℕ → List ℕ → List ℕ
@@ -28,35 +38,27 @@ chunk size b xs = take size (drop (b * size) xs)
 
 -- the body of piece i of a file: for each block, the numbers of its stripes
 pub record IsBody (number : Numbering) (k n : ℕ) (bytes : List ℕ) (i : ℕ) (body : List ℕ) : Type 0 where
-  pub len : length body ≡ body_size k (length bytes)
-  pub parts : (b : ℕ) → b < blocks k (length bytes) → IsPart (numbers_at number k n (chunk (block_size k) b bytes) i) (chunk part_size b body)
+  pub len : length body ≡ body_size k i (length bytes)
+  pub parts : (b : ℕ) → b < blocks k (length bytes) → IsPart k i (numbers_at number k n (chunk (block_size k) b bytes) i) (chunk (part_size k i) b body)
 
--- the numbers of a header that a piece can have
-pub record IsLawful (h : Header) : Type 0 where
-  pub some : 0 < h.k
-  pub fits : h.k ≤ h.n
-  pub few : h.n ≤ 65536
-  pub number : h.number < h.n
-  pub len : h.len < 2 ^ 62
+-- what a piece has: between its header and its trailer a label and a body, and in the trailer the digests of all pieces
+-- of its set, and the file's length
+pub record Piece : Type 0 where
+  pub header : Header
+  pub label : List ℕ
+  pub body : List ℕ
+  pub digests : List ℕ
+  pub len : ℕ
 
--- bytes are a header, a body of its size, and the SHA-256 of both
-pub record IsWhole (bytes : List ℕ) (h : Header) (body : List ℕ) : Type 0 where
-  pub head : List ℕ
-  pub is_header : IsHeader head h
-  pub is : bytes ≡ (head ++ body) ++ sha256 (head ++ body)
-  pub lawful : IsLawful h
-  pub size : length body ≡ body_size h.k h.len
+-- what its digest is made of
+abbrev pub text_of : Piece → List ℕ
+text_of p = (header_bytes p.header.k p.header.n p.header.number p.header.label_len ++ p.label) ++ p.body
 
--- a header and a body are a piece of a file
-pub record IsPieceOf (number : Numbering) (bytes : List ℕ) (h : Header) (body : List ℕ) : Type 0 where
-  pub len : h.len ≡ length bytes
-  pub digest : h.digest ≡ sha256 bytes
-  pub body_is : IsBody number h.k h.n bytes h.number body
-
--- a header is that of a piece of the same file as another's, split by a code with this k and n
-pub record IsOfFile (other : Header) (k n : ℕ) (h : Header) : Type 0 where
-  pub lawful : IsLawful h
-  pub k_is : h.k ≡ k
-  pub n_is : h.n ≡ n
-  pub len : h.len ≡ other.len
-  pub digest : h.digest ≡ other.digest
+-- bytes are a whole piece: its parts have their lengths, and its digest is the listed one
+pub record IsWhole (bytes : List ℕ) (p : Piece) : Type 0 where
+  pub is : bytes ≡ text_of p ++ trailer_bytes p.digests p.len
+  pub label_len : length p.label ≡ p.header.label_len
+  pub body_len : length p.body ≡ body_size p.header.k p.header.number p.len
+  pub count : length p.digests ≡ 32 * p.header.n
+  pub few : p.len < 2 ^ 62
+  pub listed : chunk 32 p.header.number p.digests ≡ sha256 (text_of p)

@@ -6,13 +6,9 @@ use Rattle.std.specs.List.{range_with_len}
 abbrev pub item : List ℕ → ℕ → ℕ
 item bytes j = get_or bytes (2 * j) 0 + 256 * get_or bytes (2 * j + 1) 0
 
--- two items as a number, the low one first
-abbrev pub word : List ℕ → ℕ → ℕ
-word bytes j = item bytes j + 65536 * item bytes (j + 1)
-
--- the items of stripe s, of which there are k
+-- the items of stripe s of a block of so many: item 0 of all stripes comes first in the block, then item 1 of all
 abbrev pub stripe : ℕ → List ℕ → ℕ → ℕ → ℕ
-stripe k bytes s j = item bytes (s * k + j)
+stripe count block s j = item block (j * count + s)
 
 -- how many stripes so many bytes are, the last one filled with zeros
 abbrev pub stripes : ℕ → ℕ → ℕ
@@ -22,6 +18,6 @@ stripes k len = (len + (2 * k - 1)) / (2 * k)
 abbrev pub Numbering : Type 0
 Numbering = ℕ → ℕ → (ℕ → ℕ) → ℕ → ℕ
 
--- the numbers at place i, one for each stripe
+-- the numbers at place i of a block's stripes
 abbrev pub numbers_at : Numbering → ℕ → ℕ → List ℕ → ℕ → List ℕ
-numbers_at number k n bytes i = map (λ s. number k n (stripe k bytes s) i) (range_with_len 0 (stripes k (length bytes)))
+numbers_at number k n block i = let count = stripes k (length block) in map (λ s. number k n (stripe count block s) i) (range_with_len 0 count)

@@ -17,12 +17,12 @@ pub struct PlacedNumbers<'a> {
     ghost len: { length numbers.now ≡ length places.now * stripes },
 }
 
-/// A code for stripes. A stripe is `k` items below 2^16; it has a number of at most 2^16 at each of `n` places, and the
-/// numbers at any `k` places tell the stripe.
+/// A code for stripes, in systematic form. A stripe is `k` items below 2^16; it has a number of at most 2^16 at each of `n`
+/// places, at the first `k` places its items, and the numbers at any `k` places tell all the others.
 pub trait StripeCode: Drop + Sized {
-    /// What stripes are restored by from their numbers at certain places. It is made once for these, and restores any
-    /// number of stripes.
-    type Restorer: Drop;
+    /// What the numbers at wanted places are found by from those at `k` given ones. It is made once for these places, and
+    /// serves any number of stripes.
+    type Extender: Drop;
 
     // The number of a stripe's items at a place: `number k n items place`.
     ghost number: { ℕ → ℕ → (ℕ → ℕ) → ℕ → ℕ };
@@ -34,8 +34,12 @@ pub trait StripeCode: Drop + Sized {
     // Whether there is a code for `k` items and `n` places.
     ghost has: { ℕ → ℕ → Type 0 };
 
-    // Whether a restorer was made by the code for these places.
-    ghost is_for: { Self → Self.Restorer → List ℕ → Type 0 };
+    // Whether an extender is one of the code, the places that are given to it, and those that are wanted.
+    ghost is_of: { Self → Self.Extender → Type 0 };
+
+    ghost given_of: { Self.Extender → List ℕ };
+
+    ghost wanted_of: { Self.Extender → List ℕ };
 
     /// The code for `k` items and `n` places, and `None` exactly where there is none.
     fn new(k: usize, n: usize) -> Option<Self>
@@ -48,51 +52,53 @@ pub trait StripeCode: Drop + Sized {
         ensures k { result ≡ Self.k_of self.now }
         ensures positive { 0 < result }
         ensures few { result ≤ 65536 }
-        ensures fits { result ≤ Self.n_of self.now };
+        ensures fits { result ≤ Self.n_of self.now }
+        ensures has { has (Self.k_of self.now) (Self.n_of self.now) };
 
     /// The number of places.
     fn n(&self) -> usize
         ensures n { result ≡ Self.n_of self.now }
         ensures few { result ≤ 65536 };
 
-    /// The numbers of so many stripes, those at the first place first.
-    fn encode(
+    /// What the numbers at the wanted places are found by from those at the given ones: `k` places, which differ.
+    fn extender(
         &self,
         alloc: Global,
-        items: &[u16],
-        stripes: usize,
-        numbers: &mut [u32],
-    ) -> Result<(), AllocError>
-        requires items { length items.now ≡ stripes * Self.k_of self.now }
-        requires numbers { length numbers.old ≡ Self.n_of self.now * stripes }
-        ensures { OnOk result ((i s : ℕ) → i < Self.n_of self.now → s < stripes → get_or numbers.new (i * stripes + s) 0
-            ≡ number (Self.k_of self.now) (Self.n_of self.now) (λ j. get_or items.now (s * Self.k_of self.now + j) 0) i) };
+        given: &[usize],
+        wanted: &[usize],
+    ) -> Result<Self::Extender, AllocError>
+        requires given { length given.now ≡ Self.k_of self.now }
+        requires given_below { (a : ℕ) → a < length given.now → get_or given.now a 0 < Self.n_of self.now }
+        requires apart { (a b : ℕ) → a < b → b < length given.now → get_or given.now a 0 ≢ get_or given.now b 0 }
+        requires wanted_below { (b : ℕ) → b < length wanted.now → get_or wanted.now b 0 < Self.n_of self.now }
+        ensures code { IfOk result (λ e. is_of self.now e) }
+        ensures given { IfOk result (λ e. given_of e ≡ given.now) }
+        ensures wanted { IfOk result (λ e. wanted_of e ≡ wanted.now) };
 
-    /// What restores stripes from their numbers at these `k` places.
-    fn restorer(&self, alloc: Global, places: &[usize]) -> Result<Self::Restorer, AllocError>
-        requires places { length places.now ≡ Self.k_of self.now }
-        requires below { (a : ℕ) → a < length places.now → get_or places.now a 0 < Self.n_of self.now }
-        requires apart { (a b : ℕ) → a < b → b < length places.now → get_or places.now a 0 ≢ get_or places.now b 0 }
-        ensures { IfOk result (λ restorer. is_for self.now restorer places.now) };
-
-    /// The items of stripes from their numbers at the places that the restorer is for.
-    fn restore(
+    /// The numbers of stripes at the wanted places, those at the first of them first, from their numbers at the given ones.
+    fn extend(
         &self,
         alloc: Global,
-        restorer: &Self::Restorer,
+        extender: &Self::Extender,
         given: &PlacedNumbers<'_>,
-        items: &mut [u16],
+        wanted: &mut [u32],
     ) -> Result<(), AllocError>
-        requires places { is_for self.now restorer.now given.now.places.now }
-        requires items { length items.old ≡ given.now.stripes * Self.k_of self.now }
+        requires code { is_of self.now extender.now }
+        requires given { given.now.places.now ≡ given_of extender.now }
+        requires small { (p : ℕ) → get_or given.now.numbers.now p 0 ≤ 65536 }
+        requires wanted { length wanted.old ≡ length (wanted_of extender.now) * given.now.stripes }
         ensures { OnOk result ((s : ℕ) (stripe : ℕ → ℕ) → s < given.now.stripes
             → ((j : ℕ) → j < Self.k_of self.now → stripe j < 2 ^ 16)
             → ((a : ℕ) → a < Self.k_of self.now → get_or given.now.numbers.now (a * given.now.stripes + s) 0
             ≡ number (Self.k_of self.now) (Self.n_of self.now) stripe (get_or given.now.places.now a 0))
-            → (j : ℕ) → j < Self.k_of self.now → get_or items.new (s * Self.k_of self.now + j) 0 ≡ stripe j) };
+            → (b : ℕ) → b < length (wanted_of extender.now) → get_or wanted.new (b * given.now.stripes + s) 0
+            ≡ number (Self.k_of self.now) (Self.n_of self.now) stripe (get_or (wanted_of extender.now) b 0)) };
 
     // A number depends on the stripe's items alone, and is at most 2^16.
     ghost number_below: { (k n : ℕ) (a b : ℕ → ℕ) (i : ℕ) → ((j : ℕ) → j < k → a j ≡ b j) → number k n a i ≡ number k n b i };
 
     ghost number_fits: { (k n : ℕ) (a : ℕ → ℕ) (i : ℕ) → number k n a i ≤ 65536 };
+
+    // At the first places are the items themselves.
+    ghost systematic: { (k n : ℕ) (a : ℕ → ℕ) (i : ℕ) → has k n → i < k → a i < 2 ^ 16 → number k n a i ≡ a i };
 }

@@ -4,20 +4,25 @@
 
 mod block_parts;
 mod code;
+mod extenders;
 mod header;
 mod items;
-mod joining;
-mod laws;
 mod parts;
 mod piece;
-mod splitting;
+mod placed_parts;
+mod reading;
+mod trailer;
 
 pub use block_parts::{block_of, parts_of_block, stripes};
 pub use code::{PlacedNumbers, StripeCode};
-pub use header::{HEADER, Header, MAGIC};
-pub use items::{item, put_item, put_word, word};
-pub use joining::{JoinError, PART_SIZE, join, judge, places_of};
-pub use laws::split_then_join;
-pub use parts::{PART, part_of, read_part};
-pub use piece::{DIGEST, Damage, Piece, blocks, body_size};
-pub use splitting::{append, chunk, split};
+pub use extenders::{
+    PlacedExtender, data_extender, different_places, missing_places, parity_extender, places_from,
+    repair_extender,
+};
+pub use header::{HEADER, Header, MAGIC, VERSION};
+pub use items::{item, put_item};
+pub use parts::{PART, chunk, marked_part, plain_part, read_part};
+pub use piece::{DIGEST, Damage, are_same, blocks, body_size, mark_size, part_size};
+pub use placed_parts::parts_at;
+pub use reading::numbers_of_parts;
+pub use trailer::{Trailer, trailer_size};

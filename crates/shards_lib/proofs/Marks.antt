@@ -1,5 +1,5 @@
 -- Marks that are taken off one by one.
-use Rattle.std.proofs.Common.{◌≡◌, ◌≢◌, ℕ, suc, ◌+◌, ◌<◌, Bool, true, false, List, [], ◌∷◌, length, get_or, set, cond, arith, sym, ◌∙◌, ap, refl, inl, inr, get_or-set_other}
+use Rattle.std.proofs.Common.{◌≡◌, ◌≢◌, ℕ, suc, ◌+◌, ◌<◌, Bool, true, false, List, [], ◌∷◌, length, get_or, set, cond, arith, sym, ◌∙◌, ap, refl, inl, inr, get_or-set_other, get_or-set_same}
 use Rattle.std.proofs.lemmas.List.Sums.{sum_by-set, sum_by-cons}
 use Rattle.std.proofs.lemmas.Bool.{cases_eq, cases_Bool}
 use Rattle.rs_code.specs.Codeword.{mark_count}
@@ -33,3 +33,20 @@ module _ (marks : List Bool) (places : List ℕ) (a : ℕ) (kept : (i : ℕ) →
         let before = h.1 in
         (h.0, (let l : h.0 < a + 1 = omega (arith, before) in l), h.2)
   ]
+
+below_other : (places : List ℕ) (a b : ℕ) → b < a + 1 → get_or places b 0 ≢ get_or places a 0 → b < a
+below_other places a b l ne = elim (cases_eq b a) [
+  | inl same ↦ absurd (ne (ap (λ i. get_or places i 0) same))
+  | inr other ↦ omega (arith, l, other)
+]
+
+-- the places before and this one have none
+pub unmarked_more : (marks : List Bool) (places : List ℕ) (a : ℕ) → get_or places a 0 < length marks
+    → ((b : ℕ) → b < a → get_or marks (get_or places b 0) true ≡ false)
+    → (b : ℕ) → b < a + 1 → get_or (set marks (get_or places a 0) false) (get_or places b 0) true ≡ false
+unmarked_more marks places a inside before b l = elim (cases_eq (get_or places b 0) (get_or places a 0)) [
+  | inl same ↦ ap (λ i. get_or (set marks (get_or places a 0) false) i true) same ∙ get_or-set_same marks (get_or places a 0) false true inside
+  | inr ne ↦
+      let less : b < a = below_other places a b l ne in
+      get_or-set_other marks (get_or places a 0) (get_or places b 0) false true ne ∙ before b less
+]

@@ -99,59 +99,28 @@ pub item_written : (f : ℕ → ℕ) (xs : List ℕ) (j x : ℕ) → j < length 
 item_written f xs j x inside earlier this i b = below_more (λ i. get_or (set xs j x) i 0 ≡ f i) j
     (λ i c. get_or-set_other xs j i x 0 (omega (arith, c)) ∙ earlier i c) (get_or-set_same xs j x 0 inside ∙ this) i b
 
--- ---- whole rows, written from row `first` on
+-- a loop that writes row a
+pub row_written : (f : ℕ → ℕ → ℕ) (a rows width : ℕ) (xs ys : List ℕ) → a < rows → length xs ≡ rows * width → length ys ≡ a * width + width - a * width
+    → ((i t : ℕ) → i < a → t < width → get_or xs (i * width + t) 0 ≡ f i t) → ((t : ℕ) → t < width → get_or ys t 0 ≡ f a t)
+    → (i t : ℕ) → i < a + 1 → t < width → get_or (put_mid (a * width) (a * width + width - a * width) xs ys) (i * width + t) 0 ≡ f i t
+row_written f a rows width xs ys less len size earlier this i t b l = below_more (λ i. get_or (put_mid (a * width) (a * width + width - a * width) xs ys) (i * width + t) 0 ≡ f i t) a
+    (λ i c.
+    let e = row_end i a width c in
+    let w = row_end a rows width less in
+    before (a * width) (a * width + width - a * width) xs ys (i * width + t) (omega (arith, w, len)) (omega (arith, e, l)) ∙ earlier i t c l)
+    (let w = row_end a rows width less in
+    here (a * width) (a * width + width - a * width) xs ys t (omega (arith, w, len)) (omega (arith, size, l)) ∙ this t l) i b
 
-module _ (f : ℕ → ℕ → ℕ) (first a count width : ℕ) (old xs ys : List ℕ) (less : a < count) (len : (first + count) * width ≤ length xs) where
-  abbrev pub row : ℕ
-  row = (first + a) * width
-
-  row_within : row + width ≤ length xs
-  row_within = let e = row_end (first + a) (first + count) width (omega (arith, less)) in omega (arith, e, len)
-
-  pub whole_len : length (take (row + width - row) (drop row xs)) ≡ width
-  whole_len = let e = row_within in simp (length-take, length-drop) (omega (arith, e))
-
-  module _ (size : length ys ≡ row + width - row) where
-    abbrev pub whole : List ℕ
-    whole = put_mid row (row + width - row) xs ys
-
-    pub row_written : ((t j : ℕ) → t < a → j < width → get_or xs ((first + t) * width + j) 0 ≡ f t j)
-        → ((j : ℕ) → j < width → get_or ys j 0 ≡ f a j)
-        → (t j : ℕ) → t < a + 1 → j < width → get_or whole ((first + t) * width + j) 0 ≡ f t j
-    row_written earlier this t j b l = below_more (λ t. get_or whole ((first + t) * width + j) 0 ≡ f t j) a
-        (λ t c.
-        let e = row_end (first + t) (first + a) width (omega (arith, c)) in
-        let w = row_within in
-        before row (row + width - row) xs ys ((first + t) * width + j) (omega (arith, w)) (omega (arith, e, l)) ∙ earlier t j c l)
-        (let w = row_within in here row (row + width - row) xs ys j (omega (arith, w)) (omega (arith, size, l)) ∙ this j l) t b
-
-    pub row_kept : ((p : ℕ) → p < first * width → get_or xs p 0 ≡ get_or old p 0)
-        → (p : ℕ) → p < first * width → get_or whole p 0 ≡ get_or old p 0
-    row_kept kept p b =
-        let w = row_within in
-        let e : first * width ≤ (first + a) * width = below_rows first (first + a) width (omega arith) in
-        before row (row + width - row) xs ys p (omega (arith, w)) (omega (arith, e, b)) ∙ kept p b
-
--- ---- the items of so many rows from row `first` on
-
-together : (first count k : ℕ) → first * k + count * k ≡ (first + count) * k
-together first count k = grind arith
-
-pub group_end : (first count stripes k : ℕ) → first + count ≤ stripes → first * k + count * k ≤ stripes * k
-group_end first count stripes k h = let e = together first count k in let l = below_rows (first + count) stripes k h in omega (arith, e, l)
-
-pub group_len : (first count stripes k : ℕ) (xs : List ℕ) → first + count ≤ stripes → length xs ≡ stripes * k → length (take (first * k + count * k - first * k) (drop (first * k) xs)) ≡ count * k
-group_len first count stripes k xs h len = let e = group_end first count stripes k h in simp (length-take, length-drop) (omega (arith, e, len))
-
-two_parts : (first t k j : ℕ) → first * k + (t * k + j) ≡ (first + t) * k + j
-two_parts first t k j = grind arith
-
-pub group_read : (first t count k j : ℕ) (xs : List ℕ) → t < count → j < k → get_or (take (first * k + count * k - first * k) (drop (first * k) xs)) (t * k + j) 0 ≡ get_or xs ((first + t) * k + j) 0
-group_read first t count k j xs l b =
-    let e = row_place t j count k l b in
-    let w : first * k + count * k - first * k ≡ count * k = omega arith in
-    get_or-take (first * k + count * k - first * k) (drop (first * k) xs) (t * k + j) 0 (omega (arith, w, e))
-    ∙ get_or-drop (first * k) xs (t * k + j) 0 ∙ ap (λ p. get_or xs p 0) (two_parts first t k j)
+-- a row that is read
+pub row_read : (a rows width : ℕ) (xs : List ℕ) → a < rows → length xs ≡ rows * width
+    → (length (take (a * width + width - a * width) (drop (a * width) xs)) ≡ width)
+    × ((t : ℕ) → t < width → get_or (take (a * width + width - a * width) (drop (a * width) xs)) t 0 ≡ get_or xs (a * width + t) 0)
+row_read a rows width xs less len = (
+  (let e = row_end a rows width less in simp (length-take, length-drop) (omega (arith, e, len))),
+  λ t l.
+      let w : a * width + width - a * width ≡ width = omega arith in
+      get_or-take (a * width + width - a * width) (drop (a * width) xs) t 0 (omega (arith, w, l)) ∙ get_or-drop (a * width) xs t 0,
+)
 
 -- ---- groups of so many
 

@@ -1,6 +1,6 @@
 //! Fields whose elements are numbers.
 
-ghost use Rattle.std.specs.Prelude.{◌≡◌, ℕ, ◌≤◌};
+ghost use Rattle.std.specs.Prelude.{◌≡◌, ◌≢◌, ℕ, ◌≤◌};
 ghost use Rattle.ark_math.specs.Field.{natural};
 
 use ark_base::{F65537, FftField, Modulus65537, PrimeModulus};
@@ -9,6 +9,9 @@ use ark_base::{F65537, FftField, Modulus65537, PrimeModulus};
 pub trait NumberField: FftField {
     // The number that an element is.
     ghost number: { Self → ℕ };
+
+    // The inverse of an element but zero.
+    ghost inverse_of: { Self → Self };
 
     /// The number that an element is.
     fn to_number(self) -> u32
@@ -20,6 +23,8 @@ pub trait NumberField: FftField {
 
     ghost natural_number: { (x : Self) → natural Self.field (number x) ≡ x };
 
+    ghost inverse_law: { (x : Self) → x ≢ Self.field.zero → Self.field.times x (inverse_of x) ≡ Self.field.one };
+
     // It has domains of all powers of two up to 2^16.
     ghost has_domains: { 16 ≤ Self.adicity.two };
 }
@@ -28,7 +33,7 @@ impl NumberField for F65537 {
     ghost use Rattle.std.proofs.Common.{refl};
     ghost use Rattle.ark_base.specs.Element.{number};
     ghost use Rattle.ark_base.specs.declared.prime_field.Modulus65537.{Modulus65537};
-    ghost use Rattle.shards_lib.specs.NumberLaws.{fits, of_natural, to_natural, sixteen};
+    ghost use Rattle.shards_lib.specs.NumberLaws.{fits, inverse, inverse_law, of_natural, to_natural, sixteen};
 
     ghost number = { number };
 
@@ -38,6 +43,12 @@ impl NumberField for F65537 {
         ⟦<Modulus65537 as PrimeModulus>⟧.modulus.prime refl };
 
     ghost natural_number = { to_natural Modulus65537 ⟦<Modulus65537 as PrimeModulus>⟧
+        ⟦<Modulus65537 as PrimeModulus>⟧.modulus.prime };
+
+    ghost inverse_of = { inverse Modulus65537 ⟦<Modulus65537 as PrimeModulus>⟧
+        ⟦<Modulus65537 as PrimeModulus>⟧.modulus.prime };
+
+    ghost inverse_law = { inverse_law Modulus65537 ⟦<Modulus65537 as PrimeModulus>⟧
         ⟦<Modulus65537 as PrimeModulus>⟧.modulus.prime };
 
     ghost has_domains = { sixteen Modulus65537 ⟦<Modulus65537 as PrimeModulus>⟧ refl };

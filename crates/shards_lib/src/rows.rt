@@ -1,6 +1,6 @@
 //! Rows that hold a group of stripes, a lane for each: lane `t` is that of stripe `first + t`.
 
-ghost use Rattle.std.specs.Prelude.{◌≡◌, ◌≢◌, ℕ, ◌+◌, ◌*◌, ◌%◌, ◌^◌, ◌<◌, ◌≤◌, get_or, length, IfOk};
+ghost use Rattle.std.specs.Prelude.{◌≡◌, ◌≢◌, ℕ, ◌+◌, ◌*◌, ◌<◌, ◌≤◌, get_or, length, IfOk};
 ghost use Rattle.ark_math.specs.Field.{natural};
 ghost use Rattle.ark_rows.specs.Row.{lanes};
 ghost use Rattle.shards_lib.specs.Rows.{entry};
@@ -23,77 +23,25 @@ pub struct StripeGroup {
     ghost within: { first + count ≤ all },
 }
 
-/// The messages of so many stripes of `k` items: row `j` has item `j` of each.
-pub fn message_rows<F: NumberField, const N: usize>(
-    alloc: Global,
-    items: &[u16],
-    k: usize,
-    count: usize,
-) -> Result<Vec<Row<F, N>>, AllocError>
-    requires count { count ≤ N }
-    requires items { length items.now ≡ count * k }
-    ensures len { IfOk result (λ rows. length rows.items ≡ k) }
-    ensures entries { IfOk result (λ rows. (j t : ℕ) → j < k → t < count
-        → entry F.field rows.items j t ≡ natural F.field (get_or items.now (t * k + j) 0)) }
-{
-    let mut rows = vec![in alloc; Row::<F, N>::zero(); k]?;
-    put_messages(rows.as_mut_slice(), items, k, count);
-    Ok(rows)
-}
-
-// Writes the messages of so many stripes.
-fn put_messages<F: NumberField, const N: usize>(
-    rows: &mut [Row<F, N>],
-    items: &[u16],
-    k: usize,
-    count: usize,
-)
-    requires count { count ≤ N }
-    requires rows { length rows.old ≡ k }
-    requires items { length items.now ≡ count * k }
-    ensures { (j t : ℕ) → j < k → t < count
-        → entry F.field rows.new j t ≡ natural F.field (get_or items.now (t * k + j) 0) }
-{
-    for j in 0..k {
-        rows[j] = row_of_items(items, k, j, count);
-    }
-}
-
-// Item `j` of each stripe.
-fn row_of_items<F: NumberField, const N: usize>(
-    items: &[u16],
-    k: usize,
-    j: usize,
-    count: usize,
-) -> Row<F, N>
-    requires count { count ≤ N }
-    requires items { length items.now ≡ count * k }
-    requires item { j < k }
-    ensures { (t : ℕ) → t < count → lanes F.field result t ≡ natural F.field (get_or items.now (t * k + j) 0) }
-{
-    let mut row = Row::zero();
-    for t in 0..count {
-        row.set(t, F::from(u64::from(items[t * k + j])));
-    }
-    row
-}
-
-/// Writes the numbers of a group, those at place `i` from row `i`.
+/// Writes the numbers of a group at places: first those at the first of them, from its row.
 pub fn put_rows<F: NumberField, const N: usize>(
     rows: &[Row<F, N>],
+    places: &[usize],
     group: StripeGroup,
     numbers: &mut [u32],
 )
     requires count { group.count ≤ N }
-    requires numbers { length numbers.old ≡ length rows.now * group.all }
-    ensures written { (i t : ℕ) → i < length rows.now → t < group.count
-        → get_or numbers.new (i * group.all + (group.first + t)) 0 ≡ F.number (entry F.field rows.now i t) }
-    ensures kept { (i s : ℕ) → i < length rows.now → s < group.first
-        → get_or numbers.new (i * group.all + s) 0 ≡ get_or numbers.old (i * group.all + s) 0 }
+    requires below { (b : ℕ) → b < length places.now → get_or places.now b 0 < length rows.now }
+    requires numbers { length numbers.old ≡ length places.now * group.all }
+    ensures written { (b t : ℕ) → b < length places.now → t < group.count
+        → get_or numbers.new (b * group.all + (group.first + t)) 0
+        ≡ F.number (entry F.field rows.now (get_or places.now b 0) t) }
+    ensures kept { (b s : ℕ) → b < length places.now → s < group.first
+        → get_or numbers.new (b * group.all + s) 0 ≡ get_or numbers.old (b * group.all + s) 0 }
 {
-    for i in 0..rows.len() {
-        let start = i * group.all + group.first;
-        put_row(&rows[i], &mut numbers[start..start + group.count]);
+    for b in 0..places.len() {
+        let start = b * group.all + group.first;
+        put_row(&rows[places[b]], &mut numbers[start..start + group.count]);
     }
 }
 
@@ -157,36 +105,4 @@ fn row_of_numbers<F: NumberField, const N: usize>(numbers: &[u32]) -> Row<F, N>
         row.set(t, F::from(u64::from(numbers[t])));
     }
     row
-}
-
-/// Writes the items of a group of stripes of `k` items, item `j` of each from row `j`.
-pub fn put_stripes<F: NumberField, const N: usize>(
-    rows: &[Row<F, N>],
-    k: usize,
-    group: StripeGroup,
-    items: &mut [u16],
-)
-    requires count { group.count ≤ N }
-    requires rows { length rows.now ≡ k }
-    requires items { (group.first + group.count) * k ≤ length items.old }
-    ensures written { (t j : ℕ) → t < group.count → j < k
-        → get_or items.new ((group.first + t) * k + j) 0 ≡ F.number (entry F.field rows.now j t) % 65536 }
-    ensures kept { (p : ℕ) → p < group.first * k → get_or items.new p 0 ≡ get_or items.old p 0 }
-{
-    for t in 0..group.count {
-        let start = (group.first + t) * k;
-        put_stripe(rows, t, &mut items[start..start + k]);
-    }
-}
-
-// Writes the items of one stripe.
-fn put_stripe<F: NumberField, const N: usize>(rows: &[Row<F, N>], t: usize, items: &mut [u16])
-    requires lane { t < N }
-    requires len { length items.old ≡ length rows.now }
-    ensures { (j : ℕ) → j < length rows.now
-        → get_or items.new j 0 ≡ F.number (entry F.field rows.now j t) % 65536 }
-{
-    for j in 0..rows.len() {
-        items[j] = (rows[j].get(t).to_number() % 65536) as u16;
-    }
 }

@@ -1,10 +1,16 @@
 -- Lemmas of this crate.
 pub mod Results
 pub mod EachItem
-pub mod Given
-pub mod Lacking
 pub mod Writers
+pub mod PartsRead
+pub mod Taken
+pub mod Headed
+pub mod Wholes
 pub mod Bodies
 pub mod Pieces
-pub mod PartsRead
 pub mod Joined
+pub mod Listed
+pub mod Rejoined
+pub mod Remade
+pub mod Repaired
+pub mod FirstPieces

@@ -1,122 +1,125 @@
 -- Whole pieces and beginnings of them, from what writers took.
-use Rattle.std.proofs.Common.{◌≡◌, ℕ, ◌<◌, ◌≤◌, ◌^◌, List, [], ◌++◌, length, get_or, refl, sym, subst, append_assoc, append-nil, Option}
+use Rattle.std.proofs.Common.{◌≡◌, ℕ, ◌*◌, ◌<◌, List, [], ◌++◌, length, get_or, refl, sym, subst, ap, append-nil, Option, inl, inr}
 use Rattle.std.specs.Io.KnownBytes.{Appends, Consumes}
 use Rattle.std.proofs.KnownBytes.{Appends-trans, Consumes-nil}
 use Rattle.sha2.specs.Sha256.{sha256}
 use Rattle.ark_bytes.specs.declared.sink.Sink.{Ghosts}
 use Rattle.ark_bytes.specs.Transfer.{AppendsBeginning}
 use Rattle.ark_bytes.specs.Reading.{SourceState}
-use Rattle.ark_bytes.proofs.Transfer.{AppendsBeginning-more, AppendsBeginning-after}
+use Rattle.ark_bytes.proofs.Transfer.{AppendsBeginning-after, AppendsBeginning-all}
 use Rattle.shards_format.specs.Stripes.{Numbering}
-use Rattle.shards_format.specs.Headers.{IsHeader}
-use Rattle.shards_format.specs.Pieces.{IsBody}
+use Rattle.shards_format.specs.Headers.{head_bytes}
+use Rattle.shards_format.specs.Trailers.{trailer_bytes}
+use Rattle.shards_format.specs.Pieces.{IsBody, chunk}
+use Rattle.shards_format.specs.Files.{AreDigests, IsListed}
 use Rattle.shards_streams.specs.declared.writer.PieceWriter.{PieceWriter}
 use Rattle.shards_streams.specs.Writers.{piece_sink, HasHashed, Took, TookSome}
-use Rattle.shards_streams.specs.Streams.{TookPiece, TookBeginning, header_with}
+use Rattle.shards_streams.specs.Streams.{TookBeginning}
 use Rattle.shards_streams.specs.Splitting.{TookBodies, TookBodiesSome, HasSplit, HasBegun}
+use Rattle.shards_streams.proofs.PartsRead.{some_item}
 use Rattle.shards_streams.proofs.Writers.{took_both, some_after}
 use Rattle.shards_streams.proofs.Bodies.{no_body}
 
-module _ {W : Type 0} (sink : Ghosts W) (number : Numbering) (k n len : ℕ) (digest : List ℕ) (some : 0 < k) where
+module _ {W : Type 0} (sink : Ghosts W) (number : Numbering) (k n : ℕ) (label : List ℕ) (some : 0 < k) where
   abbrev pub held : PieceWriter W → Option (List ℕ)
   held w = sink.contents (piece_sink w)
 
-  piece_taken : (i : ℕ) (a b c d : PieceWriter W) (bytes head body : List ℕ) → k ≤ n → n ≤ 65536 → i < n → len < 2 ^ 62 → length bytes ≡ len
-      → IsHeader head (header_with k n len digest i) → IsBody number k n bytes i body → HasHashed a [] → Took sink a b head → Took sink b c body
-      → ((text : List ℕ) → HasHashed c text → Appends (held c) (held d) (sha256 text)) → TookPiece number k n digest bytes i (held a) (held d)
-  piece_taken i a b c d bytes head body fits few h short len_is header body_is new first second last =
-      let both = took_both sink a b c head body first second in
-      record {
-        piece = (head ++ body) ++ sha256 (head ++ body);
-        body = body;
-        whole = record {
-          head = head;
-          is_header = subst (λ m. IsHeader head (header_with k n m digest i)) (sym len_is) header;
-          is = refl;
-          lawful = record { some = some; fits = fits; few = few; number = h; len = subst (λ m. m < 2 ^ 62) (sym len_is) short };
-          size = body_is.len;
-        };
-        body_is = body_is;
-        appends = Appends-trans (held a) (held c) (held d) (head ++ body) (sha256 (head ++ body)) both.appends (last (head ++ body) (both.hashed [] new));
-      }
+  abbrev pub head_at : ℕ → List ℕ
+  head_at i = head_bytes k n i label
 
-  begun_head : (i : ℕ) (a b : PieceWriter W) (head : List ℕ) → IsHeader head (header_with k n len digest i) → TookSome sink a b head
-      → TookBeginning number k n len digest [] i (held a) (held b)
-  begun_head i a b head header took = record {
-    head = head;
-    body = [];
-    header = header;
-    body_is = no_body number k n i some;
-    begins = subst (AppendsBeginning (held a) (held b)) (sym (append_assoc head [] (sha256 (head ++ []))))
-        (AppendsBeginning-more (held a) (held b) head (sha256 (head ++ [])) took);
-  }
-
-  begun_body : (i : ℕ) (a b c : PieceWriter W) (read head body : List ℕ) → IsHeader head (header_with k n len digest i) → IsBody number k n read i body
-      → Took sink a b head → TookSome sink b c body → TookBeginning number k n len digest read i (held a) (held c)
-  begun_body i a b c read head body header body_is first second = record {
-    head = head;
+  -- what was taken is a beginning of a piece that has no end yet
+  begun : (i : ℕ) (read body : List ℕ) (a b : PieceWriter W) → IsBody number k n read i body → AppendsBeginning (held a) (held b) (head_at i ++ body)
+      → TookBeginning number k n label read i (held a) (held b)
+  begun i read body a b is begins = record {
     body = body;
-    header = header;
-    body_is = body_is;
-    begins = AppendsBeginning-more (held a) (held c) (head ++ body) (sha256 (head ++ body)) (some_after sink a b c head body first second);
+    end = [];
+    body_is = is;
+    end_is = inl refl;
+    begins = subst (AppendsBeginning (held a) (held b)) (sym (append-nil (head_at i ++ body))) begins;
   }
 
-  begun_digest : (i : ℕ) (a b c d : PieceWriter W) (read head body : List ℕ) → IsHeader head (header_with k n len digest i) → IsBody number k n read i body
-      → HasHashed a [] → Took sink a b head → Took sink b c body → ((text : List ℕ) → HasHashed c text → TookSome sink c d (sha256 text))
-      → TookBeginning number k n len digest read i (held a) (held d)
-  begun_digest i a b c d read head body header body_is new first second last =
-      let both = took_both sink a b c head body first second in
-      record {
-        head = head;
-        body = body;
-        header = header;
-        body_is = body_is;
-        begins = AppendsBeginning-after (held a) (held c) (held d) (head ++ body) (sha256 (head ++ body)) both.appends (last (head ++ body) (both.hashed [] new));
-      }
-
-  module _ (old headed : List (PieceWriter W)) (head_at : ℕ → List ℕ) (headers : (i : ℕ) → i < n → IsHeader (head_at i) (header_with k n len digest i)) where
-    pub heads_stopped : (s : Option (List ℕ)) → ((i : ℕ) (d : PieceWriter W) → i < n → TookSome sink (get_or old i d) (get_or headed i d) (head_at i))
-        → HasBegun sink number k n len digest s s old headed
+  module _ (old headed : List (PieceWriter W)) where
+    pub heads_stopped : (s : Option (List ℕ)) → ((i : ℕ) (d : PieceWriter W) → i < n → TookSome sink (get_or old i d) (get_or headed i d) (head_at i)) → HasBegun sink number k n label s s old headed
     heads_stopped s took = record {
       read = [];
       more = [];
       consumes = Consumes-nil s;
-      each = λ i d h. begun_head i (get_or old i d) (get_or headed i d) (head_at i) (headers i h) (took i d h);
+      each = λ i d h. begun i [] [] (get_or old i d) (get_or headed i d) (no_body number k n i some)
+          (subst (AppendsBeginning (held (get_or old i d)) (held (get_or headed i d))) (sym (append-nil (head_at i))) (took i d h));
     }
 
     module _ (first : (i : ℕ) (d : PieceWriter W) → i < n → Took sink (get_or old i d) (get_or headed i d) (head_at i)) where
-      pub bodies_stopped : (s t : Option (List ℕ)) (new : List (PieceWriter W)) → TookBodiesSome sink number k n s t headed new → HasBegun sink number k n len digest s t old new
+      pub bodies_stopped : (s t : Option (List ℕ)) (new : List (PieceWriter W)) → TookBodiesSome sink number k n s t headed new → HasBegun sink number k n label s t old new
       bodies_stopped s t new took = record {
         read = took.read;
         more = took.more;
         consumes = took.consumes;
         each = λ i d h.
             let body = took.each i d h in
-            begun_body i (get_or old i d) (get_or headed i d) (get_or new i d) took.read (head_at i) body.body (headers i h) body.is (first i d h) body.took;
+            begun i took.read body.body (get_or old i d) (get_or new i d) body.is (some_after sink (get_or old i d) (get_or headed i d) (get_or new i d) (head_at i) body.body (first i d h) body.took);
       }
 
-      module _ (fresh : (i : ℕ) (d : PieceWriter W) → i < n → HasHashed (get_or old i d) []) (s t : SourceState) (mid new : List (PieceWriter W)) (took : TookBodies sink number k n len s t headed mid) where
-        pub digests_stopped : ((i : ℕ) (d : PieceWriter W) (text : List ℕ) → i < n → HasHashed (get_or mid i d) text → TookSome sink (get_or mid i d) (get_or new i d) (sha256 text))
-            → HasBegun sink number k n len digest s.remaining t.remaining old new
-        digests_stopped last = record {
+      module _ (fresh : (i : ℕ) (d : PieceWriter W) → i < n → HasHashed (get_or old i d) []) (len : ℕ) (s t : SourceState) (mid : List (PieceWriter W)) (took : TookBodies sink number k n len s t headed mid) where
+        -- the bodies are written, and nothing more
+        pub bodies_taken : (new : List (PieceWriter W)) → ((i : ℕ) (d : PieceWriter W) → i < n → piece_sink (get_or new i d) ≡ piece_sink (get_or mid i d)) → HasBegun sink number k n label s.remaining t.remaining old new
+        bodies_taken new kept = record {
           read = took.bytes;
           more = [];
           consumes = subst (λ (x : List ℕ). Consumes s.remaining t.remaining x) (sym (append-nil took.bytes)) took.takes.consumes;
           each = λ i d h.
               let body = took.each i d h in
-              begun_digest i (get_or old i d) (get_or headed i d) (get_or mid i d) (get_or new i d) took.bytes (head_at i) body.body (headers i h) body.is (fresh i d h) (first i d h) body.took
-              (λ text. last i d text h);
+              let both = took_both sink (get_or old i d) (get_or headed i d) (get_or mid i d) (head_at i) body.body (first i d h) body.took in
+              begun i took.bytes body.body (get_or old i d) (get_or new i d) body.is
+              (AppendsBeginning-all (held (get_or old i d)) (held (get_or new i d)) (head_at i ++ body.body) (subst (λ (w : W). Appends (held (get_or old i d)) (sink.contents w) (head_at i ++ body.body)) (sym (kept i d h)) both.appends));
         }
 
-        pub all_written : k ≤ n → n ≤ 65536 → len < 2 ^ 62
-            → ((i : ℕ) (d : PieceWriter W) (text : List ℕ) → i < n → HasHashed (get_or mid i d) text → Appends (held (get_or mid i d)) (held (get_or new i d)) (sha256 text))
-            → HasSplit sink number k n len digest s t old new
-        all_written fits few short last = record {
-          bytes = took.bytes;
-          len_is = took.len_is;
-          takes = took.takes;
-          each = λ i d h.
+        module _ (digests : List ℕ) (count : length digests ≡ 32 * n) (digest_of : (i : ℕ) (d : PieceWriter W) (text : List ℕ) → i < n → HasHashed (get_or mid i d) text → chunk 32 i digests ≡ sha256 text) where
+          listed_at : (i : ℕ) (d : PieceWriter W) → i < n → IsListed number k n label took.bytes digests i
+          listed_at i d h =
               let body = took.each i d h in
-              piece_taken i (get_or old i d) (get_or headed i d) (get_or mid i d) (get_or new i d) took.bytes (head_at i) body.body fits few h short took.len_is (headers i h) body.is (fresh i d h)
-              (first i d h) body.took (λ text. last i d text h);
-        }
+              let both = took_both sink (get_or old i d) (get_or headed i d) (get_or mid i d) (head_at i) body.body (first i d h) body.took in
+              record { body = body.body; body_is = body.is; digest_is = digest_of i d (head_at i ++ body.body) h (both.hashed [] (fresh i d h)) }
+
+          all_listed : 0 < length mid → AreDigests number k n label took.bytes digests
+          all_listed more = record { count = count; each = λ i h. listed_at i (some_item mid more) h }
+
+          module _ (done new : List (PieceWriter W)) (kept : (i : ℕ) (d : PieceWriter W) → i < n → piece_sink (get_or done i d) ≡ piece_sink (get_or mid i d)) (more : 0 < length mid) where
+            before : (i : ℕ) (d : PieceWriter W) (h : i < n) → Appends (held (get_or old i d)) (held (get_or done i d)) (head_at i ++ (took.each i d h).body)
+            before i d h =
+                let body = took.each i d h in
+                let both = took_both sink (get_or old i d) (get_or headed i d) (get_or mid i d) (head_at i) body.body (first i d h) body.took in
+                subst (λ (w : W). Appends (held (get_or old i d)) (sink.contents w) (head_at i ++ body.body)) (sym (kept i d h)) both.appends
+
+            pub ends_stopped : ((i : ℕ) (d : PieceWriter W) → i < n → AppendsBeginning (held (get_or done i d)) (held (get_or new i d)) (trailer_bytes digests len)) → HasBegun sink number k n label s.remaining t.remaining old new
+            ends_stopped last = record {
+              read = took.bytes;
+              more = [];
+              consumes = subst (λ (x : List ℕ). Consumes s.remaining t.remaining x) (sym (append-nil took.bytes)) took.takes.consumes;
+              each = λ i d h.
+                  let body = took.each i d h in
+                  record {
+                    body = body.body;
+                    end = trailer_bytes digests len;
+                    body_is = body.is;
+                    end_is = inr (digests, all_listed more, ap (trailer_bytes digests) (sym took.len_is));
+                    begins = AppendsBeginning-after (held (get_or old i d)) (held (get_or done i d)) (held (get_or new i d)) (head_at i ++ body.body) (trailer_bytes digests len) (before i d h) (last i d h);
+                  };
+            }
+
+            pub all_written : ((i : ℕ) (d : PieceWriter W) → i < n → Appends (held (get_or done i d)) (held (get_or new i d)) (trailer_bytes digests len)) → HasSplit sink number k n label digests len s t old new
+            unfolding listed_at
+            all_written last = record {
+              bytes = took.bytes;
+              len_is = took.len_is;
+              few = took.few;
+              takes = took.takes;
+              end = took.end;
+              digests_are = all_listed more;
+              each = λ i d h.
+                  let body = took.each i d h in
+                  record {
+                    piece = (head_at i ++ body.body) ++ trailer_bytes digests len;
+                    is = record { listed = listed_at i d h; is = ap (λ m. (head_at i ++ body.body) ++ trailer_bytes digests m) (sym took.len_is) };
+                    appends = Appends-trans (held (get_or old i d)) (held (get_or done i d)) (held (get_or new i d)) (head_at i ++ body.body) (trailer_bytes digests len) (before i d h) (last i d h);
+                  };
+            }

@@ -1,43 +1,45 @@
--- What sources gave: a file, or a whole piece.
-use Rattle.std.specs.Prelude.{◌≡◌, ℕ, ◌<◌, ◌≤◌, ◌^◌, List, ◌++◌, length, Option, Some}
-use Rattle.std.specs.Io.KnownBytes.{Consumes, IsAtEnd}
-use Rattle.sha2.specs.Sha256.{sha256}
-use Rattle.sha2.specs.Hashers.{Holds256}
-use Rattle.sha2.specs.declared.Sha256.{Sha256}
+-- What sources gave of a piece.
+use Rattle.std.specs.Prelude.{◌≡◌, ℕ, ◌*◌, ◌<◌, ◌^◌, List, ◌++◌, length, Some}
+use Rattle.std.specs.Io.KnownBytes.{IsAtEnd}
 use Rattle.ark_bytes.specs.Reading.{SourceState, Takes}
-use Rattle.shards_format.specs.Pieces.{IsWhole}
+use Rattle.shards_format.specs.Headers.{header_bytes}
+use Rattle.shards_format.specs.Trailers.{trailer_bytes}
+use Rattle.shards_format.specs.Pieces.{IsWhole, Piece}
 use Rattle.shards_format.specs.declared.header.Header.{Header}
 
--- a source gave so many bytes with this digest, all that it had
-pub record GaveFile (len : ℕ) (digest : List ℕ) (old new : Option (List ℕ)) : Type 0 where
-  pub bytes : List ℕ
-  pub len_is : length bytes ≡ len
-  pub few : len < 2 ^ 62
-  pub digest_is : digest ≡ sha256 bytes
-  pub consumes : Consumes old new bytes
-  pub end : IsAtEnd new
-
--- a source gave too many bytes for a file
-pub record GaveLong (old new : SourceState) : Type 0 where
-  pub bytes : List ℕ
-  pub many : 2 ^ 62 ≤ length bytes
-  pub takes : Takes old new bytes
-
--- a source gave a whole piece, all that it had
-pub record GavePiece (header : Header) (old new : Option (List ℕ)) : Type 0 where
+-- a source gave a whole piece of so many bytes, all that it had
+pub record GavePiece (header : Header) (label digests : List ℕ) (len size : ℕ) (old new : SourceState) : Type 0 where
   pub bytes : List ℕ
   pub body : List ℕ
-  pub whole : IsWhole bytes header body
-  pub consumes : Consumes old new bytes
-  pub end : IsAtEnd new
-
--- the bytes that a source has left are no whole piece, or a call of it failed
-abbrev pub LacksPiece : SourceState → SourceState → Type 0
-LacksPiece old new = (bytes body : List ℕ) (header : Header) → IsWhole bytes header body → old.remaining ≡ Some bytes → old.failures < new.failures
-
--- a source gave so many bytes, which a hasher took
-pub record GaveText (count : ℕ) (hasher hashed : Sha256) (old new : SourceState) : Type 0 where
-  pub bytes : List ℕ
-  pub len_is : length bytes ≡ count
+  pub whole : IsWhole bytes (record { header = header; label = label; body = body; digests = digests; len = len })
+  pub size_is : length bytes ≡ size
   pub takes : Takes old new bytes
-  pub holds : (text : List ℕ) → Holds256 hasher text → Holds256 hashed (text ++ bytes)
+  pub end : IsAtEnd new.remaining
+
+-- it gave all of it but header and label
+pub record GaveRest (header : Header) (label digests : List ℕ) (len size : ℕ) (old new : SourceState) : Type 0 where
+  pub bytes : List ℕ
+  pub body : List ℕ
+  pub whole : IsWhole ((header_bytes header.k header.n header.number header.label_len ++ label) ++ bytes)
+      (record { header = header; label = label; body = body; digests = digests; len = len })
+  pub size_is : length ((header_bytes header.k header.n header.number header.label_len ++ label) ++ bytes) ≡ size
+  pub takes : Takes old new bytes
+  pub end : IsAtEnd new.remaining
+
+-- the bytes that a source has left are no whole piece of so many bytes, or a call of it failed
+abbrev pub LacksPiece : ℕ → SourceState → SourceState → Type 0
+LacksPiece size old new = (bytes : List ℕ) (p : Piece) → IsWhole bytes p → length bytes ≡ size → old.remaining ≡ Some bytes → old.failures < new.failures
+
+-- they are not the rest of one that begins with this header and label
+abbrev pub LacksRest : Header → List ℕ → ℕ → SourceState → SourceState → Type 0
+LacksRest header label size old new = (bytes : List ℕ) (p : Piece) → IsWhole ((header_bytes header.k header.n header.number header.label_len ++ label) ++ bytes) p
+    → length ((header_bytes header.k header.n header.number header.label_len ++ label) ++ bytes) ≡ size → old.remaining ≡ Some bytes → old.failures < new.failures
+
+-- they don't begin with a header and a label
+abbrev pub LacksHeader : SourceState → SourceState → Type 0
+LacksHeader old new = (header : Header) (label rest : List ℕ) → length label ≡ header.label_len
+    → old.remaining ≡ Some ((header_bytes header.k header.n header.number header.label_len ++ label) ++ rest) → old.failures < new.failures
+
+-- they are not the trailer of one of n pieces
+abbrev pub LacksTrailer : ℕ → SourceState → SourceState → Type 0
+LacksTrailer n old new = (digests : List ℕ) (len : ℕ) → length digests ≡ 32 * n → len < 2 ^ 62 → old.remaining ≡ Some (trailer_bytes digests len) → old.failures < new.failures

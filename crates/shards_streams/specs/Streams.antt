@@ -1,41 +1,39 @@
 -- What sources gave and sinks took of a file and its pieces.
-use Rattle.std.specs.Prelude.{◌≡◌, ℕ, List, ◌++◌, length, Option, Some}
+use Rattle.std.specs.Prelude.{◌≡◌, ℕ, ◌≤◌, ◌^◌, ◌⊎◌, List, [], ◌++◌, length, Option}
 use Rattle.std.specs.Io.KnownBytes.{Appends, Consumes}
-use Rattle.sha2.specs.Sha256.{sha256}
 use Rattle.ark_bytes.specs.Transfer.{AppendsBeginning}
+use Rattle.ark_bytes.specs.Reading.{SourceState, Takes}
 use Rattle.shards_format.specs.Stripes.{Numbering}
-use Rattle.shards_format.specs.Headers.{IsHeader}
-use Rattle.shards_format.specs.Pieces.{IsBody, IsWhole}
-use Rattle.shards_format.specs.declared.header.Header.{Header}
+use Rattle.shards_format.specs.Headers.{head_bytes}
+use Rattle.shards_format.specs.Trailers.{trailer_bytes}
+use Rattle.shards_format.specs.Pieces.{IsBody}
+use Rattle.shards_format.specs.Files.{AreDigests, IsPiece}
 
 -- some bytes were taken of a source
 pub record GaveSome (old new : Option (List ℕ)) : Type 0 where
   pub taken : List ℕ
   pub consumes : Consumes old new taken
 
--- the header of piece i of a file of so many bytes, with this digest
-abbrev pub header_with : ℕ → ℕ → ℕ → List ℕ → ℕ → Header
-header_with k n len digest i = record { k = k; n = n; number = i; len = len; digest = digest }
+-- a source gave too many bytes for a file
+pub record GaveLong (old new : SourceState) : Type 0 where
+  pub bytes : List ℕ
+  pub many : 2 ^ 62 ≤ length bytes
+  pub takes : Takes old new bytes
 
 -- a sink took piece i of a file
-pub record TookPiece (number : Numbering) (k n : ℕ) (digest bytes : List ℕ) (i : ℕ) (old new : Option (List ℕ)) : Type 0 where
+pub record TookPiece (number : Numbering) (k n : ℕ) (label bytes digests : List ℕ) (i : ℕ) (old new : Option (List ℕ)) : Type 0 where
   pub piece : List ℕ
-  pub body : List ℕ
-  pub whole : IsWhole piece (header_with k n (length bytes) digest i) body
-  pub body_is : IsBody number k n bytes i body
+  pub is : IsPiece number k n label bytes digests i piece
   pub appends : Appends old new piece
 
--- a sink took a beginning of piece i, where only these bytes of the file were read
-pub record TookBeginning (number : Numbering) (k n len : ℕ) (digest read : List ℕ) (i : ℕ) (old new : Option (List ℕ)) : Type 0 where
-  pub head : List ℕ
-  pub body : List ℕ
-  pub header : IsHeader head (header_with k n len digest i)
-  pub body_is : IsBody number k n read i body
-  pub begins : AppendsBeginning old new ((head ++ body) ++ sha256 (head ++ body))
+-- what a piece ends with, where only these bytes of the file were read: nothing yet, or their trailer
+abbrev pub IsEnd : Numbering → ℕ → ℕ → List ℕ → List ℕ → List ℕ → Type 0
+IsEnd number k n label read end = (end ≡ []) ⊎ ((digests : List ℕ) × AreDigests number k n label read digests × (end ≡ trailer_bytes digests (length read)))
 
--- a source has the body of piece i of a file, and maybe more bytes after it
-pub record HasBody (number : Numbering) (k n : ℕ) (bytes : List ℕ) (i : ℕ) (remaining : Option (List ℕ)) : Type 0 where
+-- a sink took a beginning of piece i, where only these bytes of the file were read
+pub record TookBeginning (number : Numbering) (k n : ℕ) (label read : List ℕ) (i : ℕ) (old new : Option (List ℕ)) : Type 0 where
   pub body : List ℕ
-  pub rest : List ℕ
-  pub is : remaining ≡ Some (body ++ rest)
-  pub body_is : IsBody number k n bytes i body
+  pub end : List ℕ
+  pub body_is : IsBody number k n read i body
+  pub end_is : IsEnd number k n label read end
+  pub begins : AppendsBeginning old new ((head_bytes k n i label ++ body) ++ end)

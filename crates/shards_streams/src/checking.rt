@@ -1,224 +1,169 @@
-//! What a source has: the digest of a file, and whether bytes are a whole piece.
+//! Whether a source has a whole piece.
 
-ghost use Rattle.std.specs.Prelude.{◌≡◌, ◌≢◌, ◌⊎◌, ◌↔◌, ℕ, ◌+◌, ◌*◌, ◌<◌, ◌≤◌, ◌^◌, List, [], ◌++◌, length, true, false, Err, IfOk, IfErr, IfSome, IsNone, IsTrue, OnOk, OnErr, IsOkUnless};
-ghost use Rattle.std.specs.Io.KnownBytes.{Consumes, IsAtEnd};
-ghost use Rattle.sha2.specs.Sha256.{sha256};
-ghost use Rattle.sha2.specs.Hashers.{Holds256};
-ghost use Rattle.ark_bytes.specs.Reading.{source_state, Takes, TakesFewer};
-ghost use Rattle.shards_format.specs.Headers.{IsHeader};
-ghost use Rattle.shards_format.specs.Pieces.{IsLawful};
-ghost use Rattle.shards_format.specs.declared.header.Header.{Header};
-ghost use Rattle.shards_streams.specs.Checking.{GaveFile, GaveLong, GavePiece, GaveText, LacksPiece};
+ghost use Rattle.std.specs.Prelude.{◌≡◌, ◌⊎◌, ℕ, ◌+◌, ◌*◌, ◌<◌, ◌≤◌, [], List, ◌++◌, length, Err, IfOk, IfErr, IsOk, IsErr, OnErr};
+ghost use Rattle.std.specs.Io.KnownBytes.{IsAtEnd};
+ghost use Rattle.ark_bytes.specs.Reading.{Takes};
+ghost use Rattle.shards_format.specs.Headers.{header_bytes};
+ghost use Rattle.shards_format.specs.Trailers.{trailer_bytes};
+ghost use Rattle.shards_format.specs.Pieces.{body_size, chunk};
+ghost use Rattle.shards_streams.specs.Readers.{Gave, HasRead, reader_state};
+ghost use Rattle.shards_streams.specs.Checking.{GavePiece, GaveRest, LacksHeader, LacksPiece, LacksRest, LacksTrailer};
 
 use crate::error::StreamError;
-use crate::file_digest::FileDigest;
-use crate::reading::take_bytes;
+use crate::reader::PieceReader;
 use ark_bytes::Source;
-use sha2::{Digest, Sha256};
-use shards_format::{DIGEST, Damage, HEADER, Header, body_size};
+use shards_format::{Damage, HEADER, Header, Trailer, are_same, body_size, trailer_size};
 use std::alloc::Global;
 
-// How many bytes are taken at a time.
-const CHUNK: usize = 65536;
-
-/// How many bytes a source has left, and their SHA-256. `TooLong` comes at 2^62 bytes, and `Read` where the source fails.
-pub fn digest_of<R: Source>(alloc: Global, source: &mut R) -> Result<FileDigest, StreamError>
-    ensures file { IfOk result (λ found. GaveFile found.len found.digest (R.remaining source.old) (R.remaining source.new)) }
-    ensures read { result ≡ Err (StreamError.Read 0) → R.failures source.old < R.failures source.new }
-    ensures too_long { result ≡ Err StreamError.TooLong → GaveLong (source_state R.remaining R.failures source.old)
-        (source_state R.remaining R.failures source.new) }
-    ensures errors { IfErr result (λ e. (e ≡ StreamError.Memory)
-        ⊎ ((e ≡ StreamError.Read 0) ⊎ (e ≡ StreamError.TooLong))) }
-{
-    let mut buffer = zeros(alloc, CHUNK)?;
-    digest_by(source, buffer.as_mut_slice())
+/// What a piece says before its body and behind it.
+#[derive(Debug, Drop)]
+pub struct PieceEnds {
+    /// Its header.
+    pub header: Header,
+    /// What is known of the file.
+    pub label: Vec<u8>,
+    /// Its trailer.
+    pub trailer: Trailer,
 }
 
-// So many zeros.
-fn zeros(alloc: Global, len: usize) -> Result<Vec<u8>, StreamError>
-    ensures len { IfOk result (λ zeros. length zeros.items ≡ len) }
-    ensures memory { IsOkUnless result StreamError.Memory }
-{
-    let zeros = vec![in alloc; 0u8; len]?;
-    Ok(zeros)
-}
-
-// How many bytes a source has left, and their SHA-256, taken through a buffer.
-fn digest_by<R: Source>(source: &mut R, buffer: &mut [u8]) -> Result<FileDigest, StreamError>
-    requires { 0 < length buffer.old }
-    ensures file { IfOk result (λ found. GaveFile found.len found.digest (R.remaining source.old) (R.remaining source.new)) }
-    ensures read { result ≡ Err (StreamError.Read 0) → R.failures source.old < R.failures source.new }
-    ensures too_long { result ≡ Err StreamError.TooLong → GaveLong (source_state R.remaining R.failures source.old)
-        (source_state R.remaining R.failures source.new) }
-    ensures errors { IfErr result (λ e. (e ≡ StreamError.Read 0) ⊎ (e ≡ StreamError.TooLong)) }
-{
-    let mut hasher = Sha256::new();
-    let mut len: usize = 0;
-    while len < 1 << 62 {
-        let count = take_some(source, buffer, &mut hasher)?;
-        if count == 0 {
-            return Ok(FileDigest {
-                len,
-                digest: hasher.finalize(),
-            });
-        }
-        len += count;
-    }
-    Err(StreamError::TooLong)
-}
-
-// Takes bytes of a source into a hasher, none only at its end, and tells how many.
-fn take_some<R: Source>(
-    source: &mut R,
-    buffer: &mut [u8],
-    hasher: &mut Sha256,
-) -> Result<usize, StreamError>
-    requires { 0 < length buffer.old }
-    ensures text { IfOk result (λ count. GaveText count hasher.old hasher.new
-        (source_state R.remaining R.failures source.old) (source_state R.remaining R.failures source.new)) }
-    ensures few { IfOk result (λ count. count ≤ length buffer.old) }
-    ensures end { IfOk result (λ count. count ≡ 0 → IsAtEnd (R.remaining source.new)) }
-    ensures failed { OnErr result (R.failures source.old < R.failures source.new) }
-    ensures errors { IsOkUnless result (StreamError.Read 0) }
-{
-    match source.take(buffer) {
-        Ok(count) => {
-            hasher.update(&buffer[..count]);
-            Ok(count)
-        }
-        Err(_) => Err(StreamError::Read(0)),
-    }
-}
-
-/// What piece a source has left, whose digest is its own. A source that ends or fails before the piece does has none.
-/// `Damage` is answered only where the bytes that are left are no whole piece, or a call of the source failed.
-pub fn check_source<R: Source>(
+/// The header of a piece of which nothing was read yet, and the label. What is no piece is told by `Damage`.
+///
+/// `Read` comes where the source ends or fails before their end, `Memory` where a growth was refused.
+pub fn take_header<R: Source + Drop>(
     alloc: Global,
-    source: &mut R,
-) -> Result<Result<Header, Damage>, StreamError>
-    ensures piece { IfOk result (λ found. IfOk found (λ header. GavePiece header (R.remaining source.old) (R.remaining source.new))) }
-    ensures damage { IfOk result (λ found. OnErr found (LacksPiece (source_state R.remaining R.failures source.old)
-        (source_state R.remaining R.failures source.new))) }
-    ensures memory { IsOkUnless result StreamError.Memory }
-{
-    match read_piece(alloc, source) {
-        Ok(found) => Ok(found),
-        Err(StreamError::Read(_)) => Ok(Err(Damage::NoPiece)),
-        Err(error) => Err(error),
-    }
-}
-
-// What piece a source has left; `Read` where it ends or fails before.
-fn read_piece<R: Source>(
-    alloc: Global,
-    source: &mut R,
-) -> Result<Result<Header, Damage>, StreamError>
-    ensures piece { IfOk result (λ found. IfOk found (λ header. GavePiece header (R.remaining source.old) (R.remaining source.new))) }
-    ensures damage { IfOk result (λ found. OnErr found (LacksPiece (source_state R.remaining R.failures source.old)
-        (source_state R.remaining R.failures source.new))) }
-    ensures unread { result ≡ Err (StreamError.Read 0) → LacksPiece (source_state R.remaining R.failures source.old)
-        (source_state R.remaining R.failures source.new) }
+    reader: &mut PieceReader<R>,
+) -> Result<Result<(Header, Vec<u8>), Damage>, StreamError>
+    ensures header { IfOk result (λ found. IfOk found (λ head. Gave R.Source reader.old reader.new
+        (header_bytes head.0.k head.0.n head.0.number head.0.label_len ++ head.1.items))) }
+    ensures label { IfOk result (λ found. IfOk found (λ head. length head.1.items ≡ head.0.label_len)) }
+    ensures damage { IfOk result (λ found. OnErr found
+        (LacksHeader (reader_state R.Source reader.old) (reader_state R.Source reader.new))) }
+    ensures unread { result ≡ Err (StreamError.Read 0)
+        → LacksHeader (reader_state R.Source reader.old) (reader_state R.Source reader.new) }
     ensures errors { IfErr result (λ e. (e ≡ StreamError.Memory) ⊎ (e ≡ StreamError.Read 0)) }
 {
-    let head = take_bytes(alloc, source, 0, HEADER)?;
-    let text = head.as_slice();
-    let Some(header) = lawful_header(text) else {
-        return Ok(Err(Damage::NoPiece));
-    };
-    let mut hasher = Sha256::new();
-    hasher.update(text);
-    let size = body_size(header.k as usize, header.len as usize);
-    hash_bytes(alloc, source, size, &mut hasher)?;
-    let digest = take_bytes(alloc, source, 0, DIGEST)?;
-    let ended = is_at_end(source)?;
+    let head = reader.take(alloc, 0, HEADER)?;
+    match Header::from_bytes(&head) {
+        Ok(header) => {
+            let label = reader.take(alloc, 0, header.label_len as usize)?;
+            Ok(Ok((header, label)))
+        }
+        Err(damage) => Ok(Err(damage)),
+    }
+}
+
+/// The trailer of one of `n` pieces, where nothing else is left of it to be read. What is none is told by `NoPiece`.
+///
+/// `Read` comes where the source ends before the trailer's end or fails, `Memory` where a growth was refused.
+pub fn take_trailer<R: Source + Drop>(
+    alloc: Global,
+    reader: &mut PieceReader<R>,
+    n: usize,
+) -> Result<Result<Trailer, Damage>, StreamError>
+    requires { n ≤ 65536 }
+    ensures trailer { IfOk result (λ found. IfOk found (λ trailer. Takes (reader_state R.Source reader.old)
+        (reader_state R.Source reader.new) (trailer_bytes trailer.digests.items trailer.len))) }
+    ensures count { IfOk result (λ found. IfOk found (λ trailer. length trailer.digests.items ≡ 32 * n)) }
+    ensures end { IfOk result (λ found. IfOk found (λ trailer. IsAtEnd (reader_state R.Source reader.new).remaining)) }
+    ensures damage { IfOk result (λ found. OnErr found
+        (LacksTrailer n (reader_state R.Source reader.old) (reader_state R.Source reader.new))) }
+    ensures unread { result ≡ Err (StreamError.Read 0)
+        → LacksTrailer n (reader_state R.Source reader.old) (reader_state R.Source reader.new) }
+    ensures errors { IfErr result (λ e. (e ≡ StreamError.Memory) ⊎ (e ≡ StreamError.Read 0)) }
+{
+    let bytes = reader.take_behind(alloc, 0, trailer_size(n))?;
+    let ended = reader.is_at_end()?;
     if !ended {
         return Ok(Err(Damage::NoPiece));
     }
-    if !has_digest(hasher, &digest) {
-        return Ok(Err(Damage::Changed));
-    }
-    Ok(Ok(header))
+    let found = Trailer::from_bytes(alloc, n, &bytes)?;
+    Ok(found.ok_or(Damage::NoPiece))
 }
 
-// The header that these bytes are, if a piece can have it.
-fn lawful_header(bytes: &[u8]) -> Option<Header>
-    ensures header { IfSome result (λ header. IsHeader bytes.now header) }
-    ensures lawful { IfSome result (λ header. IsLawful header) }
-    ensures none { IsNone result → (header : Header) → IsHeader bytes.now header → IsLawful header → ⊥ }
-{
-    match Header::from_bytes(bytes) {
-        Some(header) if header.is_lawful() => Some(header),
-        _ => None,
-    }
-}
-
-// Whether what a hasher took has this digest.
-fn has_digest(hasher: Sha256, digest: &[u8]) -> bool
-    ensures { (text : List ℕ) → Holds256 hasher text → IsTrue result ↔ (digest.now ≡ sha256 text) }
-{
-    let own = hasher.finalize();
-    are_same(digest, &own)
-}
-
-// Whether the bytes are the same.
-fn are_same(bytes: &[u8], others: &[u8]) -> bool
-    ensures { IsTrue result ↔ (bytes.now ≡ others.now) }
-{
-    bytes == others
-}
-
-// Whether a source has no bytes left.
-fn is_at_end<R: Source>(source: &mut R) -> Result<bool, StreamError>
-    ensures end { IfOk result (λ ended. ended ≡ true → IsAtEnd (R.remaining source.new)) }
-    ensures none { IfOk result (λ ended. ended ≡ true → Consumes (R.remaining source.old) (R.remaining source.new) []) }
-    ensures more { IfOk result (λ ended. ended ≡ false → (bytes : List ℕ) × (0 < length bytes)
-        × Takes (source_state R.remaining R.failures source.old) (source_state R.remaining R.failures source.new) bytes) }
-    ensures failed { OnErr result (R.failures source.old < R.failures source.new) }
-    ensures errors { IsOkUnless result (StreamError.Read 0) }
-{
-    let mut more = [0u8; 1];
-    match source.take(&mut more) {
-        Ok(count) => Ok(count == 0),
-        Err(_) => Err(StreamError::Read(0)),
-    }
-}
-
-// Takes so many bytes of a source into a hasher.
-fn hash_bytes<R: Source>(
+/// What a piece of so many bytes says, of which nothing was read yet and whose digest is the one in its trailer.
+///
+/// `Read` comes where the source ends or fails, `Memory` where a growth was refused. `Damage` is answered, and `Read` too, only
+/// where the bytes are no whole piece of so many bytes, or a call of the source failed.
+pub fn check_piece<R: Source + Drop>(
     alloc: Global,
-    source: &mut R,
+    reader: &mut PieceReader<R>,
     size: usize,
-    hasher: &mut Sha256,
-) -> Result<(), StreamError>
-    ensures text { OnOk result (GaveText size hasher.old hasher.new
-        (source_state R.remaining R.failures source.old) (source_state R.remaining R.failures source.new)) }
-    ensures fewer { result ≡ Err (StreamError.Read 0) → TakesFewer (source_state R.remaining R.failures source.old)
-        (source_state R.remaining R.failures source.new) size }
+) -> Result<Result<PieceEnds, Damage>, StreamError>
+    requires { HasRead reader.old [] }
+    ensures piece { IfOk result (λ found. IfOk found (λ ends. GavePiece ends.header ends.label.items
+        ends.trailer.digests.items ends.trailer.len size
+        (reader_state R.Source reader.old) (reader_state R.Source reader.new))) }
+    ensures damage { IfOk result (λ found. OnErr found
+        (LacksPiece size (reader_state R.Source reader.old) (reader_state R.Source reader.new))) }
+    ensures unread { result ≡ Err (StreamError.Read 0)
+        → LacksPiece size (reader_state R.Source reader.old) (reader_state R.Source reader.new) }
     ensures errors { IfErr result (λ e. (e ≡ StreamError.Memory) ⊎ (e ≡ StreamError.Read 0)) }
 {
-    let mut left = size;
-    while left != 0 {
-        let want = left.min(CHUNK);
-        hash_chunk(alloc, source, want, hasher)?;
-        left -= want;
+    match take_header(alloc, reader)? {
+        Ok((header, label)) => check_rest(alloc, reader, header, label, size),
+        Err(damage) => Ok(Err(damage)),
     }
-    Ok(())
 }
 
-// Takes so many bytes of a source at once into a hasher.
-fn hash_chunk<R: Source>(
+// The same, once header and label were read.
+fn check_rest<R: Source + Drop>(
     alloc: Global,
-    source: &mut R,
+    reader: &mut PieceReader<R>,
+    header: Header,
+    label: Vec<u8>,
     size: usize,
-    hasher: &mut Sha256,
-) -> Result<(), StreamError>
-    ensures text { OnOk result (GaveText size hasher.old hasher.new
-        (source_state R.remaining R.failures source.old) (source_state R.remaining R.failures source.new)) }
-    ensures fewer { result ≡ Err (StreamError.Read 0) → TakesFewer (source_state R.remaining R.failures source.old)
-        (source_state R.remaining R.failures source.new) size }
+) -> Result<Result<PieceEnds, Damage>, StreamError>
+    requires head { HasRead reader.old (header_bytes header.k header.n header.number header.label_len ++ label.items) }
+    requires label { length label.items ≡ header.label_len }
+    ensures piece { IfOk result (λ found. IfOk found (λ ends. GaveRest ends.header ends.label.items
+        ends.trailer.digests.items ends.trailer.len size
+        (reader_state R.Source reader.old) (reader_state R.Source reader.new))) }
+    ensures header { IfOk result (λ found. IfOk found (λ ends. ends.header ≡ header)) }
+    ensures label { IfOk result (λ found. IfOk found (λ ends. ends.label.items ≡ label.items)) }
+    ensures damage { IfOk result (λ found. OnErr found
+        (LacksRest header label.items size (reader_state R.Source reader.old) (reader_state R.Source reader.new))) }
+    ensures unread { result ≡ Err (StreamError.Read 0)
+        → LacksRest header label.items size (reader_state R.Source reader.old) (reader_state R.Source reader.new) }
     ensures errors { IfErr result (λ e. (e ≡ StreamError.Memory) ⊎ (e ≡ StreamError.Read 0)) }
 {
-    let chunk = take_bytes(alloc, source, 0, size)?;
-    hasher.update(chunk.as_slice());
+    let n = header.n as usize;
+    let around = HEADER + label.len() + trailer_size(n);
+    if size < around {
+        return Ok(Err(Damage::NoPiece));
+    }
+    reader.pass(alloc, 0, size - around)?;
+    let digest = reader.digest();
+    match take_trailer(alloc, reader, n)? {
+        Ok(trailer) => match judge(&header, &trailer, size - around, &digest) {
+            Ok(()) => Ok(Ok(PieceEnds {
+                header,
+                label,
+                trailer,
+            })),
+            Err(damage) => Ok(Err(damage)),
+        },
+        Err(damage) => Ok(Err(damage)),
+    }
+}
+
+// Whether a body of so many bytes with this digest is that of a piece with this header and trailer.
+fn judge(
+    header: &Header,
+    trailer: &Trailer,
+    body_len: usize,
+    digest: &[u8; 32],
+) -> Result<(), Damage>
+    ensures size { IsOk result → body_len ≡ body_size header.now.k header.now.number trailer.now.len }
+    ensures listed { IsOk result → chunk 32 header.now.number trailer.now.digests.items ≡ digest.now }
+    ensures damage { IsErr result → body_len ≡ body_size header.now.k header.now.number trailer.now.len
+        → chunk 32 header.now.number trailer.now.digests.items ≡ digest.now → ⊥ }
+{
+    let number = header.number as usize;
+    if body_len != body_size(header.k as usize, number, trailer.len as usize) {
+        return Err(Damage::NoPiece);
+    }
+    if !are_same(trailer.digest(number), digest) {
+        return Err(Damage::Changed);
+    }
     Ok(())
 }

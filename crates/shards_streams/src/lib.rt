@@ -3,16 +3,20 @@
 
 mod checking;
 mod error;
-mod file_digest;
 mod joining;
+mod laws;
+mod reader;
 mod reading;
+mod repairing;
 mod splitting;
 mod writer;
 
-pub use checking::{check_source, digest_of};
+pub use checking::{PieceEnds, check_piece, take_header, take_trailer};
 pub use error::StreamError;
-pub use file_digest::FileDigest;
 pub use joining::{ChosenPieces, join_into};
-pub use reading::take_bytes;
+pub use laws::{first_pieces_are_the_file, split_then_join};
+pub use reader::PieceReader;
+pub use reading::{take_block, take_bytes};
+pub use repairing::{LostPieces, repair_into};
 pub use splitting::split_into;
 pub use writer::PieceWriter;

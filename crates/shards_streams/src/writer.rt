@@ -1,6 +1,6 @@
 //! Pieces that are being written.
 
-ghost use Rattle.std.specs.Prelude.{◌≡◌, ℕ, List, [], ◌++◌, OnOk, OnErr};
+ghost use Rattle.std.specs.Prelude.{◌≡◌, ℕ, List, [], ◌++◌, length, OnOk, OnErr};
 ghost use Rattle.std.specs.Io.KnownBytes.{Appends};
 ghost use Rattle.sha2.specs.Sha256.{sha256};
 ghost use Rattle.ark_bytes.specs.Transfer.{AppendsBeginning};
@@ -36,6 +36,13 @@ impl<W: Sink + Drop> PieceWriter<W> {
         self.sink
     }
 
+    /// The sink, as the calls left it.
+    pub fn sink(&self) -> &W
+        ensures { result.now ≡ piece_sink self.now }
+    {
+        &self.sink
+    }
+
     /// Writes more of the piece.
     pub fn put(&mut self, bytes: &[u8]) -> Result<(), Failed>
         ensures ok { OnOk result (Appends (W.contents (piece_sink self.old)) (W.contents (piece_sink self.new)) bytes.now) }
@@ -47,14 +54,21 @@ impl<W: Sink + Drop> PieceWriter<W> {
         self.sink.put(bytes)
     }
 
-    /// Writes the digest of what was written.
-    pub fn put_digest(&mut self) -> Result<(), Failed>
-        ensures ok { (text : List ℕ) → HasHashed self.old text → OnOk result
-            (Appends (W.contents (piece_sink self.old)) (W.contents (piece_sink self.new)) (sha256 text)) }
-        ensures failed { (text : List ℕ) → HasHashed self.old text → OnErr result
-            (AppendsBeginning (W.contents (piece_sink self.old)) (W.contents (piece_sink self.new)) (sha256 text)) }
+    /// The SHA-256 of what was written since the last call.
+    pub fn digest(&mut self) -> [u8; 32]
+        ensures digest { (text : List ℕ) → HasHashed self.old text → result ≡ sha256 text }
+        ensures len { length result ≡ 32 }
+        ensures kept { piece_sink self.new ≡ piece_sink self.old }
     {
-        let digest = self.hasher.finalize_reset();
-        self.sink.put(&digest)
+        self.hasher.finalize_reset()
+    }
+
+    /// Writes bytes that no digest is made of.
+    pub fn put_behind(&mut self, bytes: &[u8]) -> Result<(), Failed>
+        ensures ok { OnOk result (Appends (W.contents (piece_sink self.old)) (W.contents (piece_sink self.new)) bytes.now) }
+        ensures failed { OnErr result
+            (AppendsBeginning (W.contents (piece_sink self.old)) (W.contents (piece_sink self.new)) bytes.now) }
+    {
+        self.sink.put(bytes)
     }
 }

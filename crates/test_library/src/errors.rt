@@ -5,7 +5,7 @@ use ark_points::PointsError;
 use ark_sharing::SharingError;
 use ark_sum_check::SumCheckError;
 use rs_code::RsError;
-use shards_format::{Damage, JoinError};
+use shards_format::Damage;
 use shards_streams::StreamError;
 use std::alloc::{AllocError, Global};
 use std::fmt::{Debug, Display};
@@ -123,43 +123,16 @@ fn errors_of_codes(rt: HostRuntime) -> Result<(), Fail> {
 #[test]
 fn errors_of_pieces(rt: HostRuntime) -> Result<(), Fail> {
     let cases = [
-        (Damage::NoPiece, "not a piece, or cut short", "NoPiece", 1),
-        (Damage::Changed, "damaged", "Changed", 2),
+        (Damage::NoPiece, "not a piece, or cut short", "NoPiece"),
+        (
+            Damage::Version(1),
+            "a piece of version 1, and not of version 2",
+            "Version(1)",
+        ),
+        (Damage::Changed, "damaged", "Changed"),
     ];
-    for (error, text, name, number) in cases {
+    for (error, text, name) in cases {
         assert!(rt; shows(rt.alloc(), &error, text, name)?);
-        assert_eq!(rt; error as u8, number);
-    }
-    Ok(())
-}
-
-#[test]
-fn errors_of_joining(rt: HostRuntime) -> Result<(), Fail> {
-    let cases = [
-        (JoinError::Memory, "not enough memory", "Memory", 1),
-        (
-            JoinError::DifferentFiles,
-            "the pieces are not of one file",
-            "DifferentFiles",
-            2,
-        ),
-        (
-            JoinError::GivenTwice,
-            "a piece is given twice",
-            "GivenTwice",
-            3,
-        ),
-        (JoinError::TooFew, "too few pieces", "TooFew", 4),
-        (
-            JoinError::WrongDigest,
-            "the pieces do not give the file",
-            "WrongDigest",
-            5,
-        ),
-    ];
-    for (error, text, name, number) in cases {
-        assert!(rt; shows(rt.alloc(), &error, text, name)?);
-        assert_eq!(rt; error as u8, number);
     }
     Ok(())
 }
@@ -171,6 +144,12 @@ fn errors_of_streams(rt: HostRuntime) -> Result<(), Fail> {
         (StreamError::Read(7), "reading failed", "Read(7)"),
         (StreamError::Write(7), "writing failed", "Write(7)"),
         (StreamError::TooLong, "the file is too long", "TooLong"),
+        (StreamError::Damaged(7), "a piece is damaged", "Damaged(7)"),
+        (
+            StreamError::Forged,
+            "the pieces are of no file: their digests do not agree",
+            "Forged",
+        ),
     ];
     for (error, text, name) in cases {
         assert!(rt; shows(rt.alloc(), &error, text, name)?);

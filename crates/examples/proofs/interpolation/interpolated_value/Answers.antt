@@ -1,7 +1,7 @@
 use Rattle.std.proofs.Common.{sym, subst}
 use Rattle.std.proofs.lemmas.Result.{IfOk-weaker}
 use Rattle.ark_math.specs.Points.{AreValues}
-use Rattle.ark_math.specs.Univariate.{of_list, IsBelow, IsValue}
+use Rattle.ark_math.specs.Univariate.{IsBelow, IsValue}
 use Rattle.examples.proofs.interpolation.interpolated_value.Goals as goal
 
 -- the polynomial that `interpolate` gives is the only one

@@ -8,5 +8,5 @@ invariant-loop-i g l =
     let code = g.C.StripeCode in
     record {
       len : length l.parts.items ≡ l.i;
-      parts : (j : ℕ) → j < l.i → IsPart (numbers_at code.number (code.k_of l.code) (code.n_of l.code) l.block j) (get_or (map (λ part. part.items) l.parts.items) j []);
+      parts : (j : ℕ) → j < l.i → IsPart (code.k_of l.code) j (numbers_at code.number (code.k_of l.code) (code.n_of l.code) l.block j) (get_or (map (λ part. part.items) l.parts.items) j []);
     }

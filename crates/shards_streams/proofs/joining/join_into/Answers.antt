@@ -1,114 +1,84 @@
-use Rattle.std.proofs.Common.{◌≡◌, ℕ, ◌<◌, ◌*◌, ◌+◌, ◌-◌, min, arith, rules, length, get_or, take, sym, subst, ap, ◌∙◌}
-use Rattle.shards_format.specs.Stripes.{stripes}
-use Rattle.shards_format.specs.Pieces.{block_size, blocks}
-use Rattle.ark_bytes.specs.Reading.{source_state}
-use Rattle.shards_streams.specs.Joining.{GavePart}
-use Rattle.shards_streams.proofs.Results.{err_any}
-use Rattle.shards_streams.proofs.Joined.{JoinedBlocks, no_block, all_joined, joined_digest, begun, block_begun, blocks_joined, source_failed}
+use Rattle.std.proofs.Common.{◌≡◌, ℕ, ◌<◌, ◌⊎◌, List, ◌++◌, length, get_or, ◌∙◌}
+use Rattle.std.specs.Io.KnownBytes.{Appends}
+use Rattle.sha2.specs.Sha256.{sha256}
+use Rattle.ark_bytes.specs.Transfer.{AppendsBeginning}
+use Rattle.ark_bytes.proofs.Transfer.{AppendsBeginning-all}
+use Rattle.shards_format.specs.Pieces.{chunk}
+use Rattle.shards_format.specs.Files.{AreDigests, HasCollision}
+use Rattle.shards_streams.specs.declared.reader.PieceReader.{PieceReader}
+use Rattle.shards_streams.specs.Readers.{HasRead}
+use Rattle.shards_streams.specs.Joining.{HasJoined, HaveBodies, HaveHeads}
+use Rattle.shards_streams.proofs.Results.{err_any, ok_any, ok_map}
+use Rattle.shards_streams.proofs.Listed.{all_compared, file_or_collision, gave_own, restored_file}
 use Rattle.shards_streams.proofs.joining.join_into.Goals as goal
 
-pub loop-b-init : goal.loop-b-init
-loop-b-init g c =
-    let code = g.C.StripeCode in
-    no_block g.R.Source.remaining g.R.Source.failures code.number (code.k_of c.args.code.now) (code.n_of c.args.code.now) c.args.chosen.now.places.now c.args.chosen.now.file_len (g.W.Sink.contents c.args.sink.now) c.new-hasher.result c.args.sources.now c.requires.sources c.new-hasher.ensures
-
-pub loop-b-preserved : goal.loop-b-preserved
-loop-b-preserved g c =
+pub returns-clause-joined : goal.returns-clause-joined
+returns-clause-joined g c =
     let code = g.C.StripeCode in
     let k = code.k_of c.args.code.now in
     let n = code.n_of c.args.code.now in
-    let b = c.loop-b.b in
-    let count = c.stripes-count.result in
-    let want = c.min-want.result in
     let places = c.args.chosen.now.places.now in
-    let now = c.loop-b.sources in
-    let new = c.take_parts.new.sources in
-    let numbers = c.in_ok-numbers.numbers.items in
-    let some : 0 < k = subst (λ m. 0 < m) c.k-k.ensures.k c.k-k.ensures.positive in
-    let size_is : block_size c.k-k.result ≡ block_size k = ap block_size c.k-k.ensures.k in
-    let want_is : want ≡ min (block_size k) (c.args.chosen.now.file_len - b * block_size k) = c.min-want.ensures ∙ ap (λ m. min m (c.args.chosen.now.file_len - b * m)) size_is in
-    let count_is : count ≡ stripes k want = c.stripes-count.ensures ∙ ap (λ m. stripes m want) c.k-k.ensures.k in
-    let below : b < blocks k c.args.chosen.now.file_len = subst (λ m. b < m) (c.blocks-b-end.ensures ∙ ap (λ m. blocks m c.args.chosen.now.file_len) c.k-k.ensures.k) c.loop-b-test.true in
-    let parts : (a : ℕ) (d : g.row.R.Denot) → a < k → GavePart count numbers a (source_state g.R.Source.remaining g.R.Source.failures (get_or now a d)) (source_state g.R.Source.remaining g.R.Source.failures (get_or new a d)) = λ a d l.
-    c.in_ok-numbers.ensures.parts a d (subst (λ m. a < m) (sym c.loop-b.invariant.count) l) in
-    let restored = c.deref-in-loop-b.result.now in
-    let is = c.deref-in-loop-b.ensures.value in
-    blocks_joined g.R.Source.remaining g.R.Source.failures code.number k n places c.args.chosen.now.file_len b (g.W.Sink.contents c.args.sink.now) (g.W.Sink.contents c.loop-b.sink) c.loop-b.hasher c.args.sources.now now some c.loop-b.invariant want count numbers restored new below want_is count_is
-    parts
-    (λ block small counts each. ap (take (length block)) is ∙ c.in_ok-block.ensures.block block small counts (λ a s l q. ap (λ xs. get_or xs (a * count + s) 0) c.deref.ensures.value ∙ each a s l q))
-    (ap length is ∙ c.in_ok-block.ensures.len) (g.W.Sink.contents c.put.new.sink) c.put.new.hasher (c.in_ok-numbers.ensures.kept ∙ c.loop-b.invariant.count) c.in_ok-put.ensures.took c.in_ok-put.ensures.hashed
-
-pub returns-in_err-numbers-clause-beginning : goal.returns-in_err-numbers-clause-beginning
-returns-in_err-numbers-clause-beginning g c =
-    let code = g.C.StripeCode in
-    let k = code.k_of c.args.code.now in
-    let some : 0 < k = subst (λ m. 0 < m) c.k-k.ensures.k c.k-k.ensures.positive in
-    err_any _ _ (begun g.R.Source.remaining g.R.Source.failures code.number k (code.n_of c.args.code.now) c.args.chosen.now.places.now c.args.chosen.now.file_len c.loop-b.b (g.W.Sink.contents c.args.sink.now) (g.W.Sink.contents c.loop-b.sink) c.loop-b.hasher c.args.sources.now c.loop-b.sources some c.loop-b.invariant)
-
-pub returns-in_err-numbers-clause-read : goal.returns-in_err-numbers-clause-read
-returns-in_err-numbers-clause-read g c = λ bytes a d within same small counts have.
-    let code = g.C.StripeCode in
-    let k = code.k_of c.args.code.now in
-    let b = c.loop-b.b in
-    let some : 0 < k = subst (λ m. 0 < m) c.k-k.ensures.k c.k-k.ensures.positive in
-    let size_is : block_size c.k-k.result ≡ block_size k = ap block_size c.k-k.ensures.k in
-    let want_is : c.min-want.result ≡ min (block_size k) (c.args.chosen.now.file_len - b * block_size k) = c.min-want.ensures ∙ ap (λ m. min m (c.args.chosen.now.file_len - b * m)) size_is in
-    let count_is : c.stripes-count.result ≡ stripes k c.min-want.result = c.stripes-count.ensures ∙ ap (λ m. stripes m c.min-want.result) c.k-k.ensures.k in
-    let below : b < blocks k c.args.chosen.now.file_len = subst (λ m. b < m) (c.blocks-b-end.ensures ∙ ap (λ m. blocks m c.args.chosen.now.file_len) c.k-k.ensures.k) c.loop-b-test.true in
-    source_failed g.R.Source.remaining g.R.Source.failures code.number k (code.n_of c.args.code.now) c.args.chosen.now.places.now c.args.chosen.now.file_len b (g.W.Sink.contents c.args.sink.now) (g.W.Sink.contents c.loop-b.sink) c.loop-b.hasher c.args.sources.now c.loop-b.sources some c.loop-b.invariant
-    c.min-want.result c.stripes-count.result below want_is count_is a d (get_or c.take_parts.new.sources a d) within (c.take_parts.ensures.fewer a d (search rules)) bytes small counts have
-
-pub returns-in_err-block-clause-beginning : goal.returns-in_err-block-clause-beginning
-returns-in_err-block-clause-beginning g c =
-    let code = g.C.StripeCode in
-    let k = code.k_of c.args.code.now in
-    let some : 0 < k = subst (λ m. 0 < m) c.k-k.ensures.k c.k-k.ensures.positive in
-    err_any _ _ (begun g.R.Source.remaining g.R.Source.failures code.number k (code.n_of c.args.code.now) c.args.chosen.now.places.now c.args.chosen.now.file_len c.loop-b.b (g.W.Sink.contents c.args.sink.now) (g.W.Sink.contents c.loop-b.sink) c.loop-b.hasher c.args.sources.now c.loop-b.sources some c.loop-b.invariant)
-
-pub returns-in_err-put-clause-beginning : goal.returns-in_err-put-clause-beginning
-returns-in_err-put-clause-beginning g c =
-    let code = g.C.StripeCode in
-    let k = code.k_of c.args.code.now in
-    let n = code.n_of c.args.code.now in
-    let b = c.loop-b.b in
-    let count = c.stripes-count.result in
-    let want = c.min-want.result in
-    let places = c.args.chosen.now.places.now in
-    let now = c.loop-b.sources in
-    let new = c.take_parts.new.sources in
-    let numbers = c.in_ok-numbers.numbers.items in
-    let some : 0 < k = subst (λ m. 0 < m) c.k-k.ensures.k c.k-k.ensures.positive in
-    let size_is : block_size c.k-k.result ≡ block_size k = ap block_size c.k-k.ensures.k in
-    let want_is : want ≡ min (block_size k) (c.args.chosen.now.file_len - b * block_size k) = c.min-want.ensures ∙ ap (λ m. min m (c.args.chosen.now.file_len - b * m)) size_is in
-    let count_is : count ≡ stripes k want = c.stripes-count.ensures ∙ ap (λ m. stripes m want) c.k-k.ensures.k in
-    let below : b < blocks k c.args.chosen.now.file_len = subst (λ m. b < m) (c.blocks-b-end.ensures ∙ ap (λ m. blocks m c.args.chosen.now.file_len) c.k-k.ensures.k) c.loop-b-test.true in
-    let parts : (a : ℕ) (d : g.row.R.Denot) → a < k → GavePart count numbers a (source_state g.R.Source.remaining g.R.Source.failures (get_or now a d)) (source_state g.R.Source.remaining g.R.Source.failures (get_or new a d)) = λ a d l.
-    c.in_ok-numbers.ensures.parts a d (subst (λ m. a < m) (sym c.loop-b.invariant.count) l) in
-    let restored = c.deref-in-loop-b.result.now in
-    let is = c.deref-in-loop-b.ensures.value in
-    err_any _ _ (block_begun g.R.Source.remaining g.R.Source.failures code.number k n places c.args.chosen.now.file_len b (g.W.Sink.contents c.args.sink.now) (g.W.Sink.contents c.loop-b.sink) c.loop-b.hasher c.args.sources.now now some c.loop-b.invariant want count numbers restored new below want_is count_is
-    parts
-    (λ block small counts each. ap (take (length block)) is ∙ c.in_ok-block.ensures.block block small counts (λ a s l q. ap (λ xs. get_or xs (a * count + s) 0) c.deref.ensures.value ∙ each a s l q))
-    (ap length is ∙ c.in_ok-block.ensures.len) (g.W.Sink.contents c.put.new.sink) c.in_err-put.ensures.some)
+    let digests = c.args.chosen.now.trailer.now.digests.items in
+    let len = c.args.chosen.now.trailer.now.len in
+    let s = g.W.Sink.contents c.args.sink.now in
+    let t = g.W.Sink.contents c.join_bodies.new.sink in
+    let Listed : Type 0 = (a : ℕ) (d : PieceReader g.row.R.Denot) (text : List ℕ) → a < length c.join_bodies.new.readers → HasRead (get_or c.join_bodies.new.readers a d) text → chunk 32 (get_or places a 0) digests ≡ sha256 text in
+    let kept : length c.join_bodies.new.readers ≡ k = c.in_ok-join_bodies.ensures.kept ∙ c.requires.readers in
+    let Joined : Type 0 = HasJoined g.R.Source code.number k n places digests len c.args.readers.now s t in
+    let joined : Listed → Joined = λ listed. all_compared g.R.Source code.number k n places digests len c.args.readers.now c.join_bodies.new.readers (g.W.Sink.contents c.args.sink.now) (g.W.Sink.contents c.join_bodies.new.sink) c.in_ok-join_bodies.ensures.restored c.requires.readers listed kept in
+    ok_map c.check_digests.result Listed Joined joined c.check_digests.ensures.listed
 
 pub returns-clause-file : goal.returns-clause-file
 returns-clause-file g c =
     let code = g.C.StripeCode in
     let k = code.k_of c.args.code.now in
-    let some : 0 < k = subst (λ m. 0 < m) c.k-k.ensures.k c.k-k.ensures.positive in
     let n = code.n_of c.args.code.now in
-    let end : c.loop-b.b ≡ c.blocks-b-end.result = omega (arith, c.loop-b-test.false, c.loop-b.auto.b-end) in
-    let all : c.loop-b.b ≡ blocks k c.args.chosen.now.file_len = end ∙ c.blocks-b-end.ensures ∙ ap (λ m. blocks m c.args.chosen.now.file_len) c.k-k.ensures.k in
-    all_joined g.R.Source.remaining g.R.Source.failures code.number k n c.args.chosen.now.places.now c.args.chosen.now.file_len (g.W.Sink.contents c.args.sink.now) (g.W.Sink.contents c.loop-b.sink) c.loop-b.hasher c.args.sources.now c.loop-b.sources some
-    (subst (λ m. JoinedBlocks g.R.Source.remaining g.R.Source.failures code.number k n c.args.chosen.now.places.now c.args.chosen.now.file_len m (g.W.Sink.contents c.args.sink.now) (g.W.Sink.contents c.loop-b.sink) c.loop-b.hasher c.args.sources.now c.loop-b.sources) all c.loop-b.invariant)
+    let places = c.args.chosen.now.places.now in
+    let digests = c.args.chosen.now.trailer.now.digests.items in
+    let len = c.args.chosen.now.trailer.now.len in
+    let s = g.W.Sink.contents c.args.sink.now in
+    let t = g.W.Sink.contents c.join_bodies.new.sink in
+    let Listed : Type 0 = (a : ℕ) (d : PieceReader g.row.R.Denot) (text : List ℕ) → a < length c.join_bodies.new.readers → HasRead (get_or c.join_bodies.new.readers a d) text → chunk 32 (get_or places a 0) digests ≡ sha256 text in
+    let kept : length c.join_bodies.new.readers ≡ k = c.in_ok-join_bodies.ensures.kept ∙ c.requires.readers in
+    let File : Type 0 = (label bytes : List ℕ) → ((i : ℕ) → get_or bytes i 0 < 256) → AreDigests code.number k n label bytes digests → length label < 65536 → length bytes ≡ len
+    → HaveHeads k n places c.args.readers.now → Appends s t bytes ⊎ HasCollision in
+    let file : Listed → File = λ listed. file_or_collision g.R.Source code.number k n places digests len c.args.readers.now c.join_bodies.new.readers (g.W.Sink.contents c.args.sink.now) (g.W.Sink.contents c.join_bodies.new.sink)
+    (all_compared g.R.Source code.number k n places digests len c.args.readers.now c.join_bodies.new.readers (g.W.Sink.contents c.args.sink.now) (g.W.Sink.contents c.join_bodies.new.sink) c.in_ok-join_bodies.ensures.restored c.requires.readers listed kept) c.in_ok-join_bodies.ensures.some c.requires.readers c.requires.below c.requires.places in
+    ok_map c.check_digests.result Listed File file c.check_digests.ensures.listed
 
-pub returns-clause-digest : goal.returns-clause-digest
-returns-clause-digest g c =
+pub returns-clause-beginning : goal.returns-clause-beginning
+returns-clause-beginning g c =
     let code = g.C.StripeCode in
     let k = code.k_of c.args.code.now in
-    let some : 0 < k = subst (λ m. 0 < m) c.k-k.ensures.k c.k-k.ensures.positive in
     let n = code.n_of c.args.code.now in
-    let end : c.loop-b.b ≡ c.blocks-b-end.result = omega (arith, c.loop-b-test.false, c.loop-b.auto.b-end) in
-    let all : c.loop-b.b ≡ blocks k c.args.chosen.now.file_len = end ∙ c.blocks-b-end.ensures ∙ ap (λ m. blocks m c.args.chosen.now.file_len) c.k-k.ensures.k in
-    joined_digest g.R.Source.remaining g.R.Source.failures code.number k n c.args.chosen.now.places.now c.args.chosen.now.file_len (g.W.Sink.contents c.args.sink.now) (g.W.Sink.contents c.loop-b.sink) c.loop-b.hasher c.args.sources.now c.loop-b.sources c.finalize.result some
-    (subst (λ m. JoinedBlocks g.R.Source.remaining g.R.Source.failures code.number k n c.args.chosen.now.places.now c.args.chosen.now.file_len m (g.W.Sink.contents c.args.sink.now) (g.W.Sink.contents c.loop-b.sink) c.loop-b.hasher c.args.sources.now c.loop-b.sources) all c.loop-b.invariant) c.finalize.ensures
+    let places = c.args.chosen.now.places.now in
+    let digests = c.args.chosen.now.trailer.now.digests.items in
+    let len = c.args.chosen.now.trailer.now.len in
+    let s = g.W.Sink.contents c.args.sink.now in
+    let t = g.W.Sink.contents c.join_bodies.new.sink in
+    let Listed : Type 0 = (a : ℕ) (d : PieceReader g.row.R.Denot) (text : List ℕ) → a < length c.join_bodies.new.readers → HasRead (get_or c.join_bodies.new.readers a d) text → chunk 32 (get_or places a 0) digests ≡ sha256 text in
+    let kept : length c.join_bodies.new.readers ≡ k = c.in_ok-join_bodies.ensures.kept ∙ c.requires.readers in
+    let Begun : Type 0 = (bytes : List ℕ) → ((i : ℕ) → get_or bytes i 0 < 256) → length bytes ≡ len → HaveBodies g.R.Source code.number k n bytes places c.args.readers.now → AppendsBeginning s t bytes in
+    let begun : Begun = λ bytes small size have. AppendsBeginning-all s t bytes (restored_file g.R.Source code.number k n places digests len c.args.readers.now c.join_bodies.new.readers s t c.in_ok-join_bodies.ensures.restored c.in_ok-join_bodies.ensures.some c.requires.readers bytes small size have) in
+    err_any c.check_digests.result Begun begun
+
+pub returns-clause-whole : goal.returns-clause-whole
+returns-clause-whole g c = λ a d head body rest l held is size listed same.
+    let k = g.C.StripeCode.k_of c.args.code.now in
+    let place = get_or c.args.chosen.now.places.now a 0 in
+    c.check_digests.ensures.differs a d (head ++ body) same
+    (gave_own g.R.Source k place c.args.chosen.now.trailer.now.len a c.args.readers.now c.join_bodies.new.readers d (c.in_ok-join_bodies.ensures.restored.each a l) body rest is size head held) listed
+
+pub returns-clause-known : goal.returns-clause-known
+returns-clause-known g c =
+    let code = g.C.StripeCode in
+    let k = code.k_of c.args.code.now in
+    let n = code.n_of c.args.code.now in
+    let places = c.args.chosen.now.places.now in
+    let digests = c.args.chosen.now.trailer.now.digests.items in
+    let len = c.args.chosen.now.trailer.now.len in
+    let s = g.W.Sink.contents c.args.sink.now in
+    let t = g.W.Sink.contents c.join_bodies.new.sink in
+    let Known : Type 0 = (bytes : List ℕ) → ((i : ℕ) → get_or bytes i 0 < 256) → length bytes ≡ len → HaveBodies g.R.Source code.number k n bytes places c.args.readers.now → Appends s t bytes in
+    let known : Known = λ bytes small size have. restored_file g.R.Source code.number k n places digests len c.args.readers.now c.join_bodies.new.readers s t c.in_ok-join_bodies.ensures.restored c.in_ok-join_bodies.ensures.some c.requires.readers bytes small size have in
+    ok_any c.check_digests.result Known known

@@ -1,21 +1,34 @@
-use Rattle.std.proofs.Common.{◌≡◌, ℕ, ◌<◌, ◌+◌, arith, length, get_or, List, [], ◌∷◌, ◌++◌, map, sym, subst, ap, ◌∙◌, below_more, Vec, Global}
-use Rattle.std.proofs.lemmas.List.{length_push}
-use Rattle.shards_format.specs.Headers.{IsHeader}
-use Rattle.shards_format.proofs.BlockLists.{pushed_before, pushed_here}
-use Rattle.shards_streams.specs.Streams.{header_with}
+use Rattle.std.proofs.Common.{◌≡◌, ◌<◌, arith, length, get_or, sym, subst, ap, ◌∙◌}
+use Rattle.std.specs.List.{range_with_len}
+use Rattle.shards_format.specs.Headers.{head_bytes}
+use Rattle.shards_format.proofs.PlaceLists.{range_at, range_below, range_length}
+use Rattle.shards_streams.proofs.Results.{if_ok_map}
 use Rattle.shards_streams.proofs.splitting.heads_of.Goals as goal
 
-pub loop-i-preserved : goal.loop-i-preserved
-loop-i-preserved c =
-    let i = c.loop-i.i in
-    let view : Vec ℕ Global → List ℕ = λ head. head.items in
-    let heads = c.loop-i.heads.items in
-    let head = c.in_ok-to_bytes.field-0 in
-    let is : ℕ → List ℕ → Type 0 = λ j xs. IsHeader xs (header_with c.args.k c.args.n c.args.file.now.len c.args.file.now.digest j) in
-    let pushed : c.push.new.self.items ≡ heads ++ head ∷ [] = c.in_ok-push.ensures.items in
-    record {
-      len = ap length pushed ∙ length_push heads head ∙ ap (λ m. m + 1) c.loop-i.invariant.len;
-      each = subst (λ xs. (j : ℕ) → j < i + 1 → is j (get_or (map view xs) j [])) (sym pushed) (below_more _ _
-          (λ j h. subst (is j) (sym (pushed_before view heads head [] j (omega (arith, h, c.loop-i.invariant.len)))) (c.loop-i.invariant.each j h))
-          (subst (is i) (sym (pushed_here view heads head [] i c.loop-i.invariant.len)) c.in_ok-to_bytes.ensures));
-    }
+pub heads_at-requires-clause-below : goal.heads_at-requires-clause-below
+heads_at-requires-clause-below g c =
+    let n = g.C.StripeCode.n_of c.args.code.now in
+    let is : c.deref.result.now ≡ range_with_len 0 c.n.result = c.deref.ensures.value ∙ c.in_ok-places.ensures in
+    range_below 0 c.n.result c.deref.result.now is n (omega (arith, c.n.ensures.n))
+
+pub returns-clause-len : goal.returns-clause-len
+returns-clause-len g c =
+    let n = g.C.StripeCode.n_of c.args.code.now in
+    let is : c.deref.result.now ≡ range_with_len 0 c.n.result = c.deref.ensures.value ∙ c.in_ok-places.ensures in
+    let count : length c.deref.result.now ≡ n = range_length 0 c.n.result c.deref.result.now is ∙ c.n.ensures.n in
+    if_ok_map c.heads_at.result _ _ (λ heads len. len ∙ count) c.heads_at.ensures.len
+
+pub returns-clause-heads : goal.returns-clause-heads
+returns-clause-heads g c =
+    let code = g.C.StripeCode in
+    let k = code.k_of c.args.code.now in
+    let n = code.n_of c.args.code.now in
+    let label = c.args.label.now in
+    let places = c.deref.result.now in
+    let is : places ≡ range_with_len 0 c.n.result = c.deref.ensures.value ∙ c.in_ok-places.ensures in
+    let count : length places ≡ n = range_length 0 c.n.result places is ∙ c.n.ensures.n in
+    if_ok_map c.heads_at.result _ _ (λ heads each i h.
+    let here : i < length places = subst (λ m. i < m) (sym count) h in
+    let at = range_at 0 c.n.result places is i here in
+    let same : get_or places i 0 ≡ i = omega (arith, at) in
+    each i here ∙ ap (λ j. head_bytes k n j label) same) c.heads_at.ensures.heads

@@ -1,20 +1,30 @@
-use Rattle.std.proofs.Common.{◌≡◌, length, map, arith, ◌∙◌, ap}
-use Rattle.std.proofs.lemmas.List.{length-map}
+use Rattle.std.proofs.Common.{◌≡◌, length, map, arith, sym, ◌∙◌, ap, subst}
 use Rattle.ark_math.specs.Module.{itself}
-use Rattle.ark_math.specs.Transform.{transform}
+use Rattle.std.proofs.lemmas.List.{length-map}
+use Rattle.ark_math.proofs.Callers.Transforms.{transform-length}
 use Rattle.ark_rows.specs.Lanewise.{lanewise}
 use Rattle.ark_rows.specs.Row.{lanes}
-use Rattle.shards_lib.proofs.Values.{values_of_rows}
+use Rattle.rs_code.specs.Code.{CodeOver}
+use Rattle.rs_code.specs.Codeword.{IsCodeword}
+use Rattle.shards_lib.proofs.OnlyMemory.{only_memory}
 use Rattle.shards_lib.proofs.stripes.RowCode.codeword.Goals as goal
 
-pub returns-in-Ok-clause-values : goal.returns-in-Ok-clause-values
-returns-in-Ok-clause-values g c = λ i t l.
+pub refused-requires : goal.refused-requires
+refused-requires g c =
+    let code = c.requires.code in
+    let kept = c.requires.kept in
+    only_memory c.in-Err.error
+    (λ e. c.restore.ensures.refused.wrong_length.0 (c.in-Err.is ∙ e) (c.requires.len ∙ ap (λ x. x.domain.size) (sym code)))
+    (λ e. c.restore.ensures.never_too_many (c.in-Err.is ∙ e))
+    (λ e. c.restore.ensures.refused.always (omega (arith, kept, ap (λ x. x.k) code, ap (λ x. x.domain.size) code)) (c.in-Err.is ∙ e))
+
+pub returns-in-Ok-clause-codeword : goal.returns-in-Ok-clause-codeword
+returns-in-Ok-clause-codeword g c =
     let K = g.F.Field.field in
-    let V = lanewise (itself K) in
-    let self = c.args.self.now in
-    let m = map (lanes K) c.args.message.now in
-    let long : length m ≡ self.code.k = length-map c.args.message.now (lanes K) ∙ c.requires in
-    let fits = self.fits in
-    let room = self.room in
-    values_of_rows K g.F.FftField.root self.code.k self.n g.met.F.Field.field_laws self.code.domain self.over (omega (arith, fits, room))
-    m _ (c.in-Ok.ensures.transform ∙ ap (λ d. transform K V d m) self.same) (omega (arith, long)) i t (omega (arith, l, room))
+    subst (λ (x : CodeOver _). IsCodeword K (lanewise (itself K)) x.domain x.k (map (lanes K) c.in-Ok.codeword.items)) c.requires.code c.in-Ok.ensures.codeword
+
+pub returns-in-Ok-clause-len : goal.returns-in-Ok-clause-len
+returns-in-Ok-clause-len g c =
+    let K = g.F.Field.field in
+    let is = returns-in-Ok-clause-codeword g c in
+    sym (length-map c.in-Ok.codeword.items (lanes K)) ∙ ap length is.2 ∙ transform-length K (lanewise (itself K)) c.args.self.now.code.domain is.0

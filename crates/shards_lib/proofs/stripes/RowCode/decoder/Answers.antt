@@ -19,5 +19,6 @@ refused-requires g c =
 
 pub returns-in-Ok-clause-kept : goal.returns-in-Ok-clause-kept
 returns-in-Ok-clause-kept g c =
-    subst (λ (marks : List Bool). AreKept marks c.args.places.now) (sym (c.in-Ok.ensures.erased ∙ c.deref.ensures.value))
-    (record { apart = c.requires.apart; kept = c.in_ok-erased.ensures.kept })
+    let size = c.args.self.now.code.domain.size in
+    subst (λ (marks : List Bool). AreKept size marks c.args.places.now) (sym (c.in-Ok.ensures.erased ∙ c.deref.ensures.value))
+    (record { apart = c.requires.apart; unmarked = c.in_ok-erased.ensures.unmarked; count = c.in_ok-erased.ensures.count ∙ c.n.ensures })

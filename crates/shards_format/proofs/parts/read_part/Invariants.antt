@@ -1,7 +1,0 @@
-use Rattle.std.proofs.Common.{◌≡◌, ℕ, ◌+◌, ◌<◌, get_or}
-use Rattle.shards_format.specs.Stripes.{item}
-use Rattle.shards_format.specs.Parts.{read}
-use Rattle.shards_format.proofs.parts.read_part.Given as goal
-
-abbrev pub invariant-loop-s : goal.invariant-loop-s
-invariant-loop-s l = (i : ℕ) → i < l.s → get_or l.numbers i 0 ≡ read l.mark (item l.part (2 + i))

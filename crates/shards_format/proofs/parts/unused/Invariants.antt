@@ -1,5 +1,0 @@
-use Rattle.std.proofs.Common.{◌≢◌, ℕ, ◌<◌, get_or}
-use Rattle.shards_format.proofs.parts.unused.Given as goal
-
-abbrev pub invariant-loop-number : goal.invariant-loop-number
-invariant-loop-number l = (s : ℕ) → s < l.number-index → get_or l.numbers s 0 ≢ 65536

@@ -1,0 +1,8 @@
+use Rattle.std.proofs.Common.{◌≡◌, ℕ, ◌<◌, ◌≤◌, ◌%◌, get_or, length}
+use Rattle.shards_lib.proofs.products.reduce.Given as goal
+
+abbrev pub invariant-loop-s : goal.invariant-loop-s
+invariant-loop-s l = record {
+  done : (s : ℕ) → s < l.s → get_or l.sums s 0 ≡ get_or l.initial.sums s 0 % 65537;
+  rest : (s : ℕ) → l.s ≤ s → get_or l.sums s 0 ≡ get_or l.initial.sums s 0;
+}
