@@ -39,7 +39,7 @@ fn main(rt: HostRuntime) -> Result<ExitCode> {
         Ok(words) => words.collect(alloc)?,
         Err(error) if error.kind() == ErrorKind::InvalidData => {
             eprintln!(rt;
-                "shards: an argument is not UTF-8 text, as the names of files have to be here"
+                "shards: an argument is not UTF-8 text, as names have to be here; a file of another may be given as standard input"
             )?;
             return Ok(ExitCode::from(2));
         }

@@ -399,7 +399,7 @@ fn products_of_weights(given: usize) -> usize
 // The products that take as long as transforms over a power of two of places that has room for n.
 fn products_of_transforms(n: usize) -> usize {
     match n {
-        0..=128 => 4_096,
+        0..=128 => 4_500,
         129..=256 => 10_800,
         257..=512 => 22_700,
         513..=1024 => 52_000,
