@@ -1,6 +1,9 @@
 -- Lemmas of this crate, beside those of `ark_math`.
 pub mod Element
+pub mod Element32
+pub mod ElementBytes
 pub mod Reductions
+pub mod WordReduction
 pub use Rattle.ark_traits.proofs.Cost
 pub use Rattle.ark_bytes.proofs.ReadBack
 pub use Rattle.ark_bytes.proofs.Transfer

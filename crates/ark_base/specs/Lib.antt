@@ -2,10 +2,17 @@
 pub mod Modulus
 pub mod Lucas
 pub mod ModulusLaws
+pub mod Modulus32
+pub mod Modulus32Laws
+pub mod Residues
+pub mod Montgomery
+pub mod ResiduesLaws
 pub mod Widths
 pub mod WidthLaws
 pub mod Element
 pub mod ElementLaws
+pub mod Element32
+pub mod Element32Laws
 pub mod ElementBytes
 pub use Rattle.ark_bytes.specs.Either
 pub use Rattle.ark_bytes.specs.IoSink

@@ -10,7 +10,7 @@ use Rattle.ark_math.specs.Prime.{IsPrime, power_mod}
 use Rattle.ark_math.proofs.Numbers.Prime.{is_prime_by, prime_from_test, divides_one}
 use Rattle.ark_math.proofs.Numbers.PowerMod.{power_mod-is}
 use Rattle.ark_math.proofs.Domains.Contained.{search_below}
-use Rattle.ark_base.specs.Modulus.{IsGenerator}
+use Rattle.ark_base.specs.Modulus.{IsGenerator, power_below}
 
 -- ---- the test
 
@@ -31,26 +31,31 @@ abbrev pub without_factor : ℕ → ℕ → ℕ → ℕ
 without_factor zero q n = n
 without_factor (suc k) q n = if n % q == 0 then without_factor k q (n / q) else n
 
--- the same for each number of a list
-abbrev pub without_factors : List ℕ → ℕ → ℕ
-without_factors [] n = n
-without_factors (q ∷ qs) n = without_factors qs (without_factor 64 q n)
+-- n divided by each number of a list as often as it can be, at most b times each
+abbrev pub without_factors : ℕ → List ℕ → ℕ → ℕ
+without_factors b [] n = n
+without_factors b (q ∷ qs) n = without_factors b qs (without_factor b q n)
 
--- each is a prime, at whose part of n - 1 the power isn't one
-abbrev pub are_parts : ℕ → ℕ → List ℕ → Bool
-are_parts n g [] = true
-are_parts n g (q ∷ qs) = is_small_prime q && (not (power_mod n 64 g ((n - 1) / q) == 1) && are_parts n g qs)
+-- at each one's part of n - 1 the power isn't one
+abbrev pub are_parts : ℕ → ℕ → ℕ → List ℕ → Bool
+are_parts b n g [] = true
+are_parts b n g (q ∷ qs) = not (power_mod n b g ((n - 1) / q) == 1) && are_parts b n g qs
 
--- the test of n and g, with the primes of n - 1
-abbrev pub passes : ℕ → ℕ → List ℕ → Bool
-passes n g qs =
+-- each is a prime
+abbrev pub Primes : List ℕ → Type 0
+Primes [] = Unit {0}
+Primes (q ∷ qs) = IsPrime q × Primes qs
+
+-- the test of n, of at most b bits, and g, with the primes of n - 1
+abbrev pub passes : ℕ → ℕ → ℕ → List ℕ → Bool
+passes b n g qs =
     nat_lt 1 n
-    && (nat_lt n (2 ^ 64)
+    && (nat_lt n (2 ^ b)
     && (nat_lt 0 g
     && (nat_lt g n
-    && (power_mod n 64 g (n - 1) == 1
-    && (without_factors qs (n - 1) == 1
-    && are_parts n g qs)))))
+    && (power_mod n b g (n - 1) == 1
+    && (without_factors b qs (n - 1) == 1
+    && are_parts b n g qs)))))
 
 -- ---- no n + 1 different numbers are below n
 
@@ -122,19 +127,18 @@ one_has_no_part d c e above =
     ]
 
 -- one of the primes divides a factor above one
-has_part : (n g c : ℕ) → 1 < c → ((q : ℕ) → IsPrime q → c % q ≡ 0 → power_mod n 64 g ((n - 1) / q) ≢ 1 → ⊥) →
-    (qs : List ℕ) (m d : ℕ) → are_parts n g qs ≡ true → without_factors qs m ≡ 1 → d * c ≡ m → ⊥
-has_part n g c above none [] m d t e f = one_has_no_part d c (f ∙ e) above
-has_part n g c above none (q ∷ qs) m d t e f =
-    let parts = and_parts (is_small_prime q) _ t in
-    let inner = and_parts (not (power_mod n 64 g ((n - 1) / q) == 1)) (are_parts n g qs) parts.1 in
-    let P : IsPrime q = prime_from_test (root_below 32 q - 1) q parts.0 in
-    let there : power_mod n 64 g ((n - 1) / q) ≢ 1 = eqb-false (power_mod n 64 g ((n - 1) / q)) 1 (not-true _ inner.0) in
+has_part : (b n g c : ℕ) → 1 < c → ((q : ℕ) → IsPrime q → c % q ≡ 0 → power_mod n b g ((n - 1) / q) ≢ 1 → ⊥) →
+    (qs : List ℕ) → Primes qs → (m d : ℕ) → are_parts b n g qs ≡ true → without_factors b qs m ≡ 1 → d * c ≡ m → ⊥
+has_part b n g c above none [] ps m d t e f = one_has_no_part d c (f ∙ e) above
+has_part b n g c above none (q ∷ qs) ps m d t e f =
+    let inner = and_parts (not (power_mod n b g ((n - 1) / q) == 1)) (are_parts b n g qs) t in
+    let P : IsPrime q = ps.0 in
+    let there : power_mod n b g ((n - 1) / q) ≢ 1 = eqb-false (power_mod n b g ((n - 1) / q)) 1 (not-true _ inner.0) in
     elim (cases_eq (c % q) 0) [
       | inl z ↦ none q P z there
       | inr ne ↦
-          let left = stays 64 q c m d P ne f in
-          has_part n g c above none qs (without_factor 64 q m) left.0 inner.1 e left.1
+          let left = stays b q c m d P ne f in
+          has_part b n g c above none qs ps.1 (without_factor b q m) left.0 inner.1 e left.1
     ]
 
 -- ---- powers under n
@@ -275,17 +279,17 @@ module _ (n g : ℕ) (above : 1 < n) where
 
 -- ---- what the test tells
 
-record Told (n g : ℕ) (qs : List ℕ) : Type 0 where
+record Told (b n g : ℕ) (qs : List ℕ) : Type 0 where
   above : 1 < n
-  small : n < 2 ^ 64
+  small : n < 2 ^ b
   positive : 0 < g
   below : g < n
-  whole : power_mod n 64 g (n - 1) ≡ 1
-  left : without_factors qs (n - 1) ≡ 1
-  parts : are_parts n g qs ≡ true
+  whole : power_mod n b g (n - 1) ≡ 1
+  left : without_factors b qs (n - 1) ≡ 1
+  parts : are_parts b n g qs ≡ true
 
-told : (n g : ℕ) (qs : List ℕ) → passes n g qs ≡ true → Told n g qs
-told n g qs t =
+told : (b n g : ℕ) (qs : List ℕ) → passes b n g qs ≡ true → Told b n g qs
+told b n g qs t =
     let t₁ = and_parts _ _ t in
     let t₂ = and_parts _ _ t₁.1 in
     let t₃ = and_parts _ _ t₂.1 in
@@ -294,7 +298,7 @@ told n g qs t =
     let t₆ = and_parts _ _ t₅.1 in
     record {
       above = ltb-true 1 n t₁.0;
-      small = ltb-true n (2 ^ 64) t₂.0;
+      small = ltb-true n (2 ^ b) t₂.0;
       positive = ltb-true 0 g t₃.0;
       below = ltb-true g n t₄.0;
       whole = eqb-true _ _ t₅.0;
@@ -302,31 +306,32 @@ told n g qs t =
       parts = t₆.1;
     }
 
-fast : (n g k : ℕ) → n < 2 ^ 64 → k < n → g ^ k % n ≡ power_mod n 64 g k
-fast n g k small l = sym (power_mod-is n 64 g k (lt_trans l small))
+fast : (b n g k : ℕ) → n < 2 ^ b → k < n → g ^ k % n ≡ power_mod n b g k
+fast b n g k small l = sym (power_mod-is n b g k (lt_trans l small))
 
 one_less : (n : ℕ) → 1 < n → n - 1 < n
 one_less n above = omega arith
 
-told_whole : (n g : ℕ) (qs : List ℕ) → Told n g qs → g ^ (n - 1) % n ≡ 1
-told_whole n g qs h = fast n g (n - 1) h.small (one_less n h.above) ∙ h.whole
+told_whole : (b n g : ℕ) (qs : List ℕ) → Told b n g qs → g ^ (n - 1) % n ≡ 1
+told_whole b n g qs h = fast b n g (n - 1) h.small (one_less n h.above) ∙ h.whole
 
-told_parts : (n g : ℕ) (qs : List ℕ) → Told n g qs → (c d : ℕ) → 1 < c → d * c ≡ n - 1 → ((q : ℕ) → IsPrime q → c % q ≡ 0 → g ^ ((n - 1) / q) % n ≢ 1 → ⊥) → ⊥
-told_parts n g qs h c d many e none =
-    has_part n g c many
-    (λ q P z ne. none q P z (λ same. ne (sym (fast n g ((n - 1) / q) h.small (lt_of_le_of_lt (div-le_self (n - 1) q) (one_less n h.above))) ∙ same)))
-    qs (n - 1) d h.parts h.left e
+told_parts : (b n g : ℕ) (qs : List ℕ) → Primes qs → Told b n g qs → (c d : ℕ) → 1 < c → d * c ≡ n - 1 → ((q : ℕ) → IsPrime q → c % q ≡ 0 → g ^ ((n - 1) / q) % n ≢ 1 → ⊥) → ⊥
+told_parts b n g qs ps h c d many e none =
+    has_part b n g c many
+    (λ q P z ne. none q P z (λ same. ne (sym (fast b n g ((n - 1) / q) h.small (lt_of_le_of_lt (div-le_self (n - 1) q) (one_less n h.above))) ∙ same)))
+    qs ps (n - 1) d h.parts h.left e
 
-pub prime_by_lucas : (n g : ℕ) (qs : List ℕ) → passes n g qs ≡ true → IsPrime n
-prime_by_lucas n g qs t =
-    let h = told n g qs t in
-    prime n g h.above (told_whole n g qs h) (told_parts n g qs h)
+pub prime_by_lucas : (b n g : ℕ) (qs : List ℕ) → Primes qs → passes b n g qs ≡ true → IsPrime n
+prime_by_lucas b n g qs ps t =
+    let h = told b n g qs t in
+    prime n g h.above (told_whole b n g qs h) (told_parts b n g qs ps h)
 
-pub generator_by_lucas : (n g : ℕ) (qs : List ℕ) → passes n g qs ≡ true → IsGenerator n g
-generator_by_lucas n g qs t =
-    let h = told n g qs t in
-    let whole = told_whole n g qs h in
-    let parts = told_parts n g qs h in
+pub generator_by_lucas : (b n g : ℕ) (qs : List ℕ) → Primes qs → passes b n g qs ≡ true → IsGenerator b n g
+unfolding power_below
+generator_by_lucas b n g qs ps t =
+    let h = told b n g qs t in
+    let whole = told_whole b n g qs h in
+    let parts = told_parts b n g qs ps h in
     record {
       positive = h.positive;
       below = h.below;
@@ -334,3 +339,44 @@ generator_by_lucas n g qs t =
       order = order n g h.above whole parts;
       every = every n g h.above whole parts;
     }
+
+-- ---- a certificate: the primes of n - 1, each small, or with a certificate of its own
+
+pub data Parts : Type 0 where
+  done : Parts
+  small : ℕ → Parts → Parts
+  large : ℕ → ℕ → Parts → Parts → Parts
+
+abbrev pub primes_of : Parts → List ℕ
+primes_of done = []
+primes_of (small q rest) = q ∷ primes_of rest
+primes_of (large q g inside rest) = q ∷ primes_of rest
+
+abbrev pub are_primes : ℕ → Parts → Bool
+are_primes b done = true
+are_primes b (small q rest) = is_small_prime q && are_primes b rest
+are_primes b (large q g inside rest) = passes b q g (primes_of inside) && (are_primes b inside && are_primes b rest)
+
+pub primes_by_parts : (b : ℕ) (c : Parts) → are_primes b c ≡ true → Primes (primes_of c)
+primes_by_parts b done t = tt
+primes_by_parts b (small q rest) t =
+    let parts = and_parts (is_small_prime q) (are_primes b rest) t in
+    (prime_from_test (root_below 32 q - 1) q parts.0, primes_by_parts b rest parts.1)
+primes_by_parts b (large q g inside rest) t =
+    let outer = and_parts (passes b q g (primes_of inside)) (are_primes b inside && are_primes b rest) t in
+    let inner = and_parts (are_primes b inside) (are_primes b rest) outer.1 in
+    (prime_by_lucas b q g (primes_of inside) (primes_by_parts b inside inner.0) outer.0, primes_by_parts b rest inner.1)
+
+-- p is prime, by the powers of g and a certificate of the primes of p - 1
+pub prime_from_parts : (b p g : ℕ) (c : Parts) → (passes b p g (primes_of c) && are_primes b c) ≡ true → IsPrime p
+prime_from_parts b p g c t =
+    let parts = and_parts (passes b p g (primes_of c)) (are_primes b c) t in
+    prime_by_lucas b p g (primes_of c) (primes_by_parts b c parts.1) parts.0
+
+pub small_from_parts : (b p g : ℕ) (c : Parts) → (passes b p g (primes_of c) && are_primes b c) ≡ true → p < 2 ^ b
+small_from_parts b p g c t = (told b p g (primes_of c) (and_parts (passes b p g (primes_of c)) (are_primes b c) t).0).small
+
+pub generator_from_parts : (b p g : ℕ) (c : Parts) → (passes b p g (primes_of c) && are_primes b c) ≡ true → IsGenerator b p g
+generator_from_parts b p g c t =
+    let parts = and_parts (passes b p g (primes_of c)) (are_primes b c) t in
+    generator_by_lucas b p g (primes_of c) (primes_by_parts b c parts.1) parts.0

@@ -1,14 +1,16 @@
 -- What a modulus shows of its prime and its generator: the tests that compute, and what they tell.
-use Rattle.std.proofs.Common.{◌≡◌, ℕ, zero, suc, ◌-◌, ◌*◌, ◌/◌, ◌<◌, ◌≤◌, ◌%◌, ◌^◌, Option, None, Some, Bool, true, ◌==◌, ◌&&◌, ◌||◌, List, inl, inr, arith, ap, sym, subst, ◌∙◌, mod-lt, le_of_lt, mul_comm, mul_right_comm, zero-mul, pow-suc}
+use Rattle.std.proofs.Common.{◌≡◌, ℕ, zero, suc, ◌-◌, ◌*◌, ◌/◌, ◌<◌, ◌≤◌, ◌%◌, ◌^◌, Option, None, Some, Bool, true, ◌==◌, ◌&&◌, ◌||◌, inl, inr, arith, ap, sym, subst, ◌∙◌, mod-lt, le_of_lt, mul_comm, mul_right_comm, zero-mul, pow-suc}
 use Rattle.std.proofs.Math.Nat.{mod-mod_of_dvd, zero-mod, mul-mod_left, mod-add-div', div-lt_self}
 use Rattle.std.proofs.lemmas.Nat.Gcd.{dvd_of_mod-eq-zero}
 use Rattle.std.proofs.lemmas.Bool.{and_parts, or_cases, eqb-true, leb-true, cases_eq}
 use Rattle.ark_math.specs.Root.{Adicity, odd_base, odd_most, greatest_size}
 use Rattle.ark_math.specs.Prime.{IsPrime, power_mod}
-use Rattle.ark_base.specs.Modulus.{AreSizes, IsGeneratorFor}
+use Rattle.ark_math.specs.Generator.{for_odd}
 use Rattle.ark_math.proofs.Numbers.Prime.{prime_from_test}
+use Rattle.ark_math.proofs.Numbers.PowerMod.{power_mod-is}
 use Rattle.ark_math.proofs.Roots.Generator.{is_odd_base}
-use Rattle.ark_base.specs.Lucas.{passes, is_small_prime, prime_by_lucas, generator_by_lucas}
+use Rattle.ark_base.specs.Lucas.{is_small_prime, Parts, primes_of, are_primes, passes, prime_from_parts, small_from_parts, generator_from_parts}
+use Rattle.ark_base.specs.Modulus.{AreSizes, IsModulus, power_below}
 
 -- the sizes of domains
 abbrev pub are_sizes : ℕ → Adicity → Bool
@@ -26,31 +28,48 @@ odd_of (Some q) t p e =
 
 sizes_from_test : (p : ℕ) (s : Adicity) → are_sizes p s ≡ true → AreSizes p s
 sizes_from_test p s t =
-    let t₁ = and_parts _ _ t in
-    let t₂ = and_parts _ _ t₁.1 in
+    let outer = and_parts _ _ t in
+    let inner = and_parts _ _ outer.1 in
     record {
-      divided = eqb-true _ _ t₁.0;
-      odd = odd_of s.odd t₂.0;
-      base = elim (or_cases _ _ t₂.1) [ inl z ↦ inl (eqb-true _ _ z) | inr d ↦ inr (prime_from_test _ _ d) ];
+      divided = eqb-true _ _ outer.0;
+      odd = odd_of s.odd inner.0;
+      base = elim (or_cases _ _ inner.1) [ inl z ↦ inl (eqb-true _ _ z) | inr d ↦ inr (prime_from_test _ _ d) ];
     }
 
--- p is prime, since g generates as many units as it has numbers below it; qs are the primes of p - 1
-pub prime_from_powers : (p g : ℕ) (qs : List ℕ) → passes p g qs ≡ true → IsPrime p
-prime_from_powers p g qs t = prime_by_lucas p g qs t
+pub power_below-is : (b p x n : ℕ) → n < 2 ^ b → power_below b p x n ≡ x ^ n % p
+unfolding power_below
+power_below-is b p x n h = power_mod-is p b x n h
 
--- a generator of all units, and the sizes that s tells; qs are the primes of p - 1
-pub generator_from_primes : (p : ℕ) (s : Adicity) (g : ℕ) (qs : List ℕ) → (passes p g qs && are_sizes p s) ≡ true → IsGeneratorFor p s g
-generator_from_primes p s g qs t =
-    let parts = and_parts (passes p g qs) (are_sizes p s) t in
-    record { powers = generator_by_lucas p g qs parts.0; sizes = sizes_from_test p s parts.1 }
+power_mod-lt : (p b x n : ℕ) → 0 < p → power_mod p b x n < p
+power_mod-lt p zero x n h = mod-lt 1 h
+power_mod-lt p (suc b) x n h = mod-lt _ h
 
--- ---- what the records tell of powers by squaring
+pub power_below-lt : {p : ℕ} → IsPrime p → (b x n : ℕ) → power_below b p x n < p
+unfolding power_below
+power_below-lt {p} P b x n = power_mod-lt p b x n (le_of_lt P.above_one)
 
-pub below_modulus : {p : ℕ} → IsPrime p → (r v n : ℕ) → r ≡ power_mod p 64 v n → r < p
-below_modulus {p} P r v n e = subst (λ x. x < p) (sym e) (mod-lt _ (le_of_lt P.above_one))
+pub below_modulus : {p : ℕ} → IsPrime p → (b r x n : ℕ) → r ≡ power_below b p x n → r < p
+below_modulus {p} P b r x n e = subst (λ y. y < p) (sym e) (power_below-lt P b x n)
 
-pub power_mod-below : {p : ℕ} → IsPrime p → (v n : ℕ) → power_mod p 64 v n < p
-power_mod-below P v n = mod-lt _ (le_of_lt P.above_one)
+-- a modulus, by tests that compute; c has the primes of p - 1, each small or with a certificate of its own
+pub modulus_from_parts : {b p : ℕ} {s : Adicity} {g two_adic : ℕ} {large : Option ℕ} {greatest : ℕ} (c : Parts) →
+    (passes b p g (primes_of c) && are_primes b c) ≡ true →
+    are_sizes p s ≡ true →
+    two_adic ≡ power_mod p b g ((p - 1) / 2 ^ s.two) →
+    large ≡ for_odd s.odd (power_mod p b g ((p - 1) / greatest_size s)) →
+    greatest ≡ greatest_size s →
+    IsModulus b p s g two_adic large greatest
+unfolding power_below
+modulus_from_parts {b} {p} {s} {g} c t u two_adic_is large_is greatest_is = record {
+  prime = prime_from_parts b p g c t;
+  small = small_from_parts b p g c t;
+  generator = record { powers = generator_from_parts b p g c t; sizes = sizes_from_test p s u };
+  two_adic_is = two_adic_is;
+  large_is = large_is;
+  greatest_is = greatest_is;
+}
+
+-- ---- proper parts of p - 1
 
 divides : (t n r : ℕ) → t % n ≡ 0 → n % r ≡ 0 → t % r ≡ 0
 divides t n r e f = sym (mod-mod_of_dvd r t (dvd_of_mod-eq-zero r f)) ∙ ap (λ y. y % r) e ∙ zero-mod r

@@ -1,21 +1,21 @@
 //! Prime fields that proof systems compute over, each with a generator of all its units.
 
-ghost use Rattle.std.specs.Prelude.{◌≡◌, None, refl, [], ◌∷◌};
-ghost use Rattle.std.proofs.Common.{lit<};
-ghost use Rattle.ark_math.specs.Root.{adicity_of};
-ghost use Rattle.ark_base.specs.ModulusLaws.{generator_from_primes, prime_from_powers};
+ghost use Rattle.std.specs.Prelude.{None, refl};
+ghost use Rattle.ark_base.specs.Lucas.{small, done};
+ghost use Rattle.ark_base.specs.ModulusLaws.{modulus_from_parts};
 
 use crate::prime_field::{PrimeField, PrimeModulus};
+use crate::prime_field32::{PrimeField32, PrimeModulus32};
 
 /// The prime 2^31 - 2^27 + 1, which is one more than 2^27 * 3 * 5.
 pub struct BabyBearModulus;
 
-impl PrimeModulus for BabyBearModulus {
-    const MODULUS: u64 = 2013265921;
+impl PrimeModulus32 for BabyBearModulus {
+    const MODULUS: u32 = 2013265921;
 
     ghost MODULUS = { 2013265921 };
 
-    const GENERATOR: u64 = 31;
+    const GENERATOR: u32 = 31;
 
     ghost GENERATOR = { 31 };
 
@@ -24,7 +24,7 @@ impl PrimeModulus for BabyBearModulus {
     ghost TWO_ADICITY = { 27 };
 
     // 31^15
-    const TWO_ADIC_ROOT_OF_UNITY: u64 = 440564289;
+    const TWO_ADIC_ROOT_OF_UNITY: u32 = 440564289;
 
     ghost TWO_ADIC_ROOT_OF_UNITY = { 440564289 };
 
@@ -36,7 +36,7 @@ impl PrimeModulus for BabyBearModulus {
 
     ghost SMALL_SUBGROUP_BASE_ADICITY = { None };
 
-    const LARGE_SUBGROUP_ROOT_OF_UNITY: Option<u64> = None;
+    const LARGE_SUBGROUP_ROOT_OF_UNITY: Option<u32> = None;
 
     ghost LARGE_SUBGROUP_ROOT_OF_UNITY = { None };
 
@@ -44,14 +44,11 @@ impl PrimeModulus for BabyBearModulus {
 
     ghost GREATEST_SIZE = { 134217728 };
 
-    ghost modulus = { record {
-      prime = prime_from_powers 2013265921 31 (2 ∷ 3 ∷ 5 ∷ []) refl;
-      small = lit< tt;
-      generator = generator_from_primes 2013265921 (adicity_of 27 None None) 31 (2 ∷ 3 ∷ 5 ∷ []) refl;
-      two_adic_is = refl;
-      large_is = refl;
-      greatest_is = refl;
-    } };
+    const NEGATED_INVERSE: u32 = 2013265919;
+
+    ghost NEGATED_INVERSE = { 2013265919 };
+
+    ghost modulus = { record { numbers = modulus_from_parts (small 2 (small 3 (small 5 done))) refl refl refl refl refl; inverse = refl } };
 
     ghost together = { ((λ h. h), (λ h. h)) };
 }
@@ -59,12 +56,12 @@ impl PrimeModulus for BabyBearModulus {
 /// The prime 2^31 - 2^24 + 1, which is one more than 2^24 * 127.
 pub struct KoalaBearModulus;
 
-impl PrimeModulus for KoalaBearModulus {
-    const MODULUS: u64 = 2130706433;
+impl PrimeModulus32 for KoalaBearModulus {
+    const MODULUS: u32 = 2130706433;
 
     ghost MODULUS = { 2130706433 };
 
-    const GENERATOR: u64 = 3;
+    const GENERATOR: u32 = 3;
 
     ghost GENERATOR = { 3 };
 
@@ -73,7 +70,7 @@ impl PrimeModulus for KoalaBearModulus {
     ghost TWO_ADICITY = { 24 };
 
     // 3^127
-    const TWO_ADIC_ROOT_OF_UNITY: u64 = 1791270792;
+    const TWO_ADIC_ROOT_OF_UNITY: u32 = 1791270792;
 
     ghost TWO_ADIC_ROOT_OF_UNITY = { 1791270792 };
 
@@ -85,7 +82,7 @@ impl PrimeModulus for KoalaBearModulus {
 
     ghost SMALL_SUBGROUP_BASE_ADICITY = { None };
 
-    const LARGE_SUBGROUP_ROOT_OF_UNITY: Option<u64> = None;
+    const LARGE_SUBGROUP_ROOT_OF_UNITY: Option<u32> = None;
 
     ghost LARGE_SUBGROUP_ROOT_OF_UNITY = { None };
 
@@ -93,14 +90,11 @@ impl PrimeModulus for KoalaBearModulus {
 
     ghost GREATEST_SIZE = { 16777216 };
 
-    ghost modulus = { record {
-      prime = prime_from_powers 2130706433 3 (2 ∷ 127 ∷ []) refl;
-      small = lit< tt;
-      generator = generator_from_primes 2130706433 (adicity_of 24 None None) 3 (2 ∷ 127 ∷ []) refl;
-      two_adic_is = refl;
-      large_is = refl;
-      greatest_is = refl;
-    } };
+    const NEGATED_INVERSE: u32 = 2130706431;
+
+    ghost NEGATED_INVERSE = { 2130706431 };
+
+    ghost modulus = { record { numbers = modulus_from_parts (small 2 (small 127 done)) refl refl refl refl refl; inverse = refl } };
 
     ghost together = { ((λ h. h), (λ h. h)) };
 }
@@ -142,25 +136,18 @@ impl PrimeModulus for GoldilocksModulus {
 
     ghost GREATEST_SIZE = { 4294967296 };
 
-    ghost modulus = { record {
-      prime = prime_from_powers 18446744069414584321 7 (2 ∷ 3 ∷ 5 ∷ 17 ∷ 257 ∷ 65537 ∷ []) refl;
-      small = lit< tt;
-      generator = generator_from_primes 18446744069414584321 (adicity_of 32 None None) 7 (2 ∷ 3 ∷ 5 ∷ 17 ∷ 257 ∷ 65537 ∷ []) refl;
-      two_adic_is = refl;
-      large_is = refl;
-      greatest_is = refl;
-    } };
+    ghost modulus = { modulus_from_parts (small 2 (small 3 (small 5 (small 17 (small 257 (small 65537 done)))))) refl refl refl refl refl };
 
     ghost together = { ((λ h. h), (λ h. h)) };
 }
 
 /// The field of 2^31 - 2^27 + 1 elements, with domains of up to 2^27: used by RISC Zero's proof system and
 /// Plonky3.
-pub type BabyBear = PrimeField<BabyBearModulus>;
+pub type BabyBear = PrimeField32<BabyBearModulus>;
 
 /// The field of 2^31 - 2^24 + 1 elements, with domains of up to 2^24, whose cubing is one to one: used by
 /// Plonky3.
-pub type KoalaBear = PrimeField<KoalaBearModulus>;
+pub type KoalaBear = PrimeField32<KoalaBearModulus>;
 
 /// The field of 2^64 - 2^32 + 1 elements, with domains of up to 2^32: used by Plonky2.
 pub type Goldilocks = PrimeField<GoldilocksModulus>;

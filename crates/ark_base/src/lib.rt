@@ -3,7 +3,9 @@
 
 mod fields;
 mod laws;
+mod montgomery32;
 mod prime_field;
+mod prime_field32;
 
 pub use ark_traits::{
     CanonicalDeserialize, CanonicalSerialize, Compress, DomainCoeff, Either, Failed, FftField,
@@ -14,7 +16,8 @@ pub use ark_traits::{
 pub use fields::{
     BabyBear, BabyBearModulus, Goldilocks, GoldilocksModulus, KoalaBear, KoalaBearModulus,
 };
-pub use laws::small_numbers_are_different;
+pub use laws::{small_numbers_are_different, small_numbers_are_different32};
 pub use prime_field::{
     F5, F433, F65537, Modulus5, Modulus433, Modulus65537, PrimeField, PrimeModulus,
 };
+pub use prime_field32::{PrimeField32, PrimeModulus32};

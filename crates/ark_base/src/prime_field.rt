@@ -1,14 +1,14 @@
 //! The fields of the integers modulo a prime below 2^64, on one word each.
 
 ghost use Rattle.std.specs.Prelude.{◌≡◌, ℕ, true, false, ◌+◌, ◌*◌, ◌-◌, ◌%◌, ◌/◌, ◌<◌, ◌≤◌, ◌^◌, ◌↔◌, Option};
-ghost use Rattle.std.specs.Prelude.{None, Some, IsSome, refl, [], ◌∷◌};
-ghost use Rattle.std.proofs.Common.{lit<, ◌∙◌};
+ghost use Rattle.std.specs.Prelude.{None, Some, IsSome, refl};
+ghost use Rattle.std.proofs.Common.{◌∙◌};
 ghost use Rattle.ark_math.specs.Field.{FieldOn, minus, natural};
 ghost use Rattle.ark_math.specs.Module.{itself};
 ghost use Rattle.ark_math.specs.Root.{adicity_of};
-ghost use Rattle.ark_math.proofs.Numbers.Prime.{prime_from_test};
 ghost use Rattle.ark_base.specs.Modulus.{IsModulus};
-ghost use Rattle.ark_base.specs.ModulusLaws.{generator_from_primes};
+ghost use Rattle.ark_base.specs.Lucas.{small, done};
+ghost use Rattle.ark_base.specs.ModulusLaws.{modulus_from_parts};
 
 mod bytes;
 
@@ -38,7 +38,7 @@ pub trait PrimeModulus {
 
     ghost GREATEST_SIZE: { ℕ };
 
-    ghost modulus: { IsModulus MODULUS
+    ghost modulus: { IsModulus 64 MODULUS
         (adicity_of TWO_ADICITY SMALL_SUBGROUP_BASE SMALL_SUBGROUP_BASE_ADICITY)
         GENERATOR TWO_ADIC_ROOT_OF_UNITY LARGE_SUBGROUP_ROOT_OF_UNITY GREATEST_SIZE };
 
@@ -117,14 +117,6 @@ impl<M: PrimeModulus> PrimeField<M> {
         M::MODULUS <= 1 << 32 && (M::MODULUS - 1).is_power_of_two()
     }
 
-    // Whether the prime has 31 bits, so that products are reduced by two further products.
-    fn has_31_bits() -> bool
-        ensures above { result ≡ true → 2 ^ 30 < M.MODULUS }
-        ensures below { result ≡ true → M.MODULUS < 2 ^ 31 }
-    {
-        1 << 30 < M::MODULUS && M::MODULUS < 1 << 31
-    }
-
     // Whether the prime is 2^64 - 2^32 + 1.
     fn is_goldilocks() -> bool
         ensures { result ≡ true → M.MODULUS ≡ 18446744069414584321 }
@@ -142,8 +134,6 @@ impl<M: PrimeModulus> PrimeField<M> {
         if PrimeField::<M>::is_fermat() {
             let less = M::MODULUS - 1;
             PrimeField::reduce_once(value % less + (M::MODULUS - value / less))
-        } else if PrimeField::<M>::has_31_bits() {
-            PrimeField::reduce_by_products(value)
         } else {
             PrimeField {
                 value: if M::MODULUS <= 1 << 16 {
@@ -153,46 +143,6 @@ impl<M: PrimeModulus> PrimeField<M> {
                 },
                 marker: PhantomData,
             }
-        }
-    }
-
-    // The residue modulo a prime of 31 bits.
-    fn reduce_by_products(value: u64) -> Self
-        requires above { 2 ^ 30 < M.MODULUS }
-        requires below { M.MODULUS < 2 ^ 31 }
-        requires fits { value < 2 ^ 62 }
-        ensures { result.value ≡ value % M.MODULUS }
-    {
-        let quotient = PrimeField::<M>::near_quotient(value);
-        let rest = value - quotient as u32 as u64 * M::MODULUS as u32 as u64;
-        let less = PrimeField::<M>::less_once(rest);
-        PrimeField::reduce_once(less)
-    }
-
-    // The quotient by a prime of 31 bits, or one or two less, as in Barrett reduction: that of the value's
-    // upper bits, by a product in place of a division. Both factors have 32 bits, for which there are
-    // instructions on several items at a time.
-    fn near_quotient(value: u64) -> u64
-        requires above { 2 ^ 30 < M.MODULUS }
-        requires fits { value < 2 ^ 62 }
-        ensures half_word { result < 2 ^ 32 }
-        ensures not_above { result * M.MODULUS ≤ value }
-        ensures near { value < result * M.MODULUS + 3 * M.MODULUS }
-    {
-        let factor = (1 << 62) / M::MODULUS;
-        (value >> 30) as u32 as u64 * factor as u32 as u64 >> 32
-    }
-
-    // A number below thrice the prime, less the prime where it isn't below it.
-    fn less_once(value: u64) -> u64
-        requires thrice { value < 3 * M.MODULUS }
-        ensures same { result % M.MODULUS ≡ value % M.MODULUS }
-        ensures below { result < 2 * M.MODULUS }
-    {
-        if PrimeField::<M>::is_below(value) {
-            value
-        } else {
-            value - M::MODULUS
         }
     }
 
@@ -264,15 +214,15 @@ impl<M: PrimeModulus> PrimeField<M> {
         }
     }
 
-    // Whether a number below thrice the modulus is below the modulus. Where products need no division, loops
+    // Whether a number below twice the modulus is below the modulus. Where products need no division, loops
     // are compiled to take two items at a time, and the sign of a difference is what those instructions
     // compare.
     fn is_below(value: u64) -> bool
-        requires { value < 3 * M.MODULUS }
+        requires { value < 2 * M.MODULUS }
         ensures below { result ≡ true → value < M.MODULUS }
         ensures above { result ≡ false → M.MODULUS ≤ value }
     {
-        if PrimeField::<M>::is_fermat() || PrimeField::<M>::has_31_bits() {
+        if PrimeField::<M>::is_fermat() {
             value.wrapping_sub(M::MODULUS) >> 63 == 1
         } else {
             value < M::MODULUS
@@ -447,7 +397,8 @@ impl<M: PrimeModulus> Field for PrimeField<M> {
     ghost use Rattle.rand.specs.Uniform.{canon};
     ghost use Rattle.ark_base.specs.Element.{field_of, number};
     ghost use Rattle.ark_base.specs.ElementLaws.{prime_field_laws, prime_field_equals, natural_residue};
-    ghost use Rattle.ark_base.specs.ElementBytes.{prime_elements};
+    ghost use Rattle.ark_base.specs.Element.{numbering};
+    ghost use Rattle.ark_base.specs.ElementBytes.{residue_elements};
     ghost use Rattle.ark_base.specs.Widths.{width_of};
     ghost use Rattle.ark_math.proofs.Formats.Modes.{one_format};
 
@@ -528,7 +479,7 @@ impl<M: PrimeModulus> Field for PrimeField<M> {
 
     ghost neg_law = { λ a r e. e };
 
-    ghost elements_law = { λ _. prime_elements M.modulus };
+    ghost elements_law = { λ _. residue_elements numbering M.modulus.small };
 
     ghost modes_law = { λ _ _. one_format _ };
 
@@ -678,14 +629,7 @@ impl PrimeModulus for Modulus5 {
 
     ghost GREATEST_SIZE = { 4 };
 
-    ghost modulus = { record {
-      prime = prime_from_test 1 5 refl;
-      small = lit< tt;
-      generator = generator_from_primes 5 (adicity_of 2 None None) 2 (2 ∷ []) refl;
-      two_adic_is = refl;
-      large_is = refl;
-      greatest_is = refl;
-    } };
+    ghost modulus = { modulus_from_parts (small 2 done) refl refl refl refl refl };
 
     ghost together = { ((λ h. h), (λ h. h)) };
 }
@@ -726,14 +670,7 @@ impl PrimeModulus for Modulus433 {
 
     ghost GREATEST_SIZE = { 432 };
 
-    ghost modulus = { record {
-      prime = prime_from_test 19 433 refl;
-      small = lit< tt;
-      generator = generator_from_primes 433 (adicity_of 4 (Some 3) (Some 3)) 5 (2 ∷ 3 ∷ []) refl;
-      two_adic_is = refl;
-      large_is = refl;
-      greatest_is = refl;
-    } };
+    ghost modulus = { modulus_from_parts (small 2 (small 3 done)) refl refl refl refl refl };
 
     ghost together = { ((λ h. h), (λ h. h)) };
 }
@@ -774,14 +711,7 @@ impl PrimeModulus for Modulus65537 {
 
     ghost GREATEST_SIZE = { 65536 };
 
-    ghost modulus = { record {
-      prime = prime_from_test 255 65537 refl;
-      small = lit< tt;
-      generator = generator_from_primes 65537 (adicity_of 16 None None) 3 (2 ∷ []) refl;
-      two_adic_is = refl;
-      large_is = refl;
-      greatest_is = refl;
-    } };
+    ghost modulus = { modulus_from_parts (small 2 done) refl refl refl refl refl };
 
     ghost together = { ((λ h. h), (λ h. h)) };
 }

@@ -1,6 +1,8 @@
 //! Calls in batches of some 20 milliseconds, of which the least counts.
 
-use ark_base::{FftField, Field, Lanes, PolyError, PrimeField, PrimeModulus};
+use ark_base::{
+    FftField, Field, Lanes, PolyError, PrimeField, PrimeField32, PrimeModulus, PrimeModulus32,
+};
 use ark_rows::Row;
 use std::alloc::Global;
 use std::io::Print;
@@ -28,6 +30,14 @@ impl<M: PrimeModulus> Counted for PrimeField<M> {}
 impl<M: PrimeModulus> Number for PrimeField<M> {
     fn number(&self) -> u64 {
         self.value()
+    }
+}
+
+impl<M: PrimeModulus32> Counted for PrimeField32<M> {}
+
+impl<M: PrimeModulus32> Number for PrimeField32<M> {
+    fn number(&self) -> u64 {
+        self.value() as u64
     }
 }
 

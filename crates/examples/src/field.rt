@@ -1,10 +1,8 @@
 //! A prime field of one's own: the integers modulo 97.
 
-ghost use Rattle.std.specs.Prelude.{◌≡◌, ◌↔◌, Some, refl, IfSome, IsNone, [], ◌∷◌};
-ghost use Rattle.std.proofs.Common.{lit<};
-ghost use Rattle.ark_math.specs.Root.{adicity_of};
-ghost use Rattle.ark_math.proofs.Numbers.Prime.{prime_from_test};
-ghost use Rattle.ark_base.specs.ModulusLaws.{generator_from_primes};
+ghost use Rattle.std.specs.Prelude.{◌≡◌, ◌↔◌, Some, refl, IfSome, IsNone};
+ghost use Rattle.ark_base.specs.Lucas.{small, done};
+ghost use Rattle.ark_base.specs.ModulusLaws.{modulus_from_parts};
 
 use ark_base::{Field, PrimeField, PrimeModulus};
 
@@ -46,15 +44,9 @@ impl PrimeModulus for Modulus97 {
 
     ghost GREATEST_SIZE = { 96 };
 
-    // None of 2 to 9 divides 97, which is below 10 * 10, and 96 has the primes 2 and 3.
-    ghost modulus = { record {
-      prime = prime_from_test 8 97 refl;
-      small = lit< tt;
-      generator = generator_from_primes 97 (adicity_of 5 (Some 3) (Some 1)) 5 (2 ∷ 3 ∷ []) refl;
-      two_adic_is = refl;
-      large_is = refl;
-      greatest_is = refl;
-    } };
+    // 96 has the primes 2 and 3. The powers of 5 at 96, and at its parts by these, show that 97 is prime and 5 a
+    // generator.
+    ghost modulus = { modulus_from_parts (small 2 (small 3 done)) refl refl refl refl refl };
 
     ghost together = { ((λ h. h), (λ h. h)) };
 }

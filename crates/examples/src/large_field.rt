@@ -1,9 +1,8 @@
 //! A prime field of one's own of a whole word, with large domains: the integers modulo 2^64 - 2^40 + 1.
 
-ghost use Rattle.std.specs.Prelude.{◌≡◌, ◌^◌, None, Some, refl, [], ◌∷◌};
-ghost use Rattle.std.proofs.Common.{lit<};
-ghost use Rattle.ark_math.specs.Root.{adicity_of};
-ghost use Rattle.ark_base.specs.ModulusLaws.{prime_from_powers, generator_from_primes};
+ghost use Rattle.std.specs.Prelude.{◌≡◌, ◌^◌, None, Some, refl};
+ghost use Rattle.ark_base.specs.Lucas.{small, done};
+ghost use Rattle.ark_base.specs.ModulusLaws.{modulus_from_parts};
 
 use ark_base::{PrimeField, PrimeModulus};
 use ark_poly::{EvaluationDomain, Radix2EvaluationDomain};
@@ -45,15 +44,10 @@ impl PrimeModulus for Modulus18446742974197923841 {
 
     ghost GREATEST_SIZE = { 1099511627776 };
 
-    // The powers of 19 show both, at the predecessor and at its parts by each of its primes.
-    ghost modulus = { record {
-      prime = prime_from_powers 18446742974197923841 19 (2 ∷ 3 ∷ 5 ∷ 7 ∷ 13 ∷ 17 ∷ 241 ∷ []) refl;
-      small = lit< tt;
-      generator = generator_from_primes 18446742974197923841 (adicity_of 40 None None) 19 (2 ∷ 3 ∷ 5 ∷ 7 ∷ 13 ∷ 17 ∷ 241 ∷ []) refl;
-      two_adic_is = refl;
-      large_is = refl;
-      greatest_is = refl;
-    } };
+    // The powers of 19 show that it is prime and 19 a generator, at the predecessor and at its parts by each of
+    // its primes.
+    ghost modulus = { modulus_from_parts
+        (small 2 (small 3 (small 5 (small 7 (small 13 (small 17 (small 241 done))))))) refl refl refl refl refl };
 
     ghost together = { ((λ h. h), (λ h. h)) };
 }

@@ -10,6 +10,7 @@ mod combination;
 mod convolution;
 mod coset;
 mod cost;
+mod curve25519;
 mod errors;
 mod field;
 mod holders;
@@ -39,6 +40,7 @@ use combination::combination;
 use convolution::convolution;
 use coset::values_on_coset;
 use cost::{over_sixteen_and_back, restored_of_eighteen};
+use curve25519::Curve25519Coordinate;
 use errors::{CallError, value_of_saved};
 use field::{F97, quotient};
 use holders::{lost_and_restored, message_restored, restored_if_right};
@@ -330,6 +332,10 @@ fn print_fields(rt: &impl Print, alloc: Global) -> anyhow::Result<()> {
     print_list(rt, alloc, "there and back modulo 2^64 - 2^40 + 1", &back)?;
     if let Some(third) = quotient(F97::from(1), F97::from(3)) {
         println!(rt; "a third modulo 97: {}", third.value())?;
+    }
+    let [four, five] = [4, 5].map(Curve25519Coordinate::from);
+    if let Some(y) = quotient(four, five) {
+        println!(rt; "four fifths modulo 2^255 - 19: {y:?}")?;
     }
     if let Some(size) = size_for_a_hundred_million() {
         println!(rt; "room for a hundred million coefficients: {size}")?;

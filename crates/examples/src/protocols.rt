@@ -1,5 +1,5 @@
-//! What the program prints of protocols: an opening at a point; a secret that any three of five shares give back; the
-//! sum of two secrets from the sums of their shares; and a sum-check, from a claim on a sum over the cube to a claim
+//! What the program prints of protocols: an opening at a point; a secret that any three of five shares give back; both
+//! over the scalars of BLS12-381; the sum of two secrets from the sums of their shares; and a sum-check, from a claim on a sum over the cube to a claim
 //! on one value: what the verifier says of a true claim and of a false one, of an extension of forty variables that
 //! is zero at all corners but three, and whether it accepts one prover's rounds of either claim.
 
@@ -15,6 +15,7 @@ use ark_base::{F65537, Field, PolyError, PrimeField, PrimeModulus};
 use ark_poly::{DenseMultilinearExtension, DenseUVPolynomial, Polynomial};
 use ark_sharing::{SharingError, share};
 use ark_sum_check::{Challenger, Prover, Round, SparseProver, SumCheckError, Verdict, prove};
+use ark_wide::Bls12_381Scalar;
 use rand::rngs::StdRng;
 use rand::{CryptoRng, SeedableRng};
 use std::alloc::Global;
@@ -24,6 +25,7 @@ use std::io::Print;
 pub fn print_protocols(rt: &impl Print, alloc: Global) -> anyhow::Result<()> {
     print_opening(rt, alloc)?;
     print_secret(rt, alloc)?;
+    print_scalars(rt, alloc)?;
     print_sum_checks(rt, alloc)?;
     print_answers(rt, alloc)
 }
@@ -38,6 +40,17 @@ fn print_opening(rt: &impl Print, alloc: Global) -> anyhow::Result<()> {
         .collect(alloc)?;
     println!(rt; "the value at 5: {}", value.value())?;
     println!(rt; "the quotient by x - 5: {quotient:?}")?;
+    Ok(())
+}
+
+fn print_scalars(rt: &impl Print, alloc: Global) -> anyhow::Result<()> {
+    let coeffs = [7, 5, 3].map(Bls12_381Scalar::from);
+    let (value, _) = one_pass_opening(alloc, &coeffs, Bls12_381Scalar::from(1 << 40))?;
+    println!(rt; "the value at 2^40, over scalars of BLS12-381: {value:?}")?;
+    let mut rng = StdRng::seed_from_u64(5);
+    let points = [1, 2, 3, 4, 5].map(Bls12_381Scalar::from);
+    let secret = shared_and_given_back(alloc, value, 3, &points, &mut rng)?;
+    println!(rt; "that value from three of five shares: {secret:?}")?;
     Ok(())
 }
 

@@ -17,8 +17,8 @@ use Rattle.ark_math.proofs.Transforms.Inverses.{one_inverse}
 use Rattle.ark_traits.specs.declared.error.PolyError.{PolyError}
 use Rattle.ark_base.specs.declared.prime_field.PrimeField.{PrimeField}
 use Rattle.ark_base.specs.declared.prime_field.PrimeModulus.{Ghosts}
-use Rattle.ark_base.specs.Element.{Shown, adicity, prime_field, prime_root, residue_of, generator_of, number}
-use Rattle.ark_base.specs.ElementLaws.{prime_field_laws, prime_module_laws, prime_roots, same_from_value}
+use Rattle.ark_base.specs.Element.{Shown, adicity, prime_field, prime_root, residue_of, generator_of, number, same_from_value}
+use Rattle.ark_base.specs.ElementLaws.{prime_field_laws, prime_module_laws, prime_roots}
 use Rattle.polyrun_lib.specs.declared.command.Direction.{Direction}
 use Rattle.polyrun_lib.specs.declared.command.Direction.TheVariants.{Forward, Inverse}
 use Rattle.polyrun_lib.specs.Lines.{line_of, refusal_line_of}

@@ -23,8 +23,8 @@ use Rattle.std.specs.declared.string.String.{String}
 use Rattle.std.specs.declared.alloc.Global.{Global}
 use Rattle.ark_traits.specs.declared.error.PolyError.{PolyError}
 use Rattle.ark_traits.specs.declared.error.PolyError.TheVariants.{Memory}
-use Rattle.ark_base.specs.Element.{Shown, adicity, prime_field, prime_root, residue_of, generator_of, number}
-use Rattle.ark_base.specs.ElementLaws.{prime_field_laws, prime_module_laws, prime_roots, same_from_value}
+use Rattle.ark_base.specs.Element.{Shown, adicity, prime_field, prime_root, residue_of, generator_of, number, same_from_value}
+use Rattle.ark_base.specs.ElementLaws.{prime_field_laws, prime_module_laws, prime_roots}
 use Rattle.polyrun_lib.specs.Lines.{line_of}
 use Rattle.polyrun_lib.specs.declared.command.Direction.{Direction}
 use Rattle.polyrun_lib.specs.declared.command.Direction.TheVariants.{Forward, Inverse}

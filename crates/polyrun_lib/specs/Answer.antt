@@ -29,7 +29,7 @@ pub record Known : Type 0 where
   pub generator : ℕ
 
 -- the field of a modulus that was shown to be one
-abbrev pub known_by : {p g two_adic greatest : ℕ} {s : Adicity} {large : Option ℕ} → IsModulus p s g two_adic large greatest → Known
+abbrev pub known_by : {p g two_adic greatest : ℕ} {s : Adicity} {large : Option ℕ} → IsModulus 64 p s g two_adic large greatest → Known
 known_by {p = p} {g = g} {s = s} modulus = record { modulus = p; adicity = s; generator = g }
 
 abbrev pub field_5 : Known

@@ -4,8 +4,8 @@ use Rattle.std.proofs.lemmas.Bool.{cases_eq}
 use Rattle.std.proofs.Common.{inl, inr, ap, sym, refl, ◌∙◌, arith, mod-eq_of_lt}
 use Rattle.ark_math.specs.Field.{natural}
 use Rattle.ark_math.specs.Prime.{IsPrime}
-use Rattle.ark_base.specs.Element.{number, prime_field, residue_of}
-use Rattle.ark_base.specs.ElementLaws.{natural_residue, prime_field_laws, same_from_value}
+use Rattle.ark_base.specs.Element.{number, prime_field, residue_of, same_from_value}
+use Rattle.ark_base.specs.ElementLaws.{natural_residue, prime_field_laws}
 use Rattle.ark_base.specs.declared.prime_field.PrimeField.{PrimeField}
 use Rattle.ark_base.specs.declared.prime_field.PrimeModulus.{Ghosts}
 

@@ -19,7 +19,8 @@ mod reading;
 mod univariate;
 
 use crate::reading::answer_of;
-use ark_base::{BabyBearModulus, GoldilocksModulus, KoalaBearModulus, PrimeField, PrimeModulus};
+use ark_base::{BabyBear, Field, Goldilocks, KoalaBear};
+use ark_wide::Bls12_381Scalar;
 use std::alloc::Global;
 use std::process::ExitCode;
 use test_cases::answers::{Answer, Answers, FieldAnswers, answer_lines, over_field};
@@ -42,22 +43,27 @@ impl Answers for LawAnswers {
     }
 }
 
+// The order of BLS12-381's group.
+const BLS12_381: &str =
+    "52435875175126190479447740508185965837690552500527637822603658699938581184513";
+
 // The answer on bytes of an element of a large field, whose order is the first word: modes, and bytes in hex.
 fn of_large(alloc: Global, field: &str, words: &[String]) -> Answer {
     match field {
-        "2013265921" => of_element::<BabyBearModulus>(alloc, words),
-        "2130706433" => of_element::<KoalaBearModulus>(alloc, words),
-        "18446744069414584321" => of_element::<GoldilocksModulus>(alloc, words),
+        "2013265921" => of_element::<BabyBear>(alloc, words),
+        "2130706433" => of_element::<KoalaBear>(alloc, words),
+        "18446744069414584321" => of_element::<Goldilocks>(alloc, words),
+        BLS12_381 => of_element::<Bls12_381Scalar>(alloc, words),
         _ => no_case(alloc),
     }
 }
 
-fn of_element<M: PrimeModulus>(alloc: Global, words: &[String]) -> Answer {
+fn of_element<F: Field>(alloc: Global, words: &[String]) -> Answer {
     let [modes, word] = words else {
         return no_case(alloc);
     };
     let bytes = bytes_of(alloc, word.as_str())?;
-    answer_of::<PrimeField<M>>(alloc, &bytes, modes.as_str())
+    answer_of::<F>(alloc, &bytes, modes.as_str())
 }
 
 impl FieldAnswers for LawAnswers {

@@ -1,7 +1,7 @@
 //! Fields whose elements have numbers, by which cases name them.
 
 use crate::four::Four;
-use ark_base::{FftField, PrimeField, PrimeModulus};
+use ark_base::{FftField, PrimeField, PrimeField32, PrimeModulus, PrimeModulus32};
 
 /// A field whose elements have numbers.
 pub trait Numbered: FftField {
@@ -19,6 +19,16 @@ impl<M: PrimeModulus> Numbered for PrimeField<M> {
 
     fn of_number(number: u64) -> Self {
         PrimeField::from(number)
+    }
+}
+
+impl<M: PrimeModulus32> Numbered for PrimeField32<M> {
+    fn number(self) -> u64 {
+        self.value() as u64
+    }
+
+    fn of_number(number: u64) -> Self {
+        PrimeField32::from(number)
     }
 }
 

@@ -38,18 +38,18 @@ impl<M: PrimeModulus> PrimeField<M> {
 
 impl<M: PrimeModulus> Spelled for PrimeField<M> {
     ghost use Rattle.ark_base.specs.Widths.{residue};
-    ghost use Rattle.ark_base.specs.Element.{number};
-    ghost use Rattle.ark_base.specs.ElementBytes.{prime_format, prime_tells};
+    ghost use Rattle.ark_base.specs.Element.{number, numbering};
+    ghost use Rattle.ark_base.specs.ElementBytes.{residue_format, residue_tells};
 
     ghost format = { λ _. residue M.MODULUS number };
 
-    ghost format_law = { λ _. prime_format };
+    ghost format_law = { λ _. residue_format numbering };
 
     ghost Shown = { Self };
 
     ghost shown = { λ x. x };
 
-    ghost tells = { λ _. prime_tells };
+    ghost tells = { λ _. residue_tells numbering };
 }
 
 impl<M: PrimeModulus> CanonicalSerialize for PrimeField<M> {

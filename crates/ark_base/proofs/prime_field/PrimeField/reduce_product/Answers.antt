@@ -1,11 +1,7 @@
 use Rattle.std.proofs.Common.{◌+◌, ◌-◌, ◌/◌, ◌%◌, ◌∙◌, ap, ap₂, le_of_lt}
-use Rattle.ark_base.proofs.Reductions.{by_predecessor, product_small}
+use Rattle.ark_base.proofs.Reductions.{by_predecessor}
 use Rattle.ark_base.proofs.prime_field.PrimeField.reduce_product.Goals as goal
-use Rattle.ark_base.proofs.prime_field.PrimeField.reduce_product.Goals.{then-is_fermat, else-is_fermat+then-has_31_bits, else-is_fermat+else-has_31_bits+then-MODULUS, else-is_fermat+else-has_31_bits+else-MODULUS}
-
-pub reduce_by_products-requires-clause-fits : goal.reduce_by_products-requires-clause-fits
-reduce_by_products-requires-clause-fits g c =
-    product_small g.M.PrimeModulus.MODULUS c.args.value (c.has_31_bits.ensures.below c.if-has_31_bits.true) c.requires.product
+use Rattle.ark_base.proofs.prime_field.PrimeField.reduce_product.Goals.{then-is_fermat, else-is_fermat+then-MODULUS, else-is_fermat+else-MODULUS}
 
 pub returns : goal.returns
 returns g c =
@@ -16,7 +12,6 @@ returns g c =
           ap (λ t. t.0) w.result-is ∙ w.reduce_once.ensures
           ∙ ap₂ (λ m n. (v % (m - 1) + (n - v / (m - 1))) % p) w.MODULUS-less.ensures w.MODULUS.ensures
           ∙ by_predecessor p v (le_of_lt g.M.PrimeModulus.modulus.prime.above_one) c.requires.product
-      | else-is_fermat+then-has_31_bits w ↦ ap (λ t. t.0) w.result-is ∙ w.reduce_by_products.ensures
-      | else-is_fermat+else-has_31_bits+then-MODULUS w ↦ ap (λ t. t.0) w.result-is ∙ ap (λ m. v % m) w.MODULUS-then-MODULUS.ensures
-      | else-is_fermat+else-has_31_bits+else-MODULUS w ↦ ap (λ t. t.0) w.result-is ∙ ap (λ m. v % m) w.MODULUS-else-MODULUS.ensures
+      | else-is_fermat+then-MODULUS w ↦ ap (λ t. t.0) w.result-is ∙ ap (λ m. v % m) w.MODULUS-then-MODULUS.ensures
+      | else-is_fermat+else-MODULUS w ↦ ap (λ t. t.0) w.result-is ∙ ap (λ m. v % m) w.MODULUS-else-MODULUS.ensures
     ]

@@ -1,4 +1,4 @@
-use Rattle.ark_base.specs.ElementLaws.{same_from_value}
+use Rattle.ark_base.specs.Element.{same_from_value}
 use Rattle.ark_base.proofs.Reductions.{largest_product}
 use Rattle.ark_base.proofs.prime_field.PrimeFieldMul.mul.Goals as goal
 

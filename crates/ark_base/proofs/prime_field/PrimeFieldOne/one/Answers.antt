@@ -1,5 +1,5 @@
 use Rattle.std.proofs.Common.{refl}
-use Rattle.ark_base.specs.ElementLaws.{same_from_value}
+use Rattle.ark_base.specs.Element.{same_from_value}
 use Rattle.ark_base.proofs.prime_field.PrimeFieldOne.one.Goals as goal
 
 pub returns : goal.returns

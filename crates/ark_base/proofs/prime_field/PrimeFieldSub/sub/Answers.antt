@@ -1,6 +1,6 @@
 use Rattle.std.proofs.Common.{ap, ◌∙◌, ◌-◌, ◌+◌, ◌%◌, sym}
 use Rattle.std.proofs.Math.Nat.{add-mod-mod}
-use Rattle.ark_base.specs.ElementLaws.{same_from_value}
+use Rattle.ark_base.specs.Element.{same_from_value}
 use Rattle.ark_base.proofs.prime_field.PrimeFieldSub.sub.Goals as goal
 
 pub returns-then-MODULUS : goal.returns-then-MODULUS

@@ -1,0 +1,79 @@
+-- Elements and their words, as the proofs of a field's calls cite them.
+use Rattle.std.proofs.Common.{◌≡◌, ℕ, ◌+◌, ◌-◌, ◌*◌, ◌%◌, ◌^◌, ◌<◌, sym, ap, ◌∙◌, le_of_lt, mod-lt, mod-eq_of_lt, zero-mul}
+use Rattle.std.specs.Prelude.{nat_eq, ◌==◌}
+use Rattle.std.specs.Ordering.{on}
+use Rattle.std.specs.Cmp.{both_ways}
+use Rattle.std.proofs.lemmas.Bool.{eqb-true, eq-eqb}
+use Rattle.std.proofs.Math.Nat.{zero-mod}
+use Rattle.ark_math.specs.Field.{minus}
+use Rattle.ark_base.specs.Montgomery.{inverse_of_power, form_back, from_form, sum_of_forms, difference_of_forms, negated_form, product_of_forms}
+use Rattle.ark_base.specs.Residues.{residue_of}
+use Rattle.ark_base.specs.ResiduesLaws.{number_of_residue, number_of_zero, minus_number}
+use Rattle.ark_base.specs.Element32.{Shown, number, element, number_of_element, numbering, field_of, one_of_power, same_by_number, same_by_word}
+use Rattle.ark_base.specs.declared.prime_field32.PrimeField32.{PrimeField32}
+use Rattle.ark_base.specs.declared.prime_field32.PrimeModulus32.{Ghosts}
+
+module _ {M : Type 0} {g : Ghosts M} (S : Shown g) where
+  pub number_of_form : (x : PrimeField32 M g) (v : ℕ) → x.word ≡ (v % g.MODULUS * 2 ^ 32) % g.MODULUS → number x ≡ v % g.MODULUS
+  unfolding number
+  number_of_form x v e =
+      ap (λ w. (w * inverse_of_power g.MODULUS 32) % g.MODULUS) e
+      ∙ form_back g.MODULUS (2 ^ 32) (inverse_of_power g.MODULUS 32) (v % g.MODULUS) (one_of_power g S) (mod-lt v (le_of_lt S.numbers.prime.above_one))
+
+  pub word_is_number : (x : PrimeField32 M g) (w : ℕ) → w < g.MODULUS → (2 ^ 32 * w) % g.MODULUS ≡ (x.word * 1) % g.MODULUS → w ≡ number x
+  unfolding number
+  word_is_number x w below e = from_form g.MODULUS (2 ^ 32) (inverse_of_power g.MODULUS 32) x.word w (one_of_power g S) below e
+
+  pub element_is : (x : PrimeField32 M g) (v : ℕ) (l : v < g.MODULUS) → number x ≡ v % g.MODULUS → x ≡ element {M = M} {g = g} S v l
+  element_is x v l e = same_by_number S _ _ (e ∙ mod-eq_of_lt l ∙ sym (number_of_element g S v l))
+
+  -- an operation's number, and with it the operation
+  number_of_sum : (x y z : PrimeField32 M g) → z.word ≡ (x.word + y.word) % g.MODULUS → number z ≡ (number x + number y) % g.MODULUS
+  unfolding number
+  number_of_sum x y z e = sum_of_forms g.MODULUS (inverse_of_power g.MODULUS 32) x.word y.word z.word e
+
+  number_of_difference : (x y z : PrimeField32 M g) → z.word ≡ (x.word + (g.MODULUS - y.word)) % g.MODULUS → number z ≡ (number x + (g.MODULUS - number y)) % g.MODULUS
+  unfolding number
+  number_of_difference x y z e =
+      difference_of_forms g.MODULUS (inverse_of_power g.MODULUS 32) x.word y.word z.word (le_of_lt S.numbers.prime.above_one) (le_of_lt y.reduced) e
+
+  number_of_negated : (x z : PrimeField32 M g) → z.word ≡ (g.MODULUS - x.word) % g.MODULUS → number z ≡ (g.MODULUS - number x) % g.MODULUS
+  unfolding number
+  number_of_negated x z e =
+      negated_form g.MODULUS (inverse_of_power g.MODULUS 32) x.word z.word (le_of_lt S.numbers.prime.above_one) (le_of_lt x.reduced) e
+
+  number_of_product : (x y z : PrimeField32 M g) → (2 ^ 32 * z.word) % g.MODULUS ≡ (x.word * y.word) % g.MODULUS → number z ≡ (number x * number y) % g.MODULUS
+  unfolding number
+  number_of_product x y z e =
+      product_of_forms g.MODULUS (2 ^ 32) (inverse_of_power g.MODULUS 32) x.word y.word z.word (one_of_power g S) z.reduced e
+
+  pub residue_is : (x : PrimeField32 M g) (v : ℕ) → number x ≡ v % g.MODULUS → x ≡ residue_of (numbering {M = M} {g = g} S) S.numbers.prime v
+  residue_is x v e = same_by_number S _ _ (e ∙ sym (number_of_residue (numbering {M = M} {g = g} S) S.numbers.prime v))
+
+  pub sum_is : (x y z : PrimeField32 M g) → z.word ≡ (x.word + y.word) % g.MODULUS → z ≡ (field_of {M = M} {g = g} S).plus x y
+  sum_is x y z e = residue_is z (number x + number y) (number_of_sum x y z e)
+
+  pub difference_is : (x y z : PrimeField32 M g) → z.word ≡ (x.word + (g.MODULUS - y.word)) % g.MODULUS → z ≡ minus (field_of {M = M} {g = g} S) x y
+  difference_is x y z e =
+      same_by_number S _ _ (number_of_difference x y z e ∙ sym (minus_number (numbering {M = M} {g = g} S) S.numbers.prime x y))
+
+  pub negated_is : (x z : PrimeField32 M g) → z.word ≡ (g.MODULUS - x.word) % g.MODULUS → z ≡ (field_of {M = M} {g = g} S).negated x
+  negated_is x z e = residue_is z (g.MODULUS - number x) (number_of_negated x z e)
+
+  pub product_is : (x y z : PrimeField32 M g) → (2 ^ 32 * z.word) % g.MODULUS ≡ (x.word * y.word) % g.MODULUS → z ≡ (field_of {M = M} {g = g} S).times x y
+  product_is x y z e = residue_is z (number x * number y) (number_of_product x y z e)
+
+  number_of_nothing : (x : PrimeField32 M g) → x.word ≡ 0 → number x ≡ 0
+  unfolding number
+  number_of_nothing x e =
+      ap (λ v. (v * inverse_of_power g.MODULUS 32) % g.MODULUS) e ∙ ap (λ v. v % g.MODULUS) (zero-mul (inverse_of_power g.MODULUS 32)) ∙ zero-mod g.MODULUS
+
+  pub zero_is : (x : PrimeField32 M g) → x.word ≡ 0 → x ≡ (field_of {M = M} {g = g} S).zero
+  zero_is x e = same_by_number S _ _ (number_of_nothing x e ∙ sym (number_of_zero (numbering {M = M} {g = g} S) S.numbers.prime))
+
+  -- words are equal where numbers are
+  pub same_words_or_numbers : (x y : PrimeField32 M g) → (x.word == y.word) ≡ on number nat_eq x y
+  same_words_or_numbers x y =
+      both_ways (x.word == y.word) (on number nat_eq x y)
+      (λ t. eq-eqb (number x) (number y) (ap number (same_by_word x y (eqb-true x.word y.word t))))
+      (λ t. eq-eqb x.word y.word (ap (λ z. z.word) (same_by_number S x y (eqb-true (number x) (number y) t))))

@@ -1,0 +1,9 @@
+-- Lemmas of this crate, beside those of `ark_base`.
+pub mod Rows
+pub mod Element
+pub mod Powers
+pub mod WordBytes
+pub mod Constants
+pub mod ElementBytes
+pub mod Draws
+pub mod FourWords

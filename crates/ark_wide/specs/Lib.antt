@@ -1,0 +1,11 @@
+-- The field of the numbers below a prime of four words, from the bottom: words and the number that they spell; a prime's
+-- constants; elements, with their laws and bytes.
+pub mod Words
+pub mod WordsLaws
+pub mod Powers
+pub mod Primes
+pub mod Modulus256
+pub mod Modulus256Laws
+pub mod Element
+pub mod ElementLaws
+pub mod ElementBytes
