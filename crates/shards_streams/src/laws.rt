@@ -70,7 +70,12 @@ pub fn split_then_join<C: StripeCode>(
     ensures memory { IfErr result (λ e. e ≡ StreamError.Memory) }
 {
     let made = pieces_of(alloc, code, label, bytes)?;
-    join_pieces(alloc, code, label, made.0.as_slice(), &made.1, chosen)
+    let _ = code.n();
+    let pieces = ChosenPieces {
+        places: chosen,
+        trailer: &made.1,
+    };
+    join_pieces(alloc, code, label, made.0.as_slice(), &pieces)
 }
 
 /// The first `k` pieces have the file's own bytes: of piece `i`, part `b` begins with run `i` of `k` equal runs of the bytes of
@@ -121,33 +126,29 @@ fn join_pieces<C: StripeCode>(
     code: &C,
     label: &[u8],
     writers: &[PieceWriter<ListSink>],
-    trailer: &Trailer,
-    chosen: &[usize],
+    pieces: &ChosenPieces<'_>,
 ) -> Result<Vec<u8>, StreamError>
     requires label { length label.now < 65536 }
     requires count { length writers.now ≡ C.n_of code.now }
     requires room { (i : ℕ) (w : _) → i < length writers.now
         → 24 + length label.now ≤ length (piece_sink (get_or writers.now i w)).bytes.items }
-    requires enough { length chosen.now ≡ C.k_of code.now }
-    requires below { (a : ℕ) → a < length chosen.now → get_or chosen.now a 0 < C.n_of code.now }
-    requires apart { AreApart chosen.now }
+    requires enough { length pieces.now.places.now ≡ C.k_of code.now }
+    requires below { (a : ℕ) → a < length pieces.now.places.now
+        → get_or pieces.now.places.now a 0 < C.n_of code.now }
     ensures same { IfOk result (λ joined. (bytes : List ℕ) → ((i : ℕ) → get_or bytes i 0 < 256)
-        → length bytes ≡ trailer.now.len
-        → HavePieces C.number (C.k_of code.now) (C.n_of code.now) label.now bytes trailer.now.digests.items writers.now
+        → length bytes ≡ pieces.now.trailer.now.len
+        → HavePieces C.number (C.k_of code.now) (C.n_of code.now) label.now bytes
+        pieces.now.trailer.now.digests.items writers.now
         → joined.items ≡ bytes) }
     ensures memory { IfErr result (λ e. (bytes : List ℕ) → ((i : ℕ) → get_or bytes i 0 < 256)
-        → length bytes ≡ trailer.now.len
-        → HavePieces C.number (C.k_of code.now) (C.n_of code.now) label.now bytes trailer.now.digests.items writers.now
+        → length bytes ≡ pieces.now.trailer.now.len
+        → HavePieces C.number (C.k_of code.now) (C.n_of code.now) label.now bytes
+        pieces.now.trailer.now.digests.items writers.now
         → e ≡ StreamError.Memory) }
 {
-    let _ = code.n();
-    let mut readers = readers_of(alloc, writers, chosen, HEADER + label.len())?;
-    let pieces = ChosenPieces {
-        places: chosen,
-        trailer,
-    };
+    let mut readers = readers_of(alloc, writers, pieces.places, HEADER + label.len())?;
     let mut sink = ListSink::new(alloc);
-    match join_into(alloc, code, &pieces, readers.as_mut_slice(), &mut sink) {
+    match join_into(alloc, code, pieces, readers.as_mut_slice(), &mut sink) {
         Ok(()) => Ok(sink.bytes),
         Err(error) => Err(in_memory(error)),
     }

@@ -17,11 +17,11 @@ returns-in-Ok-clause-same g c = λ bytes small size pieces.
     let n = code.n_of c.args.code.now in
     let label = c.args.label.now in
     let writers = c.args.writers.now in
-    let places = c.args.chosen.now in
+    let places = c.args.pieces.now.places.now in
     let each = subst (λ (rs : List (PieceReader (Bor (List ℕ)))). (a : ℕ) (w : PieceWriter ListSink) (d : PieceReader (Bor (List ℕ))) → a < length places
     → HasPassed (piece_sink (get_or writers (get_or places a 0) w)).bytes.items (24 + length label) (get_or rs a d) (piece_source (get_or rs a d)).now) (sym c.as_mut_slice.ensures.value) c.in_ok-readers.ensures.each in
     c.in-Ok.ensures.known bytes small size
-    (bodies_left code.number k n label bytes c.args.trailer.now.digests.items places writers c.as_mut_slice.result.now (24 + length label) refl c.requires.count c.requires.enough c.requires.below pieces each)
+    (bodies_left code.number k n label bytes c.args.pieces.now.trailer.now.digests.items places writers c.as_mut_slice.result.now (24 + length label) refl c.requires.count c.requires.enough c.requires.below pieces each)
     ∙ ap (λ (xs : List ℕ). xs ++ bytes) c.new-sink.ensures
 
 pub returns-clause-memory : goal.returns-clause-memory
@@ -30,9 +30,9 @@ returns-clause-memory g c = λ bytes small size pieces.
     let k = code.k_of c.args.code.now in
     let n = code.n_of c.args.code.now in
     let label = c.args.label.now in
-    let digests = c.args.trailer.now.digests.items in
+    let digests = c.args.pieces.now.trailer.now.digests.items in
     let writers = c.args.writers.now in
-    let places = c.args.chosen.now in
+    let places = c.args.pieces.now.places.now in
     let old = c.as_mut_slice.result.now in
     let each = subst (λ (rs : List (PieceReader (Bor (List ℕ)))). (a : ℕ) (w : PieceWriter ListSink) (d : PieceReader (Bor (List ℕ))) → a < length places
     → HasPassed (piece_sink (get_or writers (get_or places a 0) w)).bytes.items (24 + length label) (get_or rs a d) (piece_source (get_or rs a d)).now) (sym c.as_mut_slice.ensures.value) c.in_ok-readers.ensures.each in
