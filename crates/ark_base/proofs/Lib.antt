@@ -2,6 +2,7 @@
 pub mod Element
 pub mod Element32
 pub mod ElementBytes
+pub mod Numerals
 pub mod Reductions
 pub mod WordReduction
 pub use Rattle.ark_traits.proofs.Cost

@@ -14,6 +14,7 @@ pub mod ElementLaws
 pub mod Element32
 pub mod Element32Laws
 pub mod ElementBytes
+pub mod Numerals
 pub use Rattle.ark_bytes.specs.Either
 pub use Rattle.ark_bytes.specs.IoSink
 pub use Rattle.ark_bytes.specs.IoSource

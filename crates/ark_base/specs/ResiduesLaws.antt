@@ -82,7 +82,7 @@ module _ {F : Type 0} {p : ℕ} (N : Numbering F p) (P : IsPrime p) where
       times_number x (power K x n) ∙ ap (λ v. (N.number x * v) % p) (power_number x n)
       ∙ mul-mod_second (N.number x) (N.number x ^ n) p ∙ ap (λ v. v % p) (sym (pow-succ' (N.number x) n))
 
-  natural_number : (n : ℕ) → N.number (natural K n) ≡ n % p
+  pub natural_number : (n : ℕ) → N.number (natural K n) ≡ n % p
   natural_number zero = number_of_zero ∙ sym (zero-mod p)
   natural_number (suc n) =
       plus_number (natural K n) K.one ∙ ap (λ v. (v + N.number K.one) % p) (natural_number n) ∙ ap (λ v. (n % p + v) % p) number_of_one

@@ -6,6 +6,7 @@ mod laws;
 mod montgomery32;
 mod prime_field;
 mod prime_field32;
+mod prime_numbers;
 
 pub use ark_traits::{
     CanonicalDeserialize, CanonicalSerialize, Compress, DomainCoeff, Either, Failed, FftField,
@@ -21,3 +22,4 @@ pub use prime_field::{
     F5, F433, F65537, Modulus5, Modulus433, Modulus65537, PrimeField, PrimeModulus,
 };
 pub use prime_field32::{PrimeField32, PrimeModulus32};
+pub use prime_numbers::PrimeNumbers;

@@ -12,10 +12,13 @@ ghost use Rattle.ark_base.specs.ModulusLaws.{modulus_from_parts};
 
 mod bytes;
 
+use crate::prime_numbers::{PrimeNumbers, hexadecimal};
 use ark_traits::{DomainCoeff, FftField, Field, One, Zero};
 use rand::{Rng, RngExt};
-use std::alloc::AllocError;
+use std::alloc::{AllocError, Global};
 use std::default::Default;
+use std::fmt;
+use std::fmt::{Display, Formatter, Write};
 use std::marker::PhantomData;
 use std::ops::{Add, AddAssign, Mul, MulAssign, Neg, Sub, SubAssign};
 
@@ -243,6 +246,18 @@ impl<M: PrimeModulus> PrimeField<M> {
             },
             marker: PhantomData,
         }
+    }
+}
+
+/// The number below the prime, in decimal.
+impl<M: PrimeModulus> Display for PrimeField<M> {
+    ghost use Rattle.ark_base.specs.Element.{number};
+    ghost use Rattle.ark_base.specs.Numerals.{decimal_text};
+
+    ghost output = { λ x. Some (decimal_text (number x)) };
+
+    fn fmt<W: Write>(&self, f: &mut Formatter<W>) -> fmt::Result {
+        Display::fmt(&self.value, f)
     }
 }
 
@@ -591,6 +606,30 @@ impl<M: PrimeModulus> FftField for PrimeField<M> {
     ghost generator_law = { generator_not_zero _ _ M.modulus };
 
     ghost itself_law = { prime_itself _ _ M.modulus };
+}
+
+impl<M: PrimeModulus> PrimeNumbers for PrimeField<M> {
+    ghost use Rattle.ark_base.specs.Element.{numbering};
+
+    ghost modulus = { M.MODULUS };
+
+    ghost prime = { M.modulus.prime };
+
+    ghost numbering = { numbering };
+
+    ghost generator = { M.GENERATOR };
+
+    fn to_hex(self, alloc: Global) -> Result<String, AllocError> {
+        hexadecimal(alloc, self.value)
+    }
+
+    ghost field_law = { refl };
+
+    ghost generator_law = { refl };
+
+    ghost root_law = { λ n. refl };
+
+    ghost display_law = { λ x. refl };
 }
 
 /// The prime 5.

@@ -11,13 +11,14 @@ mod bytes;
 
 use crate::montgomery32;
 use crate::montgomery32::{negated, plus, product};
+use crate::prime_numbers::{PrimeNumbers, hexadecimal};
 use ark_traits::{DomainCoeff, FftField, Field, One, Zero};
 use rand::{Rng, RngExt};
-use std::alloc::AllocError;
+use std::alloc::{AllocError, Global};
 use std::cmp::Ordering;
 use std::default::Default;
 use std::fmt;
-use std::fmt::{Debug, Formatter, Write};
+use std::fmt::{Debug, Display, Formatter, Write};
 use std::hash::{Hash, Hasher};
 use std::marker::PhantomData;
 use std::ops::{Add, AddAssign, Mul, MulAssign, Neg, Sub, SubAssign};
@@ -202,6 +203,19 @@ impl<M: PrimeModulus32> PartialOrd for PrimeField32<M> {
 impl<M: PrimeModulus32> Debug for PrimeField32<M> {
     fn fmt<W: Write>(&self, f: &mut Formatter<W>) -> fmt::Result {
         write!(f, "{}", self.value())
+    }
+}
+
+/// The number below the prime, in decimal.
+impl<M: PrimeModulus32> Display for PrimeField32<M> {
+    ghost use Rattle.std.specs.Prelude.{Some};
+    ghost use Rattle.ark_base.specs.Element32.{number};
+    ghost use Rattle.ark_base.specs.Numerals.{decimal_text};
+
+    ghost output = { λ x. Some (decimal_text (number x)) };
+
+    fn fmt<W: Write>(&self, f: &mut Formatter<W>) -> fmt::Result {
+        Display::fmt(&self.value(), f)
     }
 }
 
@@ -547,4 +561,28 @@ impl<M: PrimeModulus32> FftField for PrimeField32<M> {
     ghost generator_law = { generator_not_zero (numbering M.modulus) M.modulus.numbers };
 
     ghost itself_law = { residues_itself (numbering M.modulus) M.modulus.numbers.prime };
+}
+
+impl<M: PrimeModulus32> PrimeNumbers for PrimeField32<M> {
+    ghost use Rattle.ark_base.specs.Element32.{numbering};
+
+    ghost modulus = { M.MODULUS };
+
+    ghost prime = { M.modulus.numbers.prime };
+
+    ghost numbering = { numbering M.modulus };
+
+    ghost generator = { M.GENERATOR };
+
+    fn to_hex(self, alloc: Global) -> Result<String, AllocError> {
+        hexadecimal(alloc, self.value() as u64)
+    }
+
+    ghost field_law = { refl };
+
+    ghost generator_law = { (numbering M.modulus).number_of _ M.modulus.numbers.generator.powers.below };
+
+    ghost root_law = { λ n. refl };
+
+    ghost display_law = { λ x. refl };
 }

@@ -112,7 +112,7 @@ module _ {F M : Type 0} {K : FieldOn F} {V : ModuleOn F M} (N : IsField K) (L : 
       ∙ ap (V.scale (power K y j)) (sym (e j l))))
 
   -- the transform at w, in reversed order, from those of the sums and of the differences at w ^ 2
-  level_at : (k : ℕ) (w : F) (f g h r : ℕ → M) → power K w (2 ^ k) ≡ K.negated K.one → ((j : ℕ) → j < 2 ^ k → IsButterfly V (power K w j) (f j) (f (2 ^ k + j)) (g j) (h j)) → AreReversed K V k (power K w 2) g r → AreReversed K V k (power K w 2) h (λ p. r (2 ^ k + p)) → (p : ℕ) → Half k p → r p ≡ dft_at K V (2 ^ suc k) w f (reversed (suc k) p)
+  pub level_at : (k : ℕ) (w : F) (f g h r : ℕ → M) → power K w (2 ^ k) ≡ K.negated K.one → ((j : ℕ) → j < 2 ^ k → IsButterfly V (power K w j) (f j) (f (2 ^ k + j)) (g j) (h j)) → AreReversed K V k (power K w 2) g r → AreReversed K V k (power K w 2) h (λ p. r (2 ^ k + p)) → (p : ℕ) → Half k p → r p ≡ dft_at K V (2 ^ suc k) w f (reversed (suc k) p)
   level_at k w f g h r half butterflies of_lo of_hi _ (low p l) =
       let halves : 2 ^ k + 2 ^ k ≡ 2 ^ suc k = omega (arith, pow_twice k) in
       of_lo p l

@@ -1,4 +1,5 @@
--- The words of the kernels' contracts: the domain that a coset is, and its bytes, tables of roots, parts joined, the elements that are left, growths of counts.
+-- The words of the kernels' contracts: the domain that a coset is, and its bytes, tables of roots, columns of two levels, parts joined, the elements that are left, growths of counts.
+pub mod Columns
 pub mod Coset
 pub mod CosetBytes
 pub mod Elements

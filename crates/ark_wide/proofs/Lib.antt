@@ -7,3 +7,4 @@ pub mod Constants
 pub mod ElementBytes
 pub mod Draws
 pub mod FourWords
+pub mod Numerals

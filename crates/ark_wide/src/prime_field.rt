@@ -13,14 +13,15 @@ mod bytes;
 
 use crate::montgomery;
 use crate::montgomery::{negated, plus, product};
-use crate::words::{BigInteger256, compare, is_below, less, of_word};
+use crate::words::{BigInteger256, Hexadecimal, compare, is_below, less, of_word};
+use ark_base::PrimeNumbers;
 use ark_traits::{DomainCoeff, FftField, Field, One, Zero};
 use rand::Rng;
-use std::alloc::AllocError;
+use std::alloc::{AllocError, Global};
 use std::cmp::Ordering;
 use std::default::Default;
 use std::fmt;
-use std::fmt::{Debug, Formatter, Write};
+use std::fmt::{Debug, Display, Formatter, Write};
 use std::hash::{Hash, Hasher};
 use std::marker::PhantomData;
 use std::ops::{Add, AddAssign, Mul, MulAssign, Neg, Sub, SubAssign};
@@ -296,6 +297,19 @@ impl<M: PrimeModulus256> Debug for PrimeField256<M> {
             "0x{:016x}{:016x}{:016x}{:016x}",
             number.w3, number.w2, number.w1, number.w0
         )
+    }
+}
+
+/// The number below the prime, in decimal.
+impl<M: PrimeModulus256> Display for PrimeField256<M> {
+    ghost use Rattle.std.specs.Prelude.{Some};
+    ghost use Rattle.ark_base.specs.Numerals.{decimal_text};
+    ghost use Rattle.ark_wide.specs.Element.{number};
+
+    ghost output = { λ x. Some (decimal_text (number x)) };
+
+    fn fmt<W: Write>(&self, f: &mut Formatter<W>) -> fmt::Result {
+        Display::fmt(&self.into_bigint(), f)
     }
 }
 
@@ -647,6 +661,31 @@ impl<M: PrimeModulus256> FftField for PrimeField256<M> {
     ghost generator_law = { generator_not_zero (numbering M.modulus) M.modulus.numbers };
 
     ghost itself_law = { residues_itself (numbering M.modulus) M.modulus.numbers.prime };
+}
+
+impl<M: PrimeModulus256> PrimeNumbers for PrimeField256<M> {
+    ghost use Rattle.std.specs.Prelude.{refl};
+    ghost use Rattle.ark_wide.specs.Element.{numbering};
+
+    ghost modulus = { M.MODULUS };
+
+    ghost prime = { M.modulus.numbers.prime };
+
+    ghost numbering = { numbering M.modulus };
+
+    ghost generator = { M.GENERATOR };
+
+    fn to_hex(self, alloc: Global) -> Result<String, AllocError> {
+        Hexadecimal(self.into_bigint()).to_string(alloc)
+    }
+
+    ghost field_law = { refl };
+
+    ghost generator_law = { (numbering M.modulus).number_of _ M.modulus.numbers.generator.powers.below };
+
+    ghost root_law = { λ n. refl };
+
+    ghost display_law = { λ x. refl };
 }
 
 // Four words of the generator as one number, the low one first.

@@ -6,8 +6,10 @@ ghost use Rattle.std.specs.Ordering.{nat_cmp};
 ghost use Rattle.ark_wide.specs.Words.{integer};
 
 mod bytes;
+mod numerals;
 
 pub use bytes::{read_words, write_words};
+pub use numerals::Hexadecimal;
 use std::cmp::Ordering;
 
 /// A number below 2^256, the low word first.
@@ -102,6 +104,29 @@ pub const fn add_multiple(t: BigInteger256, x: u64, a: BigInteger256) -> (BigInt
     let (w2, carry) = x.carrying_mul_add(a.w2, carry, t.w2);
     let (w3, carry) = x.carrying_mul_add(a.w3, carry, t.w3);
     (BigInteger256 { w0, w1, w2, w3 }, carry)
+}
+
+// The quotient and the remainder of a number by a word.
+pub const fn divided(a: BigInteger256, by: u64) -> (BigInteger256, u64)
+    requires { 0 < by }
+    ensures whole { integer result.0 * by + result.1 ≡ integer a }
+    ensures below { result.1 < by }
+{
+    let (w3, rest) = divided_word(0, a.w3, by);
+    let (w2, rest) = divided_word(rest, a.w2, by);
+    let (w1, rest) = divided_word(rest, a.w1, by);
+    let (w0, rest) = divided_word(rest, a.w0, by);
+    (BigInteger256 { w0, w1, w2, w3 }, rest)
+}
+
+// The quotient and the remainder of `word + 2^64 * high` by a word above `high`.
+const fn divided_word(high: u64, word: u64, by: u64) -> (u64, u64)
+    requires { high < by }
+    ensures whole { result.0 * by + result.1 ≡ word + 2 ^ 64 * high }
+    ensures below { result.1 < by }
+{
+    let number = word as u128 + (1 << 64) * high as u128;
+    ((number / by as u128) as u64, (number % by as u128) as u64)
 }
 
 // Whether one number is below another.

@@ -4,6 +4,7 @@ use ark_base::{
     FftField, Field, Lanes, PolyError, PrimeField, PrimeField32, PrimeModulus, PrimeModulus32,
 };
 use ark_rows::Row;
+use ark_wide::{PrimeField256, PrimeModulus256};
 use std::alloc::Global;
 use std::io::Print;
 use std::time::{Clock, Instant};
@@ -38,6 +39,14 @@ impl<M: PrimeModulus32> Counted for PrimeField32<M> {}
 impl<M: PrimeModulus32> Number for PrimeField32<M> {
     fn number(&self) -> u64 {
         self.value() as u64
+    }
+}
+
+impl<M: PrimeModulus256> Counted for PrimeField256<M> {}
+
+impl<M: PrimeModulus256> Number for PrimeField256<M> {
+    fn number(&self) -> u64 {
+        self.to_words()[0]
     }
 }
 

@@ -23,6 +23,7 @@ use ark_poly::{
     DenseMultilinearExtension, DenseUVPolynomial, EvaluationDomain, MixedRadixEvaluationDomain,
     MultilinearExtension, Radix2EvaluationDomain, SparseMultilinearExtension,
 };
+use ark_wide::Bls12_381Scalar;
 use at_points::{report_at_points, report_shares};
 use batches::{Counted, Number, Reporter};
 use bytes::{ReadBack, Written};
@@ -52,7 +53,8 @@ fn main(rt: HostRuntime) -> anyhow::Result<()> {
         alloc: rt.alloc(),
         timed,
     };
-    report_all::<F65537, F433, BabyBear, KoalaBear, Goldilocks, FileCode, HostRuntime>(&reporter)
+    report_all::<F65537, F433, BabyBear, KoalaBear, Goldilocks, FileCode, HostRuntime>(&reporter)?;
+    report_wide_field::<Bls12_381Scalar, HostRuntime>(&reporter)
 }
 
 // Everything, over a field with 2^16 units, one with mixed domains, and three with large domains; and the pieces of
@@ -115,6 +117,21 @@ fn report_large_field<F: Counted, R: Print + Clock>(
 ) -> anyhow::Result<()> {
     let mut draws = Draws::new();
     report_radix2::<F, R>(reporter, &mut draws, names, &[1 << 16, 1 << 20])
+}
+
+// A field of several words.
+fn report_wide_field<F: Counted, R: Print + Clock>(
+    reporter: &Reporter<'_, R>,
+) -> anyhow::Result<()> {
+    let mut draws = Draws::new();
+    let names = ["bls12_381_fft_in_place", "bls12_381_ifft_in_place"];
+    report_radix2::<F, R>(reporter, &mut draws, names, &[1 << 12])?;
+    if reporter.timed {
+        report_radix2::<F, R>(reporter, &mut draws, names, &[1 << 16, 1 << 20])?;
+        let name = (Way::Transforms, "bls12_381_dense_mul");
+        report_of_two::<F, R>(reporter, &mut draws, name, (1 << 15, 1 << 15))?;
+    }
+    Ok(())
 }
 
 fn report_mixed_radix<F: Counted, R: Print + Clock>(

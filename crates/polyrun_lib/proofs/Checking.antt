@@ -1,8 +1,6 @@
 -- What is written of rows, line by line, up to the end of the rows, a failure of the writer or want of memory.
-use Rattle.std.proofs.Common.{◌≡◌, ◌⊎◌, ◌≢◌, ℕ, ◌+◌, ◌<◌, Bool, true, false, List, [], ◌∷◌, ◌++◌, length, map, take, get_or, inl, inr, refl, sym, ap, ap₂, subst, ◌∙◌, suc, arith, append-nil, codes, ltb, ltb-true, ltb-false, IsTrue, ◌↔◌, true≢false, bytes_eq, string_bytes, Result, Ok, Err, not, zero, vec_items}
-use Rattle.std.specs.Prelude.{Vec}
+use Rattle.std.proofs.Common.{◌≡◌, ◌⊎◌, ◌≢◌, ℕ, ◌+◌, ◌<◌, Bool, true, false, List, [], ◌∷◌, ◌++◌, length, map, take, get_or, inl, inr, refl, sym, ap, ap₂, subst, ◌∙◌, suc, arith, append-nil, codes, ltb, ltb-true, ltb-false, IsTrue, ◌↔◌, true≢false, bytes_eq, string_bytes, Result, Ok, Err, not, zero}
 use Rattle.std.specs.List.{concat}
-use denote.Ref.{Bor}
 use Rattle.std.proofs.KnownBytes.{Appends-trans}
 use Rattle.std.proofs.lemmas.List.{append_cancel_right, length-map, length-take, take_more, take_all}
 use Rattle.std.proofs.lemmas.List.Folds.{concat-append}
@@ -18,7 +16,7 @@ use Rattle.polyrun_lib.specs.Written.{Writer, TookAll, TookBeginning, IsWritten,
 use Rattle.polyrun_lib.specs.Commands.{Command}
 use Rattle.polyrun_lib.specs.Outcome.{MayRefuse, IsOutcome, IsOutcomeOf}
 use Rattle.polyrun_lib.specs.Vectors.{Row}
-use Rattle.polyrun_lib.specs.Check.{row_of, shown_row, IsVectors, IsVerdict, HasLine, EndsAt, AreVerdicts, lines_from, lines_text, status_of, MayCheck}
+use Rattle.polyrun_lib.specs.Check.{IsVectors, IsVerdict, HasLine, EndsAt, AreVerdicts, lines_from, lines_text, status_of, MayCheck}
 
 -- ---- one more verdict
 
@@ -166,31 +164,31 @@ ends_failed field row n good line old new result verdict is (inr failed) e = inr
 -- ---- a verdict
 
 -- the answer of other words
-verdict-answer : (field word : List ℕ) (words : List (List ℕ)) (text answer line : List ℕ) (status : ℕ) (is good : Bool) → IsTrue is ↔ IsVectors words → is ≡ false → word ≡ field → IsPlainAnswer (word ∷ words) answer status
+verdict-answer : (field : List ℕ) (words : List (List ℕ)) (text answer line : List ℕ) (status : ℕ) (is good : Bool) → IsTrue is ↔ IsVectors words → is ≡ false → IsPlainAnswer (field ∷ words) answer status
     → line ≡ answer → IsTrue good ↔ (line ≡ ended text) → IsVerdict field (words, text) good
-verdict-answer field word words text answer line status is good tells e same plain lines good_tells = inr (
+verdict-answer field words text answer line status is good tells e plain lines good_tells = inr (
   (λ vectors. true≢false (sym (tells.1 vectors) ∙ e)),
-  (line, status, subst (λ a. IsPlainAnswer (field ∷ words) a status) (sym lines) (subst (λ w. IsPlainAnswer (w ∷ words) answer status) same plain), good_tells),
+  (line, status, subst (λ a. IsPlainAnswer (field ∷ words) a status) (sym lines) plain, good_tells),
 )
 
-pub verdict-text : (field word : List ℕ) (words : List (List ℕ)) (text line : List ℕ) (outcome : Result (String Global) PolyError) (answer : String Global) (is good : Bool) → IsTrue is ↔ IsVectors words → is ≡ false → word ≡ field
-    → IsOutcomeOf (word ∷ words) outcome → outcome ≡ Ok answer → line ≡ string_bytes answer → IsTrue good ↔ (line ≡ ended text) → IsVerdict field (words, text) good
-verdict-text field word words text line outcome answer is good tells e same of is_ok lines good_tells =
-    verdict-answer field word words text (string_bytes answer) line 0 is good tells e same (inl (of.0, of.1, of.2, inl (subst (IsOutcome of.0 of.1) is_ok of.3, refl))) lines good_tells
+pub verdict-text : (field : List ℕ) (words : List (List ℕ)) (text line : List ℕ) (outcome : Result (String Global) PolyError) (answer : String Global) (is good : Bool) → IsTrue is ↔ IsVectors words → is ≡ false
+    → IsOutcomeOf (field ∷ words) outcome → outcome ≡ Ok answer → line ≡ string_bytes answer → IsTrue good ↔ (line ≡ ended text) → IsVerdict field (words, text) good
+verdict-text field words text line outcome answer is good tells e of is_ok lines good_tells =
+    verdict-answer field words text (string_bytes answer) line 0 is good tells e (inl (of.0, of.1, of.2, inl (subst (IsOutcome of.0 of.1) is_ok of.3, refl))) lines good_tells
 
-pub verdict-error : (field word : List ℕ) (words : List (List ℕ)) (text line : List ℕ) (outcome : Result (String Global) PolyError) (error : PolyError) (is good : Bool) → IsTrue is ↔ IsVectors words → is ≡ false → word ≡ field
-    → IsOutcomeOf (word ∷ words) outcome → outcome ≡ Err error → error ≢ Memory → line ≡ refusal_line_of error → IsTrue good ↔ (line ≡ ended text) → IsVerdict field (words, text) good
-verdict-error field word words text line outcome error is good tells e same of is_err other lines good_tells =
-    verdict-answer field word words text (refusal_line_of error) line 1 is good tells e same (by_cause (subst (IsOutcome of.0 of.1) is_err of.3)) lines good_tells
+pub verdict-error : (field : List ℕ) (words : List (List ℕ)) (text line : List ℕ) (outcome : Result (String Global) PolyError) (error : PolyError) (is good : Bool) → IsTrue is ↔ IsVectors words → is ≡ false
+    → IsOutcomeOf (field ∷ words) outcome → outcome ≡ Err error → error ≢ Memory → line ≡ refusal_line_of error → IsTrue good ↔ (line ≡ ended text) → IsVerdict field (words, text) good
+verdict-error field words text line outcome error is good tells e of is_err other lines good_tells =
+    verdict-answer field words text (refusal_line_of error) line 1 is good tells e (by_cause (subst (IsOutcome of.0 of.1) is_err of.3)) lines good_tells
   where
-    by_cause : MayRefuse of.0 of.1 error → IsPlainAnswer (word ∷ words) (refusal_line_of error) 1
+    by_cause : MayRefuse of.0 of.1 error → IsPlainAnswer (field ∷ words) (refusal_line_of error) 1
     by_cause (inl refuses) = inl (of.0, of.1, of.2, inr (error, refuses, refl, refl))
     by_cause (inr memory) = absurd (other memory.1)
 
-pub verdict-usage : (field word : List ℕ) (words : List (List ℕ)) (text line : List ℕ) (is good : Bool) → IsTrue is ↔ IsVectors words → is ≡ false → word ≡ field
-    → ((f : Known) (c : Command) → IsCommand (word ∷ words) f c → ⊥) → line ≡ usage_text → IsTrue good ↔ (line ≡ ended text) → IsVerdict field (words, text) good
-verdict-usage field word words text line is good tells e same none lines good_tells =
-    verdict-answer field word words text usage_text line 2 is good tells e same (inr (none, refl, refl)) lines good_tells
+pub verdict-usage : (field : List ℕ) (words : List (List ℕ)) (text line : List ℕ) (is good : Bool) → IsTrue is ↔ IsVectors words → is ≡ false
+    → ((f : Known) (c : Command) → IsCommand (field ∷ words) f c → ⊥) → line ≡ usage_text → IsTrue good ↔ (line ≡ ended text) → IsVerdict field (words, text) good
+verdict-usage field words text line is good tells e none lines good_tells =
+    verdict-answer field words text usage_text line 2 is good tells e (inr (none, refl, refl)) lines good_tells
 
 -- two texts are one where their bytes are
 bytes-tell : (a b : List ℕ) (same : Bool) → same ≡ bytes_eq a b → IsTrue same ↔ (a ≡ b)

@@ -1,10 +1,10 @@
 -- Words have at most one answer, and rows at most one verdict each.
-use Rattle.std.proofs.Common.{◌≡◌, ℕ, Bool, true, false, IsTrue, eqb, if◌then◌else◌, List, [], ◌∷◌, length, get_or, inl, inr, refl, sym, ap, ap₂, subst, ◌∙◌}
+use Rattle.std.proofs.Common.{◌≡◌, ℕ, Bool, true, false, IsTrue, List, [], ◌∷◌, get_or, inl, inr, refl, sym, ap, ap₂, subst, ◌∙◌}
 use Rattle.polyrun_lib.specs.Commands.{Command}
-use Rattle.polyrun_lib.specs.Vectors.{Row, rows_5, rows_433, rows_65537, HasRows}
-use Rattle.polyrun_lib.specs.Answer.{Known, field_5, field_433, field_65537, Names, Writes, IsPlainAnswer, HasAtMostOne}
+use Rattle.polyrun_lib.specs.Vectors.{Row, rows_5, rows_433, rows_65537, rows_babybear, rows_koalabear, rows_goldilocks, rows_bls12_381, rows_bn254, HasRows}
+use Rattle.polyrun_lib.specs.Answer.{Known, field_5, field_433, field_65537, babybear, koalabear, goldilocks, bls12_381, bn254, Names, Writes, IsPlainAnswer, HasAtMostOne}
 use Rattle.polyrun_lib.specs.Check.{IsVerdict, AreVerdicts, lines_text, status_of, IsChecked, IsAnswer}
-use Rattle.polyrun_lib.proofs.OneCommand.{one_command}
+use Rattle.polyrun_lib.proofs.OneCommand.{by_name, one_command}
 
 -- the commands over a field write at most one text each
 abbrev pub WritesOne : Known → Type 0
@@ -15,27 +15,39 @@ same_truth true b f h = f refl
 same_truth false true f h = sym (h refl)
 same_truth false false f h = refl
 
--- a field's name tells its rows by its length
+-- a field's name tells its rows
 rows_of : List ℕ → List Row
-rows_of field = if eqb (length field) 1 then rows_5 else if eqb (length field) 3 then rows_433 else rows_65537
+rows_of = by_name rows_5 rows_433 rows_65537 rows_babybear rows_koalabear rows_goldilocks rows_bls12_381 rows_bn254
 
 rows_named : (field : List ℕ) (rows : List Row) → HasRows field rows → rows ≡ rows_of field
 unfolding rows_of
 rows_named field rows (inl is) = is.1 ∙ ap rows_of (sym is.0)
 rows_named field rows (inr (inl is)) = is.1 ∙ ap rows_of (sym is.0)
-rows_named field rows (inr (inr is)) = is.1 ∙ ap rows_of (sym is.0)
+rows_named field rows (inr (inr (inl is))) = is.1 ∙ ap rows_of (sym is.0)
+rows_named field rows (inr (inr (inr (inl is)))) = is.1 ∙ ap rows_of (sym is.0)
+rows_named field rows (inr (inr (inr (inr (inl is))))) = is.1 ∙ ap rows_of (sym is.0)
+rows_named field rows (inr (inr (inr (inr (inr (inl is)))))) = is.1 ∙ ap rows_of (sym is.0)
+rows_named field rows (inr (inr (inr (inr (inr (inr (inl is))))))) = is.1 ∙ ap rows_of (sym is.0)
+rows_named field rows (inr (inr (inr (inr (inr (inr (inr is))))))) = is.1 ∙ ap rows_of (sym is.0)
 
-module _ (first : WritesOne field_5) (second : WritesOne field_433) (third : WritesOne field_65537) where
-  over : (word : List ℕ) (f : Known) → Names word f → WritesOne f
-  over word f (inl is) = subst WritesOne (sym is.1) first
-  over word f (inr (inl is)) = subst WritesOne (sym is.1) second
-  over word f (inr (inr is)) = subst WritesOne (sym is.1) third
+-- each field that has a name is one of these
+pub each_by_name : WritesOne field_5 → WritesOne field_433 → WritesOne field_65537 → WritesOne babybear → WritesOne koalabear → WritesOne goldilocks → WritesOne bls12_381 → WritesOne bn254
+    → (word : List ℕ) (f : Known) → Names word f → WritesOne f
+each_by_name a b c d e h i j word f (inl is) = subst WritesOne (sym is.1) a
+each_by_name a b c d e h i j word f (inr (inl is)) = subst WritesOne (sym is.1) b
+each_by_name a b c d e h i j word f (inr (inr (inl is))) = subst WritesOne (sym is.1) c
+each_by_name a b c d e h i j word f (inr (inr (inr (inl is)))) = subst WritesOne (sym is.1) d
+each_by_name a b c d e h i j word f (inr (inr (inr (inr (inl is))))) = subst WritesOne (sym is.1) e
+each_by_name a b c d e h i j word f (inr (inr (inr (inr (inr (inl is)))))) = subst WritesOne (sym is.1) h
+each_by_name a b c d e h i j word f (inr (inr (inr (inr (inr (inr (inl is))))))) = subst WritesOne (sym is.1) i
+each_by_name a b c d e h i j word f (inr (inr (inr (inr (inr (inr (inr is))))))) = subst WritesOne (sym is.1) j
 
+module _ (each : (word : List ℕ) (f : Known) → Names word f → WritesOne f) where
   one_plain_answer : (words : List (List ℕ)) → HasAtMostOne (IsPlainAnswer words)
   one_plain_answer words text other status ending (inl a) (inl b) =
       let same = one_command words a.0 b.0 a.1 b.1 a.2 b.2 in
       let writes = subst (λ f. Writes f a.1 other ending) same.0 (subst (λ c. Writes b.0 c other ending) same.1 b.3) in
-      over a.2.0 a.0 a.2.3 a.1 text other status ending a.3 writes
+      each a.2.0 a.0 a.2.3 a.1 text other status ending a.3 writes
   one_plain_answer words text other status ending (inl a) (inr b) = absurd (b.0 a.0 a.1 a.2)
   one_plain_answer words text other status ending (inr a) (inl b) = absurd (a.0 b.0 b.1 b.2)
   one_plain_answer words text other status ending (inr a) (inr b) = (b.1 ∙ sym a.1, b.2 ∙ sym a.2)

@@ -1,21 +1,37 @@
 -- Words are at most one command, over at most one field.
-use Rattle.std.proofs.Common.{◌≡◌, ℕ, eqb, if◌then◌else◌, List, [], length, get_or, drop, sym, ap, ◌∙◌, inl, inr}
+use Rattle.std.proofs.Common.{◌≡◌, ℕ, eqb, if◌then◌else◌, List, [], get_or, drop, sym, ap, ◌∙◌, inl, inr}
 use Rattle.std.specs.List.{filter_map}
 use Rattle.std.specs.Str.Parse.{digits_value}
 use Rattle.polyrun_lib.specs.declared.command.Direction.TheVariants.{Forward, Inverse}
 use Rattle.polyrun_lib.specs.Commands.{Command, transform_of, product_of, division_of, value_of, extension_of, size_for, command_name, Takes, Reads}
-use Rattle.polyrun_lib.specs.Answer.{Known, field_5, field_433, field_65537, Names, IsCommand}
+use Rattle.polyrun_lib.specs.Answer.{Known, field_5, field_433, field_65537, babybear, koalabear, goldilocks, bls12_381, bn254, Names, IsCommand}
 use Rattle.polyrun_lib.proofs.Reading.{pieces, number_in, filter_map-pieces}
 
--- a field's name tells it by its length
+-- what is told by a field's name: its first two bytes are enough
+abbrev pub by_name : {A : Type 0} → A → A → A → A → A → A → A → A → List ℕ → A
+by_name a5 a433 a65537 a_babybear a_koalabear a_goldilocks a_bls12_381 a_bn254 name =
+    if eqb (get_or name 0 0) 53 then a5
+    else if eqb (get_or name 0 0) 52 then a433
+    else if eqb (get_or name 0 0) 54 then a65537
+    else if eqb (get_or name 0 0) 107 then a_koalabear
+    else if eqb (get_or name 0 0) 103 then a_goldilocks
+    else if eqb (get_or name 1 0) 97 then a_babybear
+    else if eqb (get_or name 1 0) 108 then a_bls12_381
+    else a_bn254
+
 field_of : List ℕ → Known
-field_of word = if eqb (length word) 1 then field_5 else if eqb (length word) 3 then field_433 else field_65537
+field_of = by_name field_5 field_433 field_65537 babybear koalabear goldilocks bls12_381 bn254
 
 named : (word : List ℕ) (f : Known) → Names word f → f ≡ field_of word
 unfolding field_of
 named word f (inl is) = is.1 ∙ ap field_of (sym is.0)
 named word f (inr (inl is)) = is.1 ∙ ap field_of (sym is.0)
-named word f (inr (inr is)) = is.1 ∙ ap field_of (sym is.0)
+named word f (inr (inr (inl is))) = is.1 ∙ ap field_of (sym is.0)
+named word f (inr (inr (inr (inl is)))) = is.1 ∙ ap field_of (sym is.0)
+named word f (inr (inr (inr (inr (inl is))))) = is.1 ∙ ap field_of (sym is.0)
+named word f (inr (inr (inr (inr (inr (inl is)))))) = is.1 ∙ ap field_of (sym is.0)
+named word f (inr (inr (inr (inr (inr (inr (inl is))))))) = is.1 ∙ ap field_of (sym is.0)
+named word f (inr (inr (inr (inr (inr (inr (inr is))))))) = is.1 ∙ ap field_of (sym is.0)
 
 -- the numbers of a word that spells a list
 list_in : List ℕ → List ℕ

@@ -1,7 +1,10 @@
 -- A word spells at most one number and at most one list, and the list is in the pieces between its commas.
-use Rattle.std.proofs.Common.{◌≡◌, ◌⊎◌, ◌↔◌, ℕ, ◌<◌, ◌≤◌, ◌^◌, Bool, true, false, cond, ◌&&◌, eqb, ltb, List, [], ◌∷◌, length, Option, Some, None, is_some, suc, IsTrue, IfSome, IfNone, sym, refl, ap, ap₂, ◌∙◌, inl, inr, arith, lt-ltb, ltb-true, ne_eqb, subst, lt_irrefl}
+use Rattle.std.proofs.Common.{◌≡◌, ◌⊎◌, ◌↔◌, ℕ, ◌%◌, ◌<◌, ◌≤◌, Bool, true, false, true≢false, cond, ◌&&◌, eqb, ltb, List, [], ◌∷◌, length, ◌++◌, append-nil, Option, Some, None, IsSome, option_map, map, suc, IsTrue, IfSome, IfNone, sym, refl, ap, ap₂, ◌∙◌, inl, inr, arith, lt-ltb, ltb-true, ne_eqb, subst, lt_irrefl}
+use denote.Ref.{Bor}
+use Rattle.std.proofs.lemmas.List.{map-append}
 use Rattle.std.specs.Bool.{MatchBool}
-use Rattle.std.specs.List.{All, AllWithin, HoldsAt, slice_split, filter_map}
+use Rattle.std.specs.List.{All, AllWithin, HoldsAt, slice_split, filter_map, cons_option}
+use Rattle.std.specs.Char.{digit_value, is_ascii_digit}
 use Rattle.std.specs.Str.{all_ascii_digits}
 use Rattle.std.specs.Str.Parse.{AllDigits, digits_value}
 use Rattle.std.proofs.lemmas.Bool.{and_from, and_parts, MatchBool-at_true}
@@ -9,11 +12,15 @@ use Rattle.std.proofs.lemmas.Iterator.Search.{true_from_All}
 use Rattle.std.proofs.lemmas.List.Elements.{All-nil, All-cons, All-head, All-tail, All-from_all_within}
 use Rattle.std.proofs.lemmas.List.Splits.{slice_split_none, slice_split_at, join_with_byte-slice_split}
 use Rattle.std.proofs.lemmas.Str.Parse.{IsNumeralModel, numerals_by_value, tells_all_ascii_digits, digit_from_value}
-use Rattle.polyrun_lib.specs.Words.{comma, joined, IsNumber, AreNumbers, IsList, SpellsList}
+use Rattle.ark_math.specs.Prime.{IsPrime}
+use Rattle.ark_base.specs.Residues.{Numbering, residue_of}
+use Rattle.ark_base.specs.ResiduesLaws.{number_of_residue}
+use Rattle.ark_base.specs.Numerals.{IsDecimal}
+use Rattle.polyrun_lib.specs.Words.{comma, joined, AreNumbers, IsList, SpellsNumber, SpellsList}
 
 -- a word spells at most one number
-pub IsNumber-same : (word : List ℕ) (m n : ℕ) → IsNumber word m → IsNumber word n → m ≡ n
-IsNumber-same word m n first second = first.value ∙ sym second.value
+pub IsDecimal-same : (word : List ℕ) (m n : ℕ) → IsDecimal word m → IsDecimal word n → m ≡ n
+IsDecimal-same word m n first second = first.value ∙ sym second.value
 
 pub AreNumbers-same : (words : List (List ℕ)) (ms ns : List ℕ) → AreNumbers words ms → AreNumbers words ns → ms ≡ ns
 AreNumbers-same [] [] [] first second = refl
@@ -21,7 +28,7 @@ AreNumbers-same [] [] (n ∷ ns) first second = absurd second
 AreNumbers-same [] (m ∷ ms) ns first second = absurd first
 AreNumbers-same (word ∷ words) [] ns first second = absurd first
 AreNumbers-same (word ∷ words) (m ∷ ms) [] first second = absurd second
-AreNumbers-same (word ∷ words) (m ∷ ms) (n ∷ ns) first second = ap₂ (λ x xs. x ∷ xs) (IsNumber-same word m n first.0 second.0) (AreNumbers-same words ms ns first.1 second.1)
+AreNumbers-same (word ∷ words) (m ∷ ms) (n ∷ ns) first second = ap₂ (λ x xs. x ∷ xs) (IsDecimal-same word m n first.0 second.0) (AreNumbers-same words ms ns first.1 second.1)
 
 -- the pieces of a word between its commas
 abbrev pub pieces : List ℕ → List (List ℕ)
@@ -90,7 +97,7 @@ no_numbers (b ∷ word) numbers none list = absurd (omega (arith, none))
 
 -- the number of a word that spells one, as a function
 is_number : List ℕ → Bool
-is_number word = all_ascii_digits word && (ltb 0 (length word) && ltb (digits_value 10 word) (2 ^ 64))
+is_number word = all_ascii_digits word && ltb 0 (length word)
 
 pub number_in : List ℕ → Option ℕ
 number_in word = cond (is_number word) (Some (digits_value 10 word)) None
@@ -98,29 +105,26 @@ number_in word = cond (is_number word) (Some (digits_value 10 word)) None
 digit_words : IsNumeralModel (λ ds. all_ascii_digits ds ≡ true) (digits_value 10)
 digit_words = numerals_by_value _ tells_all_ascii_digits
 
-is_number-true : (word : List ℕ) (n : ℕ) → IsNumber word n → is_number word ≡ true
+is_number-true : (word : List ℕ) (n : ℕ) → IsDecimal word n → is_number word ≡ true
 unfolding is_number
-is_number-true word n number = and_from _ _ (digit_words.from word number.digits.1) (and_from _ _ (lt-ltb 0 (length word) number.digits.0) (lt-ltb (digits_value 10 word) (2 ^ 64) (omega (arith, number.value, number.fits))))
+is_number-true word n number = and_from _ _ (digit_words.from word number.digits.1) (lt-ltb 0 (length word) number.digits.0)
 
-IsNumber-from_is_number : (word : List ℕ) → is_number word ≡ true → IsNumber word (digits_value 10 word)
+IsDecimal-from_is_number : (word : List ℕ) → is_number word ≡ true → IsDecimal word (digits_value 10 word)
 unfolding is_number
-IsNumber-from_is_number word test =
+IsDecimal-from_is_number word test =
     let both = and_parts _ _ test in
-    let bounds = and_parts _ _ both.1 in
-    record { digits = (ltb-true 0 (length word) bounds.0, digit_words.to word both.0); value = refl; fits = ltb-true (digits_value 10 word) (2 ^ 64) bounds.1 }
+    record { digits = (ltb-true 0 (length word) both.1, digit_words.to word both.0); value = refl }
 
-pub number_in-some : (word : List ℕ) (n : ℕ) → IsNumber word n → number_in word ≡ Some n
+pub number_in-some : (word : List ℕ) (n : ℕ) → IsDecimal word n → number_in word ≡ Some n
 unfolding number_in
 number_in-some word n number = rw (is_number-true word n number) (ap Some (sym number.value))
 
--- what `number` ensures of its answer makes it that of the function
-pub number_in-answer : (word : List ℕ) (answer : Option ℕ) → IfSome answer (IsNumber word) → IfNone answer ((n : ℕ) → IsNumber word n → ⊥) → answer ≡ number_in word
+number_in-none : (word : List ℕ) → ((n : ℕ) → IsDecimal word n → ⊥) → number_in word ≡ None
 unfolding number_in
-number_in-answer word (Some n) some none = sym (number_in-some word n some)
-number_in-answer word None some none = by_test (is_number word) refl
+number_in-none word none = by_test (is_number word) refl
   where
-    by_test : (b : Bool) → is_number word ≡ b → None ≡ number_in word
-    by_test true e = absurd (none _ (IsNumber-from_is_number word e))
+    by_test : (b : Bool) → is_number word ≡ b → number_in word ≡ None
+    by_test true e = absurd (none _ (IsDecimal-from_is_number word e))
     by_test false e = rw e refl
 
 filter_map-AreNumbers : (words : List (List ℕ)) (numbers : List ℕ) → AreNumbers words numbers → filter_map number_in words ≡ numbers
@@ -141,10 +145,6 @@ filter_map-pieces word numbers list = by_cases (pieces_from_IsList word numbers 
     by_cases (inl empty) = rw (empty.0, empty.1) none
     by_cases (inr are) = filter_map-AreNumbers (pieces word) numbers are
 
--- a word that spells some number
-abbrev pub SpellsNumber : List ℕ → Type 0
-SpellsNumber word = (n : ℕ) × IsNumber word n
-
 all_from_AreNumbers : (words : List (List ℕ)) (numbers : List ℕ) → AreNumbers words numbers → All SpellsNumber words
 all_from_AreNumbers [] numbers are = All-nil SpellsNumber
 all_from_AreNumbers (w ∷ ws) [] are = absurd are
@@ -157,17 +157,53 @@ AreNumbers-from_all (w ∷ ws) all =
     let rest = AreNumbers-from_all ws (All-tail SpellsNumber w ws all) in
     (first.0 ∷ rest.0, (first.1, rest.1))
 
--- what `number` answers tells whether a word spells a number
+-- a word spells no number
 abbrev pub SpellsNone : List ℕ → Type 0
-SpellsNone word = (n : ℕ) → IsNumber word n → ⊥
+SpellsNone word = SpellsNumber word → ⊥
 
-pub SpellsNumber-from_some : (answer : Option ℕ) (word : List ℕ) → IfSome answer (IsNumber word) → is_some answer ≡ true → SpellsNumber word
-SpellsNumber-from_some (Some n) word some test = (n, some)
-SpellsNumber-from_some None word some test = cc
+-- what `is_number` answers
+pub spelled_where_true : (answer : Bool) (word : List ℕ) → IsTrue answer ↔ SpellsNumber word → answer ≡ true → SpellsNumber word
+spelled_where_true answer word tells e = tells.0 e
 
-pub SpellsNone-from_none : (answer : Option ℕ) (word : List ℕ) → IfNone answer (SpellsNone word) → is_some answer ≡ false → SpellsNone word
-SpellsNone-from_none (Some n) word none test = cc
-SpellsNone-from_none None word none test = none
+pub unspelled_where_false : (answer : Bool) (word : List ℕ) → IsTrue answer ↔ SpellsNumber word → answer ≡ false → SpellsNone word
+unspelled_where_false answer word tells e spelled = true≢false (sym (tells.1 spelled) ∙ e)
+
+-- bytes that are digits, and bytes that are none
+abbrev pub IsDigit : ℕ → Type 0
+IsDigit b = digit_value b < 10
+
+abbrev pub IsNoDigit : ℕ → Type 0
+IsNoDigit b = IsDigit b → ⊥
+
+pub digit_where_true : (b : ℕ) → is_ascii_digit b ≡ true → IsDigit b
+digit_where_true b e = (digit_words.to (b ∷ []) (and_from _ _ e refl)).0
+
+pub no_digit_where_false : (b : ℕ) → is_ascii_digit b ≡ false → IsNoDigit b
+no_digit_where_false b e digit = true≢false (sym (and_parts _ _ (digit_words.from (b ∷ []) (digit, tt))).0 ∙ e)
+
+digits_from_all : (word : List ℕ) → All IsDigit word → AllDigits 10 word
+digits_from_all [] all = tt
+digits_from_all (b ∷ word) all = (All-head IsDigit b word all, digits_from_all word (All-tail IsDigit b word all))
+
+all_from_digits : (word : List ℕ) → AllDigits 10 word → All IsDigit word
+all_from_digits [] digits = All-nil IsDigit
+all_from_digits (b ∷ word) digits = All-cons IsDigit b word digits.0 (all_from_digits word digits.1)
+
+-- a word that is not empty spells a number exactly where each byte is a digit
+pub SpellsNumber-from_all : (word : List ℕ) (answer : Bool) → 0 < length word → MatchBool answer (AllWithin IsDigit word 0 (length word)) ((k : ℕ) × (k < length word) × HoldsAt IsNoDigit word k) → IsTrue answer ↔ SpellsNumber word
+SpellsNumber-from_all word answer some cases = (forward, backward)
+  where
+    forward : IsTrue answer → SpellsNumber word
+    forward told =
+        let digits = digits_from_all word (All-from_all_within IsDigit word (MatchBool-at_true _ _ told cases)) in
+        (digits_value 10 word, record { digits = (some, digits); value = refl })
+
+    backward : SpellsNumber word → IsTrue answer
+    backward spelled = true_from_All IsDigit IsNoDigit answer word (λ b digit none. none digit) cases (all_from_digits word spelled.1.digits.1)
+
+-- and the empty word spells none
+pub none_of_empty : (word : List ℕ) → length word ≡ 0 → SpellsNumber word → ⊥
+none_of_empty word empty spelled = let some = spelled.1.digits.0 in omega (arith, some, empty)
 
 -- a word that is not empty spells a list exactly where each piece spells a number
 pub SpellsList-from_all : (word : List ℕ) (answer : Bool) → (word ≡ [] → ⊥) → MatchBool answer (AllWithin SpellsNumber (pieces word) 0 (length (pieces word))) ((k : ℕ) × (k < length (pieces word)) × HoldsAt SpellsNone (pieces word) k) → IsTrue answer ↔ SpellsList word
@@ -180,11 +216,63 @@ SpellsList-from_all word answer some cases = (forward, backward)
 
     by_cases : (numbers : List ℕ) → ((word ≡ []) × (numbers ≡ [])) ⊎ AreNumbers (pieces word) numbers → IsTrue answer
     by_cases numbers (inl empty) = absurd (some empty.0)
-    by_cases numbers (inr are) = true_from_All SpellsNumber SpellsNone answer (pieces word) (λ w spelled unspelled. unspelled spelled.0 spelled.1) cases (all_from_AreNumbers (pieces word) numbers are)
+    by_cases numbers (inr are) = true_from_All SpellsNumber SpellsNone answer (pieces word) (λ w spelled unspelled. unspelled spelled) cases (all_from_AreNumbers (pieces word) numbers are)
 
     backward : SpellsList word → IsTrue answer
     backward list = by_cases list.0 (pieces_from_IsList word list.0 list.1)
 
--- the numbers of the pieces are the list that the word spells
-pub IsList-found : (word : List ℕ) → SpellsList word → (found : List ℕ) → found ≡ filter_map number_in (pieces word) → IsList word found
-IsList-found word list found e = rw (e, filter_map-pieces word list.0 list.1) list.1
+-- ---- elements
+
+cons_option-map : {B C : Type 0} (h : B → C) (o : Option B) (ys : List C) (xs : List B) → ys ≡ map h xs → cons_option (option_map h o) ys ≡ map h (cons_option o xs)
+cons_option-map h None ys xs e = e
+cons_option-map h (Some y) ys xs e = ap (λ l. h y ∷ l) e
+
+filter_map-option_map : {A B C : Type 0} (f : A → Option B) (h : B → C) (xs : List A) → filter_map (λ x. option_map h (f x)) xs ≡ map h (filter_map f xs)
+filter_map-option_map f h [] = refl
+filter_map-option_map f h (x ∷ xs) = cons_option-map h (f x) _ _ (filter_map-option_map f h xs)
+
+cons_option-append : {A : Type 0} (o : Option A) (xs ys : List A) → cons_option o xs ++ ys ≡ cons_option o (xs ++ ys)
+cons_option-append None xs ys = refl
+cons_option-append (Some x) xs ys = refl
+
+filter_map-push : {A B : Type 0} (f : A → Option B) (xs : List A) (x : A) → filter_map f (xs ++ x ∷ []) ≡ filter_map f xs ++ cons_option (f x) []
+filter_map-push f [] x = refl
+filter_map-push f (y ∷ ys) x = ap (cons_option (f y)) (filter_map-push f ys x) ∙ sym (cons_option-append (f y) (filter_map f ys) (cons_option (f x) []))
+
+module _ {F : Type 0} {p : ℕ} (N : Numbering F p) (P : IsPrime p) where
+  -- the element of a word that spells a number, as a function
+  abbrev pub element_in : List ℕ → Option F
+  element_in word = option_map (residue_of N P) (number_in word)
+
+  -- what `from_decimal` ensures of its answer makes it that of the function
+  pub element_in-answer : (word : List ℕ) (answer : Option F) → IfSome answer (λ x. (n : ℕ) × IsDecimal word n × (N.number x ≡ n % p)) → IfNone answer ((n : ℕ) → IsDecimal word n → ⊥) → answer ≡ element_in word
+  element_in-answer word (Some x) some none =
+      ap Some (N.same _ _ (some.2 ∙ sym (number_of_residue N P some.0))) ∙ ap (option_map (residue_of N P)) (sym (number_in-some word some.0 some.1))
+  element_in-answer word None some none = ap (option_map (residue_of N P)) (sym (number_in-none word none))
+
+  -- the elements of some parts of a word, and of one more
+  abbrev found_in : List (Bor (List ℕ)) → List F
+  found_in parts = filter_map element_in (map (λ part. part.now) parts)
+
+  found-push : (parts : List (Bor (List ℕ))) (part : Bor (List ℕ)) → found_in (parts ++ part ∷ []) ≡ found_in parts ++ cons_option (element_in part.now) []
+  found-push parts part =
+      ap (filter_map element_in) (map-append (λ part. part.now) parts (part ∷ [])) ∙ filter_map-push element_in (map (λ part. part.now) parts) part.now
+
+  pub found_more : (parts : List (Bor (List ℕ))) (part : Bor (List ℕ)) (element : F) (before after : List F) → before ≡ found_in parts → Some element ≡ element_in part.now
+      → after ≡ before ++ element ∷ [] → after ≡ found_in (parts ++ part ∷ [])
+  found_more parts part element before after so_far is e =
+      e ∙ ap₂ (λ l o. l ++ cons_option o []) so_far is ∙ sym (found-push parts part)
+
+  pub none_more : (parts : List (Bor (List ℕ))) (part : Bor (List ℕ)) (before : List F) (answer : Option F) → before ≡ found_in parts → answer ≡ element_in part.now → ((x : F) → answer ≡ Some x → ⊥)
+      → before ≡ found_in (parts ++ part ∷ [])
+  none_more parts part before None so_far is none = so_far ∙ sym (append-nil (found_in parts)) ∙ ap (λ o. found_in parts ++ cons_option o []) is ∙ sym (found-push parts part)
+  none_more parts part before (Some x) so_far is none = absurd (none x refl)
+
+  -- the elements of the pieces are those of the list that the word spells
+  pub elements_found : (word : List ℕ) (numbers : List ℕ) → IsList word numbers → filter_map element_in (pieces word) ≡ map (residue_of N P) numbers
+  elements_found word numbers list = filter_map-option_map number_in (residue_of N P) (pieces word) ∙ ap (map (residue_of N P)) (filter_map-pieces word numbers list)
+
+-- there is one for a word that spells a number
+pub some_element : {F : Type 0} (answer : Option F) (word : List ℕ) → IfNone answer ((n : ℕ) → IsDecimal word n → ⊥) → SpellsNumber word → IsSome answer
+some_element (Some x) word none spelled = refl
+some_element None word none spelled = absurd (none spelled.0 spelled.1)

@@ -1,9 +1,8 @@
 -- What the program answers to the words of one command.
-use Rattle.std.specs.Prelude.{◌≡◌, ◌≢◌, ℕ, ◌+◌, ◌-◌, ◌*◌, ◌/◌, ◌%◌, ◌<◌, ◌==◌, ◌⊎◌, Option, List, [], ◌∷◌, ◌++◌, Some, None, length, map, codes}
+use Rattle.std.specs.Prelude.{◌≡◌, ◌≢◌, ℕ, ◌+◌, ◌-◌, ◌*◌, ◌/◌, ◌%◌, ◌<◌, ◌==◌, ◌⊎◌, List, [], ◌∷◌, ◌++◌, Some, None, length, map, codes}
 use Rattle.ark_math.specs.Field.{FieldOn, power}
 use Rattle.ark_math.specs.Module.{itself}
 use Rattle.ark_math.specs.Root.{Adicity}
-use Rattle.ark_base.specs.Modulus.{IsModulus}
 use Rattle.ark_math.specs.Domain.{Kind, Domain, HasNoSize, IsGeneral}
 use Rattle.ark_math.specs.Transform.{transform, value_at, IsInverse}
 use Rattle.ark_math.specs.NormalForms.{trim}
@@ -28,21 +27,49 @@ pub record Known : Type 0 where
   pub adicity : Adicity
   pub generator : ℕ
 
--- the field of a modulus that was shown to be one
-abbrev pub known_by : {p g two_adic greatest : ℕ} {s : Adicity} {large : Option ℕ} → IsModulus 64 p s g two_adic large greatest → Known
-known_by {p = p} {g = g} {s = s} modulus = record { modulus = p; adicity = s; generator = g }
+abbrev pub known_by : ℕ → Adicity → ℕ → Known
+known_by modulus adicity generator = record { modulus = modulus; adicity = adicity; generator = generator }
+
+-- a field whose domains have a power of two of elements, of which the greatest is 2 ^ two
+abbrev pub with_powers_of_two : ℕ → ℕ → ℕ → Known
+with_powers_of_two modulus two generator = known_by modulus (record { two = two; odd = None }) generator
 
 abbrev pub field_5 : Known
-field_5 = record { modulus = 5; adicity = record { two = 2; odd = None }; generator = 2 }
+field_5 = with_powers_of_two 5 2 2
 
 abbrev pub field_433 : Known
-field_433 = record { modulus = 433; adicity = record { two = 4; odd = Some (3, 3) }; generator = 5 }
+field_433 = known_by 433 (record { two = 4; odd = Some (3, 3) }) 5
 
 abbrev pub field_65537 : Known
-field_65537 = record { modulus = 65537; adicity = record { two = 16; odd = None }; generator = 3 }
+field_65537 = with_powers_of_two 65537 16 3
+
+-- 15 * 2 ^ 27 + 1, 127 * 2 ^ 24 + 1 and 2 ^ 64 - 2 ^ 32 + 1
+abbrev pub babybear : Known
+babybear = with_powers_of_two 2013265921 27 31
+
+abbrev pub koalabear : Known
+koalabear = with_powers_of_two 2130706433 24 3
+
+abbrev pub goldilocks : Known
+goldilocks = with_powers_of_two 18446744069414584321 32 7
+
+-- the scalars of the curves
+abbrev pub bls12_381 : Known
+bls12_381 = with_powers_of_two 52435875175126190479447740508185965837690552500527637822603658699938581184513 32 7
+
+abbrev pub bn254 : Known
+bn254 = with_powers_of_two 21888242871839275222246405745257275088548364400416034343698204186575808495617 28 5
 
 abbrev pub Names : List ℕ → Known → Type 0
-Names word f = ((word ≡ codes "5") × (f ≡ field_5)) ⊎ ((word ≡ codes "433") × (f ≡ field_433)) ⊎ ((word ≡ codes "65537") × (f ≡ field_65537))
+Names word f =
+    ((word ≡ codes "5") × (f ≡ field_5))
+    ⊎ ((word ≡ codes "433") × (f ≡ field_433))
+    ⊎ ((word ≡ codes "65537") × (f ≡ field_65537))
+    ⊎ ((word ≡ codes "babybear") × (f ≡ babybear))
+    ⊎ ((word ≡ codes "koalabear") × (f ≡ koalabear))
+    ⊎ ((word ≡ codes "goldilocks") × (f ≡ goldilocks))
+    ⊎ ((word ≡ codes "bls12-381") × (f ≡ bls12_381))
+    ⊎ ((word ≡ codes "bn254") × (f ≡ bn254))
 
 abbrev pub operations : Known → FieldOn ℕ
 operations f = modulo f.modulus

@@ -1,5 +1,5 @@
 -- What is said of the rows of a table of answers, each on a line, and so what the program writes for `vectors`.
-use Rattle.std.specs.Prelude.{◌≡◌, ℕ, ◌+◌, ◌<◌, ◌⊎◌, ◌↔◌, Bool, true, false, IsTrue, Option, List, [], ◌∷◌, ◌++◌, length, take, map, codes, string_bytes, vec_items, Vec, String}
+use Rattle.std.specs.Prelude.{◌≡◌, ℕ, ◌+◌, ◌<◌, ◌⊎◌, ◌↔◌, Bool, true, false, IsTrue, List, [], ◌∷◌, ◌++◌, length, take, map, codes, string_bytes, vec_items, Vec, String}
 use Rattle.std.specs.List.{concat}
 use Rattle.std.specs.declared.alloc.Global.{Global}
 use denote.Ref.{Bor}

@@ -4,7 +4,8 @@ use Rattle.polyrun_lib.specs.declared.command.Direction.{Direction}
 use Rattle.polyrun_lib.specs.declared.command.Direction.TheVariants.{Forward, Inverse}
 use Rattle.polyrun_lib.specs.declared.command.Command.{Command as Parsed}
 use Rattle.polyrun_lib.specs.declared.command.Command.TheVariants.{Transform, Mul, Div, Eval, Mle, Size}
-use Rattle.polyrun_lib.specs.Words.{IsNumber, IsList}
+use Rattle.ark_base.specs.Numerals.{IsDecimal}
+use Rattle.polyrun_lib.specs.Words.{IsList}
 
 -- the transform of a list over the domain for k with the offset h, the product of two polynomials, the quotient and the
 -- remainder of the first of two by the second, a polynomial's value at a point, the value at a point of the extension of
@@ -32,7 +33,7 @@ command_name (size_for k) = codes "size"
 
 -- a size, an offset and a list
 abbrev pub AreTransformed : List (List ℕ) → ℕ → ℕ → List ℕ → Type 0
-AreTransformed words k h xs = (a : List ℕ) × (b : List ℕ) × (c : List ℕ) × (words ≡ a ∷ b ∷ c ∷ []) × IsNumber a k × IsNumber b h × IsList c xs
+AreTransformed words k h xs = (a : List ℕ) × (b : List ℕ) × (c : List ℕ) × (words ≡ a ∷ b ∷ c ∷ []) × IsDecimal a k × IsDecimal b h × IsList c xs
 
 -- two lists
 abbrev pub AreTwoLists : List (List ℕ) → List ℕ → List ℕ → Type 0
@@ -40,7 +41,7 @@ AreTwoLists words xs ys = (a : List ℕ) × (b : List ℕ) × (words ≡ a ∷ b
 
 -- a list and a point
 abbrev pub AreEvaluated : List (List ℕ) → List ℕ → ℕ → Type 0
-AreEvaluated words xs x = (a : List ℕ) × (b : List ℕ) × (words ≡ a ∷ b ∷ []) × IsList a xs × IsNumber b x
+AreEvaluated words xs x = (a : List ℕ) × (b : List ℕ) × (words ≡ a ∷ b ∷ []) × IsList a xs × IsDecimal b x
 
 -- a number of variables that is below 64, a value for each corner, and a point
 abbrev pub AreValuesAndPoint : ℕ → List ℕ → List ℕ → Type 0
@@ -48,12 +49,12 @@ AreValuesAndPoint n xs x = (n < 64) × (length xs ≡ 2 ^ n) × (length x ≡ n)
 
 -- the words for a number of variables, a value for each corner, and a point
 abbrev pub AreExtended : List (List ℕ) → ℕ → List ℕ → List ℕ → Type 0
-AreExtended words n xs x = (a : List ℕ) × (b : List ℕ) × (c : List ℕ) × (words ≡ a ∷ b ∷ c ∷ []) × IsNumber a n × IsList b xs × IsList c x
+AreExtended words n xs x = (a : List ℕ) × (b : List ℕ) × (c : List ℕ) × (words ≡ a ∷ b ∷ c ∷ []) × IsDecimal a n × IsList b xs × IsList c x
     × AreValuesAndPoint n xs x
 
 -- a number of coefficients
 abbrev pub AreSized : List (List ℕ) → ℕ → Type 0
-AreSized words k = (a : List ℕ) × (words ≡ a ∷ []) × IsNumber a k
+AreSized words k = (a : List ℕ) × (words ≡ a ∷ []) × IsDecimal a k
 
 -- the words after the command's name
 abbrev pub Takes : List (List ℕ) → Command → Type 0
@@ -68,17 +69,18 @@ Takes words (size_for k) = AreSized words k
 abbrev pub Reads : List (List ℕ) → Command → Type 0
 Reads words c = (rest : List (List ℕ)) × (words ≡ command_name c ∷ rest) × Takes rest c
 
--- a parsed command's lists are the words that spell them
+-- a parsed command's numbers and lists are the words that spell them
 abbrev pub Spells : Parsed → Command → Type 0
-Spells (Transform direction k h list) c = (xs : List ℕ) × IsList list.now xs × (c ≡ transform_of direction k h xs)
+Spells (Transform direction size offset list) c = (k : ℕ) × (h : ℕ) × (xs : List ℕ) × IsDecimal size.now k × IsDecimal offset.now h × IsList list.now xs
+    × (c ≡ transform_of direction k h xs)
 Spells (Mul left right) c = (xs : List ℕ) × (ys : List ℕ) × IsList left.now xs × IsList right.now ys × (c ≡ product_of xs ys)
 Spells (Div left right) c = (xs : List ℕ) × (ys : List ℕ) × IsList left.now xs × IsList right.now ys × (c ≡ division_of xs ys)
-Spells (Eval list x) c = (xs : List ℕ) × IsList list.now xs × (c ≡ value_of xs x)
+Spells (Eval list point) c = (xs : List ℕ) × (x : ℕ) × IsList list.now xs × IsDecimal point.now x × (c ≡ value_of xs x)
 Spells (Mle n list point) c = (xs : List ℕ) × (x : List ℕ) × IsList list.now xs × IsList point.now x × AreValuesAndPoint n xs x
     × (c ≡ extension_of n xs x)
-Spells (Size k) c = c ≡ size_for k
+Spells (Size num_coeffs) c = (k : ℕ) × IsDecimal num_coeffs.now k × (c ≡ size_for k)
 
--- each list is a word that spells one
+-- each number and each list is a word that spells one
 abbrev pub IsSpelled : Parsed → Type 0
 IsSpelled parsed = (c : Command) × Spells parsed c
 

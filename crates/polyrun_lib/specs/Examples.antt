@@ -1,39 +1,42 @@
 -- Words that spell a number or a list, words that spell none, and lines, all computed from the definitions.
 use Rattle.std.specs.Prelude.{◌≡◌, ℕ, ◌<◌, ◌≤◌, ◌^◌, [], ◌∷◌, ◌++◌, codes}
-use Rattle.std.specs.Fmt.{digits}
 use Rattle.std.proofs.Common.{refl, sym, subst, inl, inr, true≢false, lit<, lit≤, lt→ltb}
 use Rattle.std.proofs.Math.Nat.{pow-le-pow_right, lt_of_le_of_lt, not-le_of_lt}
 use Rattle.ark_math.specs.Domain.{radix2, mixed_radix, IsSize}
 use Rattle.ark_math.proofs.Domains.Sizes.{power_lt, size_power}
 use Rattle.ark_traits.specs.declared.error.PolyError.TheVariants.{NoDomain, ZeroDivisor}
 use Rattle.polyrun_lib.specs.declared.command.Direction.TheVariants.{Forward, Inverse}
-use Rattle.polyrun_lib.specs.Words.{IsNumber, IsList}
+use Rattle.ark_base.specs.Numerals.{IsDecimal, numeral}
+use Rattle.polyrun_lib.specs.Words.{IsList}
 use Rattle.polyrun_lib.specs.Lines.{line_of}
 use Rattle.polyrun_lib.specs.Commands.{transform_of, product_of, division_of, value_of, extension_of, size_for}
-use Rattle.polyrun_lib.specs.Answer.{Known, field_5, field_433, field_65537, domain_of, IsDomainFor, Gives, Refuses}
+use Rattle.polyrun_lib.specs.Answer.{Known, field_5, field_433, field_65537, bn254, domain_of, IsDomainFor, Gives, Refuses}
 
 -- zeros may stand first
-zeros : IsNumber (codes "007") 7
-zeros = record { digits = (lit< tt, (lit< tt, (lit< tt, (lit< tt, tt)))); value = refl; fits = lit< tt }
+zeros : IsDecimal (codes "007") 7
+zeros = record { digits = (lit< tt, (lit< tt, (lit< tt, (lit< tt, tt)))); value = refl }
 
-nothing : (n : ℕ) → IsNumber (codes "") n → ⊥
+nothing : (n : ℕ) → IsDecimal (codes "") n → ⊥
 nothing n number = lt→ltb _ _ number.digits.0
 
-plus : (n : ℕ) → IsNumber (codes "+1") n → ⊥
+plus : (n : ℕ) → IsDecimal (codes "+1") n → ⊥
 plus n number = lt→ltb _ _ number.digits.1.0
 
-minus : (n : ℕ) → IsNumber (codes "-1") n → ⊥
+minus : (n : ℕ) → IsDecimal (codes "-1") n → ⊥
 minus n number = lt→ltb _ _ number.digits.1.0
 
-space : (n : ℕ) → IsNumber (codes " 1") n → ⊥
+space : (n : ℕ) → IsDecimal (codes " 1") n → ⊥
 space n number = lt→ltb _ _ number.digits.1.0
 
-letter : (n : ℕ) → IsNumber (codes "1a") n → ⊥
+letter : (n : ℕ) → IsDecimal (codes "1a") n → ⊥
 letter n number = lt→ltb _ _ number.digits.1.1.0
 
--- the first number that is too large
-too_large : (n : ℕ) → IsNumber (codes "18446744073709551616") n → ⊥
-too_large n number = let P : ℕ → Type 0 = λ m. m < 2 ^ 64 in lt→ltb _ _ (subst P number.value number.fits)
+-- a number of more than 64 bits
+long : IsDecimal (codes "18446744073709551616") (2 ^ 64)
+long = record {
+  digits = (lit< tt, (lit< tt, (lit< tt, (lit< tt, (lit< tt, (lit< tt, (lit< tt, (lit< tt, (lit< tt, (lit< tt, (lit< tt, (lit< tt, (lit< tt, (lit< tt, (lit< tt, (lit< tt, (lit< tt, (lit< tt, (lit< tt, (lit< tt, (lit< tt, tt)))))))))))))))))))));
+  value = refl;
+}
 
 -- the empty word is the empty list
 no_numbers : IsList (codes "") []
@@ -44,14 +47,14 @@ two_numbers = record {
   words = codes "5" ∷ codes "12" ∷ [];
   joins = refl;
   spelled = (
-    record { digits = (lit< tt, (lit< tt, tt)); value = refl; fits = lit< tt },
-    (record { digits = (lit< tt, (lit< tt, (lit< tt, tt))); value = refl; fits = lit< tt }, tt),
+    record { digits = (lit< tt, (lit< tt, tt)); value = refl },
+    (record { digits = (lit< tt, (lit< tt, (lit< tt, tt))); value = refl }, tt),
   );
 }
 
 -- a list's line ends in a newline, and an empty list has an empty line
 some_line : line_of (5 ∷ 0 ∷ 12 ∷ []) ≡ codes "5,0,12" ++ 10 ∷ []
-unfolding digits
+unfolding numeral
 some_line = refl
 
 empty_line : line_of [] ≡ 10 ∷ []
@@ -73,25 +76,30 @@ domain_of_4 = (
 )
 
 some_transform : Gives field_5 (transform_of Forward 4 1 (1 ∷ 2 ∷ 3 ∷ 4 ∷ [])) (codes "0,4,3,2" ++ 10 ∷ [])
-unfolding digits
+unfolding numeral
 some_transform = (domain_of field_5 radix2 4 1, 0 ∷ 4 ∷ 3 ∷ 2 ∷ [], domain_of_4, refl, refl)
 
 some_inverse : Gives field_5 (transform_of Inverse 4 1 (1 ∷ 2 ∷ 3 ∷ 4 ∷ [])) (codes "0,3,2,1" ++ 10 ∷ [])
-unfolding digits
+unfolding numeral
 some_inverse = (domain_of field_5 radix2 4 1, 0 ∷ 3 ∷ 2 ∷ 1 ∷ [], domain_of_4, (record { size = refl; values = refl }, refl), refl)
 
 -- the numbers are reduced
 some_value : Gives field_5 (value_of (1 ∷ 2 ∷ []) 8) (codes "2" ++ 10 ∷ [])
-unfolding digits
+unfolding numeral
 some_value = refl
 
+-- of any length
+long_value : Gives bn254 (value_of (1 ∷ 2 ∷ []) 21888242871839275222246405745257275088548364400416034343698204186575808495620) (codes "7" ++ 10 ∷ [])
+unfolding numeral
+long_value = refl
+
 no_value : Gives field_5 (value_of [] 4) (codes "0" ++ 10 ∷ [])
-unfolding digits
+unfolding numeral
 no_value = refl
 
 -- the extension of the values 0, 0, 1, 0 at a point
 some_extension : Gives field_65537 (extension_of 2 (0 ∷ 0 ∷ 1 ∷ 0 ∷ []) (65535 ∷ 17 ∷ [])) (codes "51" ++ 10 ∷ [])
-unfolding digits
+unfolding numeral
 some_extension = refl
 
 -- zero by another polynomial has two empty lines
@@ -120,7 +128,7 @@ above_all f k past n is =
 
 -- a power of two wherever there is one: for 5 the size is 8, though 6 is a mixed size
 size_8 : Gives field_433 (size_for 5) (codes "8" ++ 10 ∷ [])
-unfolding digits
+unfolding numeral
 size_8 = (
   radix2,
   8,
@@ -136,7 +144,7 @@ size_8 = (
 
 -- a mixed size where there is no power of two
 size_18 : Gives field_433 (size_for 18) (codes "18" ++ 10 ∷ [])
-unfolding digits
+unfolding numeral
 size_18 = (
   mixed_radix,
   18,

@@ -1,5 +1,6 @@
 -- The lines that are written.
 use Rattle.std.specs.Prelude.{ℕ, Bool, true, false, List, [], ◌∷◌, ◌++◌, map, decimal, codes}
+use Rattle.ark_base.specs.Numerals.{decimal_text}
 use Rattle.polyrun_lib.specs.Words.{joined}
 use Rattle.ark_traits.specs.declared.error.PolyError.{PolyError}
 use Rattle.ark_traits.specs.declared.error.PolyError.TheVariants.{Memory, NoDomain, Overflow, ForeignSubdomain, ZeroDivisor, NotSparse}
@@ -10,7 +11,7 @@ ended text = text ++ 10 ∷ []
 
 -- the numbers in decimal, joined by commas: the empty list is an empty line
 abbrev pub line_of : List ℕ → List ℕ
-line_of numbers = ended (joined (map decimal numbers))
+line_of numbers = ended (joined (map decimal_text numbers))
 
 -- what is said of a row: its number, and whether it is good
 abbrev pub row_line_of : ℕ → Bool → List ℕ

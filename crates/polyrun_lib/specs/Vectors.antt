@@ -35,9 +35,51 @@ rows_65537 =
     ∷ (codes "eval" ∷ codes "1,2" ∷ codes "65538" ∷ [], codes "3")
     ∷ []
 
+abbrev pub rows_babybear : List Row
+rows_babybear =
+    (codes "fft" ∷ codes "4" ∷ codes "1" ∷ codes "1,2,3,4" ∷ [], codes "10,569722814,2013265919,1443543103")
+    ∷ (codes "eval" ∷ codes "1,2,3" ∷ codes "1606938044258990275541962092341162602522202993782792835301376" ∷ [], codes "1390189409")
+    ∷ (codes "size" ∷ codes "134217729" ∷ [], codes "error 2: NoDomain")
+    ∷ []
+
+abbrev pub rows_koalabear : List Row
+rows_koalabear =
+    (codes "ifft" ∷ codes "4" ∷ codes "3" ∷ codes "1,2,3,4" ∷ [], codes "1065353219,2127921153,591862898,1578610537")
+    ∷ (codes "eval" ∷ codes "1,2,3" ∷ codes "1606938044258990275541962092341162602522202993782792835301376" ∷ [], codes "1120682415")
+    ∷ (codes "size" ∷ codes "16777216" ∷ [], codes "16777216")
+    ∷ []
+
+abbrev pub rows_goldilocks : List Row
+rows_goldilocks =
+    (codes "fft" ∷ codes "4" ∷ codes "1" ∷ codes "1,2,3,4" ∷ [], codes "10,18446181119461163007,18446744069414584319,562949953421310")
+    ∷ (codes "div" ∷ codes "1,2,3" ∷ codes "1,2" ∷ [], ended (codes "13835058052060938241,9223372034707292162") ++ codes "4611686017353646081")
+    ∷ (codes "size" ∷ codes "4294967297" ∷ [], codes "error 2: NoDomain")
+    ∷ []
+
+abbrev pub rows_bls12_381 : List Row
+rows_bls12_381 =
+    (codes "fft" ∷ codes "2" ∷ codes "3" ∷ codes "5,7" ∷ [], codes "26,52435875175126190479447740508185965837690552500527637822603658699938581184497")
+    ∷ (codes "eval" ∷ codes "1,2,3" ∷ codes "1606938044258990275541962092341162602522202993782792835301376" ∷ [], codes "38531783116717978832573997254792410813253688619140314645020336223475605033205")
+    ∷ (codes "mul" ∷ codes "1,52435875175126190479447740508185965837690552500527637822603658699938581184512" ∷ codes "1,1" ∷ [], codes "1,0,52435875175126190479447740508185965837690552500527637822603658699938581184512")
+    ∷ (codes "size" ∷ codes "18446744073709551616" ∷ [], codes "error 2: NoDomain")
+    ∷ []
+
+abbrev pub rows_bn254 : List Row
+rows_bn254 =
+    (codes "ifft" ∷ codes "2" ∷ codes "1" ∷ codes "12,21888242871839275222246405745257275088548364400416034343698204186575808495615" ∷ [], codes "5,7")
+    ∷ (codes "eval" ∷ codes "1,2" ∷ codes "21888242871839275222246405745257275088548364400416034343698204186575808495620" ∷ [], codes "7")
+    ∷ (codes "mle" ∷ codes "2" ∷ codes "0,0,1,0" ∷ codes "21888242871839275222246405745257275088548364400416034343698204186575808495615,17" ∷ [], codes "51")
+    ∷ (codes "size" ∷ codes "268435456" ∷ [], codes "268435456")
+    ∷ []
+
 -- a field's rows
 abbrev pub HasRows : List ℕ → List Row → Type 0
 HasRows field rows =
     ((field ≡ codes "5") × (rows ≡ rows_5))
     ⊎ ((field ≡ codes "433") × (rows ≡ rows_433))
     ⊎ ((field ≡ codes "65537") × (rows ≡ rows_65537))
+    ⊎ ((field ≡ codes "babybear") × (rows ≡ rows_babybear))
+    ⊎ ((field ≡ codes "koalabear") × (rows ≡ rows_koalabear))
+    ⊎ ((field ≡ codes "goldilocks") × (rows ≡ rows_goldilocks))
+    ⊎ ((field ≡ codes "bls12-381") × (rows ≡ rows_bls12_381))
+    ⊎ ((field ≡ codes "bn254") × (rows ≡ rows_bn254))

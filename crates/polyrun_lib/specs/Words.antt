@@ -1,7 +1,7 @@
--- Which words spell a number, and which a list of numbers.
-use Rattle.std.specs.Prelude.{◌≡◌, ℕ, ◌^◌, ◌<◌, List, [], ◌∷◌}
+-- Which words spell a number, and which a list of numbers. A number may have any length, and zeros may stand first.
+use Rattle.std.specs.Prelude.{◌≡◌, ℕ, List, [], ◌∷◌}
 use Rattle.std.specs.List.{join_with_byte}
-use Rattle.std.specs.Str.Parse.{IsNumeral, digits_value}
+use Rattle.ark_base.specs.Numerals.{IsDecimal}
 
 -- the byte between two numbers of a list
 abbrev pub comma : ℕ
@@ -11,16 +11,10 @@ comma = 44
 abbrev pub joined : List (List ℕ) → List ℕ
 joined words = join_with_byte comma words
 
--- one decimal digit or more, and nothing else, whose value fits 64 bits; zeros may stand first
-pub record IsNumber (word : List ℕ) (number : ℕ) : Type 0 where
-  pub digits : IsNumeral 10 word
-  pub value : number ≡ digits_value 10 word
-  pub fits : number < 2 ^ 64
-
 -- each word spells the number at its place, and there are as many of both
 abbrev pub AreNumbers : List (List ℕ) → List ℕ → Type 0
 AreNumbers [] [] = Unit {0}
-AreNumbers (word ∷ words) (number ∷ numbers) = IsNumber word number × AreNumbers words numbers
+AreNumbers (word ∷ words) (number ∷ numbers) = IsDecimal word number × AreNumbers words numbers
 AreNumbers [] (number ∷ numbers) = ⊥
 AreNumbers (word ∷ words) [] = ⊥
 
@@ -30,6 +24,9 @@ pub record IsList (word numbers : List ℕ) : Type 0 where
   pub joins : word ≡ joined words
   pub spelled : AreNumbers words numbers
 
--- some list
+-- some number, and some list
+abbrev pub SpellsNumber : List ℕ → Type 0
+SpellsNumber word = (number : ℕ) × IsDecimal word number
+
 abbrev pub SpellsList : List ℕ → Type 0
 SpellsList word = (numbers : List ℕ) × IsList word numbers

@@ -1,11 +1,12 @@
 //! The commands, and how the words of a command line are read as one.
 
 ghost use Rattle.std.specs.Prelude.{◌≡◌, ◌↔◌, ℕ, List, IfSome, IfNone, IsTrue, map, string_bytes};
-ghost use Rattle.polyrun_lib.specs.Words.{IsList, SpellsList};
+ghost use Rattle.ark_base.specs.Numerals.{IsDecimal};
+ghost use Rattle.polyrun_lib.specs.Words.{IsList, SpellsNumber, SpellsList};
 ghost use Rattle.polyrun_lib.specs.Commands.{AreTwoLists, IsTransform, IsNoTransform, IsRead, IsNoCommand};
 ghost use Rattle.polyrun_lib.specs.Commands.{AreValuesAndPoint, IsExtension, IsNoExtension};
 
-use crate::words::{is_list, list_len, number};
+use crate::words::{is_list, is_number, list_len, number};
 
 /// Which way a transform goes: from coefficients to values, or back.
 #[derive(Clone, Copy)]
@@ -14,14 +15,14 @@ pub enum Direction {
     Inverse,
 }
 
-/// A command. Its lists stay the words that spell them, so that usage is judged without memory.
+/// A command. Its numbers and lists stay the words that spell them, so that usage is judged without memory.
 #[derive(Clone, Copy)]
 pub enum Command<'a> {
     /// The transform of a list over the domain for a size with an offset, or its inverse.
     Transform {
         direction: Direction,
-        size: u64,
-        offset: u64,
+        size: &'a str,
+        offset: &'a str,
         list: &'a str,
     },
     /// The product of the polynomials with these coefficients.
@@ -37,7 +38,7 @@ pub enum Command<'a> {
     /// The value at a point of the polynomial with these coefficients.
     Eval {
         list: &'a str,
-        point: u64,
+        point: &'a str,
     },
     /// The value at a point of the multilinear extension of a list, in so many variables.
     Mle {
@@ -47,7 +48,7 @@ pub enum Command<'a> {
     },
     /// The size of the domain for so many coefficients.
     Size {
-        num_coeffs: u64,
+        num_coeffs: &'a str,
     },
 }
 
@@ -76,7 +77,7 @@ pub fn parse(words: &[String]) -> Option<Command>
             };
             Some(Command::Eval {
                 list: list_word(list.as_str())?,
-                point: number(point.as_str())?,
+                point: number_word(point.as_str())?,
             })
         }
         "mle" => parse_extension(arguments),
@@ -85,7 +86,7 @@ pub fn parse(words: &[String]) -> Option<Command>
                 return None;
             };
             Some(Command::Size {
-                num_coeffs: number(num_coeffs.as_str())?,
+                num_coeffs: number_word(num_coeffs.as_str())?,
             })
         }
         _ => None,
@@ -102,8 +103,8 @@ fn parse_transform(direction: Direction, words: &[String]) -> Option<Command>
     };
     Some(Command::Transform {
         direction,
-        size: number(size.as_str())?,
-        offset: number(offset.as_str())?,
+        size: number_word(size.as_str())?,
+        offset: number_word(offset.as_str())?,
         list: list_word(list.as_str())?,
     })
 }
@@ -150,6 +151,14 @@ fn two_lists(words: &[String]) -> Option<(&str, &str)>
         return None;
     };
     Some((list_word(left.as_str())?, list_word(right.as_str())?))
+}
+
+// The word itself, where it spells a number.
+fn number_word(word: &str) -> Option<&str>
+    ensures some { IfSome result (λ number. (number.now ≡ word.now) × SpellsNumber word.now) }
+    ensures none { IfNone result ((n : ℕ) → ¬ IsDecimal word.now n) }
+{
+    if is_number(word) { Some(word) } else { None }
 }
 
 // The word itself, where it spells a list.

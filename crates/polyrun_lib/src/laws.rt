@@ -1,31 +1,42 @@
 //! Laws, as contracts that callers may cite.
 
-ghost use Rattle.std.specs.Prelude.{List, map, string_bytes, decimal};
+ghost use Rattle.std.specs.Prelude.{ℕ, List, map, string_bytes};
 ghost use Rattle.polyrun_lib.specs.Commands.{Command as Asked};
-ghost use Rattle.polyrun_lib.specs.Answer.{known_by, Writes, HasAtMostOne};
+ghost use Rattle.polyrun_lib.specs.Answer.{Known, Names, known_by, Writes, HasAtMostOne};
 ghost use Rattle.polyrun_lib.specs.Check.{row_of, IsChecked, IsAnswer};
 
-use ark_base::{Modulus5, Modulus433, Modulus65537, PrimeModulus};
+use ark_base::{BabyBear, F5, F433, F65537, Goldilocks, KoalaBear, PrimeNumbers};
+use ark_wide::{Bls12_381Scalar, Bn254Scalar};
 
 /// Words have one answer at most: no other text or status is one.
 pub fn one_answer(words: &[String])
     ensures { HasAtMostOne (IsAnswer (map string_bytes words.now)) }
 {
-    one_writing::<Modulus5>();
-    one_writing::<Modulus433>();
-    one_writing::<Modulus65537>();
+    each_writes_one();
 }
 
 /// Rows have one list of verdicts at most: no other text or status is what `check` writes of them.
-pub fn one_check(field: u64, rows: &[(Vec<String>, String)])
-    ensures { HasAtMostOne (IsChecked (decimal field) (map row_of rows.now)) }
+pub fn one_check(field: &str, rows: &[(Vec<String>, String)])
+    ensures { HasAtMostOne (IsChecked field.now (map row_of rows.now)) }
 {
-    one_writing::<Modulus5>();
-    one_writing::<Modulus433>();
-    one_writing::<Modulus65537>();
+    each_writes_one();
+}
+
+// A command over a field that has a name writes one text at most, with one status.
+fn each_writes_one()
+    ensures { (word : List ℕ) (f : Known) → Names word f → (c : Asked) → HasAtMostOne (Writes f c) }
+{
+    one_writing::<F5>();
+    one_writing::<F433>();
+    one_writing::<F65537>();
+    one_writing::<BabyBear>();
+    one_writing::<KoalaBear>();
+    one_writing::<Goldilocks>();
+    one_writing::<Bls12_381Scalar>();
+    one_writing::<Bn254Scalar>();
 }
 
 // A command over a field writes one text at most, with one status.
-fn one_writing<M: PrimeModulus>()
-    ensures { (c : Asked) → HasAtMostOne (Writes (known_by M.modulus) c) }
+fn one_writing<F: PrimeNumbers>()
+    ensures { (c : Asked) → HasAtMostOne (Writes (known_by F.modulus F.adicity F.generator) c) }
 {}

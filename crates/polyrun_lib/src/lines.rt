@@ -1,29 +1,43 @@
 //! The lines of an answer.
 
-ghost use Rattle.std.specs.Prelude.{◌≡◌, ℕ, List, IfOk, string_bytes};
+ghost use Rattle.std.specs.Prelude.{◌≡◌, ◌∷◌, [], ℕ, List, map, IfOk, string_bytes};
 ghost use Rattle.polyrun_lib.specs.Words.{IsList};
 ghost use Rattle.polyrun_lib.specs.Lines.{ended, line_of, row_line_of, refusal_line_of, usage_text};
 
-use ark_base::PolyError;
+use ark_base::{PolyError, PrimeNumbers};
 use std::alloc::{AllocError, Global};
 
-/// The numbers in decimal, joined by commas, and a newline.
-pub fn line(alloc: Global, numbers: &[u64]) -> Result<String, AllocError>
-    ensures text { IfOk result (λ text. string_bytes text ≡ line_of numbers.now) }
+/// The elements' numbers in decimal, joined by commas, and a newline.
+pub fn line<F: PrimeNumbers>(alloc: Global, elements: &[F]) -> Result<String, AllocError>
+    ensures text { IfOk result (λ text. string_bytes text ≡ line_of (map F.numbering.number elements.now)) }
 
     // Up to its newline it spells the numbers.
     ensures spelled { IfOk result (λ text. (word : List ℕ)
-        × (string_bytes text ≡ ended word) × IsList word numbers.now) }
+        × (string_bytes text ≡ ended word) × IsList word (map F.numbering.number elements.now)) }
 {
     let mut text = String::new(alloc);
-    for (i, number) in numbers.iter().enumerate() {
+    for (i, element) in elements.iter().enumerate() {
         if i > 0 {
             text.push(',')?;
         }
-        write!(text, "{number}")?;
+        write!(text, "{element}")?;
     }
     text.push('\n')?;
     Ok(text)
+}
+
+/// An element's number in decimal, and a newline.
+pub fn single_line<F: PrimeNumbers>(alloc: Global, element: F) -> Result<String, AllocError>
+    ensures { IfOk result (λ text. string_bytes text ≡ line_of (F.numbering.number element ∷ [])) }
+{
+    format!(in alloc; "{element}\n")
+}
+
+/// A number in decimal, and a newline.
+pub fn number_line(alloc: Global, number: u64) -> Result<String, AllocError>
+    ensures { IfOk result (λ text. string_bytes text ≡ line_of (number ∷ [])) }
+{
+    format!(in alloc; "{number}\n")
 }
 
 /// What is said of a row: its number, and whether it is good.

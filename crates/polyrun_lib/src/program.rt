@@ -1,13 +1,13 @@
 //! The answer to the words of a command line.
 
-ghost use Rattle.std.specs.Prelude.{◌≡◌, ◌≢◌, ◌⊎◌, ◌%◌, ◌∷◌, ◌++◌, ℕ, List, map, IfOk, IfErr, IfSome, IfNone};
+ghost use Rattle.std.specs.Prelude.{◌≡◌, ◌≢◌, ◌⊎◌, ◌%◌, ◌∷◌, ◌++◌, ℕ, List, [], map, IfOk, IfErr, IfSome, IfNone};
 ghost use Rattle.std.specs.Prelude.{IsOkUnless};
 ghost use Rattle.std.specs.Prelude.{string_bytes};
 ghost use Rattle.ark_math.specs.Outcome.{IsOkUnlessEither};
 ghost use Rattle.ark_math.specs.Domain.{HasNoSize, IsDomain};
 ghost use Rattle.ark_math.specs.Univariate.{of_list, nothing, IsQuotient};
-ghost use Rattle.ark_base.specs.Element.{number};
-ghost use Rattle.polyrun_lib.specs.Words.{IsList, SpellsList};
+ghost use Rattle.ark_base.specs.Numerals.{IsDecimal};
+ghost use Rattle.polyrun_lib.specs.Words.{IsList, SpellsNumber, SpellsList};
 ghost use Rattle.polyrun_lib.specs.Commands.{Command as Asked, Spells, IsSpelled};
 ghost use Rattle.polyrun_lib.specs.Commands.{transform_of, product_of, division_of, value_of, extension_of, size_for};
 ghost use Rattle.polyrun_lib.specs.Commands.{SpellExtended};
@@ -19,29 +19,32 @@ ghost use Rattle.polyrun_lib.specs.Outcome.{IsOutcome, IsOutcomeOf};
 
 use crate::command::{Command, Direction, parse};
 use crate::laws::one_answer;
-use crate::lines::{line, refusal_line, usage_line};
+use crate::lines::{line, number_line, refusal_line, single_line, usage_line};
 use crate::rows::check_rows;
 use crate::vectors::vectors_of;
-use crate::words::list;
+use crate::words::number;
 use ark_base::{
-    FftField, Field, Modulus5, Modulus433, Modulus65537, PolyError, PrimeField, PrimeModulus, Sink,
-    Work,
+    BabyBear, F5, F433, F65537, FftField, Field, Goldilocks, KoalaBear, PolyError, PrimeNumbers,
+    Sink, Work,
 };
 use ark_poly::univariate::{DenseOrSparsePolynomial, DensePolynomial};
 use ark_poly::{
     DenseMultilinearExtension, DenseUVPolynomial, EvaluationDomain, GeneralEvaluationDomain,
     Polynomial,
 };
+use ark_wide::{Bls12_381Scalar, Bn254Scalar};
 use std::alloc::{AllocError, Global};
 
 // The domains that the transforms are over.
-type Domain<M> = GeneralEvaluationDomain<PrimeField<M>>;
+type Domain<F> = GeneralEvaluationDomain<F>;
 
 /// Writes the answer to the words, and gives its status: 0; 1 where the line reports an error; 2 where the
 /// words are no command; and 3 where the writer failed, after a beginning of the text. An answer's memory is
 /// taken before its first byte is written, and that of `vectors` before each line.
 ///
-/// The words are a field, which is `5`, `433` or `65537`, and a command:
+/// The words are a field and a command. The field is `5`, `433` or `65537`, `babybear`, `koalabear` or
+/// `goldilocks`, or that of the scalars of a curve, `bls12-381` or `bn254`. Numbers may have any length. The
+/// command is one of these:
 ///
 /// - `fft K H LIST` and `ifft K H LIST`, the transform or its inverse over the domain of size `K` or the next
 ///   larger, with the offset `H`: of a power of two where there is one, and otherwise of a mixed size,
@@ -108,17 +111,22 @@ pub fn answer_in(alloc: Global, field: &str, words: &[String]) -> Option<Result<
 {
     let command = parse(words)?;
     match field {
-        "5" => Some(answer_over::<Modulus5>(alloc, command)),
-        "433" => Some(answer_over::<Modulus433>(alloc, command)),
-        "65537" => Some(answer_over::<Modulus65537>(alloc, command)),
+        "5" => Some(answer_over::<F5>(alloc, command)),
+        "433" => Some(answer_over::<F433>(alloc, command)),
+        "65537" => Some(answer_over::<F65537>(alloc, command)),
+        "babybear" => Some(answer_over::<BabyBear>(alloc, command)),
+        "koalabear" => Some(answer_over::<KoalaBear>(alloc, command)),
+        "goldilocks" => Some(answer_over::<Goldilocks>(alloc, command)),
+        "bls12-381" => Some(answer_over::<Bls12_381Scalar>(alloc, command)),
+        "bn254" => Some(answer_over::<Bn254Scalar>(alloc, command)),
         _ => None,
     }
 }
 
 // The answer to a command over one field.
-fn answer_over<M: PrimeModulus>(alloc: Global, command: Command) -> Result<String, PolyError>
+fn answer_over<F: PrimeNumbers>(alloc: Global, command: Command) -> Result<String, PolyError>
     requires { IsSpelled command }
-    ensures { (c : Asked) → Spells command.entry c → IsOutcome (known_by M.modulus) c result }
+    ensures { (c : Asked) → Spells command.entry c → IsOutcome (known_by F.modulus F.adicity F.generator) c result }
 {
     match command {
         Command::Transform {
@@ -126,33 +134,35 @@ fn answer_over<M: PrimeModulus>(alloc: Global, command: Command) -> Result<Strin
             size,
             offset,
             list,
-        } => transform_line::<M>(alloc, direction, size, offset, list),
-        Command::Mul { left, right } => product_line::<M>(alloc, left, right),
-        Command::Div { left, right } => quotient_lines::<M>(alloc, left, right),
-        Command::Eval { list, point } => value_line::<M>(alloc, list, point),
+        } => transform_line::<F>(alloc, direction, size, offset, list),
+        Command::Mul { left, right } => product_line::<F>(alloc, left, right),
+        Command::Div { left, right } => quotient_lines::<F>(alloc, left, right),
+        Command::Eval { list, point } => value_line::<F>(alloc, list, point),
         Command::Mle {
             num_vars,
             list,
             point,
-        } => extension_line::<M>(alloc, num_vars, list, point),
-        Command::Size { num_coeffs } => size_line::<M>(alloc, num_coeffs),
+        } => extension_line::<F>(alloc, num_vars, list, point),
+        Command::Size { num_coeffs } => size_line::<F>(alloc, num_coeffs),
     }
 }
 
 // The line of a transform or its inverse. Whether there is a domain is judged before memory is asked for.
-fn transform_line<M: PrimeModulus>(
+fn transform_line<F: PrimeNumbers>(
     alloc: Global,
     direction: Direction,
-    size: u64,
-    offset: u64,
+    size: &str,
+    offset: &str,
     list: &str,
 ) -> Result<String, PolyError>
-    requires { SpellsList list.now }
-    ensures { (xs : List ℕ) → IsList list.now xs
-        → IsOutcome (known_by M.modulus) (transform_of direction size offset xs) result }
+    requires offset { SpellsNumber offset.now }
+    requires list { SpellsList list.now }
+    ensures { (k h : ℕ) (xs : List ℕ) → IsDecimal size.now k → IsDecimal offset.now h → IsList list.now xs
+        → IsOutcome (known_by F.modulus F.adicity F.generator) (transform_of direction k h xs) result }
 {
-    let domain: Domain<M> = coset(size, PrimeField::from(offset))?;
-    let mut items = elements::<M>(alloc, list)?;
+    let size = number(size).ok_or(PolyError::NoDomain)?;
+    let domain: Domain<F> = coset(size, element(offset))?;
+    let mut items = elements::<F>(alloc, list)?;
     // The counts are for contracts alone.
     let work = &mut Work::new();
     match direction {
@@ -163,7 +173,7 @@ fn transform_line<M: PrimeModulus>(
 }
 
 // The line of a product.
-fn product_line<M: PrimeModulus>(
+fn product_line<F: PrimeNumbers>(
     alloc: Global,
     left: &str,
     right: &str,
@@ -171,16 +181,16 @@ fn product_line<M: PrimeModulus>(
     requires left { SpellsList left.now }
     requires right { SpellsList right.now }
     ensures { (xs ys : List ℕ) → IsList left.now xs → IsList right.now ys
-        → IsOutcome (known_by M.modulus) (product_of xs ys) result }
+        → IsOutcome (known_by F.modulus F.adicity F.generator) (product_of xs ys) result }
 {
-    let left = polynomial::<M>(alloc, left)?;
-    let right = polynomial::<M>(alloc, right)?;
+    let left = polynomial::<F>(alloc, left)?;
+    let right = polynomial::<F>(alloc, right)?;
     let product = left.mul(alloc, &right)?;
     element_line(alloc, product.coeffs())
 }
 
 // The lines of a quotient and its remainder.
-fn quotient_lines<M: PrimeModulus>(
+fn quotient_lines<F: PrimeNumbers>(
     alloc: Global,
     left: &str,
     right: &str,
@@ -188,10 +198,10 @@ fn quotient_lines<M: PrimeModulus>(
     requires left { SpellsList left.now }
     requires right { SpellsList right.now }
     ensures { (xs ys : List ℕ) → IsList left.now xs → IsList right.now ys
-        → IsOutcome (known_by M.modulus) (division_of xs ys) result }
+        → IsOutcome (known_by F.modulus F.adicity F.generator) (division_of xs ys) result }
 {
-    let dividend = polynomial::<M>(alloc, left)?;
-    let divisor = polynomial::<M>(alloc, right)?;
+    let dividend = polynomial::<F>(alloc, left)?;
+    let divisor = polynomial::<F>(alloc, right)?;
     let (quotient, remainder) = divided(alloc, &dividend, &divisor)?;
     two_lines(alloc, quotient.coeffs(), remainder.coeffs())
 }
@@ -223,18 +233,19 @@ fn divided<F: Field>(
 }
 
 // The line of a value.
-fn value_line<M: PrimeModulus>(alloc: Global, list: &str, point: u64) -> Result<String, PolyError>
-    requires { SpellsList list.now }
-    ensures { (xs : List ℕ) → IsList list.now xs
-        → IsOutcome (known_by M.modulus) (value_of xs point) result }
+fn value_line<F: PrimeNumbers>(alloc: Global, list: &str, point: &str) -> Result<String, PolyError>
+    requires list { SpellsList list.now }
+    requires point { SpellsNumber point.now }
+    ensures { (xs : List ℕ) (x : ℕ) → IsList list.now xs → IsDecimal point.now x
+        → IsOutcome (known_by F.modulus F.adicity F.generator) (value_of xs x) result }
 {
-    let polynomial = DensePolynomial::from_coefficients_vec(elements::<M>(alloc, list)?);
-    let value = polynomial.evaluate(alloc, &PrimeField::from(point))?;
-    element_line(alloc, &[value])
+    let polynomial = DensePolynomial::from_coefficients_vec(elements::<F>(alloc, list)?);
+    let value = polynomial.evaluate(alloc, &element(point))?;
+    value_text(alloc, value)
 }
 
 // The line of an extension's value.
-fn extension_line<M: PrimeModulus>(
+fn extension_line<F: PrimeNumbers>(
     alloc: Global,
     num_vars: usize,
     list: &str,
@@ -242,22 +253,24 @@ fn extension_line<M: PrimeModulus>(
 ) -> Result<String, PolyError>
     requires { SpellExtended num_vars list.now point.now }
     ensures { (xs x : List ℕ) → IsList list.now xs → IsList point.now x
-        → IsOutcome (known_by M.modulus) (extension_of num_vars xs x) result }
+        → IsOutcome (known_by F.modulus F.adicity F.generator) (extension_of num_vars xs x) result }
 {
-    let evaluations = elements::<M>(alloc, list)?;
-    let point = elements::<M>(alloc, point)?;
+    let evaluations = elements::<F>(alloc, list)?;
+    let point = elements::<F>(alloc, point)?;
     let extension = DenseMultilinearExtension::from_evaluations_vec(num_vars, evaluations);
     let value = extension.evaluate(alloc, &point)?;
-    element_line(alloc, &[value])
+    value_text(alloc, value)
 }
 
 // The line of a size.
-fn size_line<M: PrimeModulus>(alloc: Global, num_coeffs: u64) -> Result<String, PolyError>
-    ensures { IsOutcome (known_by M.modulus) (size_for num_coeffs) result }
+fn size_line<F: PrimeNumbers>(alloc: Global, num_coeffs: &str) -> Result<String, PolyError>
+    ensures { (k : ℕ) → IsDecimal num_coeffs.now k
+        → IsOutcome (known_by F.modulus F.adicity F.generator) (size_for k) result }
 {
-    let size = Domain::<M>::compute_size_of_domain(num_coeffs as usize);
+    let num_coeffs = number(num_coeffs).ok_or(PolyError::NoDomain)?;
+    let size = Domain::<F>::compute_size_of_domain(num_coeffs as usize);
     let size = size.ok_or(PolyError::NoDomain)?;
-    Ok(line(alloc, &[size as u64])?)
+    Ok(number_line(alloc, size as u64)?)
 }
 
 // The coset of the size that the type of domain takes for `size`.
@@ -272,50 +285,58 @@ fn coset<F: FftField, D: EvaluationDomain<F>>(size: u64, offset: F) -> Result<D,
 }
 
 // The polynomial with the elements of a list as its coefficients.
-fn polynomial<M: PrimeModulus>(
-    alloc: Global,
-    word: &str,
-) -> Result<DensePolynomial<PrimeField<M>>, AllocError>
+fn polynomial<F: PrimeNumbers>(alloc: Global, word: &str) -> Result<DensePolynomial<F>, AllocError>
     requires { SpellsList word.now }
     ensures { IfOk result (λ p. (xs : List ℕ) → IsList word.now xs →
-        map number p ≡ coefficients (known_by M.modulus) xs) }
+        map F.numbering.number p ≡ coefficients (known_by F.modulus F.adicity F.generator) xs) }
 {
-    Ok(DensePolynomial::from_coefficients_vec(elements::<M>(alloc, word)?))
+    Ok(DensePolynomial::from_coefficients_vec(elements::<F>(alloc, word)?))
+}
+
+// The element of the number that a word spells.
+fn element<F: PrimeNumbers>(word: &str) -> F
+    requires { SpellsNumber word.now }
+    ensures { (n : ℕ) → IsDecimal word.now n → F.numbering.number result ≡ n % F.modulus }
+{
+    F::from_decimal(word).unwrap()
 }
 
 // The elements of a list.
-fn elements<M: PrimeModulus>(alloc: Global, word: &str) -> Result<Vec<PrimeField<M>>, AllocError>
+fn elements<F: PrimeNumbers>(alloc: Global, word: &str) -> Result<Vec<F>, AllocError>
     requires { SpellsList word.now }
     ensures { IfOk result (λ elements. (xs : List ℕ) → IsList word.now xs →
-        map number elements.items ≡ map (λ x. x % M.MODULUS) xs) }
+        map F.numbering.number elements.items ≡ map (λ x. x % F.modulus) xs) }
 {
-    let numbers = list(alloc, word)?;
-    numbers
-        .iter()
-        .map(|number| PrimeField::from(*number))
-        .collect(alloc)
+    let mut elements = Vec::new(alloc);
+    'parts: for part in word.split(',') {
+        // The empty word has one part, which is no number.
+        if let Some(element) = F::from_decimal(part) {
+            elements.push(element)?;
+        }
+    }
+    Ok(elements)
 }
 
 // The elements' line.
-fn element_line<M: PrimeModulus>(
-    alloc: Global,
-    elements: &[PrimeField<M>],
-) -> Result<String, PolyError>
-    ensures text { IfOk result (λ text. string_bytes text ≡ line_of (map number elements.now)) }
+fn element_line<F: PrimeNumbers>(alloc: Global, elements: &[F]) -> Result<String, PolyError>
+    ensures text { IfOk result (λ text. string_bytes text ≡ line_of (map F.numbering.number elements.now)) }
     ensures memory { IsOkUnless result PolyError.Memory }
 {
-    let numbers: Vec<u64> = elements.iter().map(|x| x.value()).collect(alloc)?;
-    Ok(line(alloc, &numbers)?)
+    Ok(line(alloc, elements)?)
+}
+
+// An element's line.
+fn value_text<F: PrimeNumbers>(alloc: Global, value: F) -> Result<String, PolyError>
+    ensures text { IfOk result (λ text. string_bytes text ≡ line_of (F.numbering.number value ∷ [])) }
+    ensures memory { IsOkUnless result PolyError.Memory }
+{
+    Ok(single_line(alloc, value)?)
 }
 
 // The line of each, in this order.
-fn two_lines<M: PrimeModulus>(
-    alloc: Global,
-    first: &[PrimeField<M>],
-    second: &[PrimeField<M>],
-) -> Result<String, PolyError>
+fn two_lines<F: PrimeNumbers>(alloc: Global, first: &[F], second: &[F]) -> Result<String, PolyError>
     ensures text { IfOk result (λ text. string_bytes text
-        ≡ line_of (map number first.now) ++ line_of (map number second.now)) }
+        ≡ line_of (map F.numbering.number first.now) ++ line_of (map F.numbering.number second.now)) }
     ensures memory { IsOkUnless result PolyError.Memory }
 {
     let mut text = element_line(alloc, first)?;

@@ -1,6 +1,6 @@
 //! What is said of the rows of a table of answers, a line for each.
 
-ghost use Rattle.std.specs.Prelude.{◌≡◌, ◌↔◌, map, IfOk, IfErr, IsTrue, string_bytes, decimal};
+ghost use Rattle.std.specs.Prelude.{◌≡◌, ◌↔◌, map, IfOk, IfErr, IsTrue, string_bytes};
 ghost use Rattle.polyrun_lib.specs.Lines.{ended, refusal_line_of};
 ghost use Rattle.polyrun_lib.specs.Answer.{HasAtMostOne};
 ghost use Rattle.polyrun_lib.specs.Written.{writer, IsWritten, IsOneWritten};
@@ -20,12 +20,12 @@ use std::alloc::{AllocError, Global};
 /// `run` would write that text and a newline for the field and the words, and otherwise `bad`; a row whose
 /// command is `vectors` is always bad. Each line's memory is taken before that line is written: where it is
 /// refused, the lines before stand, and the error's line follows.
-pub fn check<W: Sink>(alloc: Global, field: u64, rows: &[(Vec<String>, String)], out: &mut W) -> u8
-    ensures written { IsOneWritten (MayCheck (decimal field) (map row_of rows.now))
+pub fn check<W: Sink>(alloc: Global, field: &str, rows: &[(Vec<String>, String)], out: &mut W) -> u8
+    ensures written { IsOneWritten (MayCheck field.now (map row_of rows.now))
         (writer W.Sink out.old) (writer W.Sink out.new) result }
 
     // There are no other verdicts.
-    ensures only { HasAtMostOne (IsChecked (decimal field) (map row_of rows.now)) }
+    ensures only { HasAtMostOne (IsChecked field.now (map row_of rows.now)) }
 {
     one_check(field, rows);
     check_rows(alloc, field, rows, out)
@@ -52,13 +52,13 @@ pub trait Checked {
     fn check<W: Sink>(
         &self,
         alloc: Global,
-        field: u64,
+        field: &str,
         number: u64,
         out: &mut W,
     ) -> Result<bool, u8>
-        ensures line { IfOk result (HasLine (decimal field) (shown self.now) number
+        ensures line { IfOk result (HasLine field.now (shown self.now) number
             (writer W.Sink out.old) (writer W.Sink out.new)) }
-        ensures end { IfErr result (EndsAt (decimal field) (shown self.now) number
+        ensures end { IfErr result (EndsAt field.now (shown self.now) number
             (writer W.Sink out.old) (writer W.Sink out.new)) };
 }
 
@@ -68,7 +68,7 @@ impl Checked for (Vec<String>, String) {
     fn check<W: Sink>(
         &self,
         alloc: Global,
-        field: u64,
+        field: &str,
         number: u64,
         out: &mut W,
     ) -> Result<bool, u8> {
@@ -82,8 +82,8 @@ impl Checked for (Vec<String>, String) {
 }
 
 /// Writes what `check` writes for rows of either kind, and gives its status.
-pub fn check_rows<R: Checked, W: Sink>(alloc: Global, field: u64, rows: &[R], out: &mut W) -> u8
-    ensures { IsOneWritten (MayCheck (decimal field) (map R.shown rows.now))
+pub fn check_rows<R: Checked, W: Sink>(alloc: Global, field: &str, rows: &[R], out: &mut W) -> u8
+    ensures { IsOneWritten (MayCheck field.now (map R.shown rows.now))
         (writer W.Sink out.old) (writer W.Sink out.new) result }
 {
     let mut status = 0;
@@ -103,13 +103,13 @@ pub fn check_rows<R: Checked, W: Sink>(alloc: Global, field: u64, rows: &[R], ou
 /// Writes the line of a row, and tells whether the row is good.
 pub fn check_row<W: Sink>(
     alloc: Global,
-    field: u64,
+    field: &str,
     row: &TableRow<'_>,
     out: &mut W,
 ) -> Result<bool, u8>
-    ensures line { IfOk result (HasLine (decimal field) (map string_bytes row.now.words.now, row.now.text.now) row.now.number
+    ensures line { IfOk result (HasLine field.now (map string_bytes row.now.words.now, row.now.text.now) row.now.number
         (writer W.Sink out.old) (writer W.Sink out.new)) }
-    ensures end { IfErr result (EndsAt (decimal field) (map string_bytes row.now.words.now, row.now.text.now) row.now.number
+    ensures end { IfErr result (EndsAt field.now (map string_bytes row.now.words.now, row.now.text.now) row.now.number
         (writer W.Sink out.old) (writer W.Sink out.new)) }
 {
     let Ok(is_good) = is_good(alloc, field, row.words, row.text) else {
@@ -133,14 +133,13 @@ pub fn refuse<W: Sink>(out: &mut W) -> u8
 }
 
 // Whether a row is good. An answer for which memory was refused is neither.
-fn is_good(alloc: Global, field: u64, words: &[String], text: &str) -> Result<bool, AllocError>
-    ensures { IfOk result (IsVerdict (decimal field) (map string_bytes words.now, text.now)) }
+fn is_good(alloc: Global, field: &str, words: &[String], text: &str) -> Result<bool, AllocError>
+    ensures { IfOk result (IsVerdict field.now (map string_bytes words.now, text.now)) }
 {
     if is_vectors(words) {
         return Ok(false);
     }
-    let field = format!(in alloc; "{field}")?;
-    match answer_in(alloc, field.as_str(), words) {
+    match answer_in(alloc, field, words) {
         Some(Ok(answer)) => Ok(is_line_of(answer.as_str(), text)),
         Some(Err(error)) => {
             if error == PolyError::Memory {

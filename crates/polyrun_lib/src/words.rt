@@ -1,14 +1,13 @@
 //! What a word spells: a number, or a list of numbers.
 
-ghost use Rattle.std.specs.Prelude.{◌≡◌, ◌↔◌, ℕ, List, IsTrue, IfSome, IfNone, IfOk, length};
-ghost use Rattle.polyrun_lib.specs.Words.{IsNumber, IsList, SpellsList};
+ghost use Rattle.std.specs.Prelude.{◌≡◌, ◌≤◌, ◌^◌, ◌↔◌, ℕ, List, IsTrue, IfSome, IfNone, length};
+ghost use Rattle.ark_base.specs.Numerals.{IsDecimal};
+ghost use Rattle.polyrun_lib.specs.Words.{IsList, SpellsNumber, SpellsList};
 
-use std::alloc::{AllocError, Global};
-
-/// The number that a word spells: ASCII digits alone, whose value fits 64 bits.
+/// The number that a word spells, where it is below 2^64.
 pub fn number(word: &str) -> Option<u64>
-    ensures some { IfSome result (IsNumber word.now) }
-    ensures none { IfNone result ((n : ℕ) → ¬ IsNumber word.now n) }
+    ensures some { IfSome result (IsDecimal word.now) }
+    ensures none { IfNone result ((n : ℕ) → IsDecimal word.now n → 2 ^ 64 ≤ n) }
 {
     // `parse` takes a plus, and this does not.
     if word.starts_with('+') {
@@ -17,11 +16,18 @@ pub fn number(word: &str) -> Option<u64>
     word.parse().ok()
 }
 
+/// Whether a word spells a number: ASCII digits alone, of any length.
+pub fn is_number(word: &str) -> bool
+    ensures { IsTrue result ↔ SpellsNumber word.now }
+{
+    !word.is_empty() && word.bytes().all(|byte| byte.is_ascii_digit())
+}
+
 /// Whether a word spells a list: numbers joined by commas, or nothing at all. It takes no memory.
 pub fn is_list(word: &str) -> bool
     ensures { IsTrue result ↔ SpellsList word.now }
 {
-    word.is_empty() || word.split(',').all(|part| number(part).is_some())
+    word.is_empty() || word.split(',').all(is_number)
 }
 
 /// How many numbers are in the list that a word spells: as many as there are pieces between commas. It takes
@@ -35,13 +41,4 @@ pub fn list_len(word: &str) -> usize
     } else {
         word.split(',').count()
     }
-}
-
-/// The list that a word spells.
-pub fn list(alloc: Global, word: &str) -> Result<Vec<u64>, AllocError>
-    requires { SpellsList word.now }
-    ensures { IfOk result (λ numbers. IsList word.now numbers.items) }
-{
-    // The empty word has one piece, which is no number.
-    word.split(',').filter_map(number).collect(alloc)
 }

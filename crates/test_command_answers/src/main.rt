@@ -7,7 +7,7 @@ use std::alloc::{AllocError, Global};
 use std::process::ExitCode;
 use test_cases::answers::{Answer, Answers, answer_lines};
 use test_cases::stopping::StopWriter;
-use test_cases::words::{number, told, words_of};
+use test_cases::words::{told, words_of};
 
 // After how many bytes at most a writer fails.
 const MOST: usize = 200;
@@ -19,7 +19,7 @@ impl Answers for CommandAnswers {
         if let [field, name, rows] = words
             && name.as_str() == "check"
         {
-            return checked(alloc, number(field.as_str()), rows.as_str());
+            return checked(alloc, field.as_str(), rows.as_str());
         }
         let mut out = IoSink::new(Vec::new(alloc));
         let status = run(alloc, words, &mut out);
@@ -35,7 +35,7 @@ impl Answers for CommandAnswers {
 }
 
 // What `check` writes for the rows, which stand between bars.
-fn checked(alloc: Global, field: u64, rows: &str) -> Answer {
+fn checked(alloc: Global, field: &str, rows: &str) -> Answer {
     let mut all = Vec::new(alloc);
     if !rows.is_empty() {
         for row in rows.split('|') {

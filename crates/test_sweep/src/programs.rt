@@ -6,18 +6,18 @@ use ark_base::{IoSink, PolyError};
 use polyrun_lib::{check, run};
 use std::alloc::{AllocError, Global};
 use test_cases::answers::Answer;
-use test_cases::words::{number, told, words_of};
+use test_cases::words::{told, words_of};
 
 // The line of refused memory.
 const REFUSED: &[u8] = b"error 1: Memory\n";
 
-/// The words of a command, rows and a field's order for the check, room for what is written, and a text that was cut
+/// The words of a command, rows and a field's name for the check, room for what is written, and a text that was cut
 /// short by a refusal of memory.
 #[derive(Drop)]
 pub struct OfProgram {
     words: Vec<String>,
     rows: Vec<(Vec<String>, String)>,
-    field: u64,
+    field: String,
     room: Option<Vec<u8>>,
     begun: Vec<u8>,
 }
@@ -36,7 +36,7 @@ impl Call for OfProgram {
         Ok(OfProgram {
             words: words_of(alloc, named(words, "words"), ' ')?,
             rows: rows_of(alloc, named(words, "rows"))?,
-            field: number(named(words, "field")),
+            field: named(words, "field").to_string(alloc)?,
             room: Some(Vec::with_capacity(alloc, 200)?),
             begun: Vec::with_capacity(alloc, 200)?,
         })
@@ -48,7 +48,7 @@ impl Call for OfProgram {
         };
         let mut sink = IoSink::new(room);
         let status = match name {
-            "check" => check(alloc, self.field, &self.rows, &mut sink),
+            "check" => check(alloc, self.field.as_str(), &self.rows, &mut sink),
             _ => run(alloc, &self.words, &mut sink),
         };
         let mut bytes = sink.into_inner();

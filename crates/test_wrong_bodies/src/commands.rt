@@ -1,6 +1,6 @@
 //! Calls of the program's commands.
 
-ghost use Rattle.std.specs.Prelude.{map, decimal, string_bytes};
+ghost use Rattle.std.specs.Prelude.{map, string_bytes};
 ghost use Rattle.polyrun_lib.specs.Check.{row_of, MayCheck, MayWrite};
 ghost use Rattle.polyrun_lib.specs.Written.{writer, IsOneWritten};
 
@@ -19,11 +19,11 @@ pub fn answered<W: Sink>(alloc: Global, words: &[String], out: &mut W) -> u8
 /// Writes a line for each row, and gives the status.
 pub fn checked<W: Sink>(
     alloc: Global,
-    field: u64,
+    field: &str,
     rows: &[(Vec<String>, String)],
     out: &mut W,
 ) -> u8
-    ensures { IsOneWritten (MayCheck (decimal field) (map row_of rows.now))
+    ensures { IsOneWritten (MayCheck field.now (map row_of rows.now))
         (writer W.Sink out.old) (writer W.Sink out.new) result }
 {
     check(alloc, field, rows, out)

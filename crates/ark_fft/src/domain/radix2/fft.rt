@@ -9,6 +9,7 @@ ghost use Rattle.ark_math.specs.Field.{FieldOn, power};
 ghost use Rattle.ark_math.specs.Transform.{transform, IsInverse};
 ghost use Rattle.ark_math.proofs.Transforms.Places.{dft_at};
 ghost use Rattle.ark_math.specs.BitReversal.{reversed};
+ghost use Rattle.ark_fft.specs.Columns.{IsColumn, AreColumns};
 ghost use Rattle.ark_fft.specs.Halves.{ArePowers, IsHalfTable, AreLevels, IsDealt};
 ghost use Rattle.ark_math.specs.Module.{ModuleOn, item};
 ghost use Rattle.ark_math.specs.Cost.{GrowsBy, butterfly_counts, forward, inverse};
@@ -73,6 +74,69 @@ fn pair<F: FftField, T: DomainCoeff<F>>(work: &mut Work, xs: &mut [T], twiddle: 
     xs[1] = hi;
 }
 
+// The items at place i of each quarter of a list, by two levels of butterflies, with the tables of both.
+#[inline(always)]
+fn column<F: FftField, T: DomainCoeff<F>>(
+    work: &mut Work,
+    xs: &[T],
+    tables: &[F],
+    quarter: usize,
+    i: usize,
+) -> (T, T, T, T)
+    requires place { i < quarter }
+    requires size { length xs.now ≡ 4 * quarter }
+    requires enough { 3 * quarter ≤ length tables.now }
+    ensures items { IsColumn T.group (get_or tables.now i F.field.zero)
+        (get_or tables.now (quarter + i) F.field.zero) (get_or tables.now (quarter + quarter + i) F.field.zero)
+        (item T.group (map T.meaning xs.now) i) (item T.group (map T.meaning xs.now) (quarter + i))
+        (item T.group (map T.meaning xs.now) (quarter + quarter + i))
+        (item T.group (map T.meaning xs.now) (quarter + quarter + quarter + i))
+        (T.meaning result.0) (T.meaning result.1) (T.meaning result.2) (T.meaning result.3) }
+    ensures counted { GrowsBy (butterfly_counts 4) work.old work.new }
+{
+    let mut first = xs[i];
+    let mut second = xs[quarter + i];
+    let mut third = xs[quarter + quarter + i];
+    let mut fourth = xs[quarter + quarter + quarter + i];
+    let below = tables[quarter + quarter + i];
+    butterfly(work, &mut first, &mut third, tables[i]);
+    butterfly(work, &mut second, &mut fourth, tables[quarter + i]);
+    butterfly(work, &mut first, &mut second, below);
+    butterfly(work, &mut third, &mut fourth, below);
+    (first, second, third, fourth)
+}
+
+// The two upper levels of a list of sixteen items. All items are read before one is written, so that the compiler can
+// take the four columns at once, where a loop of four rounds would be too short for it.
+fn sixteen<F: FftField, T: DomainCoeff<F>>(work: &mut Work, xs: &mut [T], tables: &[F])
+    requires size { length xs.old ≡ 16 }
+    requires whole { length tables.now ≡ 16 }
+    ensures columns { AreColumns F.field T.group tables.now 4 (item T.group (map T.meaning xs.old))
+        (item T.group (map T.meaning xs.new)) }
+    ensures counted { GrowsBy (butterfly_counts 16) work.old work.new }
+{
+    let zero = column(work, xs, tables, 4, 0);
+    let one = column(work, xs, tables, 4, 1);
+    let two = column(work, xs, tables, 4, 2);
+    let three = column(work, xs, tables, 4, 3);
+    xs[0] = zero.0;
+    xs[1] = one.0;
+    xs[2] = two.0;
+    xs[3] = three.0;
+    xs[4] = zero.1;
+    xs[5] = one.1;
+    xs[6] = two.1;
+    xs[7] = three.1;
+    xs[8] = zero.2;
+    xs[9] = one.2;
+    xs[10] = two.2;
+    xs[11] = three.2;
+    xs[12] = zero.3;
+    xs[13] = one.3;
+    xs[14] = two.3;
+    xs[15] = three.3;
+}
+
 // The transform of four items, block r of a list, by two levels. Place i of it is left at the index that has the bits
 // of i backwards. The tables are those of both levels.
 fn four<F: FftField, T: DomainCoeff<F>>(work: &mut Work, xs: &mut [T], tables: &[F], r: usize)
@@ -112,7 +176,9 @@ fn fours<F: FftField, T: DomainCoeff<F>>(work: &mut Work, xs: &mut [T], tables: 
     }
 }
 
-// The levels of `halves` above blocks of four items: the transform's places are then those of the blocks' own ones.
+// The levels of `halves` above blocks of four items: the transform's places are then those of the blocks' own ones. Two
+// levels are taken at once of sixteen items that are a word each, or shorter: longer ones would be moved about more than
+// is saved.
 fn down_to_fours<F: FftField, T: DomainCoeff<F>>(
     work: &mut Work,
     xs: &mut [T],
@@ -128,7 +194,9 @@ fn down_to_fours<F: FftField, T: DomainCoeff<F>>(
         ≡ dft_at F.field T.group (2 ^ levels) w (item T.group (map T.meaning xs.old)) (reversed levels p) }
     ensures counted { GrowsBy (butterfly_counts (2 ^ levels / 2 * (levels - 2))) work.old work.new }
 {
-    if levels > 2 {
+    if levels == 4 && mem::size_of_val(&*xs) <= 128 {
+        sixteen(work, xs, tables);
+    } else if levels > 2 {
         let half = xs.len() / 2;
         let (lo, hi) = xs.split_at_mut(half);
         let (twiddles, rest) = tables.split_at(half);

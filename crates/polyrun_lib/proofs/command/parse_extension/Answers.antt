@@ -1,6 +1,7 @@
-use Rattle.std.proofs.Common.{[], get_or, refl, sym, ap, subst, ◌∙◌}
+use Rattle.std.proofs.Common.{[], get_or, refl, sym, ap, subst, ◌∙◌, arith}
 use Rattle.std.specs.Prelude.{string_bytes}
-use Rattle.polyrun_lib.specs.Words.{IsNumber, IsList}
+use Rattle.ark_base.specs.Numerals.{IsDecimal}
+use Rattle.polyrun_lib.specs.Words.{IsList}
 use Rattle.polyrun_lib.proofs.Commands.{map-three}
 use Rattle.polyrun_lib.proofs.command.parse_extension.Goals as goal
 
@@ -20,7 +21,7 @@ pub returns-in_err-num_vars-clause-none : goal.returns-in_err-num_vars-clause-no
 returns-in_err-num_vars-clause-none c =
     let words = map-three string_bytes c.args.words.now _ _ _ c.in-len3.len_at_least c.in-len3.len_below c.num_vars-item.is c.list-item.is c.point-item.is in
     rw c.from_residual.ensures
-    (λ n xs x taken. c.in_err-num_vars.ensures.none n (subst (λ w. IsNumber w n) (ap (λ l. get_or l 0 []) (sym taken.3 ∙ words) ∙ sym c.as_str.ensures.value) taken.4))
+    (λ n xs x taken. let small = taken.7.0 in let large = c.in_err-num_vars.ensures.none n (subst (λ w. IsDecimal w n) (ap (λ l. get_or l 0 []) (sym taken.3 ∙ words) ∙ sym c.as_str.ensures.value) taken.4) in absurd (omega (arith, small, large)))
 
 pub returns-then-are_values_and_point-clause-some : goal.returns-then-are_values_and_point-clause-some
 returns-then-are_values_and_point-clause-some c =

@@ -13,11 +13,12 @@ returns-in_err-list_word-clause-none c =
 pub returns-clause-some : goal.returns-clause-some
 returns-clause-some c =
     let words = map-three string_bytes c.args.words.now _ _ _ c.in-len3.len_at_least c.in-len3.len_below c.size-item.is c.offset-item.is c.list-item.is in
-    let list = c.in_ok-list_word.ensures.some in
-    let xs = list.1.0 in (
-      c.in_ok-number.field-0,
-      c.in_ok-number-2.field-0,
-      xs,
-      (c.as_str.result.now, c.as_str-2.result.now, c.as_str-3.result.now, rw (c.as_str.ensures.value, c.as_str-2.ensures.value, c.as_str-3.ensures.value) words, c.in_ok-number.ensures.some, c.in_ok-number-2.ensures.some, list.1.1),
-      (xs, rw list.0 list.1.1, refl),
+    let size = c.in_ok-number_word.ensures.some in
+    let offset = c.in_ok-number_word-2.ensures.some in
+    let list = c.in_ok-list_word.ensures.some in (
+      size.1.0,
+      offset.1.0,
+      list.1.0,
+      (c.as_str.result.now, c.as_str-2.result.now, c.as_str-3.result.now, rw (c.as_str.ensures.value, c.as_str-2.ensures.value, c.as_str-3.ensures.value) words, size.1.1, offset.1.1, list.1.1),
+      (size.1.0, offset.1.0, list.1.0, rw size.0 size.1.1, rw offset.0 offset.1.1, rw list.0 list.1.1, refl),
     )

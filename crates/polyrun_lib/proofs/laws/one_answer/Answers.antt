@@ -3,4 +3,4 @@ use Rattle.polyrun_lib.proofs.OneAnswer.{one_answer}
 use Rattle.polyrun_lib.proofs.laws.one_answer.Goals as goal
 
 pub returns : goal.returns
-returns c = one_answer c.one_writing.ensures c.one_writing-2.ensures c.one_writing-3.ensures (map string_bytes c.args.words.now)
+returns c = one_answer c.each_writes_one.ensures (map string_bytes c.args.words.now)

@@ -1,9 +1,27 @@
-use Rattle.std.proofs.Common.{rules, arith, ◌≡◌, ◌-◌, ◌^◌, ◌/◌, ◌<◌, ◌∙◌, sym, length}
+use Rattle.std.proofs.Common.{rules, arith, ◌≡◌, ◌-◌, ◌*◌, ◌^◌, ◌/◌, ◌<◌, ◌∙◌, sym, subst, length, map}
+use Rattle.ark_math.specs.Cost.{GrowsBy, butterfly_counts}
+use Rattle.ark_math.specs.Module.{item}
+use Rattle.ark_fft.proofs.Columns.{sixteen_to_fours}
 use Rattle.ark_fft.proofs.Fours.{level_of_blocks, one_block_of_four}
 use Rattle.ark_fft.proofs.Levels.{IsSplitLevel}
 use Rattle.ark_fft.proofs.Joining.{front_half, back_half, next_levels, no_count, split_count}
 use Rattle.ark_fft.proofs.Counts.{itself}
 use Rattle.ark_fft.proofs.domain.radix2.fft.+down_to_fours.Goals as goal
+
+pub sixteen-requires-clause-size : goal.sixteen-requires-clause-size
+sixteen-requires-clause-size g t c = subst (λ k. length c.args.xs.now ≡ 2 ^ k) c.if-levels-eq4.true c.requires.size
+
+pub sixteen-requires-clause-whole : goal.sixteen-requires-clause-whole
+sixteen-requires-clause-whole g t c = subst (λ k. length c.args.tables.now ≡ 2 ^ k) c.if-levels-eq4.true c.requires.whole
+
+pub returns-then-size_of_val-le128-clause-sums : goal.returns-then-size_of_val-le128-clause-sums
+returns-then-size_of_val-le128-clause-sums g t c = λ w levels p l.
+    let V = g.T.DomainCoeff.group in
+    let m = g.T.DomainCoeff.meaning in
+    sixteen_to_fours g.met.F.Field.field_laws g.met.T.DomainCoeff.module_laws m c.args.levels w c.args.tables.now (λ k. item V (map m c.args.xs.now) k) c.sixteen.new.xs c.if-levels-eq4.true c.requires.whole levels c.sixteen.ensures.columns p l
+
+pub returns-then-size_of_val-le128-clause-counted : goal.returns-then-size_of_val-le128-clause-counted
+returns-then-size_of_val-le128-clause-counted g t c = subst (λ k. GrowsBy (butterfly_counts (2 ^ k / 2 * (k - 2))) c.args.work.now c.sixteen.new.work) (sym c.if-levels-eq4.true) c.sixteen.ensures.counted
 
 pub butterflies-requires-clause-same : goal.butterflies-requires-clause-same
 butterflies-requires-clause-same g t c =
