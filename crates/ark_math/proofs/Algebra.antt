@@ -8,3 +8,4 @@ pub mod Ring
 pub mod Signed
 pub mod Solve
 pub mod Sums
+pub mod WordPowers

@@ -1,8 +1,9 @@
--- The definitions that contracts speak of, each in the words of a textbook, in the order in which they are met: fields,
--- modules and roots of unity; domains, transforms, bit-reversed order and cost; polynomials in one variable, and at the elements of a
+-- The definitions that contracts speak of, each in the words of a textbook, in the order in which they are met: numbers
+-- of several words; fields, modules and roots of unity; domains, transforms, bit-reversed order and cost; polynomials in one variable, and at the elements of a
 -- domain; terms, polynomials in several variables, multilinear extensions, and what all of these share; what calls
 -- answer; the constants of a prime field; how values are spelled in bytes, and the layout of each type. Rows has
 -- examples.
+pub mod Words
 pub mod Field
 pub mod Module
 pub mod Root

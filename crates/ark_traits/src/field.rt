@@ -3,6 +3,7 @@
 ghost use Rattle.std.specs.Prelude.{◌≡◌, ◌≢◌, ◌↔◌, ℕ, ◌<◌, ◌^◌, Option, Decides, IfSome, IsSome, IsNone, ⊤};
 ghost use Rattle.rand_core.specs.Stream.{Stream};
 ghost use Rattle.ark_math.specs.Field.{FieldOn, IsField, minus, power, natural};
+ghost use Rattle.ark_math.specs.Words.{number_of_words};
 ghost use Rattle.ark_math.specs.Module.{ModuleOn, IsModule, IsItself};
 ghost use Rattle.ark_math.specs.Root.{Adicity, IsSupported, AreRoots, AreGreatest};
 ghost use Rattle.ark_math.specs.Root.{adicity_of};
@@ -97,6 +98,26 @@ pub trait Field: Copy
             }
             square = square * square;
             left /= 2;
+        }
+        result
+    }
+
+    /// The value to the power that words of 64 bits spell, the low one first, by squaring. To the power of 0
+    /// every value is one, zero too.
+    fn pow_words(&self, exponent: &[u64]) -> Self
+        ensures { result ≡ power field self.now (number_of_words exponent.now) }
+    {
+        let mut result = Self::one();
+        let mut square = *self;
+        'words: for word in exponent {
+            let mut left = *word;
+            'bits: for _i in 0..64u32 {
+                if left % 2 == 1 {
+                    result = result * square;
+                }
+                square = square * square;
+                left /= 2;
+            }
         }
         result
     }

@@ -7,7 +7,7 @@ use Rattle.ark_math.specs.Generator.{for_odd}
 use Rattle.ark_math.proofs.Algebra.Powers.{power-mul}
 use Rattle.ark_math.proofs.Roots.Generator.{from_odd}
 use Rattle.ark_wide.specs.Words.{integer, words_of}
-use Rattle.ark_wide.specs.Powers.{number_of_words}
+use Rattle.ark_math.specs.Words.{number_of_words}
 use Rattle.ark_wide.specs.WordsLaws.{integer_of_words}
 use Rattle.ark_base.specs.Modulus.{power_below}
 use Rattle.ark_base.specs.ModulusLaws.{power_below-lt}

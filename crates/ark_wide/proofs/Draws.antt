@@ -5,7 +5,7 @@ use Rattle.std.proofs.lemmas.Nat.{mul-mod_first, mul-mod_second}
 use Rattle.rand_core.specs.Stream.{Stream}
 use Rattle.rand.specs.Draw.{Gives, draw_map}
 use Rattle.ark_wide.specs.Words.{integer}
-use Rattle.ark_wide.specs.Powers.{next_words}
+use Rattle.ark_wide.specs.Draws.{next_words}
 use Rattle.ark_wide.specs.Modulus256Laws.{integer_of_r}
 use Rattle.ark_base.specs.ResiduesLaws.{number_of_residue}
 use Rattle.ark_wide.specs.Element.{Shown, number, numbering, field_of}

@@ -1,7 +1,6 @@
 -- Lemmas of this crate, beside those of `ark_base`.
 pub mod Rows
 pub mod Element
-pub mod Powers
 pub mod WordBytes
 pub mod Constants
 pub mod ElementBytes

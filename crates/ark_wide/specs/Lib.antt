@@ -2,7 +2,7 @@
 -- constants; elements, with their laws and bytes.
 pub mod Words
 pub mod WordsLaws
-pub mod Powers
+pub mod Draws
 pub mod Primes
 pub mod Modulus256
 pub mod Modulus256Laws

@@ -6,7 +6,7 @@ ghost use Rattle.rand.specs.Draw.{Gives};
 ghost use Rattle.ark_math.specs.Field.{natural, minus};
 ghost use Rattle.ark_math.specs.Root.{adicity_of};
 ghost use Rattle.ark_wide.specs.Words.{integer, AreWords};
-ghost use Rattle.ark_wide.specs.Powers.{next_words};
+ghost use Rattle.ark_wide.specs.Draws.{next_words};
 ghost use Rattle.ark_wide.specs.Modulus256.{IsModulus256};
 
 mod bytes;
@@ -124,10 +124,9 @@ impl<M: PrimeModulus256> Clone for PrimeField256<M> {
 }
 
 impl<M: PrimeModulus256> PrimeField256<M> {
-    ghost use Rattle.ark_math.specs.Field.{power};
+    ghost use Rattle.ark_math.specs.Words.{number_of_words};
     ghost use Rattle.ark_base.specs.Residues.{root_of};
     ghost use Rattle.ark_wide.specs.Element.{number, numbering, field_of};
-    ghost use Rattle.ark_wide.specs.Powers.{number_of_words};
 
     /// The element of a number, modulo the prime.
     pub const fn reduce(value: BigInteger256) -> Self
@@ -174,39 +173,6 @@ impl<M: PrimeModulus256> PrimeField256<M> {
         ensures { number_of_words result ≡ number self }
     {
         self.into_bigint().to_words()
-    }
-
-    /// The power to an exponent of several words, the low one first, by squaring. To the power of 0 every
-    /// element is one, zero too.
-    pub fn pow_words(&self, exponent: &[u64]) -> Self
-        ensures { result ≡ power (field_of M.modulus) self.now (number_of_words exponent.now) }
-    {
-        let mut power = Self::one();
-        let mut square = *self;
-        'words: for word in exponent {
-            let (next_power, next_square) = PrimeField256::<M>::times_power(power, square, *word);
-            power = next_power;
-            square = next_square;
-        }
-        power
-    }
-
-    // The factor times the power of the square to this word, and the square to the power of 2^64.
-    fn times_power(factor: Self, square: Self, word: u64) -> (Self, Self)
-        ensures { let K = field_of M.modulus in (n : ℕ) → K.times result.0 (power K result.1 n)
-            ≡ K.times factor (power K square (word + 18446744073709551616 * n)) }
-    {
-        let mut product = factor;
-        let mut square = square;
-        let mut left = word;
-        'bits: for _i in 0..64u32 {
-            if left % 2 == 1 {
-                product = product * square;
-            }
-            square = square * square;
-            left /= 2;
-        }
-        (product, square)
     }
 
     // The root of unity of the greatest order that domains take.
@@ -477,7 +443,7 @@ impl<M: PrimeModulus256> Field for PrimeField256<M> {
     ghost use Rattle.std.specs.Prelude.{refl};
     ghost use Rattle.rand.specs.Draw.{Gives, draw_map};
     ghost use Rattle.ark_math.proofs.Formats.Modes.{one_format};
-    ghost use Rattle.ark_wide.specs.Powers.{next_words};
+    ghost use Rattle.ark_wide.specs.Draws.{next_words};
     ghost use Rattle.ark_base.specs.ResiduesLaws.{residues_laws};
     ghost use Rattle.ark_wide.specs.Element.{number, numbering, field_of};
     ghost use Rattle.ark_wide.specs.ElementLaws.{equal_elements, natural_element};

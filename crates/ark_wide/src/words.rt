@@ -26,7 +26,7 @@ pub struct BigInteger256 {
 }
 
 impl BigInteger256 {
-    ghost use Rattle.ark_wide.specs.Powers.{number_of_words};
+    ghost use Rattle.ark_math.specs.Words.{number_of_words};
 
     /// The number that these words spell, the low one first.
     pub const fn new(words: [u64; 4]) -> BigInteger256

@@ -3,7 +3,7 @@ use Rattle.std.proofs.Common.{◌≡◌, ◌≢◌, ℕ, zero, suc, ◌+◌, ◌
 use Rattle.std.proofs.Math.Nat.{pow-zero}
 use Rattle.ark_math.specs.Field.{FieldOn, IsField, power}
 use Rattle.ark_math.proofs.Algebra.Powers.{power_even, power_odd}
-use Rattle.ark_wide.specs.Powers.{number_of_words}
+use Rattle.ark_math.specs.Words.{number_of_words}
 
 -- what is left of a word, and what follows it: halved
 halves : (left m n : ℕ) → (left + (m * 2) * n) / 2 ≡ left / 2 + m * n
