@@ -1,7 +1,11 @@
 //! The answers to the lines of the input.
 
 use crate::words::{no_case, words_of};
-use ark_base::{Modulus5, Modulus433, Modulus65537, PolyError, PrimeField, PrimeModulus};
+use ark_base::{
+    BabyBearModulus, Modulus5, Modulus433, Modulus65537, PolyError, PrimeField, PrimeField32,
+    PrimeModulus, PrimeModulus32,
+};
+use ark_wide::{Bls12_381ScalarModulus, PrimeField256, PrimeModulus256};
 use std::alloc::{AllocError, Global};
 use std::env::Env;
 use std::process::ExitCode;
@@ -24,6 +28,10 @@ pub trait FieldAnswers {
     fn answer_over<F: Numbered>(alloc: Global, words: &[String]) -> Answer;
 }
 
+/// The order of BLS12-381's group.
+pub const BLS12_381: &str =
+    "52435875175126190479447740508185965837690552500527637822603658699938581184513";
+
 /// The answer over the field whose order is the first word.
 pub fn over_field<T: FieldAnswers>(alloc: Global, words: &[String]) -> Answer {
     let [field, words @ ..] = words else {
@@ -34,6 +42,8 @@ pub fn over_field<T: FieldAnswers>(alloc: Global, words: &[String]) -> Answer {
         "5" => over_prime::<T, Modulus5>(alloc, words),
         "433" => over_prime::<T, Modulus433>(alloc, words),
         "65537" => over_prime::<T, Modulus65537>(alloc, words),
+        "2013265921" => over_prime_32::<T, BabyBearModulus>(alloc, words),
+        BLS12_381 => over_prime_256::<T, Bls12_381ScalarModulus>(alloc, words),
         _ => no_case(alloc),
     }
 }
@@ -42,6 +52,14 @@ pub fn over_field<T: FieldAnswers>(alloc: Global, words: &[String]) -> Answer {
 // said once for all moduli.
 fn over_prime<T: FieldAnswers, M: PrimeModulus>(alloc: Global, words: &[String]) -> Answer {
     T::answer_over::<PrimeField<M>>(alloc, words)
+}
+
+fn over_prime_32<T: FieldAnswers, M: PrimeModulus32>(alloc: Global, words: &[String]) -> Answer {
+    T::answer_over::<PrimeField32<M>>(alloc, words)
+}
+
+fn over_prime_256<T: FieldAnswers, M: PrimeModulus256>(alloc: Global, words: &[String]) -> Answer {
+    T::answer_over::<PrimeField256<M>>(alloc, words)
 }
 
 /// Answers the line that is the program's argument, or else each line of the input.

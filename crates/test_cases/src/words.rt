@@ -2,7 +2,7 @@
 
 use crate::answers::Answer;
 use std::alloc::{AllocError, Global};
-use std::fmt::Debug;
+use std::fmt::{Debug, Display};
 use test_types::numbered::Numbered;
 
 /// The pieces between the separators, and none of the empty text. The piece `-` is the empty word.
@@ -30,7 +30,7 @@ pub fn size(word: &str) -> usize {
 
 /// The element whose number the word spells.
 pub fn element<F: Numbered>(word: &str) -> F {
-    F::of_number(number(word))
+    F::of_text(word)
 }
 
 /// The elements whose numbers stand between commas.
@@ -121,8 +121,8 @@ pub fn text_of_flags(alloc: Global, flags: &[bool]) -> Answer {
     Ok(text)
 }
 
-/// The numbers with commas between them.
-pub fn text_of_numbers(alloc: Global, numbers: &[u64]) -> Answer {
+/// The numbers, or the numbers of the elements, with commas between them.
+pub fn text_of_numbers<T: Display>(alloc: Global, numbers: &[T]) -> Answer {
     let mut text = String::new(alloc);
     for (i, number) in numbers.iter().enumerate() {
         let comma = if i > 0 { "," } else { "" };
@@ -133,17 +133,12 @@ pub fn text_of_numbers(alloc: Global, numbers: &[u64]) -> Answer {
 
 /// The numbers of the elements, with commas between them.
 pub fn text_of<F: Numbered>(alloc: Global, elements: &[F]) -> Answer {
-    let mut text = String::new(alloc);
-    for (i, element) in elements.iter().enumerate() {
-        let comma = if i > 0 { "," } else { "" };
-        write!(text, "{comma}{}", element.number())?;
-    }
-    Ok(text)
+    text_of_numbers(alloc, elements)
 }
 
 /// The number of the element.
 pub fn one<F: Numbered>(alloc: Global, element: F) -> Answer {
-    text_of_numbers(alloc, &[element.number()])
+    Ok(element.to_string(alloc)?)
 }
 
 /// The terms of a polynomial: degree, colon, coefficient.
@@ -151,7 +146,7 @@ pub fn text_of_terms<F: Numbered>(alloc: Global, terms: &[(usize, F)]) -> Answer
     let mut text = String::new(alloc);
     for (i, (degree, coefficient)) in terms.iter().enumerate() {
         let comma = if i > 0 { "," } else { "" };
-        write!(text, "{comma}{degree}:{}", coefficient.number())?;
+        write!(text, "{comma}{degree}:{coefficient}")?;
     }
     Ok(text)
 }

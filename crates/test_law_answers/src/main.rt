@@ -23,7 +23,7 @@ use ark_base::{BabyBear, Field, Goldilocks, KoalaBear};
 use ark_wide::Bls12_381Scalar;
 use std::alloc::Global;
 use std::process::ExitCode;
-use test_cases::answers::{Answer, Answers, FieldAnswers, answer_lines, over_field};
+use test_cases::answers::{Answer, Answers, BLS12_381, FieldAnswers, answer_lines, over_field};
 use test_cases::hex::bytes_of;
 use test_cases::words::no_case;
 use test_types::numbered::Numbered;
@@ -42,10 +42,6 @@ impl Answers for LawAnswers {
         }
     }
 }
-
-// The order of BLS12-381's group.
-const BLS12_381: &str =
-    "52435875175126190479447740508185965837690552500527637822603658699938581184513";
 
 // The answer on bytes of an element of a large field, whose order is the first word: modes, and bytes in hex.
 fn of_large(alloc: Global, field: &str, words: &[String]) -> Answer {

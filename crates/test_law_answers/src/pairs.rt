@@ -61,12 +61,8 @@ fn text_of_pairs<F: Numbered>(alloc: Global, pairs: &[Lanes<F>]) -> Answer {
     let mut text = String::new(alloc);
     for (i, pair) in pairs.iter().enumerate() {
         let comma = if i > 0 { "," } else { "" };
-        write!(
-            text,
-            "{comma}{}:{}",
-            pair.get(0).number(),
-            pair.get(1).number()
-        )?;
+        let (first, second) = (pair.get(0), pair.get(1));
+        write!(text, "{comma}{first}:{second}")?;
     }
     Ok(text)
 }

@@ -28,7 +28,7 @@ impl<F: Numbered> Form<F, SparsePolynomial<F, SparseTerm>> for ByTerms {
         let mut text = format!(in alloc; "{}/", p.num_vars())?;
         for (i, (coefficient, term)) in p.terms().iter().enumerate() {
             let comma = if i > 0 { "," } else { "" };
-            write!(text, "{comma}{}:", coefficient.number())?;
+            write!(text, "{comma}{coefficient}:")?;
             push_term(&mut text, term)?;
         }
         Ok(text)

@@ -9,7 +9,9 @@ use rand_pcg::Pcg64;
 use std::alloc::{AllocError, Global};
 use std::mem::ManuallyDrop;
 use test_cases::answers::Answer;
-use test_cases::words::{elements, no_case, no_fit, text_of, text_of_flags, text_of_numbers, told};
+use test_cases::words::{
+    elements, no_case, no_fit, one, text_of, text_of_flags, text_of_numbers, told,
+};
 use test_types::nothing::Nothing;
 use test_types::numbered::Numbered;
 
@@ -316,10 +318,8 @@ fn text_of_pairs<F: Numbered>(alloc: Global, pairs: &[Lanes<F>]) -> Answer {
 fn text_of_domain<F: Numbered, D: EvaluationDomain<F>>(alloc: Global, domain: Option<D>) -> Answer {
     match domain {
         Some(domain) => {
-            text_of_numbers(
-                alloc,
-                &[domain.size() as u64, domain.coset_offset().number()],
-            )
+            let (size, offset) = (domain.size(), domain.coset_offset());
+            Ok(format!(in alloc; "{size},{offset}")?)
         }
         None => told(alloc, "none"),
     }
@@ -328,7 +328,7 @@ fn text_of_domain<F: Numbered, D: EvaluationDomain<F>>(alloc: Global, domain: Op
 // The element, where there is one.
 fn text_of_option<F: Numbered>(alloc: Global, element: Option<F>) -> Answer {
     match element {
-        Some(element) => text_of_numbers(alloc, &[element.number()]),
+        Some(element) => one(alloc, element),
         None => told(alloc, "none"),
     }
 }

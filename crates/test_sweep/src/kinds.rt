@@ -99,7 +99,7 @@ impl<F: Numbered> Kind<F> for multivariate::SparsePolynomial<F, SparseTerm> {
         let mut text = format!(in alloc; "{}/", self.num_vars())?;
         for (i, (coefficient, term)) in self.terms().iter().enumerate() {
             let comma = if i > 0 { "," } else { "" };
-            write!(text, "{comma}{}:", coefficient.number())?;
+            write!(text, "{comma}{coefficient}:")?;
             push_term(&mut text, term)?;
         }
         Ok(text)

@@ -42,7 +42,7 @@ use ark_poly::{
 use polyrun_lib::arguments;
 use std::alloc::Global;
 use std::process::ExitCode;
-use test_cases::answers::{Answer, Answers, write_answers};
+use test_cases::answers::{Answer, Answers, BLS12_381, write_answers};
 use test_cases::words::words_of;
 use test_types::numbered::Numbered;
 
@@ -72,6 +72,9 @@ fn ended<R: Print>(
         "5" => over_any::<ark_base::F5, R>(alloc, watched, form, name, given),
         "433" => over_mixed::<ark_base::F433, R>(alloc, watched, form, name, given),
         "65537" => over_general::<ark_base::F65537, R>(alloc, watched, form, name, given),
+        BLS12_381 => of_protocols::<ark_wide::Bls12_381Scalar, R>(
+            alloc, watched, form, name, given,
+        ),
         _ => attempt::<OfProgram, R>(alloc, watched, name, given),
     }
 }
@@ -104,9 +107,23 @@ fn over_any<F: Numbered, R: Print>(
         "several_variables" => attempt::<OfSeveral<F>, R>(alloc, watched, name, given),
         "decoder" => attempt::<OfDecoder<F>, R>(alloc, watched, name, given),
         "blocks" => attempt::<OfBlocks<F>, R>(alloc, watched, name, given),
+        "shares" | "sum_checks" => of_protocols::<F, R>(alloc, watched, form, name, given),
+        _ => over_mixed::<F, R>(alloc, watched, form, name, given),
+    }
+}
+
+// How a call ends that is made over a field of four words too.
+fn of_protocols<F: Numbered, R: Print>(
+    alloc: Global,
+    watched: Option<&R>,
+    form: &str,
+    name: &str,
+    given: &[String],
+) -> Result<Ended, PolyError> {
+    match form {
         "shares" => attempt::<OfShares<F>, R>(alloc, watched, name, given),
         "sum_checks" => attempt::<OfSumChecks<F>, R>(alloc, watched, name, given),
-        _ => over_mixed::<F, R>(alloc, watched, form, name, given),
+        _ => Ended::none(alloc),
     }
 }
 

@@ -8,7 +8,7 @@ use rand::SeedableRng;
 use rand::rngs::StdRng;
 use std::alloc::{AllocError, Global};
 use test_cases::answers::Answer;
-use test_cases::words::{elements, no_case, one, text_of_numbers};
+use test_cases::words::{elements, no_case, one};
 use test_types::numbered::Numbered;
 
 /// A secret, how many shares give it back, coefficients, points, and shares: each value at the point of its place.
@@ -87,7 +87,7 @@ impl<F: Numbered> Call for OfShares<F> {
             Answered::Shares(shares) => {
                 let from = shares.len() - self.k.min(shares.len());
                 match reconstruct(alloc, &shares[from..]) {
-                    Ok(secret) => text_of_numbers(alloc, &[shares.len() as u64, secret.number()]),
+                    Ok(secret) => Ok(format!(in alloc; "{},{secret}", shares.len())?),
                     Err(_) => Err(PolyError::Memory),
                 }
             }

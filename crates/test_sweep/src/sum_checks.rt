@@ -124,14 +124,12 @@ impl<F: Numbered> Call for OfSumChecks<F> {
             Answered::Values(values) => text_of(alloc, values),
             Answered::Rounds(rounds) => text_of_rounds(alloc, rounds),
             Answered::Verdict(Verdict::Accepted(last)) => {
-                Ok(format!(in alloc; "accepted {}", last.number())?)
+                Ok(format!(in alloc; "accepted {last}")?)
             }
             Answered::Verdict(Verdict::Refused(round)) => {
                 Ok(format!(in alloc; "refused {round}")?)
             }
-            Answered::Taken(fits) => {
-                Ok(format!(in alloc; "{fits} {}", self.verifier.claim.number())?)
-            }
+            Answered::Taken(fits) => { Ok(format!(in alloc; "{fits} {}", self.verifier.claim)?) }
             Answered::Refused(error) => Ok(format!(in alloc; "error {}: {error}", *error as u32)?),
             Answered::NoFit => no_fit(alloc),
             Answered::NoCall => no_case(alloc),

@@ -12,6 +12,8 @@ ghost use Rattle.test_types.specs.FourBytes.{four_elements};
 use ark_base::{DomainCoeff, FftField, Field, One, Zero};
 use rand::{Rng, RngExt};
 use std::default::Default;
+use std::fmt;
+use std::fmt::{Display, Formatter, Write};
 use std::ops::{Add, AddAssign, Mul, MulAssign, Neg, Sub, SubAssign};
 
 /// One of four elements: two bits, of which the high one counts a root of `x^2 + x + 1`.
@@ -19,6 +21,12 @@ use std::ops::{Add, AddAssign, Mul, MulAssign, Neg, Sub, SubAssign};
 pub struct Four {
     pub high: bool,
     pub low: bool,
+}
+
+impl Display for Four {
+    fn fmt<W: Write>(&self, f: &mut Formatter<W>) -> fmt::Result {
+        Display::fmt(&self.to_number(), f)
+    }
 }
 
 impl Zero for Four {

@@ -12,7 +12,7 @@ use std::ops::{Add, AddAssign, MulAssign, Sub, SubAssign};
 // How many products an element can remember.
 const ROOM: usize = 256;
 
-/// A set of products, each by the numbers of its two factors.
+/// A set of products, each by the low words of its two factors' numbers.
 #[derive(Clone, Copy, Debug)]
 pub struct Products {
     count: usize,
@@ -160,7 +160,8 @@ impl<F: Numbered> MulAssign<F> for Traced<F> {
     ghost mul_assign_gives = { λ a f r. r.value ≡ F.field.times f a.value };
 
     fn mul_assign(&mut self, factor: F) {
-        self.products.insert((self.value.number(), factor.number()));
+        self.products
+            .insert((self.value.low_word(), factor.low_word()));
         self.value = factor * self.value;
     }
 }

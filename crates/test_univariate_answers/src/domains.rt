@@ -130,20 +130,20 @@ fn filter_at<F: Numbered, D: EvaluationDomain<F>>(
 // What a domain keeps, in this order: the size, the exponent of two in it, the size as an element and its inverse, the
 // root and its inverse, the offset, its inverse and its power.
 fn fields<F: Numbered, D: EvaluationDomain<F>>(alloc: Global, domain: D) -> Answer {
-    text_of_numbers(
+    let sizes = text_of_numbers(alloc, &[domain.size() as u64, domain.log_size_of_group()]);
+    let kept = text_of(
         alloc,
         &[
-            domain.size() as u64,
-            domain.log_size_of_group(),
-            domain.size_as_field_element().number(),
-            domain.size_inv().number(),
-            domain.group_gen().number(),
-            domain.group_gen_inv().number(),
-            domain.coset_offset().number(),
-            domain.coset_offset_inv().number(),
-            domain.coset_offset_pow_size().number(),
+            domain.size_as_field_element(),
+            domain.size_inv(),
+            domain.group_gen(),
+            domain.group_gen_inv(),
+            domain.coset_offset(),
+            domain.coset_offset_inv(),
+            domain.coset_offset_pow_size(),
         ],
-    )
+    );
+    joined(alloc, sizes, ",", kept)
 }
 
 fn all_elements<F: Numbered, D: EvaluationDomain<F>>(alloc: Global, domain: D) -> Answer {

@@ -74,8 +74,7 @@ fn text<F: FftField>(alloc: Global, x: F, y: F) -> Answer {
 // Zero, the default and one; then the generator, the exponent of two and the root for it; and then the odd base, its
 // exponent and the root for both, where there is one.
 fn constants<F: Numbered>(alloc: Global) -> Answer {
-    let units = [F::zero().number(), F::default().number(), F::one().number()];
-    let units = text_of_numbers(alloc, &units);
+    let units = text_of(alloc, &[F::zero(), F::default(), F::one()]);
     let even = even_constants::<F>(alloc);
     let both = joined(alloc, units, " ", even);
     match (
@@ -84,22 +83,16 @@ fn constants<F: Numbered>(alloc: Global) -> Answer {
         F::LARGE_SUBGROUP_ROOT_OF_UNITY,
     ) {
         (Some(base), Some(adicity), Some(root)) => {
-            let odd = [u64::from(base), u64::from(adicity), root.number()];
-            joined(alloc, both, " ", text_of_numbers(alloc, &odd))
+            let odd = Ok(format!(in alloc; "{base},{adicity},{root}")?);
+            joined(alloc, both, " ", odd)
         }
         _ => both,
     }
 }
 
 fn even_constants<F: Numbered>(alloc: Global) -> Answer {
-    text_of_numbers(
-        alloc,
-        &[
-            F::GENERATOR.number(),
-            u64::from(F::TWO_ADICITY),
-            F::TWO_ADIC_ROOT_OF_UNITY.number(),
-        ],
-    )
+    let (generator, adicity, root) = (F::GENERATOR, F::TWO_ADICITY, F::TWO_ADIC_ROOT_OF_UNITY);
+    Ok(format!(in alloc; "{generator},{adicity},{root}")?)
 }
 
 // The sum, the difference and the product, each by value and in place, the square, and the opposite of the first.
@@ -112,18 +105,9 @@ fn operators<F: Numbered>(alloc: Global, x: F, y: F) -> Answer {
     product *= y;
     let mut square = x;
     square.square_in_place();
-    text_of_numbers(
+    text_of(
         alloc,
-        &[
-            (x + y).number(),
-            sum.number(),
-            (x - y).number(),
-            difference.number(),
-            (x * y).number(),
-            product.number(),
-            square.number(),
-            (-x).number(),
-        ],
+        &[x + y, sum, x - y, difference, x * y, product, square, -x],
     )
 }
 
