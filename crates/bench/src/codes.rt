@@ -2,7 +2,7 @@
 
 use crate::batches::{Benchmark, Counted, Number, Reporter, mixed};
 use crate::draws::Draws;
-use ark_base::{DomainCoeff, F65537, FftField, PolyError, Zero};
+use ark_base::{BabyBear, DomainCoeff, F65537, FftField, PolyError, Zero};
 use ark_poly::{EvaluationDomain, Radix2EvaluationDomain};
 use ark_rows::Row;
 use rs_code::Code;
@@ -59,14 +59,14 @@ impl<F: FftField, T: DomainCoeff<F> + Number> Benchmark for Restoring<F, T> {
     }
 }
 
-/// A transform of rows in place, over and over. Of a row over any field it is not known that it fits into memory.
+/// A transform of rows in place, over and over.
 #[derive(Drop)]
-pub struct RowsInPlace {
-    pub domain: Radix2EvaluationDomain<F65537>,
-    pub rows: Vec<Row<F65537, 8>>,
+pub struct RowsInPlace<F: FftField, T: DomainCoeff<F>> {
+    pub domain: Radix2EvaluationDomain<F>,
+    pub rows: Vec<T>,
 }
 
-impl Benchmark for RowsInPlace {
+impl<F: FftField, T: DomainCoeff<F> + Number> Benchmark for RowsInPlace<F, T> {
     fn call(&mut self, alloc: Global) -> Result<(), PolyError> {
         self.domain.fft_in_place(alloc, &mut self.rows)
     }
@@ -150,22 +150,39 @@ fn with_erased<T: Copy>(
     Ok(word)
 }
 
+// Of a row over any field it is not known that it fits into memory.
 fn report_rows<R: Print + Clock>(
     reporter: &Reporter<'_, R>,
     draws: &mut Draws,
 ) -> anyhow::Result<()> {
-    let Some(domain) = Radix2EvaluationDomain::<F65537>::new(1 << 12) else {
-        return Ok(());
-    };
-    let mut rows = Vec::with_capacity(reporter.alloc, domain.size())?;
-    for _ in 0..domain.size() {
+    let mut rows = Vec::with_capacity(reporter.alloc, 1 << 12)?;
+    let mut rows_of_baby_bear = Vec::with_capacity(reporter.alloc, 1 << 12)?;
+    for _ in 0..1 << 12 {
         let mut row = Row::<F65537, 8>::zero();
+        let mut row_of_baby_bear = Row::<BabyBear, 8>::zero();
         for lane in 0..8 {
             row.set(lane, draws.element());
+            row_of_baby_bear.set(lane, draws.element());
         }
         rows.push(row)?;
+        rows_of_baby_bear.push(row_of_baby_bear)?;
     }
-    let mut transforms = RowsInPlace { domain, rows };
-    let name = "rows_of_8_fft_in_place";
-    reporter.report(name, 1 << 12, &mut transforms)
+    report_rows_in_place::<F65537, Row<F65537, 8>, R>(reporter, "rows_of_8_fft_in_place", rows)?;
+    report_rows_in_place::<BabyBear, Row<BabyBear, 8>, R>(
+        reporter,
+        "baby_bear_rows_of_8_fft_in_place",
+        rows_of_baby_bear,
+    )
+}
+
+fn report_rows_in_place<F: Counted, T: DomainCoeff<F> + Number, R: Print + Clock>(
+    reporter: &Reporter<'_, R>,
+    name: &str,
+    rows: Vec<T>,
+) -> anyhow::Result<()> {
+    let size = rows.len();
+    let Some(domain) = Radix2EvaluationDomain::<F>::new(size) else {
+        return Ok(());
+    };
+    reporter.report(name, size, &mut RowsInPlace { domain, rows })
 }

@@ -9,6 +9,7 @@ mod batches;
 mod bytes;
 mod codes;
 mod draws;
+mod elements;
 mod pieces;
 mod points;
 mod polynomials;
@@ -29,6 +30,7 @@ use batches::{Counted, Number, Reporter};
 use bytes::{ReadBack, Written};
 use codes::report_codes;
 use draws::Draws;
+use elements::report_elements;
 use pieces::report_pieces;
 use points::{BoundTable, VARIABLES, ValueAtPoint, polynomial_of_terms};
 use polynomials::{
@@ -123,6 +125,7 @@ fn report_large_field<F: Counted, R: Print + Clock>(
 fn report_wide_field<F: Counted, R: Print + Clock>(
     reporter: &Reporter<'_, R>,
 ) -> anyhow::Result<()> {
+    report_elements::<F, R>(reporter)?;
     let mut draws = Draws::new();
     let names = ["bls12_381_fft_in_place", "bls12_381_ifft_in_place"];
     report_radix2::<F, R>(reporter, &mut draws, names, &[1 << 12])?;
