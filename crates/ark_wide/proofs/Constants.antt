@@ -1,5 +1,5 @@
 -- The constants of a field as elements, and the roots of unity that they give.
-use Rattle.std.proofs.Common.{◌≡◌, ◌≢◌, ℕ, ◌+◌, ◌-◌, ◌*◌, ◌/◌, ◌%◌, ◌^◌, ◌<◌, ◌≤◌, [], ◌∷◌, Option, Some, None, option_map, arith, sym, ap, refl, ◌∙◌, mod-eq_of_lt, mul-one, mul_comm, mul_assoc}
+use Rattle.std.proofs.Common.{◌≡◌, ℕ, ◌-◌, ◌*◌, ◌/◌, ◌%◌, ◌^◌, ◌<◌, Option, Some, None, option_map, arith, sym, ap, refl, ◌∙◌, mod-eq_of_lt, mul-one, mul_comm, mul_assoc}
 use Rattle.std.proofs.Math.Nat.{pow-zero, mod-add-div, div-eq_of_eq-mul_left}
 use Rattle.ark_math.specs.Field.{power}
 use Rattle.ark_math.specs.Root.{Adicity, greatest_size, odd_base, odd_most}
@@ -7,12 +7,11 @@ use Rattle.ark_math.specs.Generator.{for_odd}
 use Rattle.ark_math.proofs.Algebra.Powers.{power-mul}
 use Rattle.ark_math.proofs.Roots.Generator.{from_odd}
 use Rattle.ark_wide.specs.Words.{integer, words_of}
-use Rattle.ark_math.specs.Words.{number_of_words}
 use Rattle.ark_wide.specs.WordsLaws.{integer_of_words}
 use Rattle.ark_base.specs.Modulus.{power_below}
 use Rattle.ark_base.specs.ModulusLaws.{power_below-lt}
 use Rattle.ark_base.specs.Residues.{residue_of, root_of, generator_of}
-use Rattle.ark_base.specs.ResiduesLaws.{number_of_residue, root_number, residues_laws, inverse_by_power}
+use Rattle.ark_base.specs.ResiduesLaws.{number_of_residue, root_number, residues_laws}
 use Rattle.ark_wide.specs.Element.{Shown, adicity, number, numbering, field_of, element, number_of_element, same_by_number}
 use Rattle.ark_wide.specs.declared.words.BigInteger256.{BigInteger256}
 use Rattle.ark_wide.specs.declared.prime_field.PrimeField256.{PrimeField256}
@@ -100,18 +99,3 @@ module _ {M : Type 0} {g : Ghosts M} (S : Shown g) where
       let divided : (g.MODULUS - 1) % g.GREATEST_SIZE ≡ 0 = ap (λ k. (g.MODULUS - 1) % k) S.numbers.greatest_is ∙ S.numbers.generator.sizes.divided in
       sym (power-mul K (residues_laws (numbering {M = M} {g = g} S) S.numbers.prime) y ((g.MODULUS - 1) / g.GREATEST_SIZE) (g.GREATEST_SIZE / n))
       ∙ ap (power K y) (part_of_part (g.MODULUS - 1) g.GREATEST_SIZE n some divided e)
-
--- ---- the exponent of inverses
-
-pub two_fits : {M : Type 0} (g : Ghosts M) (S : Shown g) (m two : BigInteger256) → integer two ≡ 2 → integer m ≡ g.MODULUS → integer two ≤ integer m
-two_fits g S m two e f = let above = S.numbers.prime.above_one in omega (arith, e, f, above)
-
-pub exponent_is : (w m two : BigInteger256) (p : ℕ) → integer w + integer two ≡ integer m → integer two ≡ 2 → integer m ≡ p →
-    number_of_words (w.w0 ∷ (w.w1 ∷ (w.w2 ∷ (w.w3 ∷ [])))) ≡ p - 2
-exponent_is w m two p e f h = omega (arith, e, f, h)
-
-pub inverse_is : {M : Type 0} {g : Ghosts M} (S : Shown g) (x y : PrimeField256 M g) (n : ℕ) → x ≢ (field_of {M = M} {g = g} S).zero → n ≡ g.MODULUS - 2 →
-    y ≡ power (field_of {M = M} {g = g} S) x n → (field_of {M = M} {g = g} S).times x y ≡ (field_of {M = M} {g = g} S).one
-inverse_is {M} {g} S x y n ne e f =
-    let K = field_of {M = M} {g = g} S in
-    ap (K.times x) (f ∙ ap (power K x) e) ∙ inverse_by_power (numbering {M = M} {g = g} S) S.numbers x ne

@@ -5,5 +5,7 @@ pub mod WordBytes
 pub mod Constants
 pub mod ElementBytes
 pub mod Draws
+pub mod Halvings
+pub mod Inverses
 pub mod FourWords
 pub mod Numerals

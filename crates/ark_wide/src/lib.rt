@@ -4,6 +4,7 @@
 
 pub mod bls12_381;
 pub mod bn254;
+mod euclid;
 mod laws;
 mod montgomery;
 pub mod pallas;

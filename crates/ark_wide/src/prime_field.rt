@@ -10,10 +10,11 @@ ghost use Rattle.ark_wide.specs.Draws.{next_words};
 ghost use Rattle.ark_wide.specs.Modulus256.{IsModulus256};
 
 mod bytes;
+mod inverse;
 
 use crate::montgomery;
 use crate::montgomery::{negated, plus, product};
-use crate::words::{BigInteger256, Hexadecimal, compare, is_below, less, of_word};
+use crate::words::{BigInteger256, Hexadecimal, compare, is_below, of_word};
 use ark_base::PrimeNumbers;
 use ark_traits::{DomainCoeff, FftField, Field, One, Zero};
 use rand::Rng;
@@ -455,13 +456,12 @@ impl<M: PrimeModulus256> Field for PrimeField256<M> {
 
     ghost draws = { λ s x t. Gives (draw_map (λ v. v % M.MODULUS) (next_words 8)) s (number x) t };
 
-    /// By Fermat's little theorem: the power to the prime less two.
+    /// By Euclid's algorithm, with halvings and differences in place of divisions.
     fn inverse(&self) -> Option<Self> {
         if *self == Self::zero() {
             return None;
         }
-        let exponent = less(M::MODULUS_WORDS, of_word(2));
-        Some(self.pow_words(&[exponent.w0, exponent.w1, exponent.w2, exponent.w3]))
+        Some(self.inverse_by_steps())
     }
 
     /// The residue of the generator's next eight words of 64 bits, the low one first, as `draws` says. No

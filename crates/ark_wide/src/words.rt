@@ -85,13 +85,13 @@ pub const fn difference(a: BigInteger256, b: BigInteger256) -> (BigInteger256, b
     (BigInteger256 { w0, w1, w2, w3 }, borrow)
 }
 
-// What a number is above another one.
-pub const fn less(a: BigInteger256, b: BigInteger256) -> BigInteger256
-    requires { integer b ≤ integer a }
-    ensures { integer result + integer b ≡ integer a }
+// Whether the number is zero.
+#[inline(always)]
+pub fn is_zero(a: BigInteger256) -> bool
+    ensures zero { result ≡ true → integer a ≡ 0 }
+    ensures some { result ≡ false → 0 < integer a }
 {
-    let (rest, _below) = difference(a, b);
-    rest
+    a.w0 == 0 && a.w1 == 0 && a.w2 == 0 && a.w3 == 0
 }
 
 // `t + x * a`, with a fifth word.
