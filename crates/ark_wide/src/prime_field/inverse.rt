@@ -23,7 +23,8 @@ impl<M: PrimeModulus256> PrimeField256<M> {
         if last.turned { negative } else { -negative }
     }
 
-    // The step at which the left number is zero. The right one is then one, as it divides the prime.
+    // The step at which the left number is zero. The right one is then one: times `of_left` it is the prime, and
+    // `of_left` is a multiple of the prime.
     fn last_step(self) -> Step
         requires { self ≢ (field_of M.modulus).zero }
         ensures { IsAlmostInverse (field_of M.modulus) self result }
