@@ -5,7 +5,8 @@ use Rattle.std.specs.declared.alloc.Global.{Global}
 use Rattle.ark_traits.specs.declared.error.PolyError.{PolyError}
 use Rattle.ark_traits.specs.declared.error.PolyError.TheVariants.{Memory}
 use Rattle.polyrun_lib.specs.Commands.{Command}
-use Rattle.polyrun_lib.specs.Answer.{Known, Gives, Refuses, TakesMemory, IsCommand}
+use Rattle.ark_words.specs.Fields.{Known}
+use Rattle.polyrun_lib.specs.Answer.{Gives, Refuses, TakesMemory, IsCommand}
 
 -- an error, or want of memory for an answer
 abbrev pub MayRefuse : Known → Command → PolyError → Type 0

@@ -2,7 +2,8 @@
 
 ghost use Rattle.std.specs.Prelude.{ℕ, List, map, string_bytes};
 ghost use Rattle.polyrun_lib.specs.Commands.{Command as Asked};
-ghost use Rattle.polyrun_lib.specs.Answer.{Known, Names, known_by, Writes, HasAtMostOne};
+ghost use Rattle.ark_words.specs.Fields.{Known, known_by};
+ghost use Rattle.polyrun_lib.specs.Answer.{Names, Writes, HasAtMostOne};
 ghost use Rattle.polyrun_lib.specs.Check.{row_of, IsChecked, IsAnswer};
 
 use ark_base::{BabyBear, F5, F433, F65537, Goldilocks, KoalaBear, PrimeNumbers};

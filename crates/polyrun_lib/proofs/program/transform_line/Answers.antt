@@ -2,7 +2,8 @@ use Rattle.std.proofs.Common.{◌≡◌, ◌∙◌, ap, subst, inl, inr, refl}
 use Rattle.polyrun_lib.specs.Commands.{transform_of}
 use Rattle.polyrun_lib.specs.Outcome.{IsOutcome}
 use Rattle.polyrun_lib.proofs.Reading.{IsDecimal-same}
-use Rattle.polyrun_lib.proofs.Values.{number_field, shown_field, outcome_line, outcome_error, too_long, has_no_domain, IsShown, done_by_meanings, gives_transform, some_transform}
+use Rattle.ark_words.proofs.Values.{number_field, shown_field, too_long, has_no_domain}
+use Rattle.polyrun_lib.proofs.Values.{outcome_line, outcome_error, IsShown, gives_transform, some_transform}
 use Rattle.polyrun_lib.proofs.program.transform_line.Goals as goal
 use Rattle.polyrun_lib.proofs.program.transform_line.Goals.{in-Forward+in_ok-fft_counted-in-Forward, in-Inverse+in_ok-ifft_counted-in-Inverse}
 
@@ -83,9 +84,8 @@ returns g c k h xs size offset list =
       | in-Forward+in_ok-fft_counted-in-Forward w ↦ rw (w.in-Forward.is, w.items-is) w.in_ok-fft_counted-in-Forward.ensures.transform
       | in-Inverse+in_ok-ifft_counted-in-Inverse w ↦ rw (w.in-Inverse.is, w.items-is) w.in_ok-ifft_counted-in-Inverse.ensures.inverse
     ] in
-    let done = done_by_meanings S V meaning g.met.F.FftField.itself_law c.args.direction _ items c.match-direction.items.items shown in
     subst (λ m. IsOutcome (shown_field S) (transform_of c.args.direction m h xs) c.element_line.result) given
     (outcome_line (shown_field S) (transform_of c.args.direction n h xs) _ _
-    (gives_transform S c.args.direction _ n h xs items c.deref.result.now
-    d.chosen d.lawful offset_is (c.in_ok-items.ensures xs list) (rw c.deref.ensures.value done))
+    (gives_transform S V meaning g.met.F.FftField.itself_law c.args.direction _ n h xs items c.deref.result.now
+    d.chosen d.lawful offset_is (c.in_ok-items.ensures xs list) (rw c.deref.ensures.value shown))
     c.element_line.ensures.text c.element_line.ensures.memory)

@@ -1,0 +1,2 @@
+-- What the number of an outcome tells of a call over the field that a number names.
+pub mod Told

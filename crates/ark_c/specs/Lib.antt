@@ -1,0 +1,3 @@
+-- The fields that numbers name, and the number of each outcome.
+pub mod Names
+pub mod Statuses

@@ -1,0 +1,106 @@
+//! Calls for programs in C, and in every language that calls C: those of `ark_words`, over the field that a
+//! number names. `ark_poly.h` says the same of each in C.
+#![tactic(auto)]
+
+ghost use Rattle.std.specs.Prelude.{◌≡◌, ◌≢◌, ◌↔◌, ◌≤◌, IsNone, IsSomeAnd, IfSome, MatchOption};
+ghost use Rattle.ark_math.specs.Domain.{Kind, HasNoSize};
+ghost use Rattle.ark_words.specs.Answers.{IsChosen};
+ghost use Rattle.ark_words.specs.Numbers.{HaveLengths, HaveReduced, HaveDomain, AreTransformable};
+ghost use Rattle.ark_words.specs.Numbers.{AreTransformed, AreTransformedBack};
+ghost use Rattle.ark_c.specs.Names.{field_named};
+
+mod status;
+
+use ark_base::{BabyBear, F5, F433, F65537, Goldilocks, KoalaBear};
+use ark_wide::{Bls12_381Scalar, Bn254Scalar};
+use ark_words::{domain_size, fft, ifft, width};
+use status::status;
+use std::alloc::Global;
+
+/// What a call gives over the field that a number names, and `None` where it names none.
+macro_rules! over_field {
+    ($field:expr, $call:ident($($argument:expr),*)) => {
+        match $field {
+            5 => Some($call::<F5>($($argument),*)),
+            433 => Some($call::<F433>($($argument),*)),
+            65537 => Some($call::<F65537>($($argument),*)),
+            2013265921 => Some($call::<BabyBear>($($argument),*)),
+            2130706433 => Some($call::<KoalaBear>($($argument),*)),
+            18446744069414584321 => Some($call::<Goldilocks>($($argument),*)),
+            254 => Some($call::<Bn254Scalar>($($argument),*)),
+            12381 => Some($call::<Bls12_381Scalar>($($argument),*)),
+            _ => None,
+        }
+    };
+}
+
+/// The version, a byte for each of its three numbers: 0x000500 for 0.5.0.
+#[unsafe(no_mangle)]
+pub extern "C" fn ark_version() -> u32
+    ensures { result ≡ 1280 }
+{
+    0x000500
+}
+
+/// How many words spell an element of the field, and 0 where the number names no field.
+#[unsafe(no_mangle)]
+pub extern "C" fn ark_words(field: u64) -> usize
+    ensures { MatchOption (field_named field) (result ≡ 0) (λ f. result ≡ f.width) }
+{
+    over_field!(field, width()).unwrap_or(0)
+}
+
+/// Writes the size of the domain for so many coefficients: the least power of two at or above it where the
+/// field has one, and otherwise the least mixed size.
+#[unsafe(no_mangle)]
+pub extern "C" fn ark_domain_size(field: u64, at_least: u64, size: &mut u64) -> u32
+    ensures size { result ≡ 0 → IsSomeAnd (field_named field) (λ f.
+        (kind : Kind) × IsChosen f.known.adicity at_least kind size.new) }
+    ensures kept { result ≢ 0 → size.new ≡ size.old }
+    ensures no_field { (result ≡ 2) ↔ IsNone (field_named field) }
+    ensures no_domain { (result ≡ 5) ↔ IsSomeAnd (field_named field) (λ f.
+        HasNoSize (IsChosen f.known.adicity) at_least) }
+{
+    status(over_field!(field, domain_size(at_least, size)))
+}
+
+/// The values of a polynomial in place of its coefficients: where the words spell `n` numbers, at the `n`
+/// elements of the domain of exactly that size with this offset, which is one number.
+#[unsafe(no_mangle)]
+pub extern "C" fn ark_fft(alloc: Global, field: u64, words: &mut [u64], offset: &[u64]) -> u32
+    ensures values { result ≡ 0 → IsSomeAnd (field_named field) (λ f.
+        AreTransformed f words.old offset.now words.new) }
+    ensures kept { result ≢ 0 → words.new ≡ words.old }
+    ensures taken { result ≡ 0 → IsSomeAnd (field_named field) (λ f.
+        AreTransformable f words.old offset.now) }
+    ensures no_field { (result ≡ 2) ↔ IsNone (field_named field) }
+    ensures length { (result ≡ 3) ↔ IsSomeAnd (field_named field) (λ f.
+        ¬ HaveLengths f words.old offset.now) }
+    ensures not_reduced { (result ≡ 4) ↔ IsSomeAnd (field_named field) (λ f.
+        HaveLengths f words.old offset.now × (¬ HaveReduced f words.old offset.now)) }
+    ensures no_domain { (result ≡ 5) ↔ IsSomeAnd (field_named field) (λ f.
+        HaveLengths f words.old offset.now × HaveReduced f words.old offset.now
+        × (¬ HaveDomain f words.old offset.now)) }
+{
+    status(over_field!(field, fft(alloc, words, offset)))
+}
+
+/// The coefficients of a polynomial in place of its values, which `ark_fft` takes back to these.
+#[unsafe(no_mangle)]
+pub extern "C" fn ark_ifft(alloc: Global, field: u64, words: &mut [u64], offset: &[u64]) -> u32
+    ensures coefficients { result ≡ 0 → IsSomeAnd (field_named field) (λ f.
+        AreTransformedBack f words.old offset.now words.new) }
+    ensures kept { result ≢ 0 → words.new ≡ words.old }
+    ensures taken { result ≡ 0 → IsSomeAnd (field_named field) (λ f.
+        AreTransformable f words.old offset.now) }
+    ensures no_field { (result ≡ 2) ↔ IsNone (field_named field) }
+    ensures length { (result ≡ 3) ↔ IsSomeAnd (field_named field) (λ f.
+        ¬ HaveLengths f words.old offset.now) }
+    ensures not_reduced { (result ≡ 4) ↔ IsSomeAnd (field_named field) (λ f.
+        HaveLengths f words.old offset.now × (¬ HaveReduced f words.old offset.now)) }
+    ensures no_domain { (result ≡ 5) ↔ IsSomeAnd (field_named field) (λ f.
+        HaveLengths f words.old offset.now × HaveReduced f words.old offset.now
+        × (¬ HaveDomain f words.old offset.now)) }
+{
+    status(over_field!(field, ifft(alloc, words, offset)))
+}

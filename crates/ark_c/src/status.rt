@@ -1,0 +1,20 @@
+//! The number of each outcome.
+
+ghost use Rattle.std.specs.Prelude.{◌≡◌};
+ghost use Rattle.ark_c.specs.Statuses.{status_of};
+
+use ark_words::WordsError;
+
+/// The number of a call's outcome, `None` standing for a field that has no such name.
+pub fn status(outcome: Option<Result<(), WordsError>>) -> u32
+    ensures { result ≡ status_of outcome }
+{
+    match outcome {
+        Some(Ok(())) => 0,
+        Some(Err(WordsError::Memory)) => 1,
+        None => 2,
+        Some(Err(WordsError::Length)) => 3,
+        Some(Err(WordsError::NotReduced)) => 4,
+        Some(Err(WordsError::NoDomain)) => 5,
+    }
+}

@@ -1,0 +1,14 @@
+//! Calls over lists of words, for callers that know no type of a field: each list of elements is a list of
+//! words of 64 bits, the low word of each number first, and each number below the modulus.
+#![tactic(auto)]
+
+mod domains;
+mod element;
+mod error;
+mod lists;
+mod transforms;
+
+pub use domains::domain_size;
+pub use element::{WordElement, width};
+pub use error::WordsError;
+pub use transforms::{fft, ifft};
