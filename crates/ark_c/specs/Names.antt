@@ -1,6 +1,6 @@
 -- The fields that numbers name.
 use Rattle.std.specs.Prelude.{ℕ, ◌==◌, Option, Some, None, List, [], ◌∷◌, if◌then◌else◌}
-use Rattle.ark_words.specs.Fields.{field_5, field_433, field_65537, babybear, koalabear, goldilocks, bn254, bls12_381}
+use Rattle.ark_numbers.specs.Fields.{field_5, field_433, field_65537, babybear, koalabear, goldilocks, bn254, bls12_381}
 use Rattle.ark_words.specs.Numbers.{Spelled, in_words}
 
 -- a field of one word by its modulus, and the scalars of a curve, of four words, by a number that is no prime

@@ -4,7 +4,7 @@
 
 ghost use Rattle.std.specs.Prelude.{◌≡◌, ◌≢◌, ◌↔◌, ◌≤◌, IsNone, IsSomeAnd, IfSome, MatchOption};
 ghost use Rattle.ark_math.specs.Domain.{Kind, HasNoSize};
-ghost use Rattle.ark_words.specs.Answers.{IsChosen};
+ghost use Rattle.ark_numbers.specs.Answers.{IsChosen};
 ghost use Rattle.ark_words.specs.Numbers.{HaveLengths, HaveReduced, HaveDomain, AreTransformable};
 ghost use Rattle.ark_words.specs.Numbers.{AreTransformed, AreTransformedBack};
 ghost use Rattle.ark_c.specs.Names.{field_named};

@@ -1,4 +1,3 @@
--- Numbers carry a field's operations to those of its numbers, and so every answer; lists of words are numbers; each error tells of its condition.
+-- Each error tells of its condition; lists of words are numbers.
 pub mod Faults
-pub mod Values
 pub mod WordLists

@@ -1,5 +1,3 @@
--- Fields by their numbers, what calls answer in plain numbers, lists of words, and the error of a call.
-pub mod Fields
-pub mod Answers
+-- Lists of words as the numbers of a field's elements, and the error of a call.
 pub mod Numbers
 pub mod Faults

@@ -2,8 +2,8 @@
 use Rattle.std.specs.Prelude.{◌≡◌, ◌≢◌, ℕ, ◌+◌, ◌*◌, ◌/◌, ◌%◌, ◌<◌, List, All, length, slice_range}
 use Rattle.ark_math.specs.Module.{tabulate}
 use Rattle.ark_math.specs.Words.{number_of_words}
-use Rattle.ark_words.specs.Fields.{Known}
-use Rattle.ark_words.specs.Answers.{IsLength, coset_of, AreValues, AreInterpolated}
+use Rattle.ark_numbers.specs.Fields.{Known}
+use Rattle.ark_numbers.specs.Answers.{IsLength, coset_of, AreValues, AreInterpolated}
 
 -- a field, and how many words spell an element
 pub record Spelled : Type 0 where

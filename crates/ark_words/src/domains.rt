@@ -4,7 +4,7 @@ ghost use Rattle.std.specs.Prelude.{◌≡◌, ◌≢◌, ◌↔◌, ℕ, IfSome
 ghost use Rattle.std.specs.Prelude.{IsOkUnless};
 ghost use Rattle.ark_math.specs.Domain.{Kind, HasNoSize, IsDomain, IsSize};
 ghost use Rattle.ark_univariate.specs.Domains.{general_domain};
-ghost use Rattle.ark_words.specs.Answers.{IsChosen};
+ghost use Rattle.ark_numbers.specs.Answers.{IsChosen};
 
 use crate::element::WordElement;
 use crate::error::WordsError;

@@ -2,7 +2,7 @@
 
 ghost use Rattle.std.specs.Prelude.{◌≡◌, ◌↔◌, ◌≤◌, ◌<◌, ℕ, length, IfSome, IsNone, refl};
 ghost use Rattle.ark_math.specs.Words.{number_of_words};
-ghost use Rattle.ark_words.specs.Fields.{known_by};
+ghost use Rattle.ark_numbers.specs.Fields.{known_by};
 ghost use Rattle.ark_words.specs.Numbers.{Spelled, in_words};
 
 use ark_base::{PrimeField, PrimeField32, PrimeModulus, PrimeModulus32, PrimeNumbers};

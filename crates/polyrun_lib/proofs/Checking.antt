@@ -11,7 +11,7 @@ use Rattle.std.specs.declared.alloc.Global.{Global}
 use Rattle.std.proofs.lemmas.Slice.Eq.{bytes_eq-Decides}
 use Rattle.ark_traits.specs.declared.error.PolyError.TheVariants.{Memory}
 use Rattle.polyrun_lib.specs.Lines.{ended, row_line_of, refusal_line_of, usage_text}
-use Rattle.ark_words.specs.Fields.{Known}
+use Rattle.ark_numbers.specs.Fields.{Known}
 use Rattle.polyrun_lib.specs.Answer.{IsCommand, IsPlainAnswer}
 use Rattle.polyrun_lib.specs.Written.{Writer, TookAll, TookBeginning, IsWritten, IsOneWritten}
 use Rattle.polyrun_lib.specs.Commands.{Command}

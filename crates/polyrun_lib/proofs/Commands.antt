@@ -7,7 +7,7 @@ use Rattle.polyrun_lib.specs.declared.command.Direction.{Direction}
 use Rattle.polyrun_lib.specs.declared.command.Direction.TheVariants.{Forward, Inverse}
 use Rattle.ark_traits.specs.declared.error.PolyError.{PolyError}
 use Rattle.polyrun_lib.specs.Lines.{refusal_line_of, usage_text}
-use Rattle.ark_words.specs.Fields.{Known}
+use Rattle.ark_numbers.specs.Fields.{Known}
 use Rattle.polyrun_lib.specs.Answer.{IsCommand, MayAnswer}
 use Rattle.polyrun_lib.specs.Outcome.{MayRefuse}
 use Rattle.polyrun_lib.specs.Commands.{Command, transform_of, product_of, division_of, value_of, extension_of, size_for, transform_name, command_name, IsNoTransform, IsNoExtension, AreTwoLists, AreEvaluated, Takes, Reads, IsNoCommand}

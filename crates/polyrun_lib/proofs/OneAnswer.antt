@@ -2,7 +2,7 @@
 use Rattle.std.proofs.Common.{◌≡◌, ℕ, Bool, true, false, IsTrue, List, [], ◌∷◌, get_or, inl, inr, refl, sym, ap, ap₂, subst, ◌∙◌}
 use Rattle.polyrun_lib.specs.Commands.{Command}
 use Rattle.polyrun_lib.specs.Vectors.{Row, rows_5, rows_433, rows_65537, rows_babybear, rows_koalabear, rows_goldilocks, rows_bls12_381, rows_bn254, HasRows}
-use Rattle.ark_words.specs.Fields.{Known, field_5, field_433, field_65537, babybear, koalabear, goldilocks, bls12_381, bn254}
+use Rattle.ark_numbers.specs.Fields.{Known, field_5, field_433, field_65537, babybear, koalabear, goldilocks, bls12_381, bn254}
 use Rattle.polyrun_lib.specs.Answer.{Names, Writes, IsPlainAnswer, HasAtMostOne}
 use Rattle.polyrun_lib.specs.Check.{IsVerdict, AreVerdicts, lines_text, status_of, IsChecked, IsAnswer}
 use Rattle.polyrun_lib.proofs.OneCommand.{by_name, one_command}

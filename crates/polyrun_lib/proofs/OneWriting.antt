@@ -18,10 +18,10 @@ use Rattle.polyrun_lib.specs.declared.command.Direction.{Direction}
 use Rattle.polyrun_lib.specs.declared.command.Direction.TheVariants.{Forward, Inverse}
 use Rattle.polyrun_lib.specs.Lines.{line_of, refusal_line_of}
 use Rattle.polyrun_lib.specs.Commands.{Command, transform_of, product_of, division_of, value_of, extension_of, size_for}
-use Rattle.ark_words.specs.Fields.{Known, operations, reduced}
-use Rattle.ark_words.specs.Answers.{coefficients, domain_of, IsDomainFor, AreCoefficients, HasNoDomain}
+use Rattle.ark_numbers.specs.Fields.{Known, operations, reduced}
+use Rattle.ark_numbers.specs.Answers.{coefficients, domain_of, IsDomainFor, AreCoefficients, HasNoDomain}
 use Rattle.polyrun_lib.specs.Answer.{IsTransformed, Gives, Refuses, Writes, HasAtMostOne}
-use Rattle.ark_words.proofs.Values.{NumberField, shown_field, residue, IsOurs, field_laws, module_laws, number_carries, residue_carries, elements_of, values_of_elements}
+use Rattle.ark_numbers.proofs.Values.{NumberField, shown_field, residue, IsOurs, field_laws, module_laws, number_carries, residue_carries, elements_of, values_of_elements}
 
 -- ---- answers over any field
 

@@ -20,9 +20,9 @@ use Rattle.polyrun_lib.specs.Lines.{line_of}
 use Rattle.polyrun_lib.specs.declared.command.Direction.{Direction}
 use Rattle.polyrun_lib.specs.declared.command.Direction.TheVariants.{Forward, Inverse}
 use Rattle.polyrun_lib.specs.Commands.{Command, transform_of, product_of, division_of, value_of, extension_of}
-use Rattle.ark_words.specs.Fields.{Known, reduced}
-use Rattle.ark_words.specs.Answers.{coefficients, domain_of, IsChosen}
-use Rattle.ark_words.proofs.Values.{NumberField, shown_field, field_laws, module_laws, IsOurs, is_domain_for, values_carried, interpolated_carried, interpolated_plain, elements_of, values_of_elements, value_carried, extension_carried, HasNoPlaces, product_carried, some_places, quotient_carried}
+use Rattle.ark_numbers.specs.Fields.{Known, reduced}
+use Rattle.ark_numbers.specs.Answers.{coefficients, domain_of, IsChosen}
+use Rattle.ark_numbers.proofs.Values.{NumberField, shown_field, field_laws, module_laws, IsOurs, is_domain_for, values_carried, interpolated_carried, interpolated_plain, elements_of, values_of_elements, value_carried, extension_carried, HasNoPlaces, product_carried, some_places, quotient_carried}
 use Rattle.polyrun_lib.specs.Answer.{IsTransformed, Gives, TakesMemory}
 use Rattle.polyrun_lib.specs.Outcome.{MayRefuse, IsOutcome}
 

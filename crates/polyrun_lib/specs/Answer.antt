@@ -7,8 +7,8 @@ use Rattle.ark_math.specs.Univariate.{of_list}
 use Rattle.ark_math.specs.Multilinear.{extension}
 use Rattle.ark_traits.specs.declared.error.PolyError.{PolyError}
 use Rattle.ark_traits.specs.declared.error.PolyError.TheVariants.{Memory, NoDomain, ZeroDivisor}
-use Rattle.ark_words.specs.Fields.{Known, field_5, field_433, field_65537, babybear, koalabear, goldilocks, bls12_381, bn254, operations, reduced}
-use Rattle.ark_words.specs.Answers.{coefficients, IsChosen, IsDomainFor, HasNoDomain, AreValues, AreInterpolated, AreProduct, HasNoProduct, AreQuotient, HasNoQuotient}
+use Rattle.ark_numbers.specs.Fields.{Known, field_5, field_433, field_65537, babybear, koalabear, goldilocks, bls12_381, bn254, operations, reduced}
+use Rattle.ark_numbers.specs.Answers.{coefficients, IsChosen, IsDomainFor, HasNoDomain, AreValues, AreInterpolated, AreProduct, HasNoProduct, AreQuotient, HasNoQuotient}
 use Rattle.polyrun_lib.specs.declared.command.Direction.{Direction}
 use Rattle.polyrun_lib.specs.declared.command.Direction.TheVariants.{Forward, Inverse}
 use Rattle.polyrun_lib.specs.Commands.{Command, transform_of, product_of, division_of, value_of, extension_of, size_for, Reads}

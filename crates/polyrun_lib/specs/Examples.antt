@@ -10,8 +10,8 @@ use Rattle.ark_base.specs.Numerals.{IsDecimal, numeral}
 use Rattle.polyrun_lib.specs.Words.{IsList}
 use Rattle.polyrun_lib.specs.Lines.{line_of}
 use Rattle.polyrun_lib.specs.Commands.{transform_of, product_of, division_of, value_of, extension_of, size_for}
-use Rattle.ark_words.specs.Fields.{Known, field_5, field_433, field_65537, bn254}
-use Rattle.ark_words.specs.Answers.{domain_of, IsDomainFor}
+use Rattle.ark_numbers.specs.Fields.{Known, field_5, field_433, field_65537, bn254}
+use Rattle.ark_numbers.specs.Answers.{domain_of, IsDomainFor}
 use Rattle.polyrun_lib.specs.Answer.{Gives, Refuses}
 
 -- zeros may stand first

@@ -5,7 +5,7 @@ use Rattle.std.specs.declared.alloc.Global.{Global}
 use Rattle.ark_traits.specs.declared.error.PolyError.{PolyError}
 use Rattle.ark_traits.specs.declared.error.PolyError.TheVariants.{Memory}
 use Rattle.polyrun_lib.specs.Commands.{Command}
-use Rattle.ark_words.specs.Fields.{Known}
+use Rattle.ark_numbers.specs.Fields.{Known}
 use Rattle.polyrun_lib.specs.Answer.{Gives, Refuses, TakesMemory, IsCommand}
 
 -- an error, or want of memory for an answer

@@ -2,7 +2,7 @@
 
 ghost use Rattle.std.specs.Prelude.{ℕ, List, map, string_bytes};
 ghost use Rattle.polyrun_lib.specs.Commands.{Command as Asked};
-ghost use Rattle.ark_words.specs.Fields.{Known, known_by};
+ghost use Rattle.ark_numbers.specs.Fields.{Known, known_by};
 ghost use Rattle.polyrun_lib.specs.Answer.{Names, Writes, HasAtMostOne};
 ghost use Rattle.polyrun_lib.specs.Check.{row_of, IsChecked, IsAnswer};
 

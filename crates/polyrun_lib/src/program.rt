@@ -12,8 +12,8 @@ ghost use Rattle.polyrun_lib.specs.Commands.{Command as Asked, Spells, IsSpelled
 ghost use Rattle.polyrun_lib.specs.Commands.{transform_of, product_of, division_of, value_of, extension_of, size_for};
 ghost use Rattle.polyrun_lib.specs.Commands.{SpellExtended};
 ghost use Rattle.polyrun_lib.specs.Lines.{line_of};
-ghost use Rattle.ark_words.specs.Fields.{Known, known_by};
-ghost use Rattle.ark_words.specs.Answers.{coefficients};
+ghost use Rattle.ark_numbers.specs.Fields.{Known, known_by};
+ghost use Rattle.ark_numbers.specs.Answers.{coefficients};
 ghost use Rattle.polyrun_lib.specs.Answer.{IsCommand, HasAtMostOne, MayAnswer};
 ghost use Rattle.polyrun_lib.specs.Written.{writer, IsWritten, IsOneWritten};
 ghost use Rattle.polyrun_lib.specs.Check.{IsAnswer, MayWrite};

@@ -1,5 +1,5 @@
 use Rattle.std.proofs.Common.{sym, subst, rules}
-use Rattle.ark_words.specs.Answers.{IsChosen}
+use Rattle.ark_numbers.specs.Answers.{IsChosen}
 use Rattle.ark_words.proofs.domains.domain_size.Goals as goal
 
 pub returns-clause-no_domain : goal.returns-clause-no_domain

@@ -1,10 +1,10 @@
 use Rattle.std.proofs.Common.{◌/◌, ap, sym, subst, ◌∙◌, map, length, mod-eq_of_lt}
 use Rattle.ark_math.specs.Words.{number_of_words}
 use Rattle.ark_univariate.specs.Domains.{general_domain}
-use Rattle.ark_words.specs.Answers.{coset_of, AreValues}
+use Rattle.ark_numbers.specs.Answers.{coset_of, AreValues}
 use Rattle.ark_words.specs.Numbers.{numbers, AreTransformed, AreTransformable}
 use Rattle.ark_words.proofs.WordLists.{whole_words}
-use Rattle.ark_words.proofs.Values.{number_field, shown_field, values_carried, length_carried}
+use Rattle.ark_numbers.proofs.Values.{number_field, shown_field, values_carried, length_carried}
 use Rattle.ark_words.proofs.transforms.fft.Goals as goal
 
 pub put-requires : goal.put-requires

@@ -1,10 +1,10 @@
 use Rattle.std.proofs.Common.{◌/◌, ap, sym, subst, ◌∙◌, map, length, mod-eq_of_lt}
 use Rattle.ark_math.specs.Words.{number_of_words}
 use Rattle.ark_univariate.specs.Domains.{general_domain}
-use Rattle.ark_words.specs.Answers.{coset_of, AreInterpolated}
+use Rattle.ark_numbers.specs.Answers.{coset_of, AreInterpolated}
 use Rattle.ark_words.specs.Numbers.{numbers, AreTransformedBack, AreTransformable}
 use Rattle.ark_words.proofs.WordLists.{whole_words}
-use Rattle.ark_words.proofs.Values.{number_field, shown_field, of_any_kind, interpolated_carried, length_interpolated}
+use Rattle.ark_numbers.proofs.Values.{number_field, shown_field, of_any_kind, interpolated_carried, length_interpolated}
 use Rattle.ark_words.proofs.transforms.ifft.Goals as goal
 
 pub put-requires : goal.put-requires

@@ -2,7 +2,7 @@ use Rattle.std.proofs.Common.{◌<◌, All, sym, subst, IfErr, refl}
 use Rattle.ark_words.specs.Faults.{IsFault}
 use Rattle.ark_words.specs.Numbers.{HaveLengths, HaveReduced, HaveDomain, AreTransformable}
 use Rattle.ark_words.proofs.Faults.{for_error, refused_memory, refusal_more}
-use Rattle.ark_words.proofs.Values.{number_field, not_zero}
+use Rattle.ark_numbers.proofs.Values.{number_field, not_zero}
 use Rattle.ark_words.proofs.WordLists.{numbers_below}
 use Rattle.ark_words.proofs.transforms.judged.Goals as goal
 

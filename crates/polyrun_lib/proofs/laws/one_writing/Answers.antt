@@ -1,4 +1,4 @@
-use Rattle.ark_words.proofs.Values.{number_field}
+use Rattle.ark_numbers.proofs.Values.{number_field}
 use Rattle.polyrun_lib.proofs.OneWriting.{one_writing}
 use Rattle.polyrun_lib.proofs.laws.one_writing.Goals as goal
 

@@ -3,7 +3,7 @@ use Rattle.std.specs.List.{filter_map}
 use Rattle.std.proofs.lemmas.Iterator.Consumers.{YieldsList-at, YieldsList-end}
 use Rattle.std.proofs.lemmas.Iterator.Splits.{YieldsList-from_str_split}
 use Rattle.polyrun_lib.proofs.Reading.{element_in, element_in-answer, found_more, none_more, elements_found}
-use Rattle.ark_words.proofs.Values.{number_field, values_of_elements}
+use Rattle.ark_numbers.proofs.Values.{number_field, values_of_elements}
 use Rattle.polyrun_lib.proofs.program.elements.Goals as goal
 
 pub parts-preserved-in-Continue-1 : goal.parts-preserved-in-Continue-1

@@ -1,4 +1,4 @@
-use Rattle.ark_words.proofs.Values.{number_field, coefficients_of}
+use Rattle.ark_numbers.proofs.Values.{number_field, coefficients_of}
 use Rattle.polyrun_lib.proofs.program.polynomial.Goals as goal
 
 pub returns : goal.returns

@@ -2,7 +2,7 @@ use Rattle.std.proofs.Common.{◌∙◌, ap, inl, inr, refl, ⊎_elim}
 use Rattle.std.specs.Prelude.{Err}
 use Rattle.ark_math.specs.Univariate.{of_list}
 use Rattle.polyrun_lib.specs.Commands.{product_of}
-use Rattle.ark_words.proofs.Values.{number_field, shown_field, no_product}
+use Rattle.ark_numbers.proofs.Values.{number_field, shown_field, no_product}
 use Rattle.polyrun_lib.proofs.Values.{found_is_no_error, outcome_line, outcome_error, gives_product}
 use Rattle.polyrun_lib.proofs.program.product_line.Goals as goal
 

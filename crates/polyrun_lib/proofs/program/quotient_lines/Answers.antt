@@ -2,7 +2,7 @@ use Rattle.std.proofs.Common.{ap, inl, inr, refl, subst, ⊎_elim}
 use Rattle.std.specs.Prelude.{Err}
 use Rattle.ark_math.specs.Univariate.{IsTrimmed}
 use Rattle.polyrun_lib.specs.Commands.{division_of}
-use Rattle.ark_words.proofs.Values.{number_field, shown_field, no_quotient}
+use Rattle.ark_numbers.proofs.Values.{number_field, shown_field, no_quotient}
 use Rattle.polyrun_lib.proofs.Values.{outcome_line, outcome_error, gives_quotient}
 use Rattle.polyrun_lib.proofs.program.quotient_lines.Goals as goal
 

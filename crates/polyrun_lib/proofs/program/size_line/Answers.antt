@@ -3,7 +3,7 @@ use Rattle.polyrun_lib.specs.Lines.{line_of}
 use Rattle.polyrun_lib.specs.Commands.{size_for}
 use Rattle.polyrun_lib.specs.Outcome.{IsOutcome}
 use Rattle.polyrun_lib.proofs.Reading.{IsDecimal-same}
-use Rattle.ark_words.proofs.Values.{number_field, shown_field}
+use Rattle.ark_numbers.proofs.Values.{number_field, shown_field}
 use Rattle.polyrun_lib.proofs.Values.{outcome_error}
 use Rattle.polyrun_lib.proofs.program.size_line.Goals as goal
 

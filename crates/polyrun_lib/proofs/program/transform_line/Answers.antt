@@ -2,7 +2,7 @@ use Rattle.std.proofs.Common.{◌≡◌, ◌∙◌, ap, subst, inl, inr, refl}
 use Rattle.polyrun_lib.specs.Commands.{transform_of}
 use Rattle.polyrun_lib.specs.Outcome.{IsOutcome}
 use Rattle.polyrun_lib.proofs.Reading.{IsDecimal-same}
-use Rattle.ark_words.proofs.Values.{number_field, shown_field, too_long, has_no_domain}
+use Rattle.ark_numbers.proofs.Values.{number_field, shown_field, too_long, has_no_domain}
 use Rattle.polyrun_lib.proofs.Values.{outcome_line, outcome_error, IsShown, gives_transform, some_transform}
 use Rattle.polyrun_lib.proofs.program.transform_line.Goals as goal
 use Rattle.polyrun_lib.proofs.program.transform_line.Goals.{in-Forward+in_ok-fft_counted-in-Forward, in-Inverse+in_ok-ifft_counted-in-Inverse}

@@ -1,7 +1,7 @@
 use Rattle.std.proofs.Common.{inl, inr, refl}
 use Rattle.ark_math.proofs.Polynomials.UnivariateValues.{value_of_list}
 use Rattle.polyrun_lib.specs.Commands.{value_of}
-use Rattle.ark_words.proofs.Values.{number_field, shown_field}
+use Rattle.ark_numbers.proofs.Values.{number_field, shown_field}
 use Rattle.polyrun_lib.proofs.Values.{outcome_line, outcome_error, gives_value}
 use Rattle.polyrun_lib.proofs.program.value_line.Goals as goal
 

@@ -7,7 +7,7 @@ use Rattle.ark_math.specs.Domain.{Kind, radix2, Domain, HasNoSize, IsSize, IsGen
 use Rattle.ark_math.specs.Transform.{transform, IsInverse}
 use Rattle.ark_math.specs.NormalForms.{trim}
 use Rattle.ark_math.specs.Univariate.{of_list, product, IsTrimmed, IsQuotient}
-use Rattle.ark_words.specs.Fields.{Known, operations, reduced}
+use Rattle.ark_numbers.specs.Fields.{Known, operations, reduced}
 
 -- ---- domains and transforms
 

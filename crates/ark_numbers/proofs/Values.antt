@@ -21,8 +21,8 @@ use Rattle.std.proofs.lemmas.Bool.Decides.{Decides-eqb}
 use Rattle.std.proofs.lemmas.List.{length-map}
 use Rattle.ark_base.specs.Residues.{Numbering, residue_of, residues}
 use Rattle.ark_base.specs.ResiduesLaws.{residues_laws, number_of_residue, number_of_zero, number_of_one}
-use Rattle.ark_words.specs.Fields.{Known, known_by, modulo, operations, reduced}
-use Rattle.ark_words.specs.Answers.{coefficients, domain_of, coset_of, IsChosen, IsDomainFor, HasNoDomain, AreValues, AreInterpolated, AreProduct, HasNoProduct, AreQuotient, HasNoQuotient}
+use Rattle.ark_numbers.specs.Fields.{Known, known_by, modulo, operations, reduced}
+use Rattle.ark_numbers.specs.Answers.{coefficients, domain_of, coset_of, IsChosen, IsDomainFor, HasNoDomain, AreValues, AreInterpolated, AreProduct, HasNoProduct, AreQuotient, HasNoQuotient}
 
 -- a field whose elements are the numbers below a prime, with its roots of unity
 pub record NumberField (F : Type 0) : Type 0 where

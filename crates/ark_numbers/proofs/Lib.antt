@@ -1,0 +1,2 @@
+-- Numbers carry a field's operations to those of its numbers, and so every answer.
+pub mod Values
