@@ -8,7 +8,7 @@ use ark_laws::{
 use ark_multi::{MultilinearExtension, SparseMultilinearExtension};
 use std::alloc::Global;
 use test_cases::answers::Answer;
-use test_cases::words::{elements, no_case, no_fit, one, size, table_of, text_of};
+use test_cases::words::{elements, no_case, no_fit, one, size, table_of};
 use test_types::numbered::Numbered;
 
 /// The answer on a table by all its values.
@@ -99,7 +99,7 @@ fn bound<F: Numbered, E: MultilinearExtension<F>>(
         return no_fit(alloc);
     }
     let (at_once, bound) = values_with_bound_variables(alloc, p, &first, &others)?;
-    text_of(alloc, &[at_once, bound])
+    Ok(format!(in alloc; "{at_once},{bound}")?)
 }
 
 // The value at the exchanged point, and that of the exchanged table.
@@ -114,5 +114,5 @@ fn exchanged<F: Numbered, E: MultilinearExtension<F>>(
         return no_fit(alloc);
     }
     let (by_items, by_variables) = values_with_exchanged_variables(alloc, p, by, &point)?;
-    text_of(alloc, &[by_items, by_variables])
+    Ok(format!(in alloc; "{by_items},{by_variables}")?)
 }

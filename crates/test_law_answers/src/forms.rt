@@ -95,7 +95,7 @@ fn answer_of_sparse<F: Numbered>(
 fn values<F: Numbered>(alloc: Global, sparse: &SparsePolynomial<F>, point: F) -> Answer {
     let dense = DensePolynomial::from_sparse(alloc, sparse)?;
     let (of_dense, of_sparse) = values_of_both_forms(alloc, &dense, sparse, point)?;
-    text_of(alloc, &[of_dense, of_sparse])
+    Ok(format!(in alloc; "{of_dense},{of_sparse}")?)
 }
 
 // The values over a domain, of the dense form, of the sparse one and of either.

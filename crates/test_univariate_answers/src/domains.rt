@@ -130,20 +130,20 @@ fn filter_at<F: Numbered, D: EvaluationDomain<F>>(
 // What a domain keeps, in this order: the size, the exponent of two in it, the size as an element and its inverse, the
 // root and its inverse, the offset, its inverse and its power.
 fn fields<F: Numbered, D: EvaluationDomain<F>>(alloc: Global, domain: D) -> Answer {
-    let sizes = text_of_numbers(alloc, &[domain.size() as u64, domain.log_size_of_group()]);
-    let kept = text_of(
-        alloc,
-        &[
-            domain.size_as_field_element(),
-            domain.size_inv(),
-            domain.group_gen(),
-            domain.group_gen_inv(),
-            domain.coset_offset(),
-            domain.coset_offset_inv(),
-            domain.coset_offset_pow_size(),
-        ],
-    );
-    joined(alloc, sizes, ",", kept)
+    let size = format!(in alloc;
+        "{},{},{},{}",
+        domain.size(),
+        domain.log_size_of_group(),
+        domain.size_as_field_element(),
+        domain.size_inv()
+    )?;
+    let root = format!(in alloc; "{},{}", domain.group_gen(), domain.group_gen_inv())?;
+    Ok(format!(in alloc;
+        "{size},{root},{},{},{}",
+        domain.coset_offset(),
+        domain.coset_offset_inv(),
+        domain.coset_offset_pow_size()
+    )?)
 }
 
 fn all_elements<F: Numbered, D: EvaluationDomain<F>>(alloc: Global, domain: D) -> Answer {

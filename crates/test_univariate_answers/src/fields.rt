@@ -74,7 +74,8 @@ fn text<F: FftField>(alloc: Global, x: F, y: F) -> Answer {
 // Zero, the default and one; then the generator, the exponent of two and the root for it; and then the odd base, its
 // exponent and the root for both, where there is one.
 fn constants<F: Numbered>(alloc: Global) -> Answer {
-    let units = text_of(alloc, &[F::zero(), F::default(), F::one()]);
+    let (zero, default, one) = (F::zero(), F::default(), F::one());
+    let units = Ok(format!(in alloc; "{zero},{default},{one}")?);
     let even = even_constants::<F>(alloc);
     let both = joined(alloc, units, " ", even);
     match (
@@ -105,10 +106,12 @@ fn operators<F: Numbered>(alloc: Global, x: F, y: F) -> Answer {
     product *= y;
     let mut square = x;
     square.square_in_place();
-    text_of(
-        alloc,
-        &[x + y, sum, x - y, difference, x * y, product, square, -x],
-    )
+    let by_value = (x + y, x - y, x * y);
+    let opposite = -x;
+    Ok(format!(in alloc;
+        "{},{sum},{},{difference},{},{product},{square},{opposite}",
+        by_value.0, by_value.1, by_value.2
+    )?)
 }
 
 fn inverses<F: Numbered>(alloc: Global, word: &str) -> Answer {
