@@ -129,3 +129,11 @@ over {Done} {Taken} {Lengths} {Reduced} {Domain} {old} {new} {after} {name} {kno
 pub over_none : {Done : Spelled → List ℕ → Type 0} {Taken Lengths Reduced Domain : Spelled → Type 0} {old new : List ℕ} {field : Option Spelled} {answer : Option Outcome}
     → field ≡ None → answer ≡ None → new ≡ old → IsAnswer Done Taken Lengths Reduced Domain old new field answer
 over_none is answered same = record { none = λ e. (answered, same); some = λ f e. absurd (search rules) }
+
+-- of a call that asks for no domain
+pub no_domain_where_all : {A B : Type 0} {r : Outcome} → r ≢ Err NoDomain → (r ≡ Err NoDomain) ↔ (A × B × (¬ Unit {0}))
+no_domain_where_all other = ((λ e. absurd (other e)), (λ h. absurd (h.2 tt)))
+
+pub never : (A B : Spelled → Type 0) (field : Option Spelled) → IsSomeAnd field (λ f. A f × B f × (¬ Unit {0})) → ⊥
+never A B None h = h
+never A B (Some f) h = h.2 tt

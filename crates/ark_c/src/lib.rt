@@ -7,13 +7,14 @@ ghost use Rattle.ark_math.specs.Domain.{Kind, HasNoSize};
 ghost use Rattle.ark_numbers.specs.Answers.{IsChosen};
 ghost use Rattle.ark_words.specs.Numbers.{HaveLengths, HaveReduced, HaveDomain, AreTransformable};
 ghost use Rattle.ark_words.specs.Numbers.{AreTransformed, AreTransformedBack};
+ghost use Rattle.ark_words.specs.Numbers.{FitValues, BothReduced, AreEvaluated};
 ghost use Rattle.ark_c.specs.Names.{field_named};
 
 mod status;
 
 use ark_base::{BabyBear, F5, F433, F65537, Goldilocks, KoalaBear};
 use ark_wide::{Bls12_381Scalar, Bn254Scalar};
-use ark_words::{domain_size, fft, ifft, width};
+use ark_words::{domain_size, evaluate, fft, ifft, width};
 use status::status;
 use std::alloc::Global;
 
@@ -103,4 +104,30 @@ pub extern "C" fn ark_ifft(alloc: Global, field: u64, words: &mut [u64], offset:
         × (¬ HaveDomain f words.old offset.now)) }
 {
     status(over_field!(field, ifft(alloc, words, offset)))
+}
+
+/// The values at points, in their order, of the polynomial with these coefficients, the lowest first: there
+/// are as many values as points, one or many.
+#[unsafe(no_mangle)]
+pub extern "C" fn ark_evaluate(
+    alloc: Global,
+    field: u64,
+    coefficients: &[u64],
+    points: &[u64],
+    values: &mut [u64],
+) -> u32
+    ensures values { result ≡ 0 → IsSomeAnd (field_named field) (λ f.
+        AreEvaluated f coefficients.now points.now values.new) }
+    ensures kept { result ≢ 0 → values.new ≡ values.old }
+    ensures taken { result ≡ 0 → IsSomeAnd (field_named field) (λ f.
+        FitValues f coefficients.now points.now values.old × BothReduced f coefficients.now points.now) }
+    ensures no_field { (result ≡ 2) ↔ IsNone (field_named field) }
+    ensures length { (result ≡ 3) ↔ IsSomeAnd (field_named field) (λ f.
+        ¬ FitValues f coefficients.now points.now values.old) }
+    ensures not_reduced { (result ≡ 4) ↔ IsSomeAnd (field_named field) (λ f.
+        FitValues f coefficients.now points.now values.old
+        × (¬ BothReduced f coefficients.now points.now)) }
+    ensures no_other { result ≢ 5 }
+{
+    status(over_field!(field, evaluate(alloc, coefficients, points, values)))
 }

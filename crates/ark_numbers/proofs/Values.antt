@@ -1,5 +1,5 @@
 -- An element's number carries a prime field's operations to those of the numbers below its prime, and so every answer.
-use Rattle.std.proofs.Common.{◌≡◌, ◌⊎◌, ◌+◌, ◌*◌, ◌-◌, ◌/◌, ◌%◌, ◌^◌, ◌<◌, ◌≤◌, ◌==◌, ℕ, List, [], ◌∷◌, ◌≢◌, length, map, inl, inr, refl, sym, ap, ap₂, subst, ◌∙◌, mod-eq_of_lt, mod-lt, le_of_lt, arith}
+use Rattle.std.proofs.Common.{◌≡◌, ◌⊎◌, ◌+◌, ◌*◌, ◌-◌, ◌/◌, ◌%◌, ◌^◌, ◌<◌, ◌≤◌, ◌==◌, ℕ, List, [], ◌∷◌, ◌≢◌, length, get_or, map, inl, inr, refl, sym, ap, ap₂, subst, ◌∙◌, mod-eq_of_lt, mod-lt, le_of_lt, arith}
 use Rattle.std.proofs.Math.Nat.{mod-add-mod, add-mod-mod, zero-mod}
 use Rattle.std.proofs.lemmas.Nat.{mul-mod}
 use Rattle.ark_math.specs.Field.{FieldOn, IsField, power}
@@ -8,6 +8,8 @@ use Rattle.ark_math.specs.Prime.{IsPrime}
 use Rattle.ark_math.specs.Root.{Adicity, AreRoots}
 use Rattle.ark_math.specs.Domain.{Kind, Domain, HasNoSize, IsDomain}
 use Rattle.ark_math.specs.Transform.{transform, value_at, IsInverse}
+use Rattle.ark_math.specs.AtPoints.{HasValues}
+use Rattle.ark_math.proofs.Polynomials.UnivariateValues.{value_of_list}
 use Rattle.ark_math.specs.Multilinear.{extension}
 use Rattle.ark_math.specs.Univariate.{of_list, product, nothing, IsTrimmed, IsQuotient}
 use Rattle.ark_math.proofs.Algebra.Groups.{itself_is_module}
@@ -18,7 +20,7 @@ use Rattle.ark_math.proofs.Callers.Transforms.{transform-meanings, inverse-meani
 use Rattle.ark_math.proofs.Domains.GeneralSizes.{general_fits}
 use mathlib.Core.Path.{fun_ext}
 use Rattle.std.proofs.lemmas.Bool.Decides.{Decides-eqb}
-use Rattle.std.proofs.lemmas.List.{length-map}
+use Rattle.std.proofs.lemmas.List.{length-map, ext_get_or, get_or-map}
 use Rattle.ark_base.specs.Residues.{Numbering, residue_of, residues}
 use Rattle.ark_base.specs.ResiduesLaws.{residues_laws, number_of_residue, number_of_zero, number_of_one}
 use Rattle.ark_numbers.specs.Fields.{Known, known_by, modulo, operations, reduced}
@@ -201,6 +203,26 @@ module _ {F : Type 0} (S : NumberField F) where
   value_carried xs x items at_x y same e f =
       let L = operations (shown_field S) in
       ap number f ∙ value_at-carried number_carries items at_x ∙ ap₂ (value_at L (itself L)) same e
+
+  -- values at points, one for each
+  pub values_at_carried : (xs zs : List ℕ) (items points found : List F) (a : ℕ → F) → map number items ≡ xs → map number points ≡ zs → a ≡ of_list K items → length found ≡ length points
+      → HasValues K (length points) (of_list K points) (of_list K found) a
+      → map number found ≡ map (value_at (operations (shown_field S)) (itself (operations (shown_field S))) xs) zs
+  values_at_carried xs zs items points found a same points_same e len values =
+      let L = operations (shown_field S) in
+      let at_point = value_at L (itself L) xs in
+      subst (λ z. map number found ≡ map at_point z) points_same
+      (ext_get_or 0 (map number found) (map at_point (map number points))
+      (length-map found number ∙ len ∙ sym (length-map points number) ∙ sym (length-map (map number points) at_point))
+      (λ i l.
+      let n = length-map found number in
+      let m = length-map points number in
+      let within : i < length found = omega arith in
+      let here : i < length points = omega arith in
+      get_or-map number found i K.zero 0 within
+      ∙ value_carried xs (number (get_or points i K.zero)) items (get_or points i K.zero) (get_or found i K.zero) same refl
+      (value_of_list K field_laws a items (get_or points i K.zero) (get_or found i K.zero) e (values i here))
+      ∙ sym (get_or-map at_point (map number points) i 0 0 (omega arith) ∙ ap at_point (get_or-map number points i K.zero 0 here))))
 
   pub extension_carried : (xs x : List ℕ) (items point : List F) (y : F) → map number items ≡ xs → map number point ≡ x → y ≡ extension K (of_list K items) point
       → number y ≡ extension (operations (shown_field S)) (of_list (operations (shown_field S)) xs) x

@@ -1,7 +1,7 @@
 -- Lists of words as numbers.
 use Rattle.std.proofs.Common.{◌≡◌, zero, suc, ◌+◌, ◌-◌, ◌*◌, ◌/◌, ◌%◌, ◌<◌, ◌≤◌, ℕ, List, [], ◌∷◌, ◌++◌, All, length, map, get_or, slice_set, slice_index_or, slice_range, drop, refl, sym, ap, ap₂, subst, ◌∙◌, arith, below_more}
 use Rattle.std.proofs.lemmas.Nat.{mul-le, div-add-mod', div-mul-add}
-use Rattle.std.proofs.lemmas.List.{length-drop, length-take-le, map-append}
+use Rattle.std.proofs.lemmas.List.{length-drop, length-map, length-take-le, map-append}
 use Rattle.std.proofs.lemmas.Slice.{between_is, between-put_mid, take-put_mid_below}
 use borrow.Rule.Slice.PartMut.{put_mid}
 use Rattle.ark_math.specs.Module.{tabulate}
@@ -73,6 +73,10 @@ each_number P width words all i b =
 
 pub length-numbers : (width : ℕ) (words : List ℕ) → length (numbers width words) ≡ length words / width
 length-numbers width words = length-tabulate (length words / width) (number_at width words)
+
+-- as many elements as numbers
+pub length_read : {F : Type 0} (number : F → ℕ) (width : ℕ) (items : List F) (words : List ℕ) → map number items ≡ numbers width words → length items ≡ length words / width
+length_read number width items words e = sym (length-map items number) ∙ ap length e ∙ length-numbers width words
 
 -- one element more is read
 pub read_more : {F : Type 0} (number : F → ℕ) (f : ℕ → ℕ) (n : ℕ) (items after : List F) (x : F) → after ≡ items ++ x ∷ [] → map number items ≡ tabulate n f → number x ≡ f n

@@ -1,3 +1,4 @@
--- Lists of words as the numbers of a field's elements, and the error of a call.
+-- Lists of words as the numbers of a field's elements, the error of a call, and examples.
 pub mod Numbers
 pub mod Faults
+pub mod Examples

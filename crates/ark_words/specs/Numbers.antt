@@ -1,8 +1,9 @@
 -- Lists of words of 64 bits as the numbers of a field's elements, and what a call takes of them.
-use Rattle.std.specs.Prelude.{◌≡◌, ◌≢◌, ℕ, ◌+◌, ◌*◌, ◌/◌, ◌%◌, ◌<◌, List, All, length, slice_range}
-use Rattle.ark_math.specs.Module.{tabulate}
+use Rattle.std.specs.Prelude.{◌≡◌, ◌≢◌, ℕ, ◌+◌, ◌*◌, ◌/◌, ◌%◌, ◌<◌, List, All, length, map, slice_range}
+use Rattle.ark_math.specs.Module.{itself, tabulate}
+use Rattle.ark_math.specs.Transform.{value_at}
 use Rattle.ark_math.specs.Words.{number_of_words}
-use Rattle.ark_numbers.specs.Fields.{Known}
+use Rattle.ark_numbers.specs.Fields.{Known, operations}
 use Rattle.ark_numbers.specs.Answers.{IsLength, coset_of, AreValues, AreInterpolated}
 
 -- a field, and how many words spell an element
@@ -57,3 +58,17 @@ AreTransformed f old offset new = AreValues f.known (coset_of f.known (length ol
 -- the new words spell the coefficients of the polynomial whose values the old ones spell
 abbrev pub AreTransformedBack : Spelled → List ℕ → List ℕ → List ℕ → Type 0
 AreTransformedBack f old offset new = AreInterpolated f.known (coset_of f.known (length old / f.width) (number_of_words offset)) (numbers f.width old) (numbers f.width new)
+
+-- ---- polynomials: lists of coefficients, the lowest first
+
+-- all numbers of two lists are below the modulus
+abbrev pub BothReduced : Spelled → List ℕ → List ℕ → Type 0
+BothReduced f left right = AreReduced f left × AreReduced f right
+
+-- coefficients, points, and as many values as points
+abbrev pub FitValues : Spelled → List ℕ → List ℕ → List ℕ → Type 0
+FitValues f coefficients points values = AreWhole f coefficients × AreWhole f points × (length values ≡ length points)
+
+-- the new words spell the polynomial's values at the points
+abbrev pub AreEvaluated : Spelled → List ℕ → List ℕ → List ℕ → Type 0
+AreEvaluated f coefficients points new = numbers f.width new ≡ map (value_at (operations f.known) (itself (operations f.known)) (numbers f.width coefficients)) (numbers f.width points)

@@ -6,9 +6,11 @@ mod domains;
 mod element;
 mod error;
 mod lists;
+mod points;
 mod transforms;
 
 pub use domains::domain_size;
 pub use element::{WordElement, width};
 pub use error::WordsError;
+pub use points::evaluate;
 pub use transforms::{fft, ifft};

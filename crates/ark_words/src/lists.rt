@@ -34,6 +34,38 @@ pub fn refusal<F: WordElement>(words: &[u64], error: WordsError) -> WordsError
     }
 }
 
+/// The elements of two lists. Memory is no matter where a number of either isn't below the modulus.
+pub fn both<F: WordElement>(
+    alloc: Global,
+    left: &[u64],
+    right: &[u64],
+) -> Result<(Vec<F>, Vec<F>), WordsError>
+    ensures left { IfOk result (λ p. map F.numbering.number p.0.items ≡ numbers F.WIDTH left.now) }
+    ensures right { IfOk result (λ p. map F.numbering.number p.1.items ≡ numbers F.WIDTH right.now) }
+    ensures refusal { IfErr result (IsRefusal (All (λ x. x < F.modulus) (numbers F.WIDTH left.now)
+        × All (λ x. x < F.modulus) (numbers F.WIDTH right.now)) WordsError.Memory) }
+{
+    let Ok(first) = elements::<F>(alloc, left) else {
+        return Err(refusal_of_both::<F>(left, right, WordsError::Memory));
+    };
+    let Ok(second) = elements::<F>(alloc, right) else {
+        return Err(refusal_of_both::<F>(left, right, WordsError::Memory));
+    };
+    Ok((first, second))
+}
+
+/// This error, or that a number of either list isn't below the modulus.
+pub fn refusal_of_both<F: WordElement>(left: &[u64], right: &[u64], error: WordsError) -> WordsError
+    ensures { IsRefusal (All (λ x. x < F.modulus) (numbers F.WIDTH left.now)
+        × All (λ x. x < F.modulus) (numbers F.WIDTH right.now)) error result }
+{
+    if are_reduced::<F>(left) && are_reduced::<F>(right) {
+        error
+    } else {
+        WordsError::NotReduced
+    }
+}
+
 // Whether all numbers are below the modulus.
 fn are_reduced<F: WordElement>(words: &[u64]) -> bool
     ensures { IsTrue result ↔ All (λ x. x < F.modulus) (numbers F.WIDTH words.now) }
