@@ -15,10 +15,10 @@
  * itself (no Montgomery form). Every length `.._len` counts words, and what is said of n elements is about
  * n * ark_words(field) of them.
  *
- * Statuses. Every call that answers an ark_status judges first whether there is such a field, then lengths, then whether
- * each number is below p, and then the rest, in the order of the enum below. A call that answers anything but ARK_OK has
- * written nothing. ARK_MEMORY, ARK_NO_FIELD and ARK_NOT_REDUCED may come from all calls with lists; each call names the
- * others.
+ * Statuses. Whatever can be wrong is judged in the order of the enum below: first whether there is such a field, then
+ * lengths, then whether each number is below p, and so on. ARK_MEMORY alone has no condition: it comes where memory was
+ * refused. A call that answers anything but ARK_OK has written nothing. ARK_MEMORY, ARK_NO_FIELD and, where there are lists of
+ * elements, ARK_LENGTH for a part of an element and ARK_NOT_REDUCED may come from every call; each names the others.
  *
  * Domains. The domain of n elements is offset * w^i for i = 0 .. n - 1, where w = g^((p - 1) / n) and g is the field's
  * generator below. There is one for each power of two up to the field's greatest; the field of 433 elements has those of

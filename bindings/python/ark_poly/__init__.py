@@ -12,7 +12,7 @@ the same kind (an `array` where a `memoryview` was given); that of `evaluate` is
 four words, as `BN254_FR`, is four of them, the low one first; an array of numpy has them in rows, of the shape `(n, 4)`, or
 flat.
 
-The functions that end in `_in_place` write over such words. Where a call raises an `ArkError`, nothing was written.
+The functions that end in `_in_place` write over such words, or over a `list`. Where a call raises, nothing was written.
 """
 from __future__ import annotations
 
@@ -110,13 +110,19 @@ def ifft(field: int, values: Elements, offset: int = 1) -> Any:
 
 
 def fft_in_place(field: int, words: Any, offset: int = 1) -> None:
-    """`fft` over writable words of 64 bits in one piece."""
-    _transform(_library.ark_fft, field, _Words.written(field, words), offset)
+    """`fft` over writable words of 64 bits in one piece, or a `list`."""
+    if isinstance(words, list):
+        words[:] = fft(field, words, offset)
+    else:
+        _transform(_library.ark_fft, field, _Words.written(field, words), offset)
 
 
 def ifft_in_place(field: int, words: Any, offset: int = 1) -> None:
-    """`ifft` over writable words of 64 bits in one piece."""
-    _transform(_library.ark_ifft, field, _Words.written(field, words), offset)
+    """`ifft` over writable words of 64 bits in one piece, or a `list`."""
+    if isinstance(words, list):
+        words[:] = ifft(field, words, offset)
+    else:
+        _transform(_library.ark_ifft, field, _Words.written(field, words), offset)
 
 
 def _transformed(call: Callable[..., int], field: int, values: Elements, offset: int) -> Any:
@@ -230,9 +236,12 @@ def code_restore(field: int, words: Elements, k: int, erased: Optional[Sequence[
 
 
 def code_restore_in_place(field: int, words: Any, k: int, erased: Sequence[Any]) -> None:
-    """`code_restore` over writable words of 64 bits in one piece."""
-    marks = _Marks(erased)
-    _check(_library.ark_code_restore(field, *_Words.written(field, words).pair, *marks.pair, _count(k)))
+    """`code_restore` over writable words of 64 bits in one piece, or a `list`, whose lost places hold any numbers."""
+    if isinstance(words, list):
+        words[:] = code_restore(field, words, k, erased)
+    else:
+        marks = _Marks(erased)
+        _check(_library.ark_code_restore(field, *_Words.written(field, words).pair, *marks.pair, _count(k)))
 
 
 def code_message(field: int, words: Elements, k: int, erased: Optional[Sequence[Any]] = None) -> Any:

@@ -162,6 +162,9 @@ class Places(unittest.TestCase):
             ark_poly.fft_in_place(ark_poly.GOLDILOCKS, wrong)
         self.assertEqual(back(wrong), [1, 2, 3, ark_poly.GOLDILOCKS])
 
+    def test_list(self):
+        self.check_in_place(list, list)
+
     def test_array(self):
         self.check_in_place(lambda c: array.array("Q", c), list)
         self.check_in_place(lambda c: memoryview(array.array("Q", c)), list)
@@ -195,7 +198,7 @@ class Places(unittest.TestCase):
             ark_poly.fft(ark_poly.BABYBEAR, numpy.zeros((2, 2), dtype=numpy.uint64))
 
     def test_other_types(self):
-        for other in (b"12345678", array.array("q", [1]), array.array("I", [1]), [1], (1,), memoryview(b"12345678").cast("Q")):
+        for other in (b"12345678", array.array("q", [1]), array.array("I", [1]), (1,), memoryview(b"12345678").cast("Q")):
             with self.assertRaises(TypeError):
                 ark_poly.fft_in_place(ark_poly.BABYBEAR, other)
         for other in ([1.0], ["1"], [None], "1", 1):

@@ -78,7 +78,11 @@ impl<const N: usize> Modulus<N> {
     pub const fn times(&self, a: [u64; N], b: [u64; N]) -> [u64; N] {
         if N == 1 {
             let mut product = [0; N];
-            product[0] = (a[0] as u128 * b[0] as u128 % self.words[0] as u128) as u64;
+            product[0] = if self.words[0] >> 32 == 0 {
+                a[0] * b[0] % self.words[0]
+            } else {
+                (a[0] as u128 * b[0] as u128 % self.words[0] as u128) as u64
+            };
             return product;
         }
         self.montgomery(self.montgomery(a, b), self.square)
