@@ -25,7 +25,7 @@ FIELDS = [
 BEYOND = {5: 5, 433: 433, 65537: 2**16 + 1, 2013265921: 2**27 + 1, 2130706433: 2**24 + 1, 18446744069414584321: 2**32 + 1,
           254: 2**28 + 1, 12381: 2**32 + 1}
 
-OK, NO_FIELD, LENGTH, NOT_REDUCED, NO_DOMAIN, ZERO_DIVISOR, EQUAL_POINTS, TOO_FEW = 0, 2, 3, 4, 5, 6, 7, 8
+OK, NO_FIELD, LENGTH, NOT_REDUCED, NO_DOMAIN, ZERO_DIVISOR, EQUAL_POINTS, TOO_FEW, NO_CODEWORD = 0, 2, 3, 4, 5, 6, 7, 8, 9
 UNKNOWN = "-"
 
 rows = []
@@ -239,6 +239,12 @@ for name, p, words, g, sizes in FIELDS:
     bad("code_restore", TOO_FEW, [word, [1, 1, 0, 1], [2]], [word])
     bad("code_restore", TOO_FEW, [word, [1, 1, 1, 1], [1]], [word])
     bad("code_restore", TOO_FEW, [word, [2, 255, 0, 128], [2]], [word])
+    wrong = [word[0] ^ 1, *word[1:]]
+    bad("code_restore", NO_CODEWORD, [wrong, [0, 0, 0, 0], [2]], [wrong])
+    bad("code_restore", NO_CODEWORD, [wrong, [0, 0, 1, 0], [2]], [wrong])
+    bad("code_restore", NO_CODEWORD, [word + wrong, [0, 0, 1, 0], [2]], [word + wrong])
+    bad("code_message", NO_CODEWORD, [wrong, [0, 0, 1, 0]], [unknown(2)])
+    bad("code_message", NO_CODEWORD, [word + wrong, [0, 0, 1, 0]], [unknown(4)])
     bad("code_restore", LENGTH, [word, [1, 0, 0], [2]], [word])
     bad("code_restore", LENGTH, [word, [1, 0, 0, 0], [5]], [word])
     bad("code_restore", LENGTH, [[], [1, 0, 0, 0], [2]], [[]])

@@ -64,7 +64,8 @@ enum {
     ARK_NO_DOMAIN = 5,    /* no domain of the field has so many elements, or the offset is zero */
     ARK_ZERO_DIVISOR = 6, /* the divisor is the zero polynomial */
     ARK_EQUAL_POINTS = 7, /* two points are equal */
-    ARK_TOO_FEW = 8       /* a codeword has too few places left */
+    ARK_TOO_FEW = 8,      /* a codeword has too few places left */
+    ARK_NO_CODEWORD = 9   /* no codeword has what is left of a word */
 };
 
 /* The version of the library, as ARK_VERSION has that of the declarations. */
@@ -134,11 +135,13 @@ ark_status ark_code_encode(uint64_t field, const uint64_t *message, size_t messa
  * below p, as 0. Many words of one call cost less than as many calls. Lost places are restored, and wrong ones are not
  * corrected.
  * ARK_LENGTH where `words` isn't one or more words or k is none of 1 .. n, ARK_NO_DOMAIN where no domain has n elements,
- * ARK_TOO_FEW where fewer than k places are left. */
+ * ARK_TOO_FEW where fewer than k places are left, ARK_NO_CODEWORD where more than k are left in a word, and no codeword has
+ * them. */
 ark_status ark_code_restore(uint64_t field, uint64_t *words, size_t words_len, const uint8_t *erased, size_t erased_len,
                             uint64_t k);
 
-/* The messages, of k elements each, one after another, of words as above: as many as there are words. */
+/* The messages, of k elements each, one after another, of words as above: as many as there are words. The statuses are those
+ * of ark_code_restore. */
 ark_status ark_code_message(uint64_t field, const uint64_t *words, size_t words_len, const uint8_t *erased, size_t erased_len,
                             uint64_t *messages, size_t messages_len);
 

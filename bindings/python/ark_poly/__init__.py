@@ -25,6 +25,7 @@ from typing import Any, Callable, List, Optional, Sequence, Tuple, Union, overlo
 from ._library import (
     ArkError,
     EqualPoints,
+    NoCodeword,
     NoDomain,
     NoField,
     NotReduced,
@@ -40,7 +41,8 @@ __version__ = "0.5.0+proved.1"
 
 __all__ = [
     "BABYBEAR", "BLS12_381_FR", "BN254_FR", "F433", "F5", "F65537", "GOLDILOCKS", "KOALABEAR",
-    "ArkError", "EqualPoints", "NoDomain", "NoField", "NotReduced", "OutOfMemory", "TooFew", "WrongLength", "ZeroDivisor",
+    "ArkError", "EqualPoints", "NoCodeword", "NoDomain", "NoField", "NotReduced", "OutOfMemory", "TooFew", "WrongLength",
+    "ZeroDivisor",
     "code_encode", "code_message", "code_restore", "code_restore_in_place", "divide", "domain_size", "evaluate", "fft",
     "fft_in_place", "ifft", "ifft_in_place", "interpolate", "lagrange", "library_version", "modulus", "multilinear_evaluate",
     "multilinear_fix", "multiply", "words",

@@ -60,9 +60,15 @@ class TooFew(ArkError, ValueError):
     status = 8
 
 
+class NoCodeword(ArkError, ValueError):
+    """No codeword has what is left of a word."""
+
+    status = 9
+
+
 _ERRORS: Dict[int, Type[ArkError]] = {
     error.status: error
-    for error in (OutOfMemory, NoField, WrongLength, NotReduced, NoDomain, ZeroDivisor, EqualPoints, TooFew)
+    for error in (OutOfMemory, NoField, WrongLength, NotReduced, NoDomain, ZeroDivisor, EqualPoints, TooFew, NoCodeword)
 }
 
 

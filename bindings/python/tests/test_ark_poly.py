@@ -245,6 +245,8 @@ class Refusals(unittest.TestCase):
             (ark_poly.EqualPoints, lambda: ark_poly.interpolate(f, [1, 1], [1, 2])),
             (ark_poly.TooFew, lambda: ark_poly.code_restore(f, [1, None, None, None], 2)),
             (ark_poly.TooFew, lambda: ark_poly.code_message(f, [1, None, None, None], 2)),
+            (ark_poly.NoCodeword, lambda: ark_poly.code_restore(f, [1, 2, 3, None], 1)),
+            (ark_poly.NoCodeword, lambda: ark_poly.code_message(f, [1, 2, 3, None], 1)),
         ):
             with self.subTest(error=error), self.assertRaises(error) as raised:
                 call()

@@ -78,6 +78,7 @@ pub enum Refusal {
     ZeroDivisor,
     EqualPoints,
     TooFew,
+    NoCodeword,
     Other(u32),
 }
 
@@ -93,6 +94,7 @@ fn outcome(status: u32) -> Result<(), Refusal> {
         6 => Refusal::ZeroDivisor,
         7 => Refusal::EqualPoints,
         8 => Refusal::TooFew,
+        9 => Refusal::NoCodeword,
         other => Refusal::Other(other),
     })
 }

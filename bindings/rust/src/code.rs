@@ -53,12 +53,13 @@ impl Display for RsError {
 
 impl Error for RsError {}
 
-// Words are elements, and the code's domain is there.
 fn outcome(outcome: Result<(), Refusal>) -> Result<(), RsError> {
     outcome.map_err(|refusal| match refusal {
         Refusal::Length => RsError::WrongLength,
         Refusal::TooFew => RsError::TooManyErased,
-        _ => RsError::NoCodeword,
+        Refusal::NoCodeword => RsError::NoCodeword,
+        // words are elements, and the code's domain is there
+        other => unreachable!("{other:?} of a code"),
     })
 }
 

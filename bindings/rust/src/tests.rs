@@ -47,6 +47,7 @@ fn status(outcome: Result<(), Refusal>) -> u32 {
         Err(Refusal::ZeroDivisor) => 6,
         Err(Refusal::EqualPoints) => 7,
         Err(Refusal::TooFew) => 8,
+        Err(Refusal::NoCodeword) => 9,
         Err(Refusal::Other(other)) => other,
     }
 }
@@ -346,6 +347,9 @@ mod generic {
         assert_eq!(holed, codewords);
         let word: Vec<_> = (0..16).map(|i| (!erased[i]).then_some(codewords[i])).collect();
         assert_eq!(code.restore(&word).unwrap(), codewords[..16]);
+        holed[1] += F::one();
+        assert_eq!(code.restore_in_place(&mut holed, &[false; 16]), Err(RsError::NoCodeword));
+        assert_eq!(code.messages(&holed, &[false; 16]), Err(RsError::NoCodeword));
         assert_eq!(code.restore(&word[1..]), Err(RsError::WrongLength));
         assert_eq!(code.restore(&[None; 16]), Err(RsError::TooManyErased));
         assert_eq!(code.restore_in_place(&mut holed[1..], &erased), Err(RsError::WrongLength));
