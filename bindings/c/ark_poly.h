@@ -1,4 +1,5 @@
 /* Polynomials, transforms, multilinear extensions and Reed-Solomon codes over prime fields.
+ * SPDX-License-Identifier: MIT OR Apache-2.0
  *
  * Each call is proved to do what is said of it here, for callers that keep to these rules:
  *

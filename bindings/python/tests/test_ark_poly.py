@@ -19,7 +19,10 @@ try:
 except ImportError:
     numpy = None
 
-ANSWERS = os.path.join(os.path.dirname(os.path.abspath(__file__)), "..", "..", "answers.txt")
+HERE = os.path.dirname(os.path.abspath(__file__))
+ANSWERS = os.path.join(HERE, "..", "..", "answers.txt")
+# the cases of the program polyrun: words between tabs, a dash for the empty one, and lines between semicolons
+CASES = os.path.join(HERE, "..", "..", "..", "crates", "test_command_answers")
 FIELDS = list(program.FIELDS.values())
 OLD = 0xFEEDFACECAFEF00D
 
@@ -336,6 +339,22 @@ class Program(unittest.TestCase):
         self.check("2\n", 0, "5", "mle", "0", "7", "")
         self.check("1\n", 0, "5", "size", "0")
         self.check(f"{pow(10, 10000, 65537) - 1}\n", 0, "65537", "eval", "9" * 10000, "0")
+
+    def test_cases_of_polyrun(self):
+        with open(os.path.join(CASES, "stdin"), encoding="utf-8") as asked, open(
+            os.path.join(CASES, "stdout"), encoding="utf-8"
+        ) as answered:
+            pairs = list(zip(asked.read().split("\n"), answered.read().split("\n")))
+        tried = 0
+        for text, wanted in pairs:
+            words = ["" if word == "-" else word for word in text.split("\t")]
+            if not text or text.startswith("#") or words[1:2] == ["check"]:
+                continue
+            found, status = program.run(words)
+            found = found[:-1].replace("\n", ";") + (f" ({status})" if status else "")
+            self.assertEqual(found, wanted, text)
+            tried += 1
+        self.assertGreater(tried, 400)
 
     def test_usage(self):
         for words in (
