@@ -12,7 +12,8 @@ the same kind (an `array` where a `memoryview` was given); that of `evaluate` is
 four words, as `BN254_FR`, is four of them, the low one first; an array of numpy has them in rows, of the shape `(n, 4)`, or
 flat.
 
-The functions that end in `_in_place` write over such words, or over a `list`. Where a call raises, nothing was written.
+The functions that end in `_in_place` write over such words, or over a `list`. Where a call raises, nothing was written. While a
+call runs, other threads do too, and none may write over what the call was given.
 """
 from __future__ import annotations
 
@@ -34,7 +35,7 @@ from ._library import (
     WrongLength,
     ZeroDivisor,
     check as _check,
-    library as _library,
+    library as _calls,
 )
 
 __version__ = "0.5.0+proved.1"
@@ -68,13 +69,13 @@ Elements = Any
 
 def library_version() -> Tuple[int, int, int]:
     """The version of the library that is loaded: major, minor and patch."""
-    version = _library.ark_version()
+    version = _calls.ark_version()
     return version >> 16, version >> 8 & 255, version & 255
 
 
 def words(field: int) -> int:
     """How many words of 64 bits an element has."""
-    width = _library.ark_words(_name(field))
+    width = _calls.ark_words(_name(field))
     if not width:
         raise NoField(f"no field {field}")
     return width
@@ -93,7 +94,7 @@ def domain_size(field: int, at_least: int) -> int:
     if at_least >= 1 << 64:
         words(field)
         raise NoDomain(NoDomain.__doc__)
-    _check(_library.ark_domain_size(_name(field), max(at_least, 0), ctypes.byref(size)))
+    _check(_calls.ark_domain_size(_name(field), max(at_least, 0), ctypes.byref(size)))
     return size.value
 
 
@@ -103,12 +104,12 @@ def domain_size(field: int, at_least: int) -> int:
 def fft(field: int, values: Elements, offset: int = 1) -> Any:
     """The values of the polynomial with these n coefficients, the lowest first, at the elements `offset * w**i`, where `w` is
     the field's root of unity of order n."""
-    return _transformed(_library.ark_fft, field, values, offset)
+    return _transformed(_calls.ark_fft, field, values, offset)
 
 
 def ifft(field: int, values: Elements, offset: int = 1) -> Any:
     """The coefficients that `fft` takes to these values."""
-    return _transformed(_library.ark_ifft, field, values, offset)
+    return _transformed(_calls.ark_ifft, field, values, offset)
 
 
 def fft_in_place(field: int, words: Any, offset: int = 1) -> None:
@@ -116,7 +117,7 @@ def fft_in_place(field: int, words: Any, offset: int = 1) -> None:
     if isinstance(words, list):
         words[:] = fft(field, words, offset)
     else:
-        _transform(_library.ark_fft, field, _Words.written(field, words), offset)
+        _transform(_calls.ark_fft, field, _Words.written(field, words), offset)
 
 
 def ifft_in_place(field: int, words: Any, offset: int = 1) -> None:
@@ -124,7 +125,7 @@ def ifft_in_place(field: int, words: Any, offset: int = 1) -> None:
     if isinstance(words, list):
         words[:] = ifft(field, words, offset)
     else:
-        _transform(_library.ark_ifft, field, _Words.written(field, words), offset)
+        _transform(_calls.ark_ifft, field, _Words.written(field, words), offset)
 
 
 def _transformed(call: Callable[..., int], field: int, values: Elements, offset: int) -> Any:
@@ -146,7 +147,7 @@ def multiply(field: int, left: Elements, right: Elements) -> Any:
     left, right = _Words.given(field, left), _Words.given(field, right)
     product = left.room(max(left.count + right.count - 1, 0) if left.count and right.count else 0)
     if product.count:
-        _check(_library.ark_multiply(field, *left.pair, *right.pair, *product.pair))
+        _check(_calls.ark_multiply(field, *left.pair, *right.pair, *product.pair))
     return product.answer()
 
 
@@ -154,7 +155,7 @@ def divide(field: int, dividend: Elements, divisor: Elements) -> Tuple[Any, Any]
     """The quotient, as long as the dividend, and the remainder, as long as the divisor, with zeros behind."""
     dividend, divisor = _Words.given(field, dividend), _Words.given(field, divisor)
     quotient, remainder = dividend.room(dividend.count), dividend.room(divisor.count)
-    _check(_library.ark_divide(field, *dividend.pair, *divisor.pair, *quotient.pair, *remainder.pair))
+    _check(_calls.ark_divide(field, *dividend.pair, *divisor.pair, *quotient.pair, *remainder.pair))
     return quotient.answer(), remainder.answer()
 
 
@@ -168,7 +169,7 @@ def evaluate(field: int, coefficients: Elements, points: Any) -> Any:
         return evaluate(field, _Words.given(field, coefficients), [points])[0]
     coefficients, points = _Words.given(field, coefficients), _Words.given(field, points)
     values = points.room(points.count)
-    _check(_library.ark_evaluate(field, *coefficients.pair, *points.pair, *values.pair))
+    _check(_calls.ark_evaluate(field, *coefficients.pair, *points.pair, *values.pair))
     return values.answer()
 
 
@@ -176,7 +177,7 @@ def interpolate(field: int, points: Elements, values: Elements) -> Any:
     """The n coefficients of the only polynomial that has these n values at these n points."""
     points, values = _Words.given(field, points), _Words.given(field, values)
     coefficients = values.room(points.count)
-    _check(_library.ark_interpolate(field, *points.pair, *values.pair, *coefficients.pair))
+    _check(_calls.ark_interpolate(field, *points.pair, *values.pair, *coefficients.pair))
     return coefficients.answer()
 
 
@@ -185,7 +186,7 @@ def lagrange(field: int, size: int, point: int, offset: int = 1) -> List[int]:
     first, at = _Words.given(field, [offset]), _Words.given(field, [point])
     domain_size(field, size)
     weights = first.room(_count(size))
-    _check(_library.ark_lagrange(field, *first.pair, *at.pair, *weights.pair))
+    _check(_calls.ark_lagrange(field, *first.pair, *at.pair, *weights.pair))
     return weights.answer()
 
 
@@ -197,7 +198,7 @@ def multilinear_evaluate(field: int, table: Elements, point: Elements) -> int:
     place."""
     table, point = _Words.given(field, table), _Words.given(field, point)
     value = point.room(1)
-    _check(_library.ark_multilinear_evaluate(field, *table.pair, *point.pair, *value.pair))
+    _check(_calls.ark_multilinear_evaluate(field, *table.pair, *point.pair, *value.pair))
     return value.numbers()[0]
 
 
@@ -205,7 +206,7 @@ def multilinear_fix(field: int, table: Elements, point: Elements) -> Any:
     """The table of the polynomial in the other variables, where the first ones are bound to the point's elements."""
     table, point = _Words.given(field, table), _Words.given(field, point)
     result = table.room(table.count >> min(point.count, 64))
-    _check(_library.ark_multilinear_fix(field, *table.pair, *point.pair, *result.pair))
+    _check(_calls.ark_multilinear_fix(field, *table.pair, *point.pair, *result.pair))
     return result.answer()
 
 
@@ -217,7 +218,7 @@ def code_encode(field: int, message: Elements, n: int) -> Any:
     message = _Words.given(field, message)
     domain_size(field, n)
     word = message.room(_count(n))
-    _check(_library.ark_code_encode(field, *message.pair, *word.pair))
+    _check(_calls.ark_code_encode(field, *message.pair, *word.pair))
     return word.answer()
 
 
@@ -233,7 +234,7 @@ def code_restore(field: int, words: Elements, k: int, erased: Optional[Sequence[
     """
     holed, marks = _holed(field, words, erased)
     copy = holed.copy()
-    _check(_library.ark_code_restore(field, *copy.pair, *marks.pair, _count(k)))
+    _check(_calls.ark_code_restore(field, *copy.pair, *marks.pair, _count(k)))
     return copy.answer()
 
 
@@ -243,7 +244,7 @@ def code_restore_in_place(field: int, words: Any, k: int, erased: Sequence[Any])
         words[:] = code_restore(field, words, k, erased)
     else:
         marks = _Marks(erased)
-        _check(_library.ark_code_restore(field, *_Words.written(field, words).pair, *marks.pair, _count(k)))
+        _check(_calls.ark_code_restore(field, *_Words.written(field, words).pair, *marks.pair, _count(k)))
 
 
 def code_message(field: int, words: Elements, k: int, erased: Optional[Sequence[Any]] = None) -> Any:
@@ -251,7 +252,7 @@ def code_message(field: int, words: Elements, k: int, erased: Optional[Sequence[
     holed, marks = _holed(field, words, erased)
     count = holed.count // marks.count if marks.count else 0
     messages = holed.room(count * min(_count(k), marks.count + 1))
-    _check(_library.ark_code_message(field, *holed.pair, *marks.pair, *messages.pair))
+    _check(_calls.ark_code_message(field, *holed.pair, *marks.pair, *messages.pair))
     return messages.answer()
 
 

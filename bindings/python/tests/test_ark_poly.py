@@ -260,7 +260,7 @@ class Refusals(unittest.TestCase):
         self.assertTrue(issubclass(ark_poly.NoDomain, ValueError))
 
     def test_unknown_status(self):
-        with mock.patch.object(ark_poly, "_library") as other:
+        with mock.patch.object(ark_poly, "_calls") as other:
             other.ark_words.return_value = 1
             other.ark_fft.return_value = 99
             with self.assertRaisesRegex(ark_poly.ArkError, "status 99"):
