@@ -1,7 +1,7 @@
 -- What the number of an outcome tells of a call over the field that a number names.
-use Rattle.std.proofs.Common.{◌≡◌, ◌≢◌, ◌↔◌, ℕ, List, Option, Some, None, Result, Ok, Err, OnOk, OnErr, IsNone, IsSomeAnd, refl, sym, ap, subst, ◌∙◌, arith, rules}
+use Rattle.std.proofs.Common.{◌≡◌, ◌≢◌, ◌↔◌, ℕ, List, Option, Some, None, Result, Ok, Err, OnOk, OnErr, IsNone, IsSomeAnd, ◌==◌, if◌then◌else◌, refl, sym, ap, subst, ◌∙◌, arith, rules}
 use Rattle.ark_words.specs.declared.error.WordsError.{WordsError}
-use Rattle.ark_words.specs.declared.error.WordsError.TheVariants.{Memory, Length, NotReduced, NoDomain}
+use Rattle.ark_words.specs.declared.error.WordsError.TheVariants.{Memory, Length, NotReduced, NoDomain, ZeroDivisor, EqualPoints, TooFew, NoCodeword}
 use Rattle.ark_words.specs.Numbers.{Spelled}
 use Rattle.ark_c.specs.Names.{field_named}
 use Rattle.ark_c.specs.Statuses.{status_of}
@@ -10,28 +10,33 @@ use Rattle.ark_c.specs.Statuses.{status_of}
 abbrev pub Outcome : Type 0
 Outcome = Result (Unit {0}) WordsError
 
+-- the outcome that has a number
+outcome_of : ℕ → Outcome
+outcome_of n =
+    if n == 0 then Ok tt else
+    if n == 1 then Err Memory else
+    if n == 3 then Err Length else
+    if n == 4 then Err NotReduced else
+    if n == 5 then Err NoDomain else
+    if n == 6 then Err ZeroDivisor else
+    if n == 7 then Err EqualPoints else
+    if n == 8 then Err TooFew else
+    Err NoCodeword
+
+back : (r : Outcome) → outcome_of (status_of (Some r)) ≡ r
+back (Ok tt) = refl
+back (Err Memory) = refl
+back (Err Length) = refl
+back (Err NotReduced) = refl
+back (Err NoDomain) = refl
+back (Err ZeroDivisor) = refl
+back (Err EqualPoints) = refl
+back (Err TooFew) = refl
+back (Err NoCodeword) = refl
+
 -- each error has a number of its own
 pub error_number : (r : Outcome) (e : WordsError) → (status_of (Some r) ≡ status_of (Some (Err e))) ↔ (r ≡ Err e)
-error_number (Ok x) Memory = ((λ n. absurd (omega arith)), (λ n. absurd (search rules)))
-error_number (Ok x) Length = ((λ n. absurd (omega arith)), (λ n. absurd (search rules)))
-error_number (Ok x) NotReduced = ((λ n. absurd (omega arith)), (λ n. absurd (search rules)))
-error_number (Ok x) NoDomain = ((λ n. absurd (omega arith)), (λ n. absurd (search rules)))
-error_number (Err Memory) Memory = ((λ n. refl), (λ n. refl))
-error_number (Err Memory) Length = ((λ n. absurd (omega arith)), (λ n. absurd (search rules)))
-error_number (Err Memory) NotReduced = ((λ n. absurd (omega arith)), (λ n. absurd (search rules)))
-error_number (Err Memory) NoDomain = ((λ n. absurd (omega arith)), (λ n. absurd (search rules)))
-error_number (Err Length) Memory = ((λ n. absurd (omega arith)), (λ n. absurd (search rules)))
-error_number (Err Length) Length = ((λ n. refl), (λ n. refl))
-error_number (Err Length) NotReduced = ((λ n. absurd (omega arith)), (λ n. absurd (search rules)))
-error_number (Err Length) NoDomain = ((λ n. absurd (omega arith)), (λ n. absurd (search rules)))
-error_number (Err NotReduced) Memory = ((λ n. absurd (omega arith)), (λ n. absurd (search rules)))
-error_number (Err NotReduced) Length = ((λ n. absurd (omega arith)), (λ n. absurd (search rules)))
-error_number (Err NotReduced) NotReduced = ((λ n. refl), (λ n. refl))
-error_number (Err NotReduced) NoDomain = ((λ n. absurd (omega arith)), (λ n. absurd (search rules)))
-error_number (Err NoDomain) Memory = ((λ n. absurd (omega arith)), (λ n. absurd (search rules)))
-error_number (Err NoDomain) Length = ((λ n. absurd (omega arith)), (λ n. absurd (search rules)))
-error_number (Err NoDomain) NotReduced = ((λ n. absurd (omega arith)), (λ n. absurd (search rules)))
-error_number (Err NoDomain) NoDomain = ((λ n. refl), (λ n. refl))
+error_number r e = ((λ n. sym (back r) ∙ ap outcome_of n ∙ back (Err e)), (λ same. ap (λ o. status_of (Some o)) same))
 
 -- what is written, what is taken, and what is asked of lengths, numbers and a domain, by the field
 module _ (Done : Spelled → List ℕ → Type 0) (Taken Lengths Reduced Domain : Spelled → Type 0) (old new : List ℕ) where
@@ -76,6 +81,10 @@ module _ (Done : Spelled → List ℕ → Type 0) (Taken Lengths Reduced Domain 
       by_ok (Err Length) p e = absurd (omega arith)
       by_ok (Err NotReduced) p e = absurd (omega arith)
       by_ok (Err NoDomain) p e = absurd (omega arith)
+      by_ok (Err ZeroDivisor) p e = absurd (omega arith)
+      by_ok (Err EqualPoints) p e = absurd (omega arith)
+      by_ok (Err TooFew) p e = absurd (omega arith)
+      by_ok (Err NoCodeword) p e = absurd (omega arith)
 
       by_err : {P : Type 0} (r : Outcome) → OnErr r P → status_of (Some r) ≢ 0 → P
       by_err (Ok x) p e = absurd (e refl)
@@ -90,6 +99,10 @@ module _ (Done : Spelled → List ℕ → Type 0) (Taken Lengths Reduced Domain 
       field_there (Err Length) e = absurd (omega arith)
       field_there (Err NotReduced) e = absurd (omega arith)
       field_there (Err NoDomain) e = absurd (omega arith)
+      field_there (Err ZeroDivisor) e = absurd (omega arith)
+      field_there (Err EqualPoints) e = absurd (omega arith)
+      field_there (Err TooFew) e = absurd (omega arith)
+      field_there (Err NoCodeword) e = absurd (omega arith)
 
   pub told : (field : Option Spelled) (answer : Option Outcome) (status : ℕ) → IsAnswer field answer → status ≡ status_of answer → IsTold field status
   told None answer status is e =

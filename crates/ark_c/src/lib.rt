@@ -8,13 +8,15 @@ ghost use Rattle.ark_numbers.specs.Answers.{IsChosen};
 ghost use Rattle.ark_words.specs.Numbers.{HaveLengths, HaveReduced, HaveDomain, AreTransformable};
 ghost use Rattle.ark_words.specs.Numbers.{AreTransformed, AreTransformedBack};
 ghost use Rattle.ark_words.specs.Numbers.{FitValues, BothReduced, AreEvaluated};
+ghost use Rattle.ark_words.specs.Numbers.{AreReduced};
+ghost use Rattle.ark_words.specs.Codes.{FitCode, HasCodeFor, IsEncodable, IsEncoded};
 ghost use Rattle.ark_c.specs.Names.{field_named};
 
 mod status;
 
 use ark_base::{BabyBear, F5, F433, F65537, Goldilocks, KoalaBear};
 use ark_wide::{Bls12_381Scalar, Bn254Scalar};
-use ark_words::{domain_size, evaluate, fft, ifft, width};
+use ark_words::{domain_size, encode, evaluate, fft, ifft, width};
 use status::status;
 use std::alloc::Global;
 
@@ -130,4 +132,29 @@ pub extern "C" fn ark_evaluate(
     ensures no_other { result ≢ 5 }
 {
     status(over_field!(field, evaluate(alloc, coefficients, points, values)))
+}
+
+/// Writes the codeword of a message: where there is room for `n` numbers, the values of the polynomial with
+/// these coefficients at the `n` elements of the domain of exactly that size with offset 1.
+#[unsafe(no_mangle)]
+pub extern "C" fn ark_code_encode(
+    alloc: Global,
+    field: u64,
+    message: &[u64],
+    word: &mut [u64],
+) -> u32
+    ensures codeword { result ≡ 0 → IsSomeAnd (field_named field) (λ f.
+        IsEncoded f message.now word.new) }
+    ensures kept { result ≢ 0 → word.new ≡ word.old }
+    ensures taken { result ≡ 0 → IsSomeAnd (field_named field) (λ f.
+        IsEncodable f message.now word.old) }
+    ensures no_field { (result ≡ 2) ↔ IsNone (field_named field) }
+    ensures length { (result ≡ 3) ↔ IsSomeAnd (field_named field) (λ f.
+        ¬ FitCode f message.now word.old) }
+    ensures not_reduced { (result ≡ 4) ↔ IsSomeAnd (field_named field) (λ f.
+        FitCode f message.now word.old × (¬ AreReduced f message.now)) }
+    ensures no_domain { (result ≡ 5) ↔ IsSomeAnd (field_named field) (λ f.
+        FitCode f message.now word.old × AreReduced f message.now × (¬ HasCodeFor f word.old)) }
+{
+    status(over_field!(field, encode(alloc, message, word)))
 }

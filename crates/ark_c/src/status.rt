@@ -16,5 +16,9 @@ pub fn status(outcome: Option<Result<(), WordsError>>) -> u32
         Some(Err(WordsError::Length)) => 3,
         Some(Err(WordsError::NotReduced)) => 4,
         Some(Err(WordsError::NoDomain)) => 5,
+        Some(Err(WordsError::ZeroDivisor)) => 6,
+        Some(Err(WordsError::EqualPoints)) => 7,
+        Some(Err(WordsError::TooFew)) => 8,
+        Some(Err(WordsError::NoCodeword)) => 9,
     }
 }

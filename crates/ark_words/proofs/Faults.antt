@@ -1,7 +1,7 @@
 -- From the first condition that doesn't hold to the error of each.
 use Rattle.std.proofs.Common.{◌≡◌, ◌↔◌, Result, Ok, Err, IsErrAnd, IfErr, MatchResult, inl, inr, refl, sym, subst, rules}
 use Rattle.ark_words.specs.declared.error.WordsError.{WordsError}
-use Rattle.ark_words.specs.declared.error.WordsError.TheVariants.{Memory, Length, NotReduced, NoDomain}
+use Rattle.ark_words.specs.declared.error.WordsError.TheVariants.{Memory, Length, NotReduced, NoDomain, ZeroDivisor, EqualPoints, TooFew, NoCodeword}
 use Rattle.ark_words.specs.Faults.{IsFault, IsRefusal}
 
 pub for_error : {T : Type 0} (P : WordsError → Type 0) (r : Result T WordsError) (e : WordsError) → IsErrAnd r (λ x. x ≡ e) → P e → IfErr r P
@@ -55,3 +55,7 @@ told L R D (Err Memory) h = record {
   not_reduced = ((λ e. absurd (search rules)), (λ no. absurd (no.1 h.1)));
   no_domain = ((λ e. absurd (search rules)), (λ no. absurd (no.2 h.2)));
 }
+told L R D (Err ZeroDivisor) h = absurd h
+told L R D (Err EqualPoints) h = absurd h
+told L R D (Err TooFew) h = absurd h
+told L R D (Err NoCodeword) h = absurd h

@@ -9,6 +9,7 @@ IsFault lengths reduced domain Length = ¬ lengths
 IsFault lengths reduced domain NotReduced = lengths × (¬ reduced)
 IsFault lengths reduced domain NoDomain = lengths × reduced × (¬ domain)
 IsFault lengths reduced domain Memory = lengths × reduced × domain
+IsFault lengths reduced domain other = ⊥
 
 -- this error, or that a number isn't below the modulus
 abbrev pub IsRefusal : Type 0 → WordsError → WordsError → Type 0

@@ -1,4 +1,5 @@
--- Lists of words as the numbers of a field's elements, the error of a call, and examples.
+-- Lists of words as the numbers of a field's elements, what calls ask of them and leave, the error of a call, and examples.
 pub mod Numbers
+pub mod Codes
 pub mod Faults
 pub mod Examples

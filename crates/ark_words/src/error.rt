@@ -11,4 +11,12 @@ pub enum WordsError {
     NotReduced,
     /// No domain of the field has so many elements, or the offset is zero.
     NoDomain,
+    /// The divisor is the zero polynomial.
+    ZeroDivisor,
+    /// Two points are equal.
+    EqualPoints,
+    /// Fewer places of a codeword are left than its message has numbers.
+    TooFew,
+    /// No codeword has the numbers that are left of a word.
+    NoCodeword,
 }

@@ -2,6 +2,7 @@
 //! words of 64 bits, the low word of each number first, and each number below the modulus.
 #![tactic(auto)]
 
+mod codes;
 mod domains;
 mod element;
 mod error;
@@ -9,6 +10,7 @@ mod lists;
 mod points;
 mod transforms;
 
+pub use codes::encode;
 pub use domains::domain_size;
 pub use element::{WordElement, width};
 pub use error::WordsError;
