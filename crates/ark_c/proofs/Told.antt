@@ -11,7 +11,7 @@ abbrev pub Outcome : Type 0
 Outcome = Result (Unit {0}) WordsError
 
 -- the outcome that has a number
-outcome_of : ℕ → Outcome
+abbrev outcome_of : ℕ → Outcome
 outcome_of n =
     if n == 0 then Ok tt else
     if n == 1 then Err Memory else
