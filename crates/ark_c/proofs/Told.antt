@@ -1,42 +1,11 @@
 -- What the number of an outcome tells of a call over the field that a number names.
-use Rattle.std.proofs.Common.{◌≡◌, ◌≢◌, ◌↔◌, ℕ, List, Option, Some, None, Result, Ok, Err, OnOk, OnErr, IsNone, IsSomeAnd, ◌==◌, if◌then◌else◌, refl, sym, ap, subst, ◌∙◌, arith, rules}
+use Rattle.std.proofs.Common.{◌≡◌, ◌≢◌, ◌↔◌, ℕ, List, Option, Some, None, Ok, Err, OnOk, OnErr, IsNone, IsSomeAnd, refl, sym, ap, subst, ◌∙◌, arith, rules}
 use Rattle.ark_words.specs.declared.error.WordsError.{WordsError}
 use Rattle.ark_words.specs.declared.error.WordsError.TheVariants.{Memory, Length, NotReduced, NoDomain, ZeroDivisor, EqualPoints, TooFew, NoCodeword}
 use Rattle.ark_words.specs.Numbers.{Spelled}
 use Rattle.ark_c.specs.Names.{field_named}
 use Rattle.ark_c.specs.Statuses.{status_of}
-
--- a call's result
-abbrev pub Outcome : Type 0
-Outcome = Result (Unit {0}) WordsError
-
--- the outcome that has a number
-abbrev outcome_of : ℕ → Outcome
-outcome_of n =
-    if n == 0 then Ok tt else
-    if n == 1 then Err Memory else
-    if n == 3 then Err Length else
-    if n == 4 then Err NotReduced else
-    if n == 5 then Err NoDomain else
-    if n == 6 then Err ZeroDivisor else
-    if n == 7 then Err EqualPoints else
-    if n == 8 then Err TooFew else
-    Err NoCodeword
-
-back : (r : Outcome) → outcome_of (status_of (Some r)) ≡ r
-back (Ok tt) = refl
-back (Err Memory) = refl
-back (Err Length) = refl
-back (Err NotReduced) = refl
-back (Err NoDomain) = refl
-back (Err ZeroDivisor) = refl
-back (Err EqualPoints) = refl
-back (Err TooFew) = refl
-back (Err NoCodeword) = refl
-
--- each error has a number of its own
-pub error_number : (r : Outcome) (e : WordsError) → (status_of (Some r) ≡ status_of (Some (Err e))) ↔ (r ≡ Err e)
-error_number r e = ((λ n. sym (back r) ∙ ap outcome_of n ∙ back (Err e)), (λ same. ap (λ o. status_of (Some o)) same))
+use Rattle.ark_c.proofs.Outcomes.{Outcome, error_number}
 
 -- what is written, what is taken, and what is asked of lengths, numbers and a domain, by the field
 module _ (Done : Spelled → List ℕ → Type 0) (Taken Lengths Reduced Domain : Spelled → Type 0) (old new : List ℕ) where

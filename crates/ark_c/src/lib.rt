@@ -10,13 +10,14 @@ ghost use Rattle.ark_words.specs.Numbers.{AreTransformed, AreTransformedBack};
 ghost use Rattle.ark_words.specs.Numbers.{FitValues, BothReduced, AreEvaluated};
 ghost use Rattle.ark_words.specs.Numbers.{AreReduced};
 ghost use Rattle.ark_words.specs.Codes.{FitCode, HasCodeFor, IsEncodable, IsEncoded};
+ghost use Rattle.ark_words.specs.Products.{FitProduct, AreMultiplied};
 ghost use Rattle.ark_c.specs.Names.{field_named};
 
 mod status;
 
 use ark_base::{BabyBear, F5, F433, F65537, Goldilocks, KoalaBear};
 use ark_wide::{Bls12_381Scalar, Bn254Scalar};
-use ark_words::{domain_size, encode, evaluate, fft, ifft, width};
+use ark_words::{domain_size, encode, evaluate, fft, ifft, multiply, width};
 use status::status;
 use std::alloc::Global;
 
@@ -157,4 +158,29 @@ pub extern "C" fn ark_code_encode(
         FitCode f message.now word.old × AreReduced f message.now × (¬ HasCodeFor f word.old)) }
 {
     status(over_field!(field, encode(alloc, message, word)))
+}
+
+/// The coefficients of the product of two polynomials, the lowest first, and zeros in what is left: there is
+/// room where both factors together have at most one number more than the product.
+#[unsafe(no_mangle)]
+pub extern "C" fn ark_multiply(
+    alloc: Global,
+    field: u64,
+    left: &[u64],
+    right: &[u64],
+    product: &mut [u64],
+) -> u32
+    ensures product { result ≡ 0 → IsSomeAnd (field_named field) (λ f.
+        AreMultiplied f left.now right.now product.new) }
+    ensures kept { result ≢ 0 → product.new ≡ product.old }
+    ensures taken { result ≡ 0 → IsSomeAnd (field_named field) (λ f.
+        FitProduct f left.now right.now product.old × BothReduced f left.now right.now) }
+    ensures no_field { (result ≡ 2) ↔ IsNone (field_named field) }
+    ensures length { (result ≡ 3) ↔ IsSomeAnd (field_named field) (λ f.
+        ¬ FitProduct f left.now right.now product.old) }
+    ensures not_reduced { (result ≡ 4) ↔ IsSomeAnd (field_named field) (λ f.
+        FitProduct f left.now right.now product.old × (¬ BothReduced f left.now right.now)) }
+    ensures no_other { (result ≢ 5) × (result ≢ 6) }
+{
+    status(over_field!(field, multiply(alloc, left, right, product)))
 }

@@ -1,3 +1,5 @@
 -- Each error tells of its condition; lists of words are numbers.
 pub mod Faults
 pub mod WordLists
+pub mod WordPolynomials
+pub mod Refusals

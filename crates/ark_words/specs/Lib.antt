@@ -3,3 +3,4 @@ pub mod Numbers
 pub mod Codes
 pub mod Faults
 pub mod Examples
+pub mod Products

@@ -7,7 +7,9 @@ mod domains;
 mod element;
 mod error;
 mod lists;
+mod padded;
 mod points;
+mod products;
 mod transforms;
 
 pub use codes::encode;
@@ -15,4 +17,5 @@ pub use domains::domain_size;
 pub use element::{WordElement, width};
 pub use error::WordsError;
 pub use points::evaluate;
+pub use products::multiply;
 pub use transforms::{fft, ifft};
