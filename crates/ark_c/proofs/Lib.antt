@@ -1,4 +1,4 @@
 -- What the number of an outcome tells of a call over the field that a number names.
 pub mod Told
 pub mod Outcomes
-pub mod Products
+pub mod Plain

@@ -1,5 +1,5 @@
 -- Each outcome has a number of its own, and the number of a call tells what the call does over the field that a number names.
-use Rattle.std.proofs.Common.{◌≡◌, ◌≢◌, ◌↔◌, ◌==◌, ℕ, Option, Some, None, Result, Ok, Err, OnOk, OnErr, IsNone, IsSomeAnd, if◌then◌else◌, refl, sym, ap, subst, ◌∙◌, rules}
+use Rattle.std.proofs.Common.{◌≡◌, ◌≢◌, ◌↔◌, ◌==◌, ◌≤◌, ℕ, Option, Some, None, Result, Ok, Err, OnOk, OnErr, IsNone, IsSomeAnd, if◌then◌else◌, refl, sym, ap, subst, ◌∙◌, rules}
 use Rattle.ark_words.specs.declared.error.WordsError.{WordsError}
 use Rattle.ark_words.specs.declared.error.WordsError.TheVariants.{Memory, Length, NotReduced, NoDomain, ZeroDivisor, EqualPoints, TooFew, NoCodeword}
 use Rattle.ark_words.specs.Numbers.{Spelled}
@@ -96,6 +96,12 @@ module _ {X : Type 0} (P : Spelled → X → Outcome → Type 0) (old new : X) w
     told_never x says (Some f) is z =
         let found = is.some f refl in
         says f found.0 found.2 (some_same found.0 (Err x) (sym found.1 ∙ one_number answer (Some (Err x)) (sym e ∙ z)))
+
+    pub told_most : (most : ℕ) → 2 ≤ most → ((f : Spelled) (r : Outcome) → P f new r → status_of (Some r) ≤ most) → (field : Option Spelled) → IsOver field answer → status ≤ most
+    told_most most two says None is = subst (λ n. n ≤ most) (sym (e ∙ ap status_of (is.none refl).0)) two
+    told_most most two says (Some f) is =
+        let found = is.some f refl in
+        subst (λ n. n ≤ most) (sym (e ∙ ap status_of found.1)) (says f found.0 found.2)
 
 -- the call over one field, and none
 pub over_one : {X : Type 0} {P : Spelled → X → Outcome → Type 0} {old new after : X} {name known : ℕ} {f : Spelled} {answer : Option Outcome} {r : Outcome}

@@ -12,12 +12,15 @@ ghost use Rattle.ark_words.specs.Numbers.{AreReduced};
 ghost use Rattle.ark_words.specs.Codes.{FitCode, HasCodeFor, IsEncodable, IsEncoded};
 ghost use Rattle.ark_words.specs.Products.{FitProduct, AreMultiplied};
 ghost use Rattle.ark_c.specs.Names.{field_named};
+ghost use Rattle.ark_words.specs.Extensions.{FitExtended, IsExtended, FitFixed, AreFixed};
 
 mod status;
 
 use ark_base::{BabyBear, F5, F433, F65537, Goldilocks, KoalaBear};
 use ark_wide::{Bls12_381Scalar, Bn254Scalar};
-use ark_words::{domain_size, encode, evaluate, fft, ifft, multiply, width};
+use ark_words::{
+    domain_size, encode, evaluate, fft, ifft, multilinear_evaluate, multilinear_fix, multiply, width,
+};
 use status::status;
 use std::alloc::Global;
 
@@ -130,7 +133,7 @@ pub extern "C" fn ark_evaluate(
     ensures not_reduced { (result ≡ 4) ↔ IsSomeAnd (field_named field) (λ f.
         FitValues f coefficients.now points.now values.old
         × (¬ BothReduced f coefficients.now points.now)) }
-    ensures no_other { result ≢ 5 }
+    ensures no_other { result ≤ 4 }
 {
     status(over_field!(field, evaluate(alloc, coefficients, points, values)))
 }
@@ -180,7 +183,57 @@ pub extern "C" fn ark_multiply(
         ¬ FitProduct f left.now right.now product.old) }
     ensures not_reduced { (result ≡ 4) ↔ IsSomeAnd (field_named field) (λ f.
         FitProduct f left.now right.now product.old × (¬ BothReduced f left.now right.now)) }
-    ensures no_other { (result ≢ 5) × (result ≢ 6) }
+    ensures no_other { result ≤ 4 }
 {
     status(over_field!(field, multiply(alloc, left, right, product)))
+}
+
+/// Writes the value at a point of `m` numbers of the only multilinear polynomial in `m` variables with these
+/// `2^m` values at the corners: place `i` has the value at the corner whose variable `j` is bit `j` of `i`.
+#[unsafe(no_mangle)]
+pub extern "C" fn ark_multilinear_evaluate(
+    alloc: Global,
+    field: u64,
+    table: &[u64],
+    point: &[u64],
+    extended: &mut [u64],
+) -> u32
+    ensures value { result ≡ 0 → IsSomeAnd (field_named field) (λ f.
+        IsExtended f table.now point.now extended.new) }
+    ensures kept { result ≢ 0 → extended.new ≡ extended.old }
+    ensures taken { result ≡ 0 → IsSomeAnd (field_named field) (λ f.
+        FitExtended f table.now point.now extended.old × BothReduced f table.now point.now) }
+    ensures no_field { (result ≡ 2) ↔ IsNone (field_named field) }
+    ensures length { (result ≡ 3) ↔ IsSomeAnd (field_named field) (λ f.
+        ¬ FitExtended f table.now point.now extended.old) }
+    ensures not_reduced { (result ≡ 4) ↔ IsSomeAnd (field_named field) (λ f.
+        FitExtended f table.now point.now extended.old × (¬ BothReduced f table.now point.now)) }
+    ensures no_other { result ≤ 4 }
+{
+    status(over_field!(field, multilinear_evaluate(alloc, table, point, extended)))
+}
+
+/// Binds the first variables to the `k` numbers of the point, and writes the table, of `2^(m - k)` numbers, of
+/// the polynomial in the other variables, of which the first is then variable 0.
+#[unsafe(no_mangle)]
+pub extern "C" fn ark_multilinear_fix(
+    alloc: Global,
+    field: u64,
+    table: &[u64],
+    point: &[u64],
+    fixed: &mut [u64],
+) -> u32
+    ensures table { result ≡ 0 → IsSomeAnd (field_named field) (λ f.
+        AreFixed f table.now point.now fixed.new) }
+    ensures kept { result ≢ 0 → fixed.new ≡ fixed.old }
+    ensures taken { result ≡ 0 → IsSomeAnd (field_named field) (λ f.
+        FitFixed f table.now point.now fixed.old × BothReduced f table.now point.now) }
+    ensures no_field { (result ≡ 2) ↔ IsNone (field_named field) }
+    ensures length { (result ≡ 3) ↔ IsSomeAnd (field_named field) (λ f.
+        ¬ FitFixed f table.now point.now fixed.old) }
+    ensures not_reduced { (result ≡ 4) ↔ IsSomeAnd (field_named field) (λ f.
+        FitFixed f table.now point.now fixed.old × (¬ BothReduced f table.now point.now)) }
+    ensures no_other { result ≤ 4 }
+{
+    status(over_field!(field, multilinear_fix(alloc, table, point, fixed)))
 }

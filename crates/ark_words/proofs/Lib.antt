@@ -3,3 +3,5 @@ pub mod Faults
 pub mod WordLists
 pub mod WordPolynomials
 pub mod Refusals
+pub mod Corners
+pub mod Refused

@@ -14,3 +14,10 @@ IsFault lengths reduced domain other = ⊥
 -- this error, or that a number isn't below the modulus
 abbrev pub IsRefusal : Type 0 → WordsError → WordsError → Type 0
 IsRefusal reduced error result = (reduced × (result ≡ error)) ⊎ ((¬ reduced) × (result ≡ NotReduced))
+
+-- the error of a call that asks for lengths and numbers alone
+abbrev pub IsPlain : WordsError → Type 0
+IsPlain Memory = Unit {0}
+IsPlain Length = Unit {0}
+IsPlain NotReduced = Unit {0}
+IsPlain other = ⊥

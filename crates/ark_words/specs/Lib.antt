@@ -4,3 +4,5 @@ pub mod Codes
 pub mod Faults
 pub mod Examples
 pub mod Products
+pub mod Extensions
+pub mod ExtensionExamples

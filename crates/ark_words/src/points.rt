@@ -1,6 +1,7 @@
 //! Values of a polynomial.
 
-ghost use Rattle.std.specs.Prelude.{◌≡◌, ◌≢◌, ◌↔◌, OnOk, OnErr};
+ghost use Rattle.std.specs.Prelude.{◌≡◌, ◌↔◌, OnOk, OnErr, IfErr};
+ghost use Rattle.ark_words.specs.Faults.{IsPlain};
 ghost use Rattle.ark_words.specs.Numbers.{FitValues, BothReduced, AreEvaluated};
 
 use crate::element::WordElement;
@@ -33,7 +34,7 @@ pub fn evaluate<F: WordElement>(
     ensures not_reduced { (result ≡ Err WordsError.NotReduced)
         ↔ (FitValues F.spelled coefficients.now points.now values.old
         × (¬ BothReduced F.spelled coefficients.now points.now)) }
-    ensures no_other { result ≢ Err WordsError.NoDomain }
+    ensures no_other { IfErr result IsPlain }
 {
     let width = F::WIDTH;
     if coefficients.len() % width != 0

@@ -1,7 +1,8 @@
 //! Products of polynomials.
 
-ghost use Rattle.std.specs.Prelude.{◌≡◌, ◌≢◌, ◌↔◌, IfOk, OnOk, OnErr, IsOkUnless};
+ghost use Rattle.std.specs.Prelude.{◌≡◌, ◌↔◌, IfOk, IfErr, OnOk, OnErr, IsOkUnless};
 ghost use Rattle.ark_math.specs.Univariate.{of_list, product};
+ghost use Rattle.ark_words.specs.Faults.{IsPlain};
 ghost use Rattle.ark_words.specs.Numbers.{BothReduced};
 ghost use Rattle.ark_words.specs.Products.{FitProduct, AreMultiplied};
 
@@ -36,7 +37,7 @@ pub fn multiply<F: WordElement>(
     ensures not_reduced { (result ≡ Err WordsError.NotReduced)
         ↔ (FitProduct F.spelled left.now right.now product.old
         × (¬ BothReduced F.spelled left.now right.now)) }
-    ensures no_other { (result ≢ Err WordsError.NoDomain) × (result ≢ Err WordsError.ZeroDivisor) }
+    ensures no_other { IfErr result IsPlain }
 {
     let width = F::WIDTH;
     if left.len() % width != 0 || right.len() % width != 0 || product.len() % width != 0 {
