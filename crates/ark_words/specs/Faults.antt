@@ -21,3 +21,8 @@ IsPlain Memory = Unit {0}
 IsPlain Length = Unit {0}
 IsPlain NotReduced = Unit {0}
 IsPlain other = ⊥
+
+-- the error of a call that asks for a domain too
+abbrev pub IsOfDomains : WordsError → Type 0
+IsOfDomains NoDomain = Unit {0}
+IsOfDomains other = IsPlain other

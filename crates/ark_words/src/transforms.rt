@@ -4,7 +4,7 @@ ghost use Rattle.std.specs.Prelude.{◌≡◌, ◌↔◌, ◌/◌, map, length, 
 ghost use Rattle.ark_math.specs.Domain.{IsDomain};
 ghost use Rattle.ark_math.specs.Words.{number_of_words};
 ghost use Rattle.ark_univariate.specs.Domains.{general_domain};
-ghost use Rattle.ark_words.specs.Faults.{IsFault};
+ghost use Rattle.ark_words.specs.Faults.{IsFault, IsOfDomains};
 ghost use Rattle.ark_words.specs.Numbers.{numbers, AreTransformable, HaveLengths, HaveReduced, HaveDomain};
 ghost use Rattle.ark_words.specs.Numbers.{AreTransformed, AreTransformedBack};
 
@@ -37,6 +37,7 @@ pub fn fft<F: WordElement>(
     ensures no_domain { (result ≡ Err WordsError.NoDomain)
         ↔ (HaveLengths F.spelled words.old offset.now × HaveReduced F.spelled words.old offset.now
         × (¬ HaveDomain F.spelled words.old offset.now)) }
+    ensures no_other { IfErr result IsOfDomains }
 {
     let (domain, mut coeffs) = judged::<F>(alloc, words, offset)?;
     let Ok(()) = domain.fft_counted(alloc, &mut coeffs, &mut Work::new()) else {
@@ -63,6 +64,7 @@ pub fn ifft<F: WordElement>(
     ensures no_domain { (result ≡ Err WordsError.NoDomain)
         ↔ (HaveLengths F.spelled words.old offset.now × HaveReduced F.spelled words.old offset.now
         × (¬ HaveDomain F.spelled words.old offset.now)) }
+    ensures no_other { IfErr result IsOfDomains }
 {
     let (domain, mut evals) = judged::<F>(alloc, words, offset)?;
     let Ok(()) = domain.ifft_counted(alloc, &mut evals, &mut Work::new()) else {
