@@ -2,3 +2,4 @@
 pub mod Told
 pub mod Outcomes
 pub mod Plain
+pub mod Division

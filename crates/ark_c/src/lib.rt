@@ -11,6 +11,7 @@ ghost use Rattle.ark_words.specs.Numbers.{FitValues, BothReduced, AreEvaluated};
 ghost use Rattle.ark_words.specs.Numbers.{AreReduced};
 ghost use Rattle.ark_words.specs.Codes.{FitCode, HasCodeFor, IsEncodable, IsEncoded};
 ghost use Rattle.ark_words.specs.Products.{FitProduct, AreMultiplied};
+ghost use Rattle.ark_words.specs.Products.{FitQuotient, AreZeros, IsDivisible, AreDivided};
 ghost use Rattle.ark_c.specs.Names.{field_named};
 ghost use Rattle.ark_words.specs.Extensions.{FitExtended, IsExtended, FitFixed, AreFixed};
 
@@ -19,7 +20,7 @@ mod status;
 use ark_base::{BabyBear, F5, F433, F65537, Goldilocks, KoalaBear};
 use ark_wide::{Bls12_381Scalar, Bn254Scalar};
 use ark_words::{
-    domain_size, encode, evaluate, fft, ifft, multilinear_evaluate, multilinear_fix, multiply, width,
+    divide, domain_size, encode, evaluate, fft, ifft, multilinear_evaluate, multilinear_fix, multiply, width,
 };
 use status::status;
 use std::alloc::Global;
@@ -236,4 +237,34 @@ pub extern "C" fn ark_multilinear_fix(
     ensures no_other { result ≤ 4 }
 {
     status(over_field!(field, multilinear_fix(alloc, table, point, fixed)))
+}
+
+/// The coefficients of the only quotient and remainder of a polynomial by another, the lowest first, and
+/// zeros in what is left: the quotient is as long as the dividend, the remainder as long as the divisor.
+#[unsafe(no_mangle)]
+pub extern "C" fn ark_divide(
+    alloc: Global,
+    field: u64,
+    dividend: &[u64],
+    divisor: &[u64],
+    quotient: &mut [u64],
+    remainder: &mut [u64],
+) -> u32
+    ensures quotient { result ≡ 0 → IsSomeAnd (field_named field) (λ f.
+        AreDivided f dividend.now divisor.now quotient.new remainder.new) }
+    ensures kept { result ≢ 0 → (quotient.new ≡ quotient.old) × (remainder.new ≡ remainder.old) }
+    ensures taken { result ≡ 0 → IsSomeAnd (field_named field) (λ f.
+        IsDivisible f dividend.now divisor.now quotient.old remainder.old) }
+    ensures no_field { (result ≡ 2) ↔ IsNone (field_named field) }
+    ensures length { (result ≡ 3) ↔ IsSomeAnd (field_named field) (λ f.
+        ¬ FitQuotient f dividend.now divisor.now quotient.old remainder.old) }
+    ensures not_reduced { (result ≡ 4) ↔ IsSomeAnd (field_named field) (λ f.
+        FitQuotient f dividend.now divisor.now quotient.old remainder.old
+        × (¬ BothReduced f dividend.now divisor.now)) }
+    ensures zero_divisor { (result ≡ 6) ↔ IsSomeAnd (field_named field) (λ f.
+        FitQuotient f dividend.now divisor.now quotient.old remainder.old
+        × BothReduced f dividend.now divisor.now × AreZeros f divisor.now) }
+    ensures no_other { (result ≤ 6) × (result ≢ 5) }
+{
+    status(over_field!(field, divide(alloc, dividend, divisor, quotient, remainder)))
 }

@@ -5,3 +5,5 @@ pub mod WordPolynomials
 pub mod Refusals
 pub mod Corners
 pub mod Refused
+pub mod QuotientLengths
+pub mod Zeros

@@ -1,7 +1,7 @@
 -- Which error a call answers.
 use Rattle.std.specs.Prelude.{◌≡◌, ◌⊎◌}
 use Rattle.ark_words.specs.declared.error.WordsError.{WordsError}
-use Rattle.ark_words.specs.declared.error.WordsError.TheVariants.{Memory, Length, NotReduced, NoDomain}
+use Rattle.ark_words.specs.declared.error.WordsError.TheVariants.{Memory, Length, NotReduced, NoDomain, ZeroDivisor}
 
 -- the first of three conditions that doesn't hold has this error; memory may be refused where all of them hold
 abbrev pub IsFault : (lengths reduced domain : Type 0) → WordsError → Type 0
@@ -26,3 +26,8 @@ IsPlain other = ⊥
 abbrev pub IsOfDomains : WordsError → Type 0
 IsOfDomains NoDomain = Unit {0}
 IsOfDomains other = IsPlain other
+
+-- the error of a call that asks for a divisor that isn't zero
+abbrev pub IsOfDivision : WordsError → Type 0
+IsOfDivision ZeroDivisor = Unit {0}
+IsOfDivision other = IsPlain other

@@ -3,6 +3,7 @@
 #![tactic(auto)]
 
 mod codes;
+mod division;
 mod domains;
 mod element;
 mod error;
@@ -14,6 +15,7 @@ mod products;
 mod transforms;
 
 pub use codes::encode;
+pub use division::divide;
 pub use domains::domain_size;
 pub use element::{WordElement, width};
 pub use error::WordsError;
