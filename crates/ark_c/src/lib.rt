@@ -14,6 +14,7 @@ ghost use Rattle.ark_words.specs.Products.{FitProduct, AreMultiplied};
 ghost use Rattle.ark_words.specs.Products.{FitQuotient, AreZeros, IsDivisible, AreDivided};
 ghost use Rattle.ark_c.specs.Names.{field_named};
 ghost use Rattle.ark_words.specs.Extensions.{FitExtended, IsExtended, FitFixed, AreFixed};
+ghost use Rattle.ark_words.specs.Weights.{FitWeights, ArePlaced, AreLagrange};
 
 mod status;
 
@@ -21,6 +22,7 @@ use ark_base::{BabyBear, F5, F433, F65537, Goldilocks, KoalaBear};
 use ark_wide::{Bls12_381Scalar, Bn254Scalar};
 use ark_words::{
     divide, domain_size, encode, evaluate, fft, ifft, multilinear_evaluate, multilinear_fix, multiply, width,
+    domain_size, evaluate, fft, ifft, lagrange, multilinear_evaluate, multilinear_fix, width,
 };
 use status::status;
 use std::alloc::Global;
@@ -267,4 +269,32 @@ pub extern "C" fn ark_divide(
     ensures no_other { (result ≤ 6) × (result ≢ 5) }
 {
     status(over_field!(field, divide(alloc, dividend, divisor, quotient, remainder)))
+}
+
+/// Writes the `n` weights by which the values at the `n` elements of the domain of exactly that size with this
+/// offset give the value at the point, for each polynomial below degree `n`. The point may be one of the domain.
+#[unsafe(no_mangle)]
+pub extern "C" fn ark_lagrange(
+    alloc: Global,
+    field: u64,
+    offset: &[u64],
+    point: &[u64],
+    weights: &mut [u64],
+) -> u32
+    ensures weights { result ≡ 0 → IsSomeAnd (field_named field) (λ f.
+        AreLagrange f offset.now point.now weights.new) }
+    ensures kept { result ≢ 0 → weights.new ≡ weights.old }
+    ensures taken { result ≡ 0 → IsSomeAnd (field_named field) (λ f.
+        FitWeights f offset.now point.now weights.old × ArePlaced f offset.now point.now
+        × HaveDomain f weights.old offset.now) }
+    ensures no_field { (result ≡ 2) ↔ IsNone (field_named field) }
+    ensures length { (result ≡ 3) ↔ IsSomeAnd (field_named field) (λ f.
+        ¬ FitWeights f offset.now point.now weights.old) }
+    ensures not_reduced { (result ≡ 4) ↔ IsSomeAnd (field_named field) (λ f.
+        FitWeights f offset.now point.now weights.old × (¬ ArePlaced f offset.now point.now)) }
+    ensures no_domain { (result ≡ 5) ↔ IsSomeAnd (field_named field) (λ f.
+        FitWeights f offset.now point.now weights.old × ArePlaced f offset.now point.now
+        × (¬ HaveDomain f weights.old offset.now)) }
+{
+    status(over_field!(field, lagrange(alloc, offset, point, weights)))
 }

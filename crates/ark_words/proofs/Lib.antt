@@ -7,3 +7,4 @@ pub mod Corners
 pub mod Refused
 pub mod QuotientLengths
 pub mod Zeros
+pub mod Weighed

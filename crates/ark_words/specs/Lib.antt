@@ -6,3 +6,4 @@ pub mod Examples
 pub mod Products
 pub mod Extensions
 pub mod ExtensionExamples
+pub mod Weights

@@ -13,6 +13,7 @@ mod padded;
 mod points;
 mod products;
 mod transforms;
+mod weights;
 
 pub use codes::encode;
 pub use division::divide;
@@ -23,3 +24,4 @@ pub use extensions::{multilinear_evaluate, multilinear_fix};
 pub use points::evaluate;
 pub use products::multiply;
 pub use transforms::{fft, ifft};
+pub use weights::lagrange;
