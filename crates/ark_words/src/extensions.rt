@@ -54,7 +54,7 @@ pub fn multilinear_evaluate<F: WordElement>(
 
 /// Binds the first variables to the `k` numbers of the point, and writes the table of the polynomial in the
 /// other variables, of which the first is then variable 0: of a table of `2^m` numbers, as `multilinear_evaluate`
-/// takes it, one of `2^(m - k)`. It takes memory for the elements of all three.
+/// takes it, one of `2^(m - k)`. It takes memory for the elements of all three, and for half the table.
 ///
 /// The errors are judged in this order: `Length` where a list isn't whole elements, the table hasn't `2^m` of
 /// them for an `m` at or above `k`, or the result hasn't `2^(m - k)`; `NotReduced` where a number of table or
