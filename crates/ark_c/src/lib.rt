@@ -20,7 +20,10 @@ mod status;
 
 use ark_base::{BabyBear, F5, F433, F65537, Goldilocks, KoalaBear};
 use ark_wide::{Bls12_381Scalar, Bn254Scalar};
-use ark_words::{divide, domain_size, encode, evaluate, fft, ifft, lagrange, multilinear_evaluate, multilinear_fix, multiply, width};
+use ark_words::{
+    divide, domain_size, encode, evaluate, fft, ifft, lagrange, multilinear_evaluate,
+    multilinear_fix, multiply, width,
+};
 use status::status;
 use std::alloc::Global;
 
