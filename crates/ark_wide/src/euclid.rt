@@ -6,7 +6,7 @@ ghost use Rattle.std.specs.Prelude.{◌≡◌, ◌+◌, ◌*◌, ◌%◌, ◌<�
 ghost use Rattle.ark_wide.specs.Words.{integer};
 ghost use Rattle.ark_wide.specs.Euclid.{IsHalved, IsLessened, IsTurned};
 
-use crate::words::{BigInteger256, difference, sum};
+use crate::words::{BigInteger256, chosen, difference, sum};
 
 /// Two numbers on the way to zero and their greatest common divisor. Let `x` be the number that `left` was at first,
 /// or minus that number where the two are `turned`. Modulo what `right` was at first, `x * of_left` is
@@ -61,20 +61,6 @@ impl Step {
             halvings: self.halvings,
             turned: self.turned != turns,
         }
-    }
-}
-
-// One of two numbers.
-#[inline(always)]
-const fn chosen(first: bool, a: BigInteger256, b: BigInteger256) -> BigInteger256
-    ensures first { first ≡ true → result ≡ a }
-    ensures second { first ≡ false → result ≡ b }
-{
-    BigInteger256 {
-        w0: if first { a.w0 } else { b.w0 },
-        w1: if first { a.w1 } else { b.w1 },
-        w2: if first { a.w2 } else { b.w2 },
-        w3: if first { a.w3 } else { b.w3 },
     }
 }
 

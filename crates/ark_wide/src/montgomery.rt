@@ -5,7 +5,7 @@
 ghost use Rattle.std.specs.Prelude.{◌≡◌, ◌+◌, ◌*◌, ◌-◌, ◌%◌, ◌<◌, ◌^◌};
 ghost use Rattle.ark_wide.specs.Words.{integer, IsMontgomery, IsReduced};
 
-use crate::words::{BigInteger256, add_multiple, difference, of_word, sum};
+use crate::words::{BigInteger256, add_multiple, chosen, difference, of_word, sum};
 
 // `t` and some times `p`, without the low word, which is zero: the factor is the low word times `i`.
 #[inline(always)]
@@ -44,7 +44,7 @@ const fn less_once(t: BigInteger256, p: BigInteger256) -> BigInteger256
     ensures below { integer result < integer p }
 {
     let (less, is_below) = difference(t, p);
-    if is_below { t } else { less }
+    chosen(is_below, t, less)
 }
 
 // Montgomery's product: 2^256 times the result leaves what `a * b` does.
@@ -85,7 +85,7 @@ pub const fn minus(a: BigInteger256, b: BigInteger256, p: BigInteger256) -> BigI
     ensures below { integer result < integer p }
 {
     let (rest, below) = difference(a, b);
-    let more = if below { p } else { of_word(0) };
+    let more = chosen(below, p, of_word(0));
     let (whole, _over) = sum(rest, more);
     whole
 }

@@ -151,3 +151,17 @@ pub fn compare(a: BigInteger256, b: BigInteger256) -> Ordering
         Ordering::Equal
     }
 }
+
+/// One of two numbers, word by word: no branch, which a processor could not foretell.
+#[inline(always)]
+pub const fn chosen(first: bool, a: BigInteger256, b: BigInteger256) -> BigInteger256
+    ensures first { first ≡ true → result ≡ a }
+    ensures second { first ≡ false → result ≡ b }
+{
+    BigInteger256 {
+        w0: if first { a.w0 } else { b.w0 },
+        w1: if first { a.w1 } else { b.w1 },
+        w2: if first { a.w2 } else { b.w2 },
+        w3: if first { a.w3 } else { b.w3 },
+    }
+}
