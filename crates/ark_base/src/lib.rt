@@ -1,6 +1,7 @@
 //! Prime fields of one word, beside the fields and modules with laws that all crates share.
 #![tactic(auto)]
 
+mod constants;
 mod fields;
 mod laws;
 mod montgomery32;
@@ -14,6 +15,7 @@ pub use ark_traits::{
     Spelled, Valid, Work, Zero, batch_inversion, k_adicity, list_size, log2, read_list,
     read_number, recompress, recompressed_and_back, write_list, write_number, written_then_read,
 };
+pub use constants::ConstantZero;
 pub use fields::{
     BabyBear, BabyBearModulus, Goldilocks, GoldilocksModulus, KoalaBear, KoalaBearModulus,
 };

@@ -12,6 +12,7 @@ ghost use Rattle.ark_base.specs.ModulusLaws.{modulus_from_parts};
 
 mod bytes;
 
+use crate::constants::ConstantZero;
 use crate::prime_numbers::{PrimeNumbers, hexadecimal};
 use ark_traits::{DomainCoeff, FftField, Field, One, Zero};
 use rand::{Rng, RngExt};
@@ -276,6 +277,19 @@ impl<M: PrimeModulus> Zero for PrimeField<M> {
     fn is_zero(&self) -> bool {
         self.value == 0
     }
+}
+
+impl<M: PrimeModulus> ConstantZero for PrimeField<M> {
+    ghost use Rattle.ark_base.specs.Element.{field_of};
+
+    ghost ZERO = { (field_of M.modulus).zero };
+
+    const ZERO: Self = PrimeField {
+        value: 0,
+        marker: PhantomData,
+    };
+
+    ghost zero_constant = { refl };
 }
 
 impl<M: PrimeModulus> One for PrimeField<M> {

@@ -9,6 +9,7 @@ ghost use Rattle.ark_base.specs.Modulus32.{IsModulus32};
 
 mod bytes;
 
+use crate::constants::ConstantZero;
 use crate::montgomery32;
 use crate::montgomery32::{negated, plus, product};
 use crate::prime_numbers::{PrimeNumbers, hexadecimal};
@@ -247,6 +248,19 @@ impl<M: PrimeModulus32> Zero for PrimeField32<M> {
     fn is_zero(&self) -> bool {
         *self == Self::zero()
     }
+}
+
+impl<M: PrimeModulus32> ConstantZero for PrimeField32<M> {
+    ghost use Rattle.ark_base.specs.Element32.{field_of};
+
+    ghost ZERO = { (field_of M.modulus).zero };
+
+    const ZERO: Self = PrimeField32 {
+        word: 0,
+        marker: PhantomData,
+    };
+
+    ghost zero_constant = { refl };
 }
 
 impl<M: PrimeModulus32> One for PrimeField32<M> {

@@ -1,0 +1,10 @@
+-- Quadratic extensions over plain variables, with their laws; the extension's elements, with theirs; which numbers are no
+-- squares modulo a prime.
+pub mod Quadratics
+pub mod QuadraticLaws
+pub mod Elements
+pub mod ElementLaws
+pub mod ElementBytes
+pub mod TowerLaws
+pub mod RootLaws
+pub mod NonResidues
