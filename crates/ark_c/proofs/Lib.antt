@@ -3,3 +3,5 @@ pub mod Told
 pub mod Outcomes
 pub mod Plain
 pub mod Division
+pub mod ToldWords
+pub mod Interpolation

@@ -2,16 +2,20 @@
 //! number names. `ark_poly.h` says the same of each in C.
 #![tactic(auto)]
 
-ghost use Rattle.std.specs.Prelude.{◌≡◌, ◌≢◌, ◌↔◌, ◌≤◌, IsNone, IsSomeAnd, IfSome, MatchOption};
+ghost use Rattle.std.specs.Prelude.{◌≡◌, ◌≢◌, ◌↔◌, ◌≤◌, IsNone, IsSomeAnd, IfSome, MatchOption, length};
 ghost use Rattle.ark_math.specs.Domain.{Kind, HasNoSize};
 ghost use Rattle.ark_numbers.specs.Answers.{IsChosen};
 ghost use Rattle.ark_words.specs.Numbers.{HaveLengths, HaveReduced, HaveDomain, AreTransformable};
 ghost use Rattle.ark_words.specs.Numbers.{AreTransformed, AreTransformedBack};
 ghost use Rattle.ark_words.specs.Numbers.{FitValues, BothReduced, AreEvaluated};
 ghost use Rattle.ark_words.specs.Numbers.{AreReduced};
+ghost use Rattle.ark_words.specs.Interpolations.{FitInterpolation, ArePointsDifferent, HasEqualPoints};
+ghost use Rattle.ark_words.specs.Interpolations.{AreInterpolating};
 ghost use Rattle.ark_words.specs.Codes.{FitCode, HasCodeFor, IsEncodable, IsEncoded};
 ghost use Rattle.ark_words.specs.Products.{FitProduct, AreMultiplied};
 ghost use Rattle.ark_words.specs.Products.{FitQuotient, AreZeros, IsDivisible, AreDivided};
+ghost use Rattle.ark_words.specs.Codes.{FitWords, HasCode, HaveCodewords, AreRestored, left_count};
+ghost use Rattle.ark_words.specs.Codes.{FitMessages, AreFound, message_size};
 ghost use Rattle.ark_c.specs.Names.{field_named};
 ghost use Rattle.ark_words.specs.Extensions.{FitExtended, IsExtended, FitFixed, AreFixed};
 ghost use Rattle.ark_words.specs.Weights.{FitWeights, ArePlaced, AreLagrange};
@@ -21,8 +25,8 @@ mod status;
 use ark_base::{BabyBear, F5, F433, F65537, Goldilocks, KoalaBear};
 use ark_wide::{Bls12_381Scalar, Bn254Scalar};
 use ark_words::{
-    divide, domain_size, encode, evaluate, fft, ifft, lagrange, multilinear_evaluate,
-    multilinear_fix, multiply, width,
+    divide, domain_size, encode, evaluate, fft, ifft, interpolate, lagrange, message,
+    multilinear_evaluate, multilinear_fix, multiply, restore, width,
 };
 use status::status;
 use std::alloc::Global;
@@ -271,6 +275,36 @@ pub extern "C" fn ark_divide(
     status(over_field!(field, divide(alloc, dividend, divisor, quotient, remainder)))
 }
 
+/// The only `n` coefficients, the lowest first, of a polynomial below degree `n` that has these `n` values at
+/// these `n` points.
+#[unsafe(no_mangle)]
+pub extern "C" fn ark_interpolate(
+    alloc: Global,
+    field: u64,
+    points: &[u64],
+    values: &[u64],
+    coefficients: &mut [u64],
+) -> u32
+    ensures coefficients { result ≡ 0 → IsSomeAnd (field_named field) (λ f.
+        AreInterpolating f points.now values.now coefficients.new) }
+    ensures kept { result ≢ 0 → coefficients.new ≡ coefficients.old }
+    ensures taken { result ≡ 0 → IsSomeAnd (field_named field) (λ f.
+        FitInterpolation f points.now values.now coefficients.old × BothReduced f points.now values.now
+        × ArePointsDifferent f points.now) }
+    ensures no_field { (result ≡ 2) ↔ IsNone (field_named field) }
+    ensures length { (result ≡ 3) ↔ IsSomeAnd (field_named field) (λ f.
+        ¬ FitInterpolation f points.now values.now coefficients.old) }
+    ensures not_reduced { (result ≡ 4) ↔ IsSomeAnd (field_named field) (λ f.
+        FitInterpolation f points.now values.now coefficients.old
+        × (¬ BothReduced f points.now values.now)) }
+    ensures equal_points { (result ≡ 7) ↔ IsSomeAnd (field_named field) (λ f.
+        FitInterpolation f points.now values.now coefficients.old
+        × BothReduced f points.now values.now × HasEqualPoints f points.now) }
+    ensures no_other { (result ≤ 7) × (result ≢ 5) × (result ≢ 6) }
+{
+    status(over_field!(field, interpolate(alloc, points, values, coefficients)))
+}
+
 /// Writes the `n` weights by which the values at the `n` elements of the domain of exactly that size with this
 /// offset give the value at the point, for each polynomial below degree `n`. The point may be one of the domain.
 #[unsafe(no_mangle)]
@@ -297,4 +331,77 @@ pub extern "C" fn ark_lagrange(
         × (¬ HaveDomain f weights.old offset.now)) }
 {
     status(over_field!(field, lagrange(alloc, offset, point, weights)))
+}
+
+/// Puts in place of each word the only codeword that has what is left of it: the words have `n` numbers each and
+/// stand one after another, and a place of which the byte of `erased` isn't 0 is lost in every word. A codeword
+/// is that of a message of `k` numbers.
+#[unsafe(no_mangle)]
+pub extern "C" fn ark_code_restore(
+    alloc: Global,
+    field: u64,
+    words: &mut [u64],
+    erased: &[u8],
+    k: u64,
+) -> u32
+    ensures restored { result ≡ 0 → IsSomeAnd (field_named field) (λ f.
+        AreRestored f words.old erased.now k words.new) }
+    ensures kept { result ≢ 0 → words.new ≡ words.old }
+    ensures taken { result ≡ 0 → IsSomeAnd (field_named field) (λ f. FitWords f words.old erased.now k
+        × AreReduced f words.old × HasCode f (length erased.now) × (k ≤ left_count erased.now)) }
+    ensures no_field { (result ≡ 2) ↔ IsNone (field_named field) }
+    ensures length { (result ≡ 3) ↔ IsSomeAnd (field_named field) (λ f.
+        ¬ FitWords f words.old erased.now k) }
+    ensures not_reduced { (result ≡ 4) ↔ IsSomeAnd (field_named field) (λ f.
+        FitWords f words.old erased.now k × (¬ AreReduced f words.old)) }
+    ensures no_domain { (result ≡ 5) ↔ IsSomeAnd (field_named field) (λ f.
+        FitWords f words.old erased.now k × AreReduced f words.old × (¬ HasCode f (length erased.now))) }
+    ensures too_few { (result ≡ 8) ↔ IsSomeAnd (field_named field) (λ f.
+        FitWords f words.old erased.now k × AreReduced f words.old × HasCode f (length erased.now)
+        × (¬ (k ≤ left_count erased.now))) }
+    ensures no_codeword { result ≡ 9 → IsSomeAnd (field_named field) (λ f.
+        FitWords f words.old erased.now k × AreReduced f words.old × HasCode f (length erased.now)
+        × (k ≤ left_count erased.now) × (¬ HaveCodewords f words.old erased.now k)) }
+{
+    status(over_field!(field, restore(alloc, words, erased, k)))
+}
+
+/// Writes the messages of words, of `k` numbers each, one after another: each is the only one whose codeword has
+/// what is left of its word. The words have `n` numbers each and stand one after another, and a place of which the
+/// byte of `erased` isn't 0 is lost in every word. `k` is how many numbers `messages` has room for, over how many
+/// words there are.
+#[unsafe(no_mangle)]
+pub extern "C" fn ark_code_message(
+    alloc: Global,
+    field: u64,
+    words: &[u64],
+    erased: &[u8],
+    messages: &mut [u64],
+) -> u32
+    ensures found { result ≡ 0 → IsSomeAnd (field_named field) (λ f.
+        AreFound f words.now erased.now (message_size f words.now erased.now messages.old) messages.new) }
+    ensures kept { result ≢ 0 → messages.new ≡ messages.old }
+    ensures taken { result ≡ 0 → IsSomeAnd (field_named field) (λ f.
+        FitMessages f words.now erased.now messages.old × AreReduced f words.now
+        × HasCode f (length erased.now)
+        × (message_size f words.now erased.now messages.old ≤ left_count erased.now)) }
+    ensures no_field { (result ≡ 2) ↔ IsNone (field_named field) }
+    ensures length { (result ≡ 3) ↔ IsSomeAnd (field_named field) (λ f.
+        ¬ FitMessages f words.now erased.now messages.old) }
+    ensures not_reduced { (result ≡ 4) ↔ IsSomeAnd (field_named field) (λ f.
+        FitMessages f words.now erased.now messages.old × (¬ AreReduced f words.now)) }
+    ensures no_domain { (result ≡ 5) ↔ IsSomeAnd (field_named field) (λ f.
+        FitMessages f words.now erased.now messages.old × AreReduced f words.now
+        × (¬ HasCode f (length erased.now))) }
+    ensures too_few { (result ≡ 8) ↔ IsSomeAnd (field_named field) (λ f.
+        FitMessages f words.now erased.now messages.old × AreReduced f words.now
+        × HasCode f (length erased.now)
+        × (¬ (message_size f words.now erased.now messages.old ≤ left_count erased.now))) }
+    ensures no_codeword { result ≡ 9 → IsSomeAnd (field_named field) (λ f.
+        FitMessages f words.now erased.now messages.old × AreReduced f words.now
+        × HasCode f (length erased.now)
+        × (message_size f words.now erased.now messages.old ≤ left_count erased.now)
+        × (¬ HaveCodewords f words.now erased.now (message_size f words.now erased.now messages.old))) }
+{
+    status(over_field!(field, message(alloc, words, erased, messages)))
 }

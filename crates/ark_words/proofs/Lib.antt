@@ -8,3 +8,7 @@ pub mod Refused
 pub mod QuotientLengths
 pub mod Zeros
 pub mod Weighed
+pub mod Codewords
+pub mod Interpolated
+pub mod EqualPoints
+pub mod Through

@@ -7,3 +7,5 @@ pub mod Products
 pub mod Extensions
 pub mod ExtensionExamples
 pub mod Weights
+pub mod Decoders
+pub mod Interpolations

@@ -66,8 +66,8 @@ pub fn refusal_of_both<F: WordElement>(left: &[u64], right: &[u64], error: Words
     }
 }
 
-// Whether all numbers are below the modulus.
-fn are_reduced<F: WordElement>(words: &[u64]) -> bool
+/// Whether all numbers are below the modulus.
+pub fn are_reduced<F: WordElement>(words: &[u64]) -> bool
     ensures { IsTrue result ↔ All (λ x. x < F.modulus) (numbers F.WIDTH words.now) }
 {
     let width = F::WIDTH;

@@ -67,6 +67,21 @@ impl<F: FftField, D: EvaluationDomain<F>> DomainCode<F, D> {
         })
     }
 
+    /// The code for messages of at most `k` items over this subgroup.
+    pub fn over(domain: D, k: usize) -> Self
+        requires subgroup { (D.domain domain).offset ≡ F.field.one }
+        requires some { 0 < k }
+        requires fits { k ≤ (D.domain domain).size }
+        ensures domain { result.domain ≡ D.domain domain }
+        ensures items { result.k ≡ k }
+    {
+        DomainCode {
+            domain,
+            k,
+            of: PhantomData,
+        }
+    }
+
     /// The greatest number of a message's items.
     pub fn k(&self) -> usize
         ensures { result ≡ self.now.k }
