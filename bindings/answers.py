@@ -1,0 +1,299 @@
+#!/usr/bin/env python3
+"""Writes answers.txt: calls of the library with their answers, computed by the definitions with Python's own numbers.
+
+A line is a call, its field, its status, the lists that it is given and, after `>`, those that it leaves, all in hexadecimal
+words. What a call changes in place stands in both. Where the status isn't 0, the lists after `>` are those that must still
+be there: `-` is a word of which only that is known.
+"""
+import random
+
+BN254 = 0x30644E72E131A029B85045B68181585D2833E84879B9709143E1F593F0000001
+BLS12_381 = 0x73EDA753299D7D483339D80809A1D80553BDA402FFFE5BFEFFFFFFFF00000001
+
+# name, p, words, generator, sizes of domains that are tried
+FIELDS = [
+    (5, 5, 1, 2, (1, 2, 4)),
+    (433, 433, 1, 5, (1, 3, 4, 12, 16, 18)),
+    (65537, 65537, 1, 3, (1, 2, 8, 32)),
+    (2013265921, 2013265921, 1, 31, (1, 2, 8, 32)),
+    (2130706433, 2130706433, 1, 3, (1, 2, 8, 32)),
+    (18446744069414584321, 18446744069414584321, 1, 7, (1, 2, 8, 32)),
+    (254, BN254, 4, 5, (1, 2, 8)),
+    (12381, BLS12_381, 4, 7, (1, 2, 8)),
+]
+# the first size for which there is no domain
+BEYOND = {5: 5, 433: 433, 65537: 2**16 + 1, 2013265921: 2**27 + 1, 2130706433: 2**24 + 1, 18446744069414584321: 2**32 + 1,
+          254: 2**28 + 1, 12381: 2**32 + 1}
+
+OK, NO_FIELD, LENGTH, NOT_REDUCED, NO_DOMAIN, ZERO_DIVISOR, EQUAL_POINTS, TOO_FEW, NO_CODEWORD = 0, 2, 3, 4, 5, 6, 7, 8, 9
+UNKNOWN = "-"
+
+rows = []
+
+
+def row(call, field, status, given, left):
+    text = " | ".join(" ".join("-" if word is UNKNOWN else f"{word:x}" for word in words) for words in given)
+    then = " | ".join(" ".join("-" if word is UNKNOWN else f"{word:x}" for word in words) for words in left)
+    rows.append(f"{call} {field} {status}: {text} > {then}".replace("  ", " ").rstrip())
+
+
+def spread(elements, words):
+    return [element >> 64 * i & 2**64 - 1 for element in elements for i in range(words)]
+
+
+def value(c, x, p):
+    y = 0
+    for a in reversed(c):
+        y = (y * x + a) % p
+    return y
+
+
+def domain(n, offset, p, g):
+    w = pow(g, (p - 1) // n, p)
+    return [offset * pow(w, i, p) % p for i in range(n)]
+
+
+def product(a, b, p):
+    out = [0] * max(len(a) + len(b) - 1, 0)
+    for i, x in enumerate(a):
+        for j, y in enumerate(b):
+            out[i + j] = (out[i + j] + x * y) % p
+    return out
+
+
+def divided(a, b, p):
+    rest, top = list(a), max(i for i, x in enumerate(b) if x)
+    quotient = [0] * len(a)
+    for i in range(len(a) - 1, top - 1, -1):
+        c = rest[i] * pow(b[top], p - 2, p) % p
+        quotient[i - top] = c
+        for j in range(top + 1):
+            rest[i - top + j] = (rest[i - top + j] - c * b[j]) % p
+    return quotient, (rest + [0] * len(b))[:len(b)]
+
+
+def weights(n, offset, x, p, g):
+    at = domain(n, offset, p, g)
+    out = []
+    for i in range(n):
+        top = low = 1
+        for j in range(n):
+            if j != i:
+                top, low = top * (x - at[j]) % p, low * (at[i] - at[j]) % p
+        out.append(top * pow(low, p - 2, p) % p)
+    return out
+
+
+def bound(table, point, p):
+    for x in point:
+        table = [(a + x * (b - a)) % p for a, b in zip(table[::2], table[1::2])]
+    return table
+
+
+def through(points, values, p):
+    out = [0] * len(points)
+    for i, x in enumerate(points):
+        basis, low = [1], 1
+        for j, z in enumerate(points):
+            if j != i:
+                basis, low = product(basis, [-z % p, 1], p), low * (x - z) % p
+        for k, b in enumerate(basis):
+            out[k] = (out[k] + values[i] * b * pow(low, p - 2, p)) % p
+    return out
+
+
+for name, p, words, g, sizes in FIELDS:
+    rng = random.Random(name)
+    draw = lambda n: [rng.choice((0, 1, p - 1, rng.randrange(p), rng.randrange(p), rng.randrange(p))) for _ in range(n)]
+    s = lambda elements: spread(elements, words)
+    unknown = lambda n: [UNKNOWN] * (n * words)
+    good = lambda call, given, left: row(call, name, OK, given, left)
+    bad = lambda call, status, given, left: row(call, name, status, given, left)
+
+    none = [1, 2, 3] if name != 433 else [1, 2, 3, 4, 5]  # as many elements as no domain has
+
+    # sizes
+    for at_least in (0, 1, 2, 3, 4):
+        good("domain_size", [[at_least]], [[1 << max(at_least - 1, 0).bit_length()]])
+    bad("domain_size", NO_DOMAIN, [[BEYOND[name]]], [[UNKNOWN]])
+    bad("domain_size", NO_DOMAIN, [[2**64 - 1]], [[UNKNOWN]])
+
+    # transforms
+    for n in sizes:
+        for offset, c in ((1, [p - 1] * n), (g, draw(n)), (p - 1, draw(n)), (1, [0] * (n - 1) + [1])):
+            v = [value(c, x, p) for x in domain(n, offset, p, g)]
+            good("fft", [s(c), s([offset])], [s(v)])
+            good("ifft", [s(v), s([offset])], [s(c)])
+    for call in ("fft", "ifft"):
+        bad(call, NO_DOMAIN, [s(none), s([1])], [s(none)])
+        bad(call, NO_DOMAIN, [s([1, 2]), s([0])], [s([1, 2])])
+        bad(call, NO_DOMAIN, [[], s([1])], [[]])
+        bad(call, LENGTH, [s([1, 2]), []], [s([1, 2])])
+        bad(call, LENGTH, [s([1, 2]), s([1, 1])], [s([1, 2])])
+        bad(call, NOT_REDUCED, [s([1, p]), s([1])], [s([1, p])])
+        bad(call, NOT_REDUCED, [s([2**(64 * words) - 1, 1]), s([1])], [s([2**(64 * words) - 1, 1])])
+        bad(call, NOT_REDUCED, [s([1, 2]), s([p])], [s([1, 2])])
+        # (of two reasons the first one)
+        bad(call, LENGTH, [s([1, p, 2]), []], [s([1, p, 2])])
+        bad(call, NOT_REDUCED, [s([1, p, 2]), s([0])], [s([1, p, 2])])
+
+    # products
+    for a, b in ((1, 1), (2, 2), (1, 4), (3, 2)) + (((5, 4), (16, 3)) if p > 5 else ()):
+        for left, right in ((draw(a), draw(b)), ([p - 1] * a, [p - 1] * b)):
+            good("multiply", [s(left), s(right)], [s(product(left, right, p))])
+    good("multiply", [s([p - 1]), s([2, p - 1])], [s([p - 2, 1, 0, 0])])
+    bad("multiply", LENGTH, [s([1, 2]), s([1, 2])], [unknown(2)])
+    bad("multiply", NOT_REDUCED, [s([1, p]), s([1, 2])], [unknown(3)])
+    bad("multiply", NOT_REDUCED, [s([1, 2]), s([2**(64 * words) - 1, 1])], [unknown(3)])
+    bad("multiply", LENGTH, [s([1, p]), s([1, 2])], [unknown(2)])
+
+    # division
+    for a, b in ((1, 1), (4, 2), (2, 4), (5, 3), (9, 4)):
+        left, right = draw(a), draw(b - 1) + [rng.randrange(1, p)]
+        q, r = divided(left, right, p)
+        good("divide", [s(left), s(right)], [s(q), s(r)])
+        q, r = divided(left, right + [0, 0], p)
+        good("divide", [s(left), s(right + [0, 0])], [s(q), s(r)])
+    good("divide", [s([p - 1, 0, 0, 1]), s([p - 1, 1])], [s([1, 1, 1, 0]), s([0, 0])])
+    good("divide", [s([0, 0]), s([1, 1])], [s([0, 0]), s([0, 0])])
+    bad("divide", ZERO_DIVISOR, [s([1, 2]), s([0, 0])], [unknown(2), unknown(2)])
+    bad("divide", ZERO_DIVISOR, [s([1, 2]), []], [unknown(2), []])
+    bad("divide", LENGTH, [s([1, 2]), s([1, 1])], [unknown(1), unknown(2)])
+    bad("divide", LENGTH, [s([1, 2]), s([1, 1])], [unknown(2), unknown(1)])
+    bad("divide", NOT_REDUCED, [s([p, 2]), s([1, 1])], [unknown(2), unknown(2)])
+    bad("divide", NOT_REDUCED, [s([1, 2]), s([1, p])], [unknown(2), unknown(2)])
+    bad("divide", NOT_REDUCED, [s([1, p]), s([0, 0])], [unknown(2), unknown(2)])
+
+    # values
+    for n, m in ((1, 1), (3, 4), (8, 3), (2, 9), (0, 2), (3, 0)):
+        c, at = draw(n), draw(m)
+        good("evaluate", [s(c), s(at)], [s([value(c, x, p) for x in at])])
+    bad("evaluate", LENGTH, [s([1, 2]), s([1, 2])], [unknown(1)])
+    bad("evaluate", NOT_REDUCED, [s([1, p]), s([1, 2])], [unknown(2)])
+    bad("evaluate", NOT_REDUCED, [s([1, 2]), s([p, 2])], [unknown(2)])
+
+    # interpolation
+    for n in (1, 2, 5, 9):
+        if n <= p:
+            at = rng.sample(range(p), n) if p < 2**32 else [0, 1, p - 1, *(rng.randrange(2, p - 1) for _ in range(6))][:n]
+            v = draw(n)
+            good("interpolate", [s(at), s(v)], [s(through(at, v, p))])
+    bad("interpolate", EQUAL_POINTS, [s([1, 2, 1]), s([1, 2, 1])], [unknown(3)])
+    bad("interpolate", LENGTH, [s([1, 2]), s([1])], [unknown(2)])
+    bad("interpolate", LENGTH, [s([1, 2]), s([1, 2])], [unknown(3)])
+    bad("interpolate", NOT_REDUCED, [s([p, 2]), s([1, 2])], [unknown(2)])
+    bad("interpolate", NOT_REDUCED, [s([1, 1]), s([1, p])], [unknown(2)])
+
+    # weights
+    for n in sizes:
+        for offset, x in ((1, 0), (g, p - 1), (g, domain(n, g, p, g)[-1]), (p - 1, rng.randrange(p))):
+            good("lagrange", [s([offset]), s([x])], [s(weights(n, offset, x, p, g))])
+    bad("lagrange", NO_DOMAIN, [s([1]), s([2])], [unknown(len(none))])
+    bad("lagrange", NO_DOMAIN, [s([0]), s([2])], [unknown(2)])
+    bad("lagrange", LENGTH, [s([1, 1]), s([2])], [unknown(2)])
+    bad("lagrange", LENGTH, [s([1]), []], [unknown(2)])
+    bad("lagrange", NOT_REDUCED, [s([p]), s([2])], [unknown(2)])
+    bad("lagrange", NOT_REDUCED, [s([1]), s([p])], [unknown(2)])
+
+    # multilinear extensions
+    for m in range(5):
+        table, at = draw(1 << m), draw(m)
+        good("multilinear_evaluate", [s(table), s(at)], [s(bound(table, at, p))])
+        for k in range(m + 1):
+            good("multilinear_fix", [s(table), s(at[:k])], [s(bound(table, at[:k], p))])
+    good("multilinear_evaluate", [s([p - 1] * 4), s([p - 1, 2])], [s([p - 1])])
+    bad("multilinear_evaluate", LENGTH, [s([1, 2, 3]), s([1, 2])], [unknown(1)])
+    bad("multilinear_evaluate", LENGTH, [s([1, 2]), s([1, 2])], [unknown(1)])
+    bad("multilinear_evaluate", LENGTH, [s([1, 2]), s([1])], [unknown(2)])
+    bad("multilinear_evaluate", NOT_REDUCED, [s([1, p]), s([1])], [unknown(1)])
+    bad("multilinear_evaluate", NOT_REDUCED, [s([1, 2]), s([p])], [unknown(1)])
+    bad("multilinear_fix", LENGTH, [s([1, 2]), s([1, 2])], [unknown(1)])
+    bad("multilinear_fix", LENGTH, [s([1, 2, 3, 4]), s([1])], [unknown(3)])
+    bad("multilinear_fix", LENGTH, [s([1, 2, 3]), s([1])], [unknown(2)])
+    bad("multilinear_fix", LENGTH, [[], []], [[]])
+    bad("multilinear_fix", NOT_REDUCED, [s([p, 2, 3, 4]), s([1])], [unknown(2)])
+    bad("multilinear_fix", NOT_REDUCED, [s([1, 2, 3, 4]), s([p])], [unknown(2)])
+
+    # codes
+    for n in sizes:
+        for k in sorted({1, (n + 1) // 2, n}):
+            codewords, holed, messages = [], [], []
+            erased = [1] * (n - k) + [0] * k
+            rng.shuffle(erased)
+            for _ in range(3):
+                message = draw(k)
+                codeword = [value(message, x, p) for x in domain(n, 1, p, g)]
+                good("code_encode", [s(message)], [s(codeword)])
+                messages += message
+                codewords += codeword
+                holed += [0 if lost else x for lost, x in zip(erased, codeword)]
+            good("code_restore", [s(holed[:n]), erased, [k]], [s(codewords[:n])])
+            good("code_restore", [s(holed), [255 * lost for lost in erased], [k]], [s(codewords)])
+            good("code_message", [s(holed[:n]), erased], [s(messages[:k])])
+            good("code_message", [s(holed), erased], [s(messages)])
+            good("code_message", [s(codewords), [0] * n], [s(messages)])
+    bad("code_encode", NO_DOMAIN, [s([1, 2])], [unknown(len(none))])
+    bad("code_encode", LENGTH, [s([1, 2, 3])], [unknown(2)])
+    bad("code_encode", NOT_REDUCED, [s([1, p])], [unknown(4)])
+    word = s([value([1, 2], x, p) for x in domain(4, 1, p, g)])
+    bad("code_restore", TOO_FEW, [word, [1, 1, 0, 1], [2]], [word])
+    bad("code_restore", TOO_FEW, [word, [1, 1, 1, 1], [1]], [word])
+    bad("code_restore", TOO_FEW, [word, [2, 255, 0, 128], [2]], [word])
+    wrong = [word[0] ^ 1, *word[1:]]
+    bad("code_restore", NO_CODEWORD, [wrong, [0, 0, 0, 0], [2]], [wrong])
+    bad("code_restore", NO_CODEWORD, [wrong, [0, 0, 1, 0], [2]], [wrong])
+    bad("code_restore", NO_CODEWORD, [word + wrong, [0, 0, 1, 0], [2]], [word + wrong])
+    bad("code_message", NO_CODEWORD, [wrong, [0, 0, 1, 0]], [unknown(2)])
+    bad("code_message", NO_CODEWORD, [word + wrong, [0, 0, 1, 0]], [unknown(4)])
+    bad("code_restore", LENGTH, [word, [1, 0, 0], [2]], [word])
+    bad("code_restore", LENGTH, [word, [1, 0, 0, 0], [5]], [word])
+    bad("code_restore", LENGTH, [[], [1, 0, 0, 0], [2]], [[]])
+    bad("code_restore", NO_DOMAIN, [s(none), [1] + [0] * (len(none) - 1), [2]], [s(none)])
+    bad("code_restore", NOT_REDUCED, [s([0, 1, 2, p]), [1, 0, 0, 0], [2]], [s([0, 1, 2, p])])
+    bad("code_message", TOO_FEW, [word, [1, 1, 0, 1]], [unknown(2)])
+    bad("code_message", TOO_FEW, [word, [2, 255, 0, 128]], [unknown(2)])
+    bad("code_message", LENGTH, [word, [1, 0, 0]], [unknown(2)])
+    bad("code_message", LENGTH, [word, [1, 0, 0, 0]], [unknown(5)])
+    bad("code_message", LENGTH, [word + word, [1, 0, 0, 0]], [unknown(5)])
+    bad("code_message", NO_DOMAIN, [s(none), [1] + [0] * (len(none) - 1)], [unknown(2)])
+    bad("code_message", NOT_REDUCED, [s([0, 1, 2, p]), [1, 0, 0, 0]], [unknown(2)])
+
+    # lengths that are no multiple of four words
+    if words == 4:
+        five, four = [1, 0, 0, 0, 1], [1, 0, 0, 0]
+        for call in ("fft", "ifft"):
+            bad(call, LENGTH, [five, four], [five])
+            bad(call, LENGTH, [four, [1]], [four])
+        bad("multiply", LENGTH, [five, four], [unknown(2)])
+        bad("multiply", LENGTH, [four, five], [unknown(2)])
+        bad("multiply", LENGTH, [four, four], [[UNKNOWN] * 5])
+        bad("divide", LENGTH, [five, four], [[UNKNOWN] * 5, unknown(1)])
+        bad("divide", LENGTH, [four, five], [unknown(1), [UNKNOWN] * 5])
+        bad("evaluate", LENGTH, [five, four], [unknown(1)])
+        bad("evaluate", LENGTH, [four, five], [[UNKNOWN] * 5])
+        bad("interpolate", LENGTH, [five, five], [[UNKNOWN] * 5])
+        bad("lagrange", LENGTH, [four, four], [[UNKNOWN] * 5])
+        bad("multilinear_evaluate", LENGTH, [four, [1]], [unknown(1)])
+        bad("multilinear_fix", LENGTH, [five, []], [[UNKNOWN] * 5])
+        bad("code_encode", LENGTH, [four, ], [[UNKNOWN] * 5])
+        bad("code_restore", LENGTH, [five, [0], [1]], [five])
+        bad("code_message", LENGTH, [four, [0]], [[UNKNOWN] * 5])
+
+# fields that there are none of
+for name in (0, 1, 4, 7, 434, 2013265920, 18446744069414584320, 2**64 - 1):
+    row("domain_size", name, NO_FIELD, [[1]], [[UNKNOWN]])
+    for call in ("fft", "ifft"):
+        row(call, name, NO_FIELD, [[1], [1]], [[1]])
+    row("multiply", name, NO_FIELD, [[1], [1]], [[UNKNOWN]])
+    row("divide", name, NO_FIELD, [[1], [1]], [[UNKNOWN], [UNKNOWN]])
+    row("evaluate", name, NO_FIELD, [[1], [1]], [[UNKNOWN]])
+    row("interpolate", name, NO_FIELD, [[1], [1]], [[UNKNOWN]])
+    row("lagrange", name, NO_FIELD, [[1], [1]], [[UNKNOWN]])
+    row("multilinear_evaluate", name, NO_FIELD, [[1], []], [[UNKNOWN]])
+    row("multilinear_fix", name, NO_FIELD, [[1], []], [[UNKNOWN]])
+    row("code_encode", name, NO_FIELD, [[1]], [[UNKNOWN]])
+    row("code_restore", name, NO_FIELD, [[1], [0], [1]], [[1]])
+    row("code_message", name, NO_FIELD, [[1], [0]], [[UNKNOWN]])
+
+if __name__ == "__main__":
+    print("\n".join(rows))

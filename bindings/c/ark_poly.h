@@ -1,0 +1,152 @@
+/* Polynomials, transforms, multilinear extensions and Reed-Solomon codes over prime fields.
+ * SPDX-License-Identifier: MIT OR Apache-2.0
+ *
+ * Each call is proved to do what is said of it here, for callers that keep to these rules:
+ *
+ * - A pointer with a length is to that many items, aligned as C aligns them, which nothing else writes while the call runs,
+ *   nor reads where the call writes them. With length 0 it may be NULL, and with no other.
+ * - A list that is written overlaps no other list of the same call. Lists that are only read may overlap.
+ * - No call is made from a signal handler, nor in the child of a fork of a process with threads.
+ *
+ * Several threads may call at once, on lists of their own: the library keeps nothing between calls. No call ends the
+ * program, prints, or takes a lock of its own.
+ *
+ * Elements. A field is a prime p, its elements the numbers below p. A list of elements is a list of 64-bit words in the
+ * machine's byte order: one word an element where p is below 2^64, and four otherwise, the low one first. Each number is
+ * itself (no Montgomery form). Every length `.._len` counts words, and what is said of n elements is about
+ * n * ark_words(field) of them.
+ *
+ * Statuses. Whatever can be wrong is judged in the order of the enum below: first whether there is such a field, then
+ * lengths, then whether each number is below p, and so on. ARK_MEMORY alone has no condition: it comes where memory was
+ * refused. A call that answers anything but ARK_OK has written nothing. ARK_MEMORY, ARK_NO_FIELD and, where there are lists of
+ * elements, ARK_LENGTH for a part of an element and ARK_NOT_REDUCED may come from every call; each names the others.
+ *
+ * Domains. The domain of n elements is offset * w^i for i = 0 .. n - 1, where w = g^((p - 1) / n) and g is the field's
+ * generator below. There is one for each power of two up to the field's greatest; the field of 433 elements has those of
+ * 2^a * 3^b elements, a <= 4 and b <= 3, too. */
+#ifndef ARK_POLY_H
+#define ARK_POLY_H
+
+#include <stddef.h>
+#include <stdint.h>
+
+#ifdef __cplusplus
+extern "C" {
+#endif
+
+/* The version of these declarations. While the major one is 0, the minor one changes where a caller may have to. */
+#define ARK_VERSION_MAJOR 0
+#define ARK_VERSION_MINOR 5
+#define ARK_VERSION_PATCH 0
+#define ARK_VERSION ((ARK_VERSION_MAJOR << 16) | (ARK_VERSION_MINOR << 8) | ARK_VERSION_PATCH)
+
+/* The fields: a prime of one word is named by itself, one of four words by a number that is no prime.
+ *                                                          p                        g     greatest power of two */
+#define ARK_F5 UINT64_C(5)                               /* 5                        2     2^2 */
+#define ARK_F433 UINT64_C(433)                           /* 433                      5     2^4 */
+#define ARK_F65537 UINT64_C(65537)                       /* 2^16 + 1                 3     2^16 */
+#define ARK_BABYBEAR UINT64_C(2013265921)                /* 15 * 2^27 + 1            31    2^27 */
+#define ARK_KOALABEAR UINT64_C(2130706433)               /* 127 * 2^24 + 1           3     2^24 */
+#define ARK_GOLDILOCKS UINT64_C(18446744069414584321)    /* 2^64 - 2^32 + 1          7     2^32 */
+#define ARK_BN254_FR UINT64_C(254)                       /* the scalars of BN254     5     2^28 */
+#define ARK_BLS12_381_FR UINT64_C(12381)                 /* those of BLS12-381       7     2^32 */
+
+/* The most words that an element has. */
+#define ARK_MOST_WORDS 4
+
+/* No number is ever used again for another meaning. */
+typedef uint32_t ark_status;
+enum {
+    ARK_OK = 0,
+    ARK_MEMORY = 1,       /* memory was refused */
+    ARK_NO_FIELD = 2,     /* no field has this name */
+    ARK_LENGTH = 3,       /* a length is no multiple of the field's words, or not what the call asks for */
+    ARK_NOT_REDUCED = 4,  /* a number isn't below p */
+    ARK_NO_DOMAIN = 5,    /* no domain of the field has so many elements, or the offset is zero */
+    ARK_ZERO_DIVISOR = 6, /* the divisor is the zero polynomial */
+    ARK_EQUAL_POINTS = 7, /* two points are equal */
+    ARK_TOO_FEW = 8,      /* a codeword has too few places left */
+    ARK_NO_CODEWORD = 9   /* no codeword has what is left of a word */
+};
+
+/* The version of the library, as ARK_VERSION has that of the declarations. */
+uint32_t ark_version(void);
+
+/* How many words an element of the field has, and 0 where there is no such field. */
+size_t ark_words(uint64_t field);
+
+/* Writes the least size of a domain with at least so many elements: a power of two wherever there is one.
+ * ARK_NO_DOMAIN where all are smaller. */
+ark_status ark_domain_size(uint64_t field, uint64_t at_least, uint64_t *size);
+
+/* Puts in place of n coefficients, the lowest first, the values at the n elements of the domain with this offset, which is
+ * one element. `ark_ifft` puts in place of n values the only n coefficients with these values.
+ * ARK_LENGTH where the offset isn't one element, ARK_NO_DOMAIN where no domain has n elements or the offset is zero. */
+ark_status ark_fft(uint64_t field, uint64_t *words, size_t len, const uint64_t *offset, size_t offset_len);
+ark_status ark_ifft(uint64_t field, uint64_t *words, size_t len, const uint64_t *offset, size_t offset_len);
+
+/* The product of two polynomials: coefficient k is the sum of left[i] * right[j] over i + j = k, and zeros fill what is left.
+ * ARK_LENGTH where left and right have more than one element more than product. */
+ark_status ark_multiply(uint64_t field, const uint64_t *left, size_t left_len, const uint64_t *right, size_t right_len,
+                        uint64_t *product, size_t product_len);
+
+/* Quotient and remainder: dividend = quotient * divisor + remainder, where the remainder has a lower degree than the
+ * divisor. Zeros fill what is left; zeros at the end of dividend and divisor don't matter.
+ * ARK_LENGTH where the quotient isn't as long as the dividend or the remainder as the divisor, ARK_ZERO_DIVISOR where the
+ * divisor is zeros alone, or empty. */
+ark_status ark_divide(uint64_t field, const uint64_t *dividend, size_t dividend_len, const uint64_t *divisor,
+                      size_t divisor_len, uint64_t *quotient, size_t quotient_len, uint64_t *remainder, size_t remainder_len);
+
+/* values[i] is the polynomial's value at points[i], for one point or many, equal ones too.
+ * ARK_LENGTH where values and points differ in length. */
+ark_status ark_evaluate(uint64_t field, const uint64_t *coefficients, size_t coefficients_len, const uint64_t *points,
+                        size_t points_len, uint64_t *values, size_t values_len);
+
+/* The only n coefficients of a polynomial that has these n values at these n points.
+ * ARK_LENGTH where the three lists differ in length, ARK_EQUAL_POINTS where two points are equal. */
+ark_status ark_interpolate(uint64_t field, const uint64_t *points, size_t points_len, const uint64_t *values, size_t values_len,
+                           uint64_t *coefficients, size_t coefficients_len);
+
+/* weights[i] is the value at the point of the i-th Lagrange polynomial of the domain of n elements with this offset: the sum
+ * of weights[i] * values[i] is the value at the point of the polynomial below degree n with these values over the domain.
+ * The point may be one of the domain.
+ * ARK_LENGTH where offset or point isn't one element, ARK_NO_DOMAIN where no domain has n elements or the offset is zero. */
+ark_status ark_lagrange(uint64_t field, const uint64_t *offset, size_t offset_len, const uint64_t *point, size_t point_len,
+                        uint64_t *weights, size_t weights_len);
+
+/* The value at a point of m elements of the only multilinear polynomial in m variables with these 2^m values at the corners:
+ * place i has the value at the corner whose variable j is bit j of i.
+ * ARK_LENGTH where the table hasn't 2^m elements or the value isn't one. */
+ark_status ark_multilinear_evaluate(uint64_t field, const uint64_t *table, size_t table_len, const uint64_t *point,
+                                    size_t point_len, uint64_t *value, size_t value_len);
+
+/* Binds the first k variables to the k elements of the point: the table, of 2^(m - k) elements, of the polynomial in the
+ * other variables, of which the first is then variable 0.
+ * ARK_LENGTH where the table hasn't 2^m elements for an m at or above k, or the result hasn't 2^(m - k). */
+ark_status ark_multilinear_fix(uint64_t field, const uint64_t *table, size_t table_len, const uint64_t *point, size_t point_len,
+                               uint64_t *result, size_t result_len);
+
+/* Reed-Solomon codes. The codeword of a message of k elements, 1 <= k <= n, has n: the values of the polynomial with these
+ * coefficients at the domain of n elements, with offset 1. Any k places of it tell the rest.
+ * ARK_LENGTH where k is none of 1 .. n, ARK_NO_DOMAIN where no domain has n elements. */
+ark_status ark_code_encode(uint64_t field, const uint64_t *message, size_t message_len, uint64_t *word, size_t word_len);
+
+/* Fills the lost places of one word or many: `words` are words of n elements each, one after another, and `erased` has n
+ * bytes, of which byte i isn't 0 where place i of every word is lost. A lost place counts for nothing, but holds a number
+ * below p, as 0. Many words of one call cost less than as many calls. Lost places are restored, and wrong ones are not
+ * corrected.
+ * ARK_LENGTH where `words` isn't one or more words or k is none of 1 .. n, ARK_NO_DOMAIN where no domain has n elements,
+ * ARK_TOO_FEW where fewer than k places are left, ARK_NO_CODEWORD where more than k are left in a word, and no codeword has
+ * them. */
+ark_status ark_code_restore(uint64_t field, uint64_t *words, size_t words_len, const uint8_t *erased, size_t erased_len,
+                            uint64_t k);
+
+/* The messages, of k elements each, one after another, of words as above: as many as there are words. The statuses are those
+ * of ark_code_restore. */
+ark_status ark_code_message(uint64_t field, const uint64_t *words, size_t words_len, const uint8_t *erased, size_t erased_len,
+                            uint64_t *messages, size_t messages_len);
+
+#ifdef __cplusplus
+}
+#endif
+#endif

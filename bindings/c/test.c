@@ -1,0 +1,159 @@
+/* The answers of a file, one call after another, and longer lists by what calls say of each other. */
+#include "rows.h"
+
+static int failures;
+
+static void expect(int holds, const char *what, uint64_t field, size_t n) {
+    if (holds) return;
+    failures++;
+    printf("failed: %s, field %" PRIu64 ", %zu\n", what, field, n);
+}
+
+static void test_rows(const char *path) {
+    unsigned long seen[10] = {0};
+    size_t count;
+    struct row *rows = read_rows(path, &count);
+    for (size_t i = 0; i < count; i++) {
+        struct made it = make(&rows[i]);
+        ark_status status = call(&rows[i], &it);
+        if (status != rows[i].status || !is_left(&rows[i], &it)) {
+            failures++;
+            printf("failed: line %zu, %s over %" PRIu64 ", status %" PRIu32 "\n", i + 1, rows[i].call, rows[i].field, status);
+        }
+        if (status < 10) seen[status]++;
+        drop_made(&rows[i], &it);
+    }
+    for (ark_status status = ARK_OK; status <= ARK_NO_CODEWORD; status++)
+        expect(status == ARK_MEMORY || seen[status] > 0, "a status that no row has", 0, status);
+    printf("%zu rows\n", count);
+    drop_rows(rows, count);
+}
+
+static const uint64_t fields[] = {ARK_F5,         ARK_F433,       ARK_F65537,   ARK_BABYBEAR,
+                                  ARK_KOALABEAR, ARK_GOLDILOCKS, ARK_BN254_FR, ARK_BLS12_381_FR};
+enum { FIELDS = sizeof fields / sizeof *fields };
+
+/* Numbers below the prime: those of four words are below 2^252. */
+static struct list drawn(uint64_t field, size_t n) {
+    static uint64_t state = 1;
+    size_t words = ark_words(field);
+    struct list it = list_of(n * words);
+    for (size_t i = 0; i < it.len; i++) {
+        state ^= state << 13;
+        state ^= state >> 7;
+        state ^= state << 17;
+        it.words[i] = words == 1 ? state % field : i % 4 == 3 ? state >> 4 : state;
+    }
+    return it;
+}
+
+static struct list element(uint64_t field, uint64_t x) {
+    struct list it = list_of(ark_words(field));
+    memset(it.words, 0, it.len * sizeof(uint64_t));
+    it.words[0] = x;
+    return it;
+}
+
+/* The longest lists that are tried. */
+static size_t greatest(uint64_t field) {
+    return field == ARK_F5 ? 4 : field == ARK_F433 ? 16 : 256;
+}
+
+/* The value at 2. */
+static struct list at_two(uint64_t field, struct list coefficients) {
+    struct list two = element(field, 2), value = element(field, 0);
+    expect(ark_evaluate(field, OF(coefficients), OF(two), OF(value)) == ARK_OK, "evaluate", field, coefficients.len);
+    drop(two);
+    return value;
+}
+
+/* A transform and its inverse, and the value at 2 by the weights of the values: the sum of products of weights and values is
+ * the middle coefficient of a product whose one factor is in reverse. */
+static void test_transform(uint64_t field, size_t n) {
+    size_t words = ark_words(field);
+    struct list offset = element(field, 3), two = element(field, 2), c = drawn(field, n), v = copy_of(c);
+    struct list reversed = list_of(v.len), weights = list_of(v.len), sums = list_of((2 * n - 1) * words), sum = element(field, 0),
+                value = at_two(field, c);
+    expect(ark_fft(field, OF(v), OF(offset)) == ARK_OK, "fft", field, n);
+    expect(ark_lagrange(field, OF(offset), OF(two), OF(weights)) == ARK_OK, "lagrange", field, n);
+    for (size_t i = 0; i < n; i++)
+        memcpy(reversed.words + i * words, v.words + (n - 1 - i) * words, words * sizeof(uint64_t));
+    if (2 * n - 1 <= greatest(field)) {
+        expect(ark_multiply(field, OF(weights), OF(reversed), OF(sums)) == ARK_OK, "multiply", field, n);
+        memcpy(sum.words, sums.words + (n - 1) * words, words * sizeof(uint64_t));
+        expect(same(sum, value), "weighted values", field, n);
+    }
+    expect(ark_ifft(field, OF(v), OF(offset)) == ARK_OK && same(v, c), "ifft of fft", field, n);
+    drop(offset);
+    drop(two);
+    drop(c);
+    drop(v);
+    drop(reversed);
+    drop(weights);
+    drop(sums);
+    drop(sum);
+    drop(value);
+}
+
+/* The value of a product is the product of the values, and the product over one factor the other. */
+static void test_product(uint64_t field, size_t n) {
+    size_t words = ark_words(field);
+    struct list a = drawn(field, n), b = drawn(field, n), product = list_of((2 * n - 1) * words), quotient = list_of(product.len),
+                remainder = list_of(b.len);
+    if (b.words[b.len - words] == 0) b.words[b.len - words] = 1; /* or the quotient is of a lower degree */
+    expect(ark_multiply(field, OF(a), OF(b), OF(product)) == ARK_OK, "multiply", field, n);
+    struct list of_a = at_two(field, a), of_b = at_two(field, b), of_product = at_two(field, product), times = element(field, 0);
+    expect(ark_multiply(field, OF(of_a), OF(of_b), OF(times)) == ARK_OK, "multiply", field, 1);
+    expect(same(times, of_product), "value of a product", field, n);
+    expect(ark_divide(field, OF(product), OF(b), OF(quotient), OF(remainder)) == ARK_OK, "divide", field, n);
+    for (size_t i = 0; i < quotient.len; i++)
+        expect(quotient.words[i] == (i < a.len ? a.words[i] : 0), "quotient of a product", field, n);
+    for (size_t i = 0; i < remainder.len; i++) expect(remainder.words[i] == 0, "no remainder", field, n);
+    drop(a);
+    drop(b);
+    drop(product);
+    drop(quotient);
+    drop(remainder);
+    drop(of_a);
+    drop(of_b);
+    drop(of_product);
+    drop(times);
+}
+
+/* Two variables bound one after the other, or at once. */
+static void test_table(uint64_t field, size_t n) {
+    size_t words = ark_words(field);
+    struct list table = drawn(field, n), point = drawn(field, 2), half = list_of(n / 2 * words), quarter = list_of(n / 4 * words),
+                at_once = list_of(n / 4 * words);
+    expect(ark_multilinear_fix(field, OF(table), OF(point), OF(at_once)) == ARK_OK, "two variables", field, n);
+    expect(ark_multilinear_fix(field, OF(table), point.words, words, OF(half)) == ARK_OK, "the first", field, n);
+    expect(ark_multilinear_fix(field, OF(half), point.words + words, words, OF(quarter)) == ARK_OK, "the second", field, n);
+    expect(same(quarter, at_once), "the same", field, n);
+    drop(table);
+    drop(point);
+    drop(half);
+    drop(quarter);
+    drop(at_once);
+}
+
+int main(int count, char **words) {
+    if (count != 2) return puts("the file of answers is wanted"), 2;
+    expect(ark_version() == ARK_VERSION, "version", 0, ark_version());
+    expect(ARK_VERSION == 0x000500, "version of the header", 0, ARK_VERSION);
+    for (size_t i = 0; i < FIELDS; i++) expect(ark_words(fields[i]) == (i < 6 ? 1 : 4), "words", fields[i], i);
+    expect(ark_words(7) == 0 && ark_words(0) == 0, "words of no field", 7, 0);
+    /* lists of no items may be NULL */
+    uint64_t f = ARK_BABYBEAR, value = 1, point = 2;
+    expect(ark_evaluate(f, NULL, 0, &point, 1, &value, 1) == ARK_OK && value == 0, "no coefficients", f, 0);
+    expect(ark_evaluate(f, &point, 1, NULL, 0, NULL, 0) == ARK_OK, "no points", f, 0);
+    expect(ark_fft(f, NULL, 0, &point, 1) == ARK_NO_DOMAIN, "no items", f, 0);
+    test_rows(words[1]);
+    for (size_t i = 0; i < FIELDS; i++)
+        for (size_t n = 1; n <= greatest(fields[i]); n *= 2) {
+            test_transform(fields[i], n);
+            if (2 * n <= greatest(fields[i])) test_product(fields[i], n);
+            if (n >= 4) test_table(fields[i], n);
+        }
+    printf("%d failures\n", failures);
+    return failures != 0;
+}

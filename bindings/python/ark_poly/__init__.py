@@ -1,0 +1,401 @@
+"""Polynomials, transforms, multilinear extensions and Reed-Solomon codes over prime fields, by a library that is proved.
+
+>>> fft(F65537, [1, 2, 3, 4])[0]
+10
+>>> multiply(BLS12_381_FR, [1, 1], [1, 1])
+[1, 2, 1]
+
+A field is one of the names below, or for one of one word its modulus. An element is a number below the modulus. A list of
+elements is any sequence of `int`, and the answer is then a `list`. It may also be words of 64 bits in one piece: an array of
+numpy's `uint64`, an `array.array("Q")` or a `memoryview` of one. The words are then taken without a copy, and the answer is of
+the same kind (an `array` where a `memoryview` was given); that of `evaluate` is of the points' kind. An element of a field of
+four words, as `BN254_FR`, is four of them, the low one first; an array of numpy has them in rows, of the shape `(n, 4)`, or
+flat.
+
+The functions that end in `_in_place` write over such words, or over a `list`. Where a call raises, nothing was written. While a
+call runs, other threads do too, and none may write over what the call was given.
+"""
+from __future__ import annotations
+
+import array
+import ctypes
+import operator
+import sys
+from typing import Any, Callable, List, Optional, Sequence, Tuple, Union, overload
+
+from ._library import (
+    ArkError,
+    EqualPoints,
+    NoCodeword,
+    NoDomain,
+    NoField,
+    NotReduced,
+    OutOfMemory,
+    TooFew,
+    WrongLength,
+    ZeroDivisor,
+    check as _check,
+    library as _calls,
+)
+
+__version__ = "0.5.0+proved.1"
+
+__all__ = [
+    "BABYBEAR", "BLS12_381_FR", "BN254_FR", "F433", "F5", "F65537", "GOLDILOCKS", "KOALABEAR",
+    "ArkError", "EqualPoints", "NoCodeword", "NoDomain", "NoField", "NotReduced", "OutOfMemory", "TooFew", "WrongLength",
+    "ZeroDivisor",
+    "code_encode", "code_message", "code_restore", "code_restore_in_place", "divide", "domain_size", "evaluate", "fft",
+    "fft_in_place", "ifft", "ifft_in_place", "interpolate", "lagrange", "library_version", "modulus", "multilinear_evaluate",
+    "multilinear_fix", "multiply", "words",
+]  # fmt: skip
+
+F5 = 5
+F433 = 433
+F65537 = 65537
+BABYBEAR = 2013265921
+KOALABEAR = 2130706433
+GOLDILOCKS = 18446744069414584321
+BN254_FR = 254
+BLS12_381_FR = 12381
+
+_OF_FOUR_WORDS = {
+    BN254_FR: 0x30644E72E131A029B85045B68181585D2833E84879B9709143E1F593F0000001,
+    BLS12_381_FR: 0x73EDA753299D7D483339D80809A1D80553BDA402FFFE5BFEFFFFFFFF00000001,
+}
+
+# What stands for a list of elements: a sequence of numbers, or words in one piece.
+Elements = Any
+
+
+def library_version() -> Tuple[int, int, int]:
+    """The version of the library that is loaded: major, minor and patch."""
+    version = _calls.ark_version()
+    return version >> 16, version >> 8 & 255, version & 255
+
+
+def words(field: int) -> int:
+    """How many words of 64 bits an element has."""
+    width = _calls.ark_words(_name(field))
+    if not width:
+        raise NoField(f"no field {field}")
+    return width
+
+
+def modulus(field: int) -> int:
+    """The prime below which the elements are."""
+    words(field)
+    return _OF_FOUR_WORDS.get(field, field)
+
+
+def domain_size(field: int, at_least: int) -> int:
+    """The least size of a domain at or above this one: a power of two wherever there is one."""
+    size = ctypes.c_uint64()
+    at_least = operator.index(at_least)
+    if at_least >= 1 << 64:
+        words(field)
+        raise NoDomain(NoDomain.__doc__)
+    _check(_calls.ark_domain_size(_name(field), max(at_least, 0), ctypes.byref(size)))
+    return size.value
+
+
+# ---- transforms
+
+
+def fft(field: int, values: Elements, offset: int = 1) -> Any:
+    """The values of the polynomial with these n coefficients, the lowest first, at the elements `offset * w**i`, where `w` is
+    the field's root of unity of order n."""
+    return _transformed(_calls.ark_fft, field, values, offset)
+
+
+def ifft(field: int, values: Elements, offset: int = 1) -> Any:
+    """The coefficients that `fft` takes to these values."""
+    return _transformed(_calls.ark_ifft, field, values, offset)
+
+
+def fft_in_place(field: int, words: Any, offset: int = 1) -> None:
+    """`fft` over writable words of 64 bits in one piece, or a `list`."""
+    if isinstance(words, list):
+        words[:] = fft(field, words, offset)
+    else:
+        _transform(_calls.ark_fft, field, _Words.written(field, words), offset)
+
+
+def ifft_in_place(field: int, words: Any, offset: int = 1) -> None:
+    """`ifft` over writable words of 64 bits in one piece, or a `list`."""
+    if isinstance(words, list):
+        words[:] = ifft(field, words, offset)
+    else:
+        _transform(_calls.ark_ifft, field, _Words.written(field, words), offset)
+
+
+def _transformed(call: Callable[..., int], field: int, values: Elements, offset: int) -> Any:
+    copy = _Words.given(field, values).copy()
+    _transform(call, field, copy, offset)
+    return copy.answer()
+
+
+def _transform(call: Callable[..., int], field: int, words: _Words, offset: int) -> None:
+    at = _Words.given(field, [offset])
+    _check(call(field, *words.pair, *at.pair))
+
+
+# ---- polynomials
+
+
+def multiply(field: int, left: Elements, right: Elements) -> Any:
+    """The coefficients of the product of two polynomials, the lowest first: one fewer than both have together."""
+    left, right = _Words.given(field, left), _Words.given(field, right)
+    product = left.room(max(left.count + right.count - 1, 0) if left.count and right.count else 0)
+    if product.count:
+        _check(_calls.ark_multiply(field, *left.pair, *right.pair, *product.pair))
+    return product.answer()
+
+
+def divide(field: int, dividend: Elements, divisor: Elements) -> Tuple[Any, Any]:
+    """The quotient, as long as the dividend, and the remainder, as long as the divisor, with zeros behind."""
+    dividend, divisor = _Words.given(field, dividend), _Words.given(field, divisor)
+    quotient, remainder = dividend.room(dividend.count), dividend.room(divisor.count)
+    _check(_calls.ark_divide(field, *dividend.pair, *divisor.pair, *quotient.pair, *remainder.pair))
+    return quotient.answer(), remainder.answer()
+
+
+@overload
+def evaluate(field: int, coefficients: Elements, points: int) -> int: ...
+@overload
+def evaluate(field: int, coefficients: Elements, points: Elements) -> Any: ...
+def evaluate(field: int, coefficients: Elements, points: Any) -> Any:
+    """The polynomial's value at a point, or the list of its values at points."""
+    if _is_number(points):
+        return evaluate(field, _Words.given(field, coefficients), [points])[0]
+    coefficients, points = _Words.given(field, coefficients), _Words.given(field, points)
+    values = points.room(points.count)
+    _check(_calls.ark_evaluate(field, *coefficients.pair, *points.pair, *values.pair))
+    return values.answer()
+
+
+def interpolate(field: int, points: Elements, values: Elements) -> Any:
+    """The n coefficients of the only polynomial that has these n values at these n points."""
+    points, values = _Words.given(field, points), _Words.given(field, values)
+    coefficients = values.room(points.count)
+    _check(_calls.ark_interpolate(field, *points.pair, *values.pair, *coefficients.pair))
+    return coefficients.answer()
+
+
+def lagrange(field: int, size: int, point: int, offset: int = 1) -> List[int]:
+    """The weights of the values over a domain of this size in the value at the point."""
+    first, at = _Words.given(field, [offset]), _Words.given(field, [point])
+    domain_size(field, size)
+    weights = first.room(_count(size))
+    _check(_calls.ark_lagrange(field, *first.pair, *at.pair, *weights.pair))
+    return weights.answer()
+
+
+# ---- multilinear extensions
+
+
+def multilinear_evaluate(field: int, table: Elements, point: Elements) -> int:
+    """The value at a point of the multilinear polynomial with these 2^m values at the corners: variable j is bit j of the
+    place."""
+    table, point = _Words.given(field, table), _Words.given(field, point)
+    value = point.room(1)
+    _check(_calls.ark_multilinear_evaluate(field, *table.pair, *point.pair, *value.pair))
+    return value.numbers()[0]
+
+
+def multilinear_fix(field: int, table: Elements, point: Elements) -> Any:
+    """The table of the polynomial in the other variables, where the first ones are bound to the point's elements."""
+    table, point = _Words.given(field, table), _Words.given(field, point)
+    result = table.room(table.count >> min(point.count, 64))
+    _check(_calls.ark_multilinear_fix(field, *table.pair, *point.pair, *result.pair))
+    return result.answer()
+
+
+# ---- Reed-Solomon codes
+
+
+def code_encode(field: int, message: Elements, n: int) -> Any:
+    """The codeword of a message: the values of the polynomial with these k coefficients at the n elements of a domain."""
+    message = _Words.given(field, message)
+    domain_size(field, n)
+    word = message.room(_count(n))
+    _check(_calls.ark_code_encode(field, *message.pair, *word.pair))
+    return word.answer()
+
+
+def code_restore(field: int, words: Elements, k: int, erased: Optional[Sequence[Any]] = None) -> Any:
+    """The codewords, of messages of k items, that have what is left of these words.
+
+    Without `erased`, one word is a list with `None` at its lost places. With it, `words` has one word or many, one after
+    another, and `erased` one item for each place, true where that place is lost in all of them.
+
+    >>> word = code_encode(F65537, [1, 2], 4)
+    >>> code_restore(F65537, [None, word[1], word[2], None], 2) == word
+    True
+    """
+    holed, marks = _holed(field, words, erased)
+    copy = holed.copy()
+    _check(_calls.ark_code_restore(field, *copy.pair, *marks.pair, _count(k)))
+    return copy.answer()
+
+
+def code_restore_in_place(field: int, words: Any, k: int, erased: Sequence[Any]) -> None:
+    """`code_restore` over writable words of 64 bits in one piece, or a `list`, whose lost places hold any numbers."""
+    if isinstance(words, list):
+        words[:] = code_restore(field, words, k, erased)
+    else:
+        marks = _Marks(erased)
+        _check(_calls.ark_code_restore(field, *_Words.written(field, words).pair, *marks.pair, _count(k)))
+
+
+def code_message(field: int, words: Elements, k: int, erased: Optional[Sequence[Any]] = None) -> Any:
+    """The messages, of k items each, one after another, of such words as `code_restore` takes."""
+    holed, marks = _holed(field, words, erased)
+    count = holed.count // marks.count if marks.count else 0
+    messages = holed.room(count * min(_count(k), marks.count + 1))
+    _check(_calls.ark_code_message(field, *holed.pair, *marks.pair, *messages.pair))
+    return messages.answer()
+
+
+def _holed(field: int, words: Elements, erased: Optional[Sequence[Any]]) -> Tuple[_Words, _Marks]:
+    if erased is not None:
+        return _Words.given(field, words), _Marks(erased)
+    items = list(words)
+    return _Words.given(field, [0 if item is None else item for item in items]), _Marks([item is None for item in items])
+
+
+# ---- words
+
+
+def _name(field: int) -> int:
+    field = operator.index(field)
+    if not 0 <= field < 1 << 64:
+        raise NoField(f"no field {field}")
+    return field
+
+
+def _count(number: int) -> int:
+    number = operator.index(number)
+    # No list is so long; the library would take the number modulo 2^64.
+    if not 0 <= number < 1 << 60:
+        raise WrongLength(WrongLength.__doc__)
+    return number
+
+
+def _is_number(it: Any) -> bool:
+    try:
+        operator.index(it)
+    except TypeError:
+        return False
+    return True
+
+
+def _numpy() -> Any:
+    """numpy, where the caller has loaded it."""
+    return sys.modules.get("numpy")
+
+
+def _flat(buffer: memoryview) -> memoryview:
+    if not buffer.nbytes:
+        return memoryview(array.array("Q"))
+    return buffer.cast("B").cast("Q")
+
+
+def _are_words(buffer: memoryview) -> bool:
+    return buffer.itemsize == 8 and buffer.format.lstrip("@") in ("Q", "L") and buffer.c_contiguous
+
+
+class _Marks:
+    """A byte for each place, 1 where it is lost."""
+
+    def __init__(self, erased: Sequence[Any]) -> None:
+        marks = bytearray(1 if mark else 0 for mark in erased)
+        self.count = len(marks)
+        self.pair = ((ctypes.c_char * self.count).from_buffer(marks), self.count)
+
+
+class _Words:
+    """Words of elements in one piece, and how an answer like them looks."""
+
+    def __init__(self, width: int, buffer: Any, answer: Callable[[_Words], Any]) -> None:
+        self.width = width
+        self.buffer = buffer
+        size = len(buffer)
+        self.count = size // width
+        # (what isn't writable has no `from_buffer`)
+        self.pair = ((ctypes.c_uint64 * size).from_buffer(buffer), size)
+        self._answer = answer
+
+    @classmethod
+    def given(cls, field: int, elements: Elements) -> _Words:
+        """The words of a list that is read."""
+        if isinstance(elements, _Words):
+            return elements
+        width = words(field)
+        numpy = _numpy()
+        if numpy is not None and isinstance(elements, numpy.ndarray):
+            if elements.ndim > 2 or elements.ndim == 2 and elements.shape[1] != width:
+                raise WrongLength(WrongLength.__doc__)
+            if elements.dtype != numpy.uint64:
+                # numbers of another type, each of them an element: as a list, so that none is taken for another one
+                return cls(width, _spelled(width, elements.tolist()), _as_numpy if width == 1 else _as_rows)
+            answer = _as_rows if elements.ndim == 2 else _as_numpy
+            buffer = _flat(memoryview(numpy.ascontiguousarray(elements)))
+        elif isinstance(elements, (array.array, memoryview)) and _are_words(memoryview(elements)):
+            buffer, answer = _flat(memoryview(elements)), _as_array
+        else:
+            return cls(width, _spelled(width, elements), _Words.numbers)
+        return cls(width, array.array("Q", buffer.tobytes()) if buffer.readonly else buffer, answer)
+
+    @classmethod
+    def written(cls, field: int, elements: Any) -> _Words:
+        """The words of a list that is written where it stands."""
+        width = words(field)
+        try:
+            buffer = memoryview(elements)
+        except TypeError:
+            raise TypeError("words of 64 bits in one piece are wanted") from None
+        if buffer.readonly or not _are_words(buffer):
+            raise TypeError("writable words of 64 bits in one piece are wanted")
+        return cls(width, _flat(buffer), _as_array)
+
+    def copy(self) -> _Words:
+        return _Words(self.width, array.array("Q", memoryview(self.buffer).tobytes()), self._answer)
+
+    def room(self, count: int) -> _Words:
+        """Room for so many elements of an answer."""
+        return _Words(self.width, array.array("Q", bytes(8 * count * self.width)), self._answer)
+
+    def answer(self) -> Any:
+        return self._answer(self)
+
+    def numbers(self) -> List[int]:
+        """The elements as numbers."""
+        found = list(self.buffer)
+        if self.width == 1:
+            return found
+        return [
+            sum(word << 64 * j for j, word in enumerate(found[i : i + self.width])) for i in range(0, len(found), self.width)
+        ]
+
+
+def _spelled(width: int, elements: Sequence[int]) -> array.array[int]:
+    try:
+        spelled = array.array("Q", b"".join(operator.index(element).to_bytes(8 * width, "little") for element in elements))
+    except OverflowError:
+        raise NotReduced(NotReduced.__doc__) from None
+    if sys.byteorder == "big":
+        spelled.byteswap()
+    return spelled
+
+
+def _as_array(words: _Words) -> array.array[int]:
+    return words.buffer
+
+
+def _as_numpy(words: _Words) -> Any:
+    numpy = _numpy()
+    return numpy.frombuffer(words.buffer, dtype=numpy.uint64)
+
+
+def _as_rows(words: _Words) -> Any:
+    return _as_numpy(words).reshape(-1, words.width)

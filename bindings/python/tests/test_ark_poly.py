@@ -1,0 +1,404 @@
+"""The rows of answers.txt by every kind of list, and what the package adds. Without numpy its cases aren't there."""
+import array
+import ctypes
+import doctest
+import os
+import random
+import subprocess
+import sys
+import threading
+import unittest
+from unittest import mock
+
+import ark_poly
+from ark_poly import __main__ as program
+from ark_poly._library import library
+
+try:
+    import numpy
+except ImportError:
+    numpy = None
+
+HERE = os.path.dirname(os.path.abspath(__file__))
+ANSWERS = os.path.join(HERE, "..", "..", "answers.txt")
+# the cases of the program polyrun: words between tabs, a dash for the empty one, and lines between semicolons
+CASES = os.path.join(HERE, "..", "..", "..", "crates", "test_command_answers")
+FIELDS = list(program.FIELDS.values())
+OLD = 0xFEEDFACECAFEF00D
+
+
+def rows():
+    def lists(part):
+        return [[OLD if word == "-" else int(word, 16) for word in text.split()] for text in part.split("|")]
+
+    with open(ANSWERS, encoding="ascii") as file:
+        for text in file:
+            head, _, rest = text.partition(":")
+            call, field, status = head.split()
+            given, _, left = rest.partition(">")
+            yield call, int(field), int(status), lists(given), lists(left)
+
+
+ROWS = list(rows())
+
+
+def numbers(field, words):
+    width = ark_poly.words(field)
+    return [sum(word << 64 * j for j, word in enumerate(words[i : i + width])) for i in range(0, len(words), width)]
+
+
+def raw(call, field, given, left):
+    """The library's own call over these lists, with what it leaves."""
+    lists = [array.array("Q", words) for words in given]
+    if call == "domain_size":
+        size = ctypes.c_uint64(OLD)
+        return library.ark_domain_size(field, given[0][0], ctypes.byref(size)), [[size.value]]
+    made = [array.array("Q", [OLD] * len(words)) for words in left]
+    pair = lambda words: (words.buffer_info()[0], len(words))
+    function = getattr(library, "ark_" + call)
+    if call in ("fft", "ifft"):
+        return function(field, *pair(lists[0]), *pair(lists[1])), [lists[0].tolist()]
+    if call.startswith("code_") and call != "code_encode":
+        marks = array.array("B", given[1])
+        if call == "code_restore":
+            return function(field, *pair(lists[0]), *pair(marks), given[2][0]), [lists[0].tolist()]
+        return function(field, *pair(lists[0]), *pair(marks), *pair(made[0])), [made[0].tolist()]
+    status = function(field, *(it for words in lists for it in pair(words)), *(it for words in made for it in pair(words)))
+    return status, [words.tolist() for words in made]
+
+
+def answer(call, field, given, left, kind):
+    """What the package answers to a row, where elements are of a kind."""
+    width = ark_poly.words(field)
+    function = getattr(ark_poly, call)
+    lists = [kind(field, words) for words in (given[:1] if call.startswith("code_") else given)]
+    if call in ("fft", "ifft"):
+        return [function(field, lists[0], numbers(field, given[1])[0])]
+    if call == "lagrange":
+        return [function(field, len(left[0]) // width, numbers(field, given[1])[0], numbers(field, given[0])[0])]
+    if call == "multilinear_evaluate":
+        return [[function(field, *lists)]]
+    if call == "code_encode":
+        return [function(field, lists[0], len(left[0]) // width)]
+    if call == "code_restore":
+        return [function(field, lists[0], given[2][0], given[1])]
+    if call == "code_message":
+        many = len(given[0]) // width // len(given[1])
+        return [function(field, lists[0], len(left[0]) // width // many, given[1])]
+    found = function(field, *lists)
+    return list(found) if call == "divide" else [found]
+
+
+class Answers(unittest.TestCase):
+    def test_the_calls(self):
+        for call, field, status, given, left in ROWS:
+            with self.subTest(call=call, field=field, given=given):
+                self.assertEqual(raw(call, field, given, left), (status, left))
+
+    def check_kind(self, kind, back):
+        for call, field, status, given, left in ROWS:
+            if status or call == "domain_size":
+                continue
+            # (the package's products have no zeros behind)
+            if call == "multiply" and len(left[0]) != len(given[0]) + len(given[1]) - ark_poly.words(field):
+                continue
+            with self.subTest(call=call, field=field, given=given):
+                found = answer(call, field, given, left, kind)
+                wanted = [numbers(field, words) for words in left]
+                if call in ("multilinear_evaluate", "lagrange"):
+                    self.assertEqual(found, wanted)
+                else:
+                    self.assertEqual([back(field, it) for it in found], wanted)
+
+    def test_lists(self):
+        def back(field, found):
+            self.assertIs(type(found), list)
+            return found
+
+        self.check_kind(numbers, back)
+
+    def test_tuples(self):
+        self.check_kind(lambda field, words: tuple(numbers(field, words)), lambda field, found: found)
+
+    def test_arrays(self):
+        def back(field, found):
+            self.assertIs(type(found), array.array)
+            return numbers(field, found.tolist())
+
+        self.check_kind(lambda field, words: array.array("Q", words), back)
+        self.check_kind(lambda field, words: memoryview(array.array("Q", words)), back)
+        self.check_kind(lambda field, words: memoryview(array.array("Q", words)).toreadonly(), back)
+
+    @unittest.skipIf(numpy is None, "no numpy")
+    def test_numpy(self):
+        def back(field, found):
+            self.assertIsInstance(found, numpy.ndarray)
+            self.assertEqual(found.dtype, numpy.uint64)
+            return numbers(field, found.ravel().tolist())
+
+        def as_rows(field, words):
+            return numpy.array(words, dtype=numpy.uint64).reshape(-1, ark_poly.words(field))
+
+        self.check_kind(lambda field, words: numpy.array(words, dtype=numpy.uint64), back)
+        self.check_kind(as_rows, back)
+        self.assertEqual(ark_poly.fft(ark_poly.BN254_FR, as_rows(ark_poly.BN254_FR, [0] * 16)).shape, (4, 4))
+
+
+class Places(unittest.TestCase):
+    """What is written where it stands."""
+
+    def check_in_place(self, words, back):
+        c = [1, 2, 3, 4]
+        v = ark_poly.fft(ark_poly.GOLDILOCKS, c, 7)
+        place = words(c)
+        ark_poly.fft_in_place(ark_poly.GOLDILOCKS, place, 7)
+        self.assertEqual(back(place), v)
+        ark_poly.ifft_in_place(ark_poly.GOLDILOCKS, place, 7)
+        self.assertEqual(back(place), c)
+        word = words(ark_poly.code_encode(ark_poly.GOLDILOCKS, [5, 6], 4))
+        whole = back(word)
+        word[1] = word[2] = 0
+        ark_poly.code_restore_in_place(ark_poly.GOLDILOCKS, word, 2, [0, 1, 1, 0])
+        self.assertEqual(back(word), whole)
+        wrong = words([1, 2, 3, ark_poly.GOLDILOCKS])
+        with self.assertRaises(ark_poly.NotReduced):
+            ark_poly.fft_in_place(ark_poly.GOLDILOCKS, wrong)
+        self.assertEqual(back(wrong), [1, 2, 3, ark_poly.GOLDILOCKS])
+
+    def test_list(self):
+        self.check_in_place(list, list)
+
+    def test_array(self):
+        self.check_in_place(lambda c: array.array("Q", c), list)
+        self.check_in_place(lambda c: memoryview(array.array("Q", c)), list)
+
+    @unittest.skipIf(numpy is None, "no numpy")
+    def test_numpy(self):
+        self.check_in_place(lambda c: numpy.array(c, dtype=numpy.uint64), lambda it: it.tolist())
+        rows = numpy.zeros((4, 4), dtype=numpy.uint64)
+        rows[1, 0] = 1
+        ark_poly.fft_in_place(ark_poly.BLS12_381_FR, rows)
+        p = ark_poly.modulus(ark_poly.BLS12_381_FR)
+        w = pow(7, (p - 1) // 4, p)
+        self.assertEqual(numbers(ark_poly.BLS12_381_FR, rows.ravel().tolist()), [pow(w, i, p) for i in range(4)])
+        # another type, or not in one piece
+        for other in (
+            numpy.zeros(4, dtype=numpy.int64),
+            numpy.zeros(4, dtype=numpy.float64),
+            numpy.zeros(8, dtype=numpy.uint64)[::2],
+            numpy.zeros(4, dtype=">u8"),
+        ):
+            with self.assertRaises(TypeError):
+                ark_poly.fft_in_place(ark_poly.BABYBEAR, other)
+        self.assertEqual(ark_poly.fft(ark_poly.BABYBEAR, numpy.array([1, 2, 3, 4])).tolist()[0], 10)
+        self.assertEqual(ark_poly.fft(ark_poly.BABYBEAR, numpy.arange(8, dtype=numpy.uint64)[::2]).tolist()[0], 12)
+        self.assertEqual(ark_poly.fft(ark_poly.BABYBEAR, list(numpy.array([1, 2, 3, 4])))[0], 10)
+        with self.assertRaises(TypeError):
+            ark_poly.fft(ark_poly.BABYBEAR, numpy.array([1.0, 2.0]))
+        with self.assertRaises(ark_poly.NotReduced):
+            ark_poly.fft(ark_poly.BABYBEAR, numpy.array([1, -2]))
+        with self.assertRaises(ark_poly.WrongLength):
+            ark_poly.fft(ark_poly.BABYBEAR, numpy.zeros((2, 2), dtype=numpy.uint64))
+
+    def test_other_types(self):
+        for other in (b"12345678", array.array("q", [1]), array.array("I", [1]), (1,), memoryview(b"12345678").cast("Q")):
+            with self.assertRaises(TypeError):
+                ark_poly.fft_in_place(ark_poly.BABYBEAR, other)
+        for other in ([1.0], ["1"], [None], "1", 1):
+            with self.assertRaises(TypeError):
+                ark_poly.fft(ark_poly.BABYBEAR, other)
+        self.assertEqual(ark_poly.fft(ark_poly.BABYBEAR, b"\1\2"), ark_poly.fft(ark_poly.BABYBEAR, [1, 2]))
+        self.assertEqual(ark_poly.fft(ark_poly.BABYBEAR, range(4))[0], 6)
+        self.assertEqual(ark_poly.fft(ark_poly.BABYBEAR, (i for i in range(4)))[0], 6)
+
+
+class Refusals(unittest.TestCase):
+    def test_each(self):
+        f = ark_poly.BABYBEAR
+        for error, call in (
+            (ark_poly.NoField, lambda: ark_poly.fft(7, [1])),
+            (ark_poly.NoField, lambda: ark_poly.fft(-5, [1])),
+            (ark_poly.NoField, lambda: ark_poly.fft(2**64 + 5, [1])),
+            (ark_poly.NoField, lambda: ark_poly.modulus(0)),
+            (ark_poly.NoField, lambda: ark_poly.domain_size(2, 2**64)),
+            (ark_poly.WrongLength, lambda: ark_poly.interpolate(f, [1, 2], [1])),
+            (ark_poly.WrongLength, lambda: ark_poly.multilinear_evaluate(f, [1, 2, 3], [1])),
+            (ark_poly.WrongLength, lambda: ark_poly.multilinear_fix(f, [1, 2], [1, 1])),
+            (ark_poly.WrongLength, lambda: ark_poly.code_restore(f, [1, 2, 3, 4], 5, [0] * 4)),
+            (ark_poly.WrongLength, lambda: ark_poly.code_message(f, [1, 2, 3, 4], 2**59, [0] * 4)),
+            (ark_poly.WrongLength, lambda: ark_poly.code_restore(f, [1, 2, 3, 4], 2**64 + 2, [0] * 4)),
+            (ark_poly.WrongLength, lambda: ark_poly.code_restore(f, [1, 2, 3, 4], -1, [0] * 4)),
+            (ark_poly.WrongLength, lambda: ark_poly.code_restore(f, [1, 2, 3], 1, [0] * 4)),
+            (ark_poly.WrongLength, lambda: ark_poly.fft(ark_poly.BN254_FR, array.array("Q", [1]))),
+            (ark_poly.NotReduced, lambda: ark_poly.fft(f, [f])),
+            (ark_poly.NotReduced, lambda: ark_poly.fft(f, [-1])),
+            (ark_poly.NotReduced, lambda: ark_poly.fft(f, [2**64])),
+            (ark_poly.NotReduced, lambda: ark_poly.fft(ark_poly.BN254_FR, [2**256])),
+            (ark_poly.NotReduced, lambda: ark_poly.fft(ark_poly.BN254_FR, [ark_poly.modulus(ark_poly.BN254_FR)])),
+            (ark_poly.NotReduced, lambda: ark_poly.fft(f, [1], f)),
+            (ark_poly.NotReduced, lambda: ark_poly.evaluate(f, [1], -1)),
+            (ark_poly.NoDomain, lambda: ark_poly.fft(f, [1, 2, 3])),
+            (ark_poly.NoDomain, lambda: ark_poly.fft(f, [])),
+            (ark_poly.NoDomain, lambda: ark_poly.ifft(f, [1], 0)),
+            (ark_poly.NoDomain, lambda: ark_poly.domain_size(f, 2**70)),
+            (ark_poly.NoDomain, lambda: ark_poly.lagrange(f, 2**62, 1)),
+            (ark_poly.NoDomain, lambda: ark_poly.code_encode(f, [1], 2**62)),
+            (ark_poly.ZeroDivisor, lambda: ark_poly.divide(f, [1, 2], [0])),
+            (ark_poly.ZeroDivisor, lambda: ark_poly.divide(f, [1, 2], [])),
+            (ark_poly.EqualPoints, lambda: ark_poly.interpolate(f, [1, 1], [1, 2])),
+            (ark_poly.TooFew, lambda: ark_poly.code_restore(f, [1, None, None, None], 2)),
+            (ark_poly.TooFew, lambda: ark_poly.code_message(f, [1, None, None, None], 2)),
+            (ark_poly.NoCodeword, lambda: ark_poly.code_restore(f, [1, 2, 3, None], 1)),
+            (ark_poly.NoCodeword, lambda: ark_poly.code_message(f, [1, 2, 3, None], 1)),
+        ):
+            with self.subTest(error=error), self.assertRaises(error) as raised:
+                call()
+            self.assertIsInstance(raised.exception, ark_poly.ArkError)
+            self.assertTrue(str(raised.exception))
+        self.assertTrue(issubclass(ark_poly.OutOfMemory, MemoryError))
+        self.assertTrue(issubclass(ark_poly.ZeroDivisor, ZeroDivisionError))
+        self.assertTrue(issubclass(ark_poly.NoDomain, ValueError))
+
+    def test_unknown_status(self):
+        with mock.patch.object(ark_poly, "_calls") as other:
+            other.ark_words.return_value = 1
+            other.ark_fft.return_value = 99
+            with self.assertRaisesRegex(ark_poly.ArkError, "status 99"):
+                ark_poly.fft(5, [1])
+            other.ark_fft.return_value = 1
+            with self.assertRaises(MemoryError):
+                ark_poly.fft(5, [1])
+
+
+class Calls(unittest.TestCase):
+    def test_facts(self):
+        self.assertEqual(ark_poly.library_version(), (0, 5, 0))
+        self.assertEqual([ark_poly.words(field) for field in FIELDS], [1] * 6 + [4] * 2)
+        self.assertEqual(ark_poly.domain_size(ark_poly.F433, 17), 18)
+        self.assertEqual(ark_poly.domain_size(ark_poly.F433, 0), 1)
+
+    def test_polynomials(self):
+        rng = random.Random(1)
+        for field in FIELDS[2:]:
+            p = ark_poly.modulus(field)
+            a, b = ([rng.randrange(p) for _ in range(n)] for n in (20, 7))
+            product = ark_poly.multiply(field, a, b)
+            x = rng.randrange(p)
+            at = lambda c: sum(y * pow(x, i, p) for i, y in enumerate(c)) % p
+            self.assertEqual(at(product), at(a) * at(b) % p)
+            self.assertEqual(ark_poly.evaluate(field, a, x), at(a))
+            quotient, remainder = ark_poly.divide(field, product, b)
+            self.assertEqual((quotient, remainder), (a + [0] * 6, [0] * 7))
+            weights = ark_poly.lagrange(field, 32, x, 3)
+            values = ark_poly.fft(field, a + [0] * 12, 3)
+            self.assertEqual(sum(w * v for w, v in zip(weights, values)) % p, at(a))
+        self.assertEqual(ark_poly.multiply(5, [], [1, 2]), [])
+        self.assertEqual(ark_poly.evaluate(5, [], 3), 0)
+        self.assertEqual(ark_poly.interpolate(5, [], []), [])
+
+    def test_codes(self):
+        for field in FIELDS[2:]:
+            word = ark_poly.code_encode(field, [3, 1, 4], 8)
+            holed = [None if i in (0, 2, 3, 5, 7) else item for i, item in enumerate(word)]
+            self.assertEqual(ark_poly.code_restore(field, holed, 3), word)
+            self.assertEqual(ark_poly.code_message(field, holed, 3), [3, 1, 4])
+
+    def test_threads(self):
+        c = list(range(1 << 8))
+        wanted, found = ark_poly.fft(ark_poly.KOALABEAR, c), []
+        threads = [threading.Thread(target=lambda: found.append(ark_poly.fft(ark_poly.KOALABEAR, c))) for _ in range(8)]
+        for thread in threads:
+            thread.start()
+        for thread in threads:
+            thread.join()
+        self.assertEqual(found, [wanted] * 8)
+
+    def test_examples_of_the_texts(self):
+        self.assertEqual(doctest.testmod(ark_poly).failed, 0)
+
+    def test_typed(self):
+        self.assertTrue(os.path.exists(os.path.join(os.path.dirname(ark_poly.__file__), "py.typed")))
+
+
+class Program(unittest.TestCase):
+    def check(self, text, status, *words):
+        self.assertEqual(program.run(list(words)), (text, status), words)
+
+    def test_commands(self):
+        self.check("0,4,3,2\n", 0, "5", "fft", "4", "1", "1,2,3,4")
+        self.check("0,4,3,2\n", 0, "5", "fft", "3", "6", "6,7,8,9,10")
+        self.check("0,0,0,0\n", 0, "5", "fft", "4", "1", "")
+        self.check("error 2: NoDomain\n", 1, "5", "fft", "4", "5", "1")
+        self.check("error 2: NoDomain\n", 1, "5", "fft", "9" * 10000, "1", "1")
+        self.check("\n", 0, "5", "mul", "", "1")
+        self.check("\n", 0, "5", "mul", "5,5", "1,2,3,4,5,6,7")
+        self.check("1,2,1\n", 0, "bls12-381", "mul", "1,1,0", "1,1")
+        self.check("error 5: ZeroDivisor\n", 1, "bn254", "div", "1", "0")
+        self.check("\n\n", 0, "bn254", "div", "0", "0")
+        self.check("0\n", 0, "65537", "eval", "", "5")
+        self.check("2\n", 0, "5", "mle", "0", "7", "")
+        self.check("1\n", 0, "5", "size", "0")
+        self.check(f"{pow(10, 10000, 65537) - 1}\n", 0, "65537", "eval", "9" * 10000, "0")
+
+    def test_cases_of_polyrun(self):
+        with open(os.path.join(CASES, "stdin"), encoding="utf-8") as asked, open(
+            os.path.join(CASES, "stdout"), encoding="utf-8"
+        ) as answered:
+            pairs = list(zip(asked.read().split("\n"), answered.read().split("\n")))
+        tried = 0
+        for text, wanted in pairs:
+            words = ["" if word == "-" else word for word in text.split("\t")]
+            if not text or text.startswith("#") or words[1:2] == ["check"]:
+                continue
+            found, status = program.run(words)
+            found = found[:-1].replace("\n", ";") + (f" ({status})" if status else "")
+            self.assertEqual(found, wanted, text)
+            tried += 1
+        self.assertGreater(tried, 400)
+
+    def test_usage(self):
+        for words in (
+            [],
+            ["5"],
+            ["6", "fft", "4", "1", "1"],
+            ["5", "fft", "4", "1"],
+            ["5", "fft", "4", "1", "1", "1"],
+            ["5", "fft", "+4", "1", "1"],
+            ["5", "fft", "", "1", "1"],
+            ["5", "fft", "4", "-1", "1"],
+            ["5", "fft", "4", "1", "1,"],
+            ["5", "fft", "4", "1", "1, 2"],
+            ["5", "fft", "4", "1", "\u0661"],
+            ["5", "fft", "4", "1", "\udcff"],
+            ["5", "mle", "1", "1", "1"],
+            ["5", "mle", "64", "1", "1"],
+            ["5", "mle", "2", "1,2,3,4", "1"],
+            ["5", "vectors", "1"],
+            ["6", "vectors"],
+            ["5", "none"],
+        ):
+            self.check("usage\n", 2, *words)
+
+    def test_vectors(self):
+        for field in program.FIELDS:
+            text, status = program.run([field, "vectors"])
+            self.assertEqual(status, 0)
+            self.assertTrue(all(line.endswith(" ok") for line in text.splitlines()))
+        with mock.patch.dict(program.VECTORS, {"5": [(("size", "4"), "4"), (("size", "4"), "5")]}):
+            self.check("1 ok\n2 bad\n", 1, "5", "vectors")
+
+    def test_process(self):
+        def run(*words, **how):
+            return subprocess.run([sys.executable, "-m", "ark_poly", *words], stderr=subprocess.PIPE, **how)
+
+        done = run("5", "fft", "4", "1", "1,2,3,4", stdout=subprocess.PIPE)
+        self.assertEqual((done.returncode, done.stdout, done.stderr), (0, b"0,4,3,2\n", b""))
+        self.assertEqual(run("5", "size", "9", stdout=subprocess.PIPE).returncode, 1)
+        self.assertEqual(run("usage", stdout=subprocess.PIPE).returncode, 2)
+        with open("/dev/full", "w", encoding="ascii") as full:
+            done = run("5", "fft", "4", "1", "1,2,3,4", stdout=full)
+        self.assertEqual((done.returncode, done.stderr), (3, b""))
+
+
+if __name__ == "__main__":
+    unittest.main()

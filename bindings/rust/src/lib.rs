@@ -1,0 +1,60 @@
+//! Polynomials, transforms, multilinear extensions and Reed-Solomon codes over prime fields, in ark-poly's own names.
+//!
+//! ```
+//! use ark_poly_proved::{BabyBear, EvaluationDomain, Radix2EvaluationDomain};
+//!
+//! let domain = Radix2EvaluationDomain::<BabyBear>::new(4).unwrap();
+//! let coeffs = [1, 2, 3, 4].map(BabyBear::from);
+//! let values = domain.fft(&coeffs); // values[i] is the sum over j of coeffs[j] * domain.element(i)^j
+//! assert_eq!(values[0], BabyBear::from(10));
+//! assert_eq!(domain.ifft(&values), coeffs);
+//! ```
+//!
+//! # What is proved
+//!
+//! The calls of the library: transforms and their inverses, Lagrange's weights, products, quotients, values and interpolation
+//! of polynomials, values and bound variables of multilinear extensions, all of codes, and the inverse of an element. Each
+//! takes a list of elements where it stands, without a copy. Not proved is what this crate adds: sums, products and powers of
+//! single elements, sums of lists, and that the lists of the library are these types; tests compare them with the library.
+//!
+//! # What differs from ark-poly
+//!
+//! - The fields are six types of this crate, with the operators and functions that `ark-ff` has for elements.
+//! - There is no generic module over the field, no sparse form, and no polynomial in several variables but the multilinear
+//!   ones by their tables.
+//! - Where memory is refused the program ends as it does where a `Vec` can't grow.
+//! - [`Code`] is beyond ark-poly.
+
+#![warn(missing_docs)]
+#![deny(unsafe_op_in_unsafe_fn)]
+
+mod arithmetic;
+mod calls;
+mod code;
+mod domain;
+mod evaluations;
+mod field;
+mod multilinear;
+mod polynomial;
+#[cfg(test)]
+mod tests;
+
+pub use code::{Code, RsError};
+pub use domain::{Elements, EvaluationDomain, GeneralEvaluationDomain, Radix2EvaluationDomain};
+pub use evaluations::Evaluations;
+pub use field::{BabyBear, Bls12_381Fr, Bn254Fr, FftField, Field, Goldilocks, KoalaBear, ParseFieldError, F65537};
+pub use multilinear::{DenseMultilinearExtension, MultilinearExtension};
+pub use polynomial::{DenseUVPolynomial, Polynomial};
+
+/// Polynomials in one variable, at ark-poly's path.
+pub mod univariate {
+    pub use crate::polynomial::{DenseOrSparsePolynomial, DensePolynomial};
+}
+
+pub use univariate::{DenseOrSparsePolynomial, DensePolynomial};
+
+/// The version of the library that is linked, as major, minor and patch.
+pub fn library_version() -> (u8, u8, u8) {
+    let version = calls::version();
+    ((version >> 16) as u8, (version >> 8) as u8, version as u8)
+}

@@ -1,0 +1,365 @@
+//! The rows of `answers.txt`, which are the library's own answers, and what this crate adds beside them.
+
+use crate::calls::{self, Refusal};
+use crate::*;
+use std::fs;
+
+#[derive(Clone)]
+struct Row {
+    call: String,
+    field: u64,
+    status: u32,
+    given: Vec<Vec<u64>>,
+    left: Vec<Vec<u64>>,
+}
+
+/// What stands in a list before a call writes it, and in the place of a word that a row doesn't know.
+const OLD: u64 = 0xfeedfacecafef00d;
+
+fn rows() -> Vec<Row> {
+    let path = concat!(env!("CARGO_MANIFEST_DIR"), "/../answers.txt");
+    let text = fs::read_to_string(path).expect(path);
+    let word = |word: &str| if word == "-" { OLD } else { u64::from_str_radix(word, 16).unwrap() };
+    let lists = |part: &str| part.split('|').map(|list| list.split_whitespace().map(word).collect()).collect();
+    text.lines()
+        .map(|line| {
+            let (head, lists_of_line) = line.split_once(':').unwrap();
+            let head: Vec<&str> = head.split(' ').collect();
+            let (given, left) = lists_of_line.split_once('>').unwrap();
+            Row {
+                call: head[0].into(),
+                field: head[1].parse().unwrap(),
+                status: head[2].parse().unwrap(),
+                given: lists(given),
+                left: lists(left),
+            }
+        })
+        .collect()
+}
+
+fn status(outcome: Result<(), Refusal>) -> u32 {
+    match outcome {
+        Ok(()) => 0,
+        Err(Refusal::NoField) => 2,
+        Err(Refusal::Length) => 3,
+        Err(Refusal::NotReduced) => 4,
+        Err(Refusal::NoDomain) => 5,
+        Err(Refusal::ZeroDivisor) => 6,
+        Err(Refusal::EqualPoints) => 7,
+        Err(Refusal::TooFew) => 8,
+        Err(Refusal::NoCodeword) => 9,
+        Err(Refusal::Other(other)) => other,
+    }
+}
+
+/// What a row's call leaves, with its status.
+fn answer(row: &Row) -> (u32, Vec<Vec<u64>>) {
+    let (field, given) = (row.field, &row.given);
+    let mut left: Vec<Vec<u64>> = row.left.iter().map(|list| vec![OLD; list.len()]).collect();
+    let erased = |i: usize| given[i].iter().map(|mark| *mark != 0).collect::<Vec<bool>>();
+    let outcome = match row.call.as_str() {
+        "domain_size" => calls::domain_size(field, given[0][0]).map(|size| left[0][0] = size),
+        "fft" | "ifft" => {
+            left[0] = given[0].clone();
+            let call = if row.call == "fft" { calls::fft } else { calls::ifft };
+            call(field, &mut left[0], &given[1])
+        }
+        "divide" => {
+            let (quotient, remainder) = left.split_at_mut(1);
+            calls::divide(field, &given[0], &given[1], &mut quotient[0], &mut remainder[0])
+        }
+        "code_encode" => calls::code_encode(field, &given[0], &mut left[0]),
+        "code_restore" => {
+            left[0] = given[0].clone();
+            calls::code_restore(field, &mut left[0], &erased(1), given[2][0])
+        }
+        "code_message" => calls::code_message(field, &given[0], &erased(1), &mut left[0]),
+        call => {
+            let call = match call {
+                "multiply" => calls::multiply,
+                "evaluate" => calls::evaluate,
+                "interpolate" => calls::interpolate,
+                "lagrange" => calls::lagrange,
+                "multilinear_evaluate" => calls::multilinear_evaluate,
+                "multilinear_fix" => calls::multilinear_fix,
+                other => panic!("no call: {other}"),
+            };
+            call(field, &given[0], &given[1], &mut left[0])
+        }
+    };
+    (status(outcome), left)
+}
+
+#[test]
+fn the_rows() {
+    let rows = rows();
+    assert!(rows.len() > 1000);
+    for row in rows {
+        let (status, left) = answer(&row);
+        assert_eq!((status, left), (row.status, row.left), "{} over {} of {:?}", row.call, row.field, row.given);
+    }
+}
+
+#[test]
+fn the_version() {
+    assert_eq!(library_version(), (0, 5, 0));
+}
+
+#[test]
+fn in_eight_threads() {
+    let rows = rows();
+    std::thread::scope(|scope| {
+        for thread in 0..8 {
+            let rows = &rows;
+            scope.spawn(move || {
+                for i in 0..rows.len() {
+                    let row = &rows[(i + thread * rows.len() / 8) % rows.len()];
+                    assert_eq!(answer(row), (row.status, row.left.clone()));
+                }
+            });
+        }
+    });
+}
+
+#[test]
+fn send_and_sync() {
+    fn is<T: Send + Sync>() {}
+    is::<Bls12_381Fr>();
+    is::<GeneralEvaluationDomain<BabyBear>>();
+    is::<DensePolynomial<Bn254Fr>>();
+    is::<Evaluations<Goldilocks>>();
+    is::<DenseMultilinearExtension<KoalaBear>>();
+    is::<Code<F65537>>();
+}
+
+/// Numbers at the ends of the field and between.
+fn drawn<F: Field>(n: usize) -> Vec<F> {
+    let mut state = 1u64;
+    (0..n)
+        .map(|i| {
+            state ^= state << 13;
+            state ^= state >> 7;
+            state ^= state << 17;
+            match i % 8 {
+                0 => -F::one(),
+                1 => F::zero(),
+                2 => F::one(),
+                _ => (F::from(state) * F::from(u64::MAX) + F::from(state >> 3)) * F::from(state) - F::from(i as u64),
+            }
+        })
+        .collect()
+}
+
+/// A test for each field.
+macro_rules! over_fields {
+    ($($name:ident)*) => {
+        $(#[test]
+        fn $name() {
+            generic::$name::<F65537>();
+            generic::$name::<BabyBear>();
+            generic::$name::<KoalaBear>();
+            generic::$name::<Goldilocks>();
+            generic::$name::<Bls12_381Fr>();
+            generic::$name::<Bn254Fr>();
+        })*
+    };
+}
+
+over_fields! {
+    elements_as_the_library_has_them
+    numbers
+    domains
+    polynomials
+    values
+    extensions
+    codes
+}
+
+mod generic {
+    use super::*;
+    use crate::field::{words, words_mut};
+
+    /// The library's sum, product and difference: values of linear polynomials.
+    fn linear<F: Field>(c: F, b: F, x: F) -> F {
+        let mut value = [F::zero()];
+        calls::evaluate(F::NAME, words(&[c, b]), words(&[x]), words_mut(&mut value)).unwrap();
+        value[0]
+    }
+
+    pub fn elements_as_the_library_has_them<F: FftField>() {
+        let all = drawn::<F>(40);
+        for a in &all {
+            for b in &all {
+                assert_eq!(*a * *b, linear(F::zero(), *a, *b));
+                assert_eq!(*a + *b, linear(*a, *b, F::one()));
+                assert_eq!(*a - *b, linear(*a, *b, -F::one()));
+            }
+            assert_eq!(*a + -*a, F::zero());
+            match a.inverse() {
+                Some(inverse) => assert!((inverse * *a).is_one()),
+                None => assert!(a.is_zero()),
+            }
+            assert_eq!(F::from_words(&a.to_words()), Some(*a));
+            assert_eq!(a.to_string().parse(), Ok(*a));
+            assert_eq!(a.square(), a.pow([2]));
+            assert_eq!(a.double(), *a * F::from(2));
+        }
+        let less: Vec<u64> = (-F::one()).to_words();
+        assert_eq!(less[0], F::MODULUS[0] - 1);
+        assert_eq!(less[1..], F::MODULUS[1..]);
+        assert!(F::zero() < F::one() && F::one() < -F::one());
+        assert_eq!((-F::one()).pow(F::MODULUS), -F::one());
+        assert_eq!(all.iter().sum::<F>(), all.iter().fold(F::zero(), |sum, a| sum + a));
+        assert_eq!(all.iter().product::<F>(), F::zero());
+    }
+
+    pub fn numbers<F: FftField>() {
+        assert_eq!(F::from_words(F::MODULUS), None);
+        assert_eq!(F::from_words(&vec![u64::MAX; F::WORDS]), None);
+        assert_eq!(F::from_words(&[]), None);
+        assert_eq!(F::from(-3) + F::from(3), F::zero());
+        assert_eq!(F::from(i64::MIN), -F::from(1u64 << 63));
+        assert_eq!(F::from(u64::MAX) + F::one(), F::from(1u128 << 64));
+        assert_eq!(F::from(u128::MAX), (F::from(u64::MAX) + F::one()).square() - F::one());
+        assert_eq!(F::from(true), F::one());
+        assert_eq!("".parse::<F>(), Err(ParseFieldError));
+        assert_eq!("-1".parse::<F>(), Err(ParseFieldError));
+        assert_eq!("+1".parse::<F>(), Err(ParseFieldError));
+        assert_eq!("007".parse::<F>(), Ok(F::from(7)));
+        assert_eq!(format!("{} {:>4} {:?}", F::zero(), F::from(12), F::from(7)), "0   12 7");
+        let text = format!("{}", -F::one());
+        assert_eq!(text.parse::<F>().unwrap() + F::one(), F::zero());
+    }
+
+    pub fn domains<F: FftField>() {
+        for n in [1, 2, 4, 64] {
+            let coset = Radix2EvaluationDomain::<F>::new_coset(n, F::GENERATOR).unwrap();
+            assert_eq!(coset.size(), n);
+            assert_eq!(coset.log_size_of_group(), n.trailing_zeros() as u64);
+            let coeffs = drawn::<F>(n);
+            let values = coset.fft(&coeffs);
+            for (i, x) in coset.elements().enumerate() {
+                assert_eq!(x, coset.element(i));
+                assert_eq!(values[i], coeffs.iter().rev().fold(F::zero(), |y, c| y * x + c));
+                assert!(coset.evaluate_vanishing_polynomial(x).is_zero());
+            }
+            assert_eq!(coset.ifft(&values), coeffs);
+            let weights = coset.evaluate_all_lagrange_coefficients(F::from(12345));
+            let value: F = weights.iter().zip(&values).map(|(w, v)| *w * v).sum();
+            assert_eq!(value, coeffs.iter().rev().fold(F::zero(), |y, c| y * F::from(12345) + c));
+            // too many coefficients, and too few
+            let mut more = coeffs.clone();
+            more.push(F::one());
+            assert_eq!(coset.fft(&more), values);
+            let mut fewer = coeffs[..n / 2].to_vec();
+            coset.fft_in_place(&mut fewer);
+            coset.ifft_in_place(&mut fewer);
+            assert_eq!(fewer[..n / 2], coeffs[..n / 2]);
+            assert!(fewer[n / 2..].iter().all(Field::is_zero));
+        }
+        let general = GeneralEvaluationDomain::<F>::new(5).unwrap();
+        assert_eq!(general.size(), 8);
+        assert_eq!(general.size_as_field_element(), F::from(8));
+        assert_eq!(GeneralEvaluationDomain::<F>::compute_size_of_domain(9), Some(16));
+        assert_eq!(general.get_coset(F::zero()), None);
+        assert_eq!(general.get_coset(F::from(3)).unwrap().coset_offset(), F::from(3));
+        let most = 1usize << F::TWO_ADICITY;
+        assert_eq!(Radix2EvaluationDomain::<F>::new(most).unwrap().size(), most);
+        assert_eq!(Radix2EvaluationDomain::<F>::new(most + 1), None);
+        assert_eq!(Radix2EvaluationDomain::<F>::new(usize::MAX), None);
+        let root = F::two_adic_root_of_unity();
+        assert_eq!(root.pow([1 << (F::TWO_ADICITY - 1)]), -F::one());
+        assert_eq!(F::get_root_of_unity(3), None);
+    }
+
+    pub fn polynomials<F: FftField>() {
+        let a = DensePolynomial::<F>::from_coefficients_vec(drawn(21));
+        let b = DensePolynomial::<F>::from_coefficients_slice(&drawn::<F>(13)[3..]);
+        let x = F::from(98765);
+        assert_eq!(a.degree(), 20);
+        assert_eq!((&a * &b).evaluate(&x), a.evaluate(&x) * b.evaluate(&x));
+        assert_eq!((&a + &b).evaluate(&x), a.evaluate(&x) + b.evaluate(&x));
+        assert_eq!((&b - &a).evaluate(&x), b.evaluate(&x) - a.evaluate(&x));
+        assert_eq!((-a.clone()).evaluate(&x), -a.evaluate(&x));
+        assert_eq!((&a * x).evaluate(&x), a.evaluate(&x) * x);
+        assert_eq!((&a - &a.clone()).coeffs(), []);
+        let (q, r) = a.divide_with_q_and_r(&b).unwrap();
+        assert!(r.degree() < b.degree());
+        assert_eq!(q.clone() * b.clone() + r, a);
+        assert_eq!(&a / &b, q);
+        let pair = DenseOrSparsePolynomial::from(&a).divide_with_q_and_r(&b.clone().into()).unwrap();
+        assert_eq!(pair.0, q);
+        let zero = DensePolynomial::zero();
+        assert_eq!(a.divide_with_q_and_r(&zero), None);
+        assert_eq!(zero.divide_with_q_and_r(&zero), Some((zero.clone(), zero.clone())));
+        assert_eq!(b.divide_with_q_and_r(&a), Some((zero.clone(), b.clone())));
+        assert_eq!(&a * &zero, zero);
+        assert_eq!((zero.degree(), zero.evaluate(&x)), (0, F::zero()));
+
+        let points: Vec<F> = (1..=21).map(F::from).collect();
+        let values = a.evaluate_at(&points);
+        let pairs: Vec<_> = points.iter().copied().zip(values).collect();
+        assert_eq!(DensePolynomial::from_points(&pairs), Some(a));
+        assert_eq!(DensePolynomial::from_points(&[pairs[0], pairs[0]]), None);
+        assert_eq!(DensePolynomial::<F>::from_points(&[]), Some(zero));
+    }
+
+    pub fn values<F: FftField>() {
+        let domain = GeneralEvaluationDomain::<F>::new(32).unwrap();
+        let a = DensePolynomial::<F>::from_coefficients_vec(drawn(16));
+        let b = DensePolynomial::<F>::from_coefficients_vec(drawn(15));
+        let (at_a, at_b) = (a.evaluate_over_domain_by_ref(domain), b.clone().evaluate_over_domain(domain));
+        assert_eq!(at_a[3], a.evaluate(&domain.element(3)));
+        assert_eq!((&at_a * &at_b).interpolate(), &a * &b);
+        assert_eq!((&at_a + &at_b).interpolate_by_ref(), &a + &b);
+        assert_eq!((&at_a - &at_b).interpolate(), &a - &b);
+        assert_eq!(at_a.domain(), domain);
+    }
+
+    pub fn extensions<F: FftField>() {
+        let table = DenseMultilinearExtension::<F>::from_evaluations_vec(4, drawn(16));
+        let point = drawn::<F>(9)[5..].to_vec();
+        let mut bound = table.clone();
+        for (i, x) in point.iter().enumerate() {
+            assert_eq!(bound.num_vars(), 4 - i);
+            assert_eq!(bound.evaluate(&point[i..].to_vec()), table.evaluate(&point));
+            bound = bound.fix_variables(&[*x]);
+        }
+        assert_eq!(bound.to_evaluations(), [table.evaluate(&point)]);
+        assert_eq!(table.fix_variables(&point), bound);
+        assert_eq!(table.fix_variables(&[]), table);
+        for (i, value) in table.evaluations.iter().enumerate() {
+            let corner = (0..4).map(|j| F::from((i >> j & 1) as u64)).collect();
+            assert_eq!(table.evaluate(&corner), *value);
+        }
+    }
+
+    pub fn codes<F: FftField>() {
+        let code = Code::<F>::new(5, 12).unwrap();
+        assert_eq!((code.k(), code.n()), (5, 16));
+        let messages = drawn::<F>(15);
+        let codewords: Vec<F> = messages.chunks(5).flat_map(|message| code.encode(message).unwrap()).collect();
+        let erased: Vec<bool> = (0..16).map(|i| i % 3 != 1).collect();
+        let mut holed = codewords.clone();
+        holed.iter_mut().enumerate().filter(|(i, _)| erased[i % 16]).for_each(|(_, item)| *item = F::zero());
+        assert_eq!(code.messages(&holed, &erased).unwrap(), messages);
+        code.restore_in_place(&mut holed, &erased).unwrap();
+        assert_eq!(holed, codewords);
+        let word: Vec<_> = (0..16).map(|i| (!erased[i]).then_some(codewords[i])).collect();
+        assert_eq!(code.restore(&word).unwrap(), codewords[..16]);
+        holed[1] += F::one();
+        assert_eq!(code.restore_in_place(&mut holed, &[false; 16]), Err(RsError::NoCodeword));
+        assert_eq!(code.messages(&holed, &[false; 16]), Err(RsError::NoCodeword));
+        assert_eq!(code.restore(&word[1..]), Err(RsError::WrongLength));
+        assert_eq!(code.restore(&[None; 16]), Err(RsError::TooManyErased));
+        assert_eq!(code.restore_in_place(&mut holed[1..], &erased), Err(RsError::WrongLength));
+        assert_eq!(code.messages(&holed, &erased[1..]), Err(RsError::WrongLength));
+        assert_eq!(code.encode(&messages[..6]), Err(RsError::WrongLength));
+        assert_eq!(code.encode(&[]).unwrap(), vec![F::zero(); 16]);
+        assert_eq!(code.encode(&messages[..1]).unwrap(), vec![messages[0]; 16]);
+        assert_eq!(code.messages(&[], &erased).unwrap(), []);
+        assert_eq!(Code::<F>::new(0, 4), None);
+        assert_eq!(Code::<F>::new(5, 4), None);
+        assert_eq!(Code::<F>::new(1, usize::MAX), None);
+    }
+}
