@@ -6,7 +6,8 @@ use Rattle.std.specs.Cmp.{both_ways}
 use Rattle.std.proofs.lemmas.Bool.{eqb-true, eq-eqb}
 use Rattle.std.proofs.Math.Nat.{zero-mod}
 use Rattle.ark_math.specs.Field.{minus}
-use Rattle.ark_base.specs.Montgomery.{inverse_of_power, form_back, from_form, sum_of_forms, difference_of_forms, negated_form, product_of_forms}
+use Rattle.std.proofs.lemmas.Nat.{mul-mod_second}
+use Rattle.ark_base.specs.Montgomery.{inverse_of_power, form_back, form_of_number, from_form, sum_of_forms, difference_of_forms, negated_form, product_of_forms}
 use Rattle.ark_base.specs.Residues.{residue_of}
 use Rattle.ark_base.specs.ResiduesLaws.{number_of_residue, number_of_zero, minus_number}
 use Rattle.ark_base.specs.Element32.{Shown, number, element, number_of_element, numbering, field_of, one_of_power, same_by_number, same_by_word}
@@ -19,6 +20,14 @@ module _ {M : Type 0} {g : Ghosts M} (S : Shown g) where
   number_of_form x v e =
       ap (λ w. (w * inverse_of_power g.MODULUS 32) % g.MODULUS) e
       ∙ form_back g.MODULUS (2 ^ 32) (inverse_of_power g.MODULUS 32) (v % g.MODULUS) (one_of_power g S) (mod-lt v (le_of_lt S.numbers.prime.above_one))
+
+  -- a word is the number of the element with this word, times 2 ^ 32
+  pub word_of_number : (x y : PrimeField32 M g) → number y ≡ 2 ^ 32 % g.MODULUS → (number x * number y) % g.MODULUS ≡ x.word
+  unfolding number
+  word_of_number x y e =
+      ap (λ n. (number x * n) % g.MODULUS) e
+      ∙ mul-mod_second (number x) (2 ^ 32) g.MODULUS
+      ∙ form_of_number g.MODULUS (2 ^ 32) (inverse_of_power g.MODULUS 32) x.word (one_of_power g S) x.reduced
 
   pub word_is_number : (x : PrimeField32 M g) (w : ℕ) → w < g.MODULUS → (2 ^ 32 * w) % g.MODULUS ≡ (x.word * 1) % g.MODULUS → w ≡ number x
   unfolding number

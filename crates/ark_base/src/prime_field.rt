@@ -1,7 +1,7 @@
 //! The fields of the integers modulo a prime below 2^64, on one word each.
 
 ghost use Rattle.std.specs.Prelude.{◌≡◌, ℕ, true, false, ◌+◌, ◌*◌, ◌-◌, ◌%◌, ◌/◌, ◌<◌, ◌≤◌, ◌^◌, ◌↔◌, Option};
-ghost use Rattle.std.specs.Prelude.{None, Some, IsSome, refl};
+ghost use Rattle.std.specs.Prelude.{None, Some, IsSome, IsNone, IfSome, refl};
 ghost use Rattle.std.proofs.Common.{◌∙◌};
 ghost use Rattle.ark_math.specs.Field.{FieldOn, minus, natural};
 ghost use Rattle.ark_math.specs.Module.{itself};
@@ -101,6 +101,23 @@ impl<M: PrimeModulus> PrimeField<M> {
         ensures natural { self ≡ natural (field_of M.modulus) result }
     {
         self.value
+    }
+
+    /// The element of a number below the modulus, and `None` exactly where it isn't below: without the division of
+    /// `from`.
+    #[inline(always)]
+    pub fn from_value(value: u64) -> Option<Self>
+        ensures some { IfSome result (λ x. number x ≡ value) }
+        ensures none { IsNone result ↔ (M.MODULUS ≤ value) }
+    {
+        if value < M::MODULUS {
+            Some(PrimeField {
+                value,
+                marker: PhantomData,
+            })
+        } else {
+            None
+        }
     }
 
     // The element of a word, by a division.

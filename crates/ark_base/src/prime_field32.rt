@@ -1,6 +1,6 @@
 //! The fields of the integers modulo an odd prime below 2^31, on words of 32 bits.
 
-ghost use Rattle.std.specs.Prelude.{◌≡◌, ℕ, ◌<◌, ◌*◌, ◌^◌, ◌%◌, ◌↔◌, Option, IsSome, refl};
+ghost use Rattle.std.specs.Prelude.{◌≡◌, ℕ, ◌<◌, ◌*◌, ◌^◌, ◌%◌, ◌≤◌, ◌↔◌, Option, IsSome, IsNone, IfSome, refl};
 ghost use Rattle.ark_math.specs.Field.{natural, minus};
 ghost use Rattle.std.proofs.Common.{◌∙◌};
 ghost use Rattle.ark_math.specs.Module.{itself};
@@ -111,6 +111,23 @@ impl<M: PrimeModulus32> PrimeField32<M> {
         ensures natural { self ≡ natural (field_of M.modulus) result }
     {
         PrimeField32::<M>::montgomery_product(self.word, 1)
+    }
+
+    /// The element of a number below the prime, and `None` exactly where it isn't below: without the divisions of
+    /// `from`.
+    #[inline(always)]
+    pub fn from_value(value: u32) -> Option<Self>
+        ensures some { IfSome result (λ x. number x ≡ value) }
+        ensures none { IsNone result ↔ (M.MODULUS ≤ value) }
+    {
+        if value >= M::MODULUS {
+            return None;
+        }
+        let form = PrimeField32 {
+            word: value,
+            marker: PhantomData,
+        };
+        Some(form * PrimeField32::<M>::reduce(1 << 32))
     }
 
     // The element of a word, by a division.
