@@ -45,10 +45,6 @@ some_same x y e = search rules
 none_not_some : (x : Outcome) → ◌≡◌ {A = Option Outcome} None (Some x) → ⊥
 none_not_some x e = search rules
 
--- each error has a number of its own
-pub error_number : (r : Outcome) (e : WordsError) → (status_of (Some r) ≡ status_of (Some (Err e))) ↔ (r ≡ Err e)
-error_number r e = ((λ n. some_same r (Err e) (one_number (Some r) (Some (Err e)) n)), (λ n. ap (λ x. status_of (Some x)) n))
-
 -- ---- what a call over one field says of what it wrote and of its result
 
 module _ {X : Type 0} (P : Spelled → X → Outcome → Type 0) (old new : X) where
@@ -90,6 +86,14 @@ module _ {X : Type 0} (P : Spelled → X → Outcome → Type 0) (old new : X) w
           (λ z. here.0 (some_same found.0 (Err x) (sym found.1 ∙ one_number answer (Some (Err x)) (sym e ∙ z)))),
           (λ h. e ∙ ap status_of (found.1 ∙ ap Some (here.1 h))),
         )
+
+    -- where an error tells a condition, and not the other way
+    pub told_only : (x : WordsError) (C : Spelled → Type 0) → ((f : Spelled) (r : Outcome) → P f new r → r ≡ Err x → C f) → (field : Option Spelled) → IsOver field answer
+        → status ≡ status_of (Some (Err x)) → IsSomeAnd field C
+    told_only x C says None is z = absurd (none_not_some (Err x) (sym (is.none refl).0 ∙ one_number answer (Some (Err x)) (sym e ∙ z)))
+    told_only x C says (Some f) is z =
+        let found = is.some f refl in
+        says f found.0 found.2 (some_same found.0 (Err x) (sym found.1 ∙ one_number answer (Some (Err x)) (sym e ∙ z)))
 
     pub told_never : (x : WordsError) → ((f : Spelled) (r : Outcome) → P f new r → r ≢ Err x) → (field : Option Spelled) → IsOver field answer → status ≢ status_of (Some (Err x))
     told_never x says None is z = none_not_some (Err x) (sym (is.none refl).0 ∙ one_number answer (Some (Err x)) (sym e ∙ z))

@@ -2,7 +2,7 @@
 //! number names. `ark_poly.h` says the same of each in C.
 #![tactic(auto)]
 
-ghost use Rattle.std.specs.Prelude.{◌≡◌, ◌≢◌, ◌↔◌, ◌≤◌, IsNone, IsSomeAnd, IfSome, MatchOption, length};
+ghost use Rattle.std.specs.Prelude.{◌≡◌, ◌≢◌, ◌↔◌, ◌⊎◌, ◌≤◌, IsNone, IsSomeAnd, IfSome, MatchOption, length};
 ghost use Rattle.ark_math.specs.Domain.{Kind, HasNoSize};
 ghost use Rattle.ark_numbers.specs.Answers.{IsChosen};
 ghost use Rattle.ark_words.specs.Numbers.{HaveLengths, HaveReduced, HaveDomain, AreTransformable};
@@ -74,6 +74,7 @@ pub extern "C" fn ark_domain_size(field: u64, at_least: u64, size: &mut u64) -> 
     ensures no_field { (result ≡ 2) ↔ IsNone (field_named field) }
     ensures no_domain { (result ≡ 5) ↔ IsSomeAnd (field_named field) (λ f.
         HasNoSize (IsChosen f.known.adicity) at_least) }
+    ensures no_other { (result ≡ 0) ⊎ (result ≡ 2) ⊎ (result ≡ 5) }
 {
     status(over_field!(field, domain_size(at_least, size)))
 }
@@ -95,6 +96,7 @@ pub extern "C" fn ark_fft(alloc: Global, field: u64, words: &mut [u64], offset: 
     ensures no_domain { (result ≡ 5) ↔ IsSomeAnd (field_named field) (λ f.
         HaveLengths f words.old offset.now × HaveReduced f words.old offset.now
         × (¬ HaveDomain f words.old offset.now)) }
+    ensures no_other { result ≤ 5 }
 {
     status(over_field!(field, fft(alloc, words, offset)))
 }
@@ -115,6 +117,7 @@ pub extern "C" fn ark_ifft(alloc: Global, field: u64, words: &mut [u64], offset:
     ensures no_domain { (result ≡ 5) ↔ IsSomeAnd (field_named field) (λ f.
         HaveLengths f words.old offset.now × HaveReduced f words.old offset.now
         × (¬ HaveDomain f words.old offset.now)) }
+    ensures no_other { result ≤ 5 }
 {
     status(over_field!(field, ifft(alloc, words, offset)))
 }
@@ -166,6 +169,7 @@ pub extern "C" fn ark_code_encode(
         FitCode f message.now word.old × (¬ AreReduced f message.now)) }
     ensures no_domain { (result ≡ 5) ↔ IsSomeAnd (field_named field) (λ f.
         FitCode f message.now word.old × AreReduced f message.now × (¬ HasCodeFor f word.old)) }
+    ensures no_other { result ≤ 5 }
 {
     status(over_field!(field, encode(alloc, message, word)))
 }
@@ -329,6 +333,7 @@ pub extern "C" fn ark_lagrange(
     ensures no_domain { (result ≡ 5) ↔ IsSomeAnd (field_named field) (λ f.
         FitWeights f offset.now point.now weights.old × ArePlaced f offset.now point.now
         × (¬ HaveDomain f weights.old offset.now)) }
+    ensures no_other { result ≤ 5 }
 {
     status(over_field!(field, lagrange(alloc, offset, point, weights)))
 }
@@ -362,6 +367,7 @@ pub extern "C" fn ark_code_restore(
     ensures no_codeword { result ≡ 9 → IsSomeAnd (field_named field) (λ f.
         FitWords f words.old erased.now k × AreReduced f words.old × HasCode f (length erased.now)
         × (k ≤ left_count erased.now) × (¬ HaveCodewords f words.old erased.now k)) }
+    ensures no_other { (result ≤ 9) × (result ≢ 6) × (result ≢ 7) }
 {
     status(over_field!(field, restore(alloc, words, erased, k)))
 }
@@ -402,6 +408,7 @@ pub extern "C" fn ark_code_message(
         × HasCode f (length erased.now)
         × (message_size f words.now erased.now messages.old ≤ left_count erased.now)
         × (¬ HaveCodewords f words.now erased.now (message_size f words.now erased.now messages.old))) }
+    ensures no_other { (result ≤ 9) × (result ≢ 6) × (result ≢ 7) }
 {
     status(over_field!(field, message(alloc, words, erased, messages)))
 }

@@ -9,7 +9,7 @@ ghost use Rattle.ark_words.specs.Codes.{FitWords, HasCode, HasCodeword, HaveCode
 ghost use Rattle.ark_words.specs.Codes.{AreRestored, left_count, word_at};
 ghost use Rattle.ark_words.specs.Codes.{FitMessages, IsFound, AreFound, message_size};
 ghost use Rattle.ark_words.specs.Decoders.{IsDecoderFor, marks};
-ghost use Rattle.ark_words.specs.Faults.{IsFault, IsWordFault};
+ghost use Rattle.ark_words.specs.Faults.{IsFault, IsOfDomains, IsWordFault};
 ghost use Rattle.ark_numbers.specs.Fields.{known_by};
 ghost use Rattle.ark_words.specs.Numbers.{numbers, AreReduced};
 
@@ -42,6 +42,7 @@ pub fn encode<F: WordElement>(
     ensures no_domain { (result ≡ Err WordsError.NoDomain)
         ↔ (FitCode F.spelled message.now word.old × AreReduced F.spelled message.now
         × (¬ HasCodeFor F.spelled word.old)) }
+    ensures no_other { IfErr result IsOfDomains }
 {
     let (domain, items) = judged::<F>(alloc, message, word)?;
     let Ok(codeword) = domain.fft(alloc, &items) else {

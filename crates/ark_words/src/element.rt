@@ -53,12 +53,7 @@ impl<M: PrimeModulus> WordElement for PrimeField<M> {
     const WIDTH: usize = 1;
 
     fn from_words(words: &[u64]) -> Option<Self> {
-        let word = words[0];
-        if word < M::MODULUS {
-            Some(PrimeField::from(word))
-        } else {
-            None
-        }
+        PrimeField::from_value(words[0])
     }
 
     fn write_words(self, words: &mut [u64]) {
@@ -82,7 +77,7 @@ impl<M: PrimeModulus32> WordElement for PrimeField32<M> {
     fn from_words(words: &[u64]) -> Option<Self> {
         let word = words[0];
         if word < M::MODULUS as u64 {
-            Some(PrimeField32::from(word))
+            PrimeField32::from_value(word as u32)
         } else {
             None
         }

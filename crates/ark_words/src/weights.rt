@@ -1,6 +1,7 @@
 //! The weights of values over a domain.
 
-ghost use Rattle.std.specs.Prelude.{◌≡◌, ◌↔◌, OnOk, OnErr};
+ghost use Rattle.std.specs.Prelude.{◌≡◌, ◌↔◌, OnOk, OnErr, IfErr};
+ghost use Rattle.ark_words.specs.Faults.{IsOfDomains};
 ghost use Rattle.ark_words.specs.Numbers.{HaveDomain};
 ghost use Rattle.ark_words.specs.Weights.{FitWeights, ArePlaced, AreLagrange};
 
@@ -37,6 +38,7 @@ pub fn lagrange<F: WordElement>(
     ensures no_domain { (result ≡ Err WordsError.NoDomain)
         ↔ (FitWeights F.spelled offset.now point.now weights.old
         × ArePlaced F.spelled offset.now point.now × (¬ HaveDomain F.spelled weights.old offset.now)) }
+    ensures no_other { IfErr result IsOfDomains }
 {
     let width = F::WIDTH;
     if weights.len() % width != 0 || offset.len() != width || point.len() != width {

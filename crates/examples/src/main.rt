@@ -2,7 +2,8 @@
 //! convolution of two lists, a combination of two polynomials, openings, exact costs, the first round of a sum-check,
 //! what chooses a value of a table, values that are lost and restored, a wrong one that is refused, a polynomial in a
 //! file, one error for a program, the values of a sparse polynomial, fields and a module of one's own, secrets in
-//! shares, whole sum-checks, and bytes in pieces. The program prints what each gives.
+//! shares, whole sum-checks, values between given ones by words alone, and bytes in pieces. The program prints what each
+//! gives.
 #![tactic(auto)]
 
 mod accepted;
@@ -29,8 +30,9 @@ mod sparse;
 mod sum_check;
 mod sum_check_whole;
 mod there_and_back;
+mod words;
 
-use ark_base::{F433, F65537, FftField, Field, PolyError, PrimeField, PrimeModulus, Work};
+use ark_base::{BabyBear, F433, F65537, FftField, Field, PolyError, PrimeField, PrimeModulus, Work};
 use ark_poly::univariate::DensePolynomial;
 use ark_poly::{
     DenseMultilinearExtension, DenseUVPolynomial, EvaluationDomain, MixedRadixEvaluationDomain,
@@ -61,6 +63,7 @@ use std::fs::{self, File, Files};
 use std::io::{Print, Write};
 use sum_check::{first_round, last_value, next_claim};
 use there_and_back::there_and_back;
+use words::values_between;
 
 fn main(rt: HostRuntime) -> anyhow::Result<()> {
     let alloc = rt.alloc();
@@ -108,6 +111,9 @@ fn main(rt: HostRuntime) -> anyhow::Result<()> {
     });
     print_points(&rt, &curve(alloc, &coeffs)?)?;
     print_protocols(&rt, alloc)?;
+    let mut squares = [0, 0];
+    values_between::<BabyBear>(alloc, &[1, 2, 3], &[1, 4, 9], &[10, 100], &mut squares)?;
+    println!(rt; "squares at 10 and 100 from those at 1, 2 and 3: {squares:?}")?;
     print_kept::<FileCode, _>(&rt, alloc)
 }
 

@@ -1,8 +1,9 @@
-use Rattle.std.proofs.Common.{◌≤◌, length, refl, rules}
-use Rattle.ark_words.specs.Numbers.{AreReduced}
+use Rattle.std.proofs.Common.{◌≤◌, ℕ, List, length, refl, rules}
+use Rattle.ark_words.specs.Numbers.{Spelled, AreReduced}
 use Rattle.ark_words.specs.Codes.{FitWords, HasCode, HaveCodewords, AreRestored, left_count}
 use Rattle.ark_c.specs.Names.{field_named}
-use Rattle.ark_c.proofs.ToldWords.{IsAnswer, over, over_none, told}
+use Rattle.ark_c.proofs.Outcomes.{IsOver, over_one, over_no_field}
+use Rattle.ark_c.proofs.OfCodes.{TellsOfCodes, code_call}
 use Rattle.ark_c.proofs.ark_code_restore.Goals as goal
 use Rattle.ark_c.proofs.ark_code_restore.Goals.{in-5, in-433, in-65537, in-2013265921, in-2130706433, in-18446744069414584321, in-254, in-12381, in_default}
 
@@ -12,19 +13,24 @@ returns c =
     let erased = c.args.erased.now in
     let k = c.args.k in
     let new = c.match-field.words in
-    let answer : IsAnswer (λ f after. AreRestored f old erased k after) (λ f. FitWords f old erased k) (λ f. AreReduced f old) (λ f. HasCode f (length erased)) (λ f. k ≤ left_count erased) (λ f. HaveCodewords f old erased k)
-    old new (field_named c.args.field) c.match-field.status = elim c.match-field.branch [
-      | in-5 w ↦ let e = w.restore.ensures in over w.in-5.is refl w.status-is w.words-is (record { done = e.restored; kept = e.kept; taken = e.taken; fault = e.fault })
-      | in-433 w ↦ let e = w.restore-in-433.ensures in over w.in-433.is refl w.status-is w.words-is (record { done = e.restored; kept = e.kept; taken = e.taken; fault = e.fault })
-      | in-65537 w ↦ let e = w.restore-in-65537.ensures in over w.in-65537.is refl w.status-is w.words-is (record { done = e.restored; kept = e.kept; taken = e.taken; fault = e.fault })
-      | in-2013265921 w ↦ let e = w.restore-in-2013265921.ensures in over w.in-2013265921.is refl w.status-is w.words-is (record { done = e.restored; kept = e.kept; taken = e.taken; fault = e.fault })
-      | in-2130706433 w ↦ let e = w.restore-in-2130706433.ensures in over w.in-2130706433.is refl w.status-is w.words-is (record { done = e.restored; kept = e.kept; taken = e.taken; fault = e.fault })
-      | in-18446744069414584321 w ↦ let e = w.restore-in-18446744069414584321.ensures in over w.in-18446744069414584321.is refl w.status-is w.words-is (record { done = e.restored; kept = e.kept; taken = e.taken; fault = e.fault })
-      | in-254 w ↦ let e = w.restore-in-254.ensures in over w.in-254.is refl w.status-is w.words-is (record { done = e.restored; kept = e.kept; taken = e.taken; fault = e.fault })
-      | in-12381 w ↦ let e = w.restore-in-12381.ensures in over w.in-12381.is refl w.status-is w.words-is (record { done = e.restored; kept = e.kept; taken = e.taken; fault = e.fault })
-      | in_default w ↦ over_none (search rules) w.status-is w.words-is
+    let Done = λ (f : Spelled) (after : List ℕ). AreRestored f old erased k after in
+    let Fit = λ (f : Spelled). FitWords f old erased k in
+    let Reduced = λ (f : Spelled). AreReduced f old in
+    let Code = λ (f : Spelled). HasCode f (length erased) in
+    let Enough = λ (f : Spelled). k ≤ left_count erased in
+    let Codewords = λ (f : Spelled). HaveCodewords f old erased k in
+    let is : IsOver (TellsOfCodes Done Fit Reduced Code Enough Codewords old) old new (field_named c.args.field) c.match-field.status = elim c.match-field.branch [
+      | in-5 w ↦ over_one w.in-5.is refl w.status-is w.words-is (let e = w.restore.ensures in record { done = e.restored; kept = e.kept; taken = e.taken; fault = e.fault })
+      | in-433 w ↦ over_one w.in-433.is refl w.status-is w.words-is (let e = w.restore-in-433.ensures in record { done = e.restored; kept = e.kept; taken = e.taken; fault = e.fault })
+      | in-65537 w ↦ over_one w.in-65537.is refl w.status-is w.words-is (let e = w.restore-in-65537.ensures in record { done = e.restored; kept = e.kept; taken = e.taken; fault = e.fault })
+      | in-2013265921 w ↦ over_one w.in-2013265921.is refl w.status-is w.words-is (let e = w.restore-in-2013265921.ensures in record { done = e.restored; kept = e.kept; taken = e.taken; fault = e.fault })
+      | in-2130706433 w ↦ over_one w.in-2130706433.is refl w.status-is w.words-is (let e = w.restore-in-2130706433.ensures in record { done = e.restored; kept = e.kept; taken = e.taken; fault = e.fault })
+      | in-18446744069414584321 w ↦ over_one w.in-18446744069414584321.is refl w.status-is w.words-is (let e = w.restore-in-18446744069414584321.ensures in record { done = e.restored; kept = e.kept; taken = e.taken; fault = e.fault })
+      | in-254 w ↦ over_one w.in-254.is refl w.status-is w.words-is (let e = w.restore-in-254.ensures in record { done = e.restored; kept = e.kept; taken = e.taken; fault = e.fault })
+      | in-12381 w ↦ over_one w.in-12381.is refl w.status-is w.words-is (let e = w.restore-in-12381.ensures in record { done = e.restored; kept = e.kept; taken = e.taken; fault = e.fault })
+      | in_default w ↦ over_no_field (search rules) w.status-is w.words-is
     ] in
-    let t = told _ _ _ _ _ _ old new (field_named c.args.field) c.match-field.status c.status.result answer c.status.ensures in
+    let t = code_call Done Fit Reduced Code Enough Codewords old new (field_named c.args.field) c.status.ensures is in
     record {
       restored = t.done;
       kept = t.kept;
@@ -35,4 +41,5 @@ returns c =
       no_domain = t.no_domain;
       too_few = t.too_few;
       no_codeword = t.no_codeword;
+      no_other = t.no_other;
     }

@@ -1,7 +1,8 @@
-use Rattle.std.proofs.Common.{refl, rules}
-use Rattle.ark_words.specs.Numbers.{HaveLengths, HaveReduced, HaveDomain, AreTransformable, AreTransformedBack}
+use Rattle.std.proofs.Common.{ℕ, List, refl, rules}
+use Rattle.ark_words.specs.Numbers.{Spelled, HaveLengths, HaveReduced, HaveDomain, AreTransformedBack}
 use Rattle.ark_c.specs.Names.{field_named}
-use Rattle.ark_c.proofs.Told.{IsAnswer, over, over_none, told}
+use Rattle.ark_c.proofs.Outcomes.{IsOver, over_one, over_no_field}
+use Rattle.ark_c.proofs.OfDomains.{TellsOfDomains, domain_call}
 use Rattle.ark_c.proofs.ark_ifft.Goals as goal
 use Rattle.ark_c.proofs.ark_ifft.Goals.{in-5, in-433, in-65537, in-2013265921, in-2130706433, in-18446744069414584321, in-254, in-12381, in_default}
 
@@ -10,17 +11,29 @@ returns c =
     let old = c.args.words.now in
     let offset = c.args.offset.now in
     let new = c.match-field.words in
-    let answer : IsAnswer (λ f after. AreTransformedBack f old offset after) (λ f. AreTransformable f old offset) (λ f. HaveLengths f old offset) (λ f. HaveReduced f old offset) (λ f. HaveDomain f old offset)
-    old new (field_named c.args.field) c.match-field.status = elim c.match-field.branch [
-      | in-5 w ↦ let e = w.ifft.ensures in over w.in-5.is refl w.status-is w.words-is (record { done = e.coefficients; kept = e.kept; taken = e.taken; length = e.length; not_reduced = e.not_reduced; no_domain = e.no_domain })
-      | in-433 w ↦ let e = w.ifft-in-433.ensures in over w.in-433.is refl w.status-is w.words-is (record { done = e.coefficients; kept = e.kept; taken = e.taken; length = e.length; not_reduced = e.not_reduced; no_domain = e.no_domain })
-      | in-65537 w ↦ let e = w.ifft-in-65537.ensures in over w.in-65537.is refl w.status-is w.words-is (record { done = e.coefficients; kept = e.kept; taken = e.taken; length = e.length; not_reduced = e.not_reduced; no_domain = e.no_domain })
-      | in-2013265921 w ↦ let e = w.ifft-in-2013265921.ensures in over w.in-2013265921.is refl w.status-is w.words-is (record { done = e.coefficients; kept = e.kept; taken = e.taken; length = e.length; not_reduced = e.not_reduced; no_domain = e.no_domain })
-      | in-2130706433 w ↦ let e = w.ifft-in-2130706433.ensures in over w.in-2130706433.is refl w.status-is w.words-is (record { done = e.coefficients; kept = e.kept; taken = e.taken; length = e.length; not_reduced = e.not_reduced; no_domain = e.no_domain })
-      | in-18446744069414584321 w ↦ let e = w.ifft-in-18446744069414584321.ensures in over w.in-18446744069414584321.is refl w.status-is w.words-is (record { done = e.coefficients; kept = e.kept; taken = e.taken; length = e.length; not_reduced = e.not_reduced; no_domain = e.no_domain })
-      | in-254 w ↦ let e = w.ifft-in-254.ensures in over w.in-254.is refl w.status-is w.words-is (record { done = e.coefficients; kept = e.kept; taken = e.taken; length = e.length; not_reduced = e.not_reduced; no_domain = e.no_domain })
-      | in-12381 w ↦ let e = w.ifft-in-12381.ensures in over w.in-12381.is refl w.status-is w.words-is (record { done = e.coefficients; kept = e.kept; taken = e.taken; length = e.length; not_reduced = e.not_reduced; no_domain = e.no_domain })
-      | in_default w ↦ over_none (search rules) w.status-is w.words-is
+    let Done = λ (f : Spelled) (after : List ℕ). AreTransformedBack f old offset after in
+    let Fit = λ (f : Spelled). HaveLengths f old offset in
+    let Reduced = λ (f : Spelled). HaveReduced f old offset in
+    let Domain = λ (f : Spelled). HaveDomain f old offset in
+    let is : IsOver (TellsOfDomains Done Fit Reduced Domain old) old new (field_named c.args.field) c.match-field.status = elim c.match-field.branch [
+      | in-5 w ↦ over_one w.in-5.is refl w.status-is w.words-is (let e = w.ifft.ensures in record { done = e.coefficients; kept = e.kept; taken = e.taken; length = e.length; not_reduced = e.not_reduced; no_domain = e.no_domain; no_other = e.no_other })
+      | in-433 w ↦ over_one w.in-433.is refl w.status-is w.words-is (let e = w.ifft-in-433.ensures in record { done = e.coefficients; kept = e.kept; taken = e.taken; length = e.length; not_reduced = e.not_reduced; no_domain = e.no_domain; no_other = e.no_other })
+      | in-65537 w ↦ over_one w.in-65537.is refl w.status-is w.words-is (let e = w.ifft-in-65537.ensures in record { done = e.coefficients; kept = e.kept; taken = e.taken; length = e.length; not_reduced = e.not_reduced; no_domain = e.no_domain; no_other = e.no_other })
+      | in-2013265921 w ↦ over_one w.in-2013265921.is refl w.status-is w.words-is (let e = w.ifft-in-2013265921.ensures in record { done = e.coefficients; kept = e.kept; taken = e.taken; length = e.length; not_reduced = e.not_reduced; no_domain = e.no_domain; no_other = e.no_other })
+      | in-2130706433 w ↦ over_one w.in-2130706433.is refl w.status-is w.words-is (let e = w.ifft-in-2130706433.ensures in record { done = e.coefficients; kept = e.kept; taken = e.taken; length = e.length; not_reduced = e.not_reduced; no_domain = e.no_domain; no_other = e.no_other })
+      | in-18446744069414584321 w ↦ over_one w.in-18446744069414584321.is refl w.status-is w.words-is (let e = w.ifft-in-18446744069414584321.ensures in record { done = e.coefficients; kept = e.kept; taken = e.taken; length = e.length; not_reduced = e.not_reduced; no_domain = e.no_domain; no_other = e.no_other })
+      | in-254 w ↦ over_one w.in-254.is refl w.status-is w.words-is (let e = w.ifft-in-254.ensures in record { done = e.coefficients; kept = e.kept; taken = e.taken; length = e.length; not_reduced = e.not_reduced; no_domain = e.no_domain; no_other = e.no_other })
+      | in-12381 w ↦ over_one w.in-12381.is refl w.status-is w.words-is (let e = w.ifft-in-12381.ensures in record { done = e.coefficients; kept = e.kept; taken = e.taken; length = e.length; not_reduced = e.not_reduced; no_domain = e.no_domain; no_other = e.no_other })
+      | in_default w ↦ over_no_field (search rules) w.status-is w.words-is
     ] in
-    let t = told _ _ _ _ _ old new (field_named c.args.field) c.match-field.status c.status.result answer c.status.ensures in
-    record { coefficients = t.done; kept = t.kept; taken = t.taken; no_field = t.no_field; length = t.length; not_reduced = t.not_reduced; no_domain = t.no_domain }
+    let t = domain_call Done Fit Reduced Domain old new (field_named c.args.field) c.status.ensures is in
+    record {
+      coefficients = t.done;
+      kept = t.kept;
+      taken = t.taken;
+      no_field = t.no_field;
+      length = t.length;
+      not_reduced = t.not_reduced;
+      no_domain = t.no_domain;
+      no_other = t.no_other;
+    }

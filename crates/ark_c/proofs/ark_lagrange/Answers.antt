@@ -1,8 +1,9 @@
-use Rattle.std.proofs.Common.{refl, rules}
-use Rattle.ark_words.specs.Numbers.{HaveDomain}
+use Rattle.std.proofs.Common.{ℕ, List, refl, rules}
+use Rattle.ark_words.specs.Numbers.{Spelled, HaveDomain}
 use Rattle.ark_words.specs.Weights.{FitWeights, ArePlaced, AreLagrange}
 use Rattle.ark_c.specs.Names.{field_named}
-use Rattle.ark_c.proofs.Told.{IsAnswer, over, over_none, told}
+use Rattle.ark_c.proofs.Outcomes.{IsOver, over_one, over_no_field}
+use Rattle.ark_c.proofs.OfDomains.{TellsOfDomains, domain_call}
 use Rattle.ark_c.proofs.ark_lagrange.Goals as goal
 use Rattle.ark_c.proofs.ark_lagrange.Goals.{in-5, in-433, in-65537, in-2013265921, in-2130706433, in-18446744069414584321, in-254, in-12381, in_default}
 
@@ -12,17 +13,29 @@ returns c =
     let point = c.args.point.now in
     let old = c.args.weights.now in
     let new = c.match-field.weights in
-    let answer : IsAnswer (λ f after. AreLagrange f offset point after) (λ f. FitWeights f offset point old × ArePlaced f offset point × HaveDomain f old offset) (λ f. FitWeights f offset point old) (λ f. ArePlaced f offset point) (λ f. HaveDomain f old offset)
-    old new (field_named c.args.field) c.match-field.status = elim c.match-field.branch [
-      | in-5 w ↦ let e = w.lagrange.ensures in over w.in-5.is refl w.status-is w.weights-is (record { done = e.weights; kept = e.kept; taken = e.taken; length = e.length; not_reduced = e.not_reduced; no_domain = e.no_domain })
-      | in-433 w ↦ let e = w.lagrange-in-433.ensures in over w.in-433.is refl w.status-is w.weights-is (record { done = e.weights; kept = e.kept; taken = e.taken; length = e.length; not_reduced = e.not_reduced; no_domain = e.no_domain })
-      | in-65537 w ↦ let e = w.lagrange-in-65537.ensures in over w.in-65537.is refl w.status-is w.weights-is (record { done = e.weights; kept = e.kept; taken = e.taken; length = e.length; not_reduced = e.not_reduced; no_domain = e.no_domain })
-      | in-2013265921 w ↦ let e = w.lagrange-in-2013265921.ensures in over w.in-2013265921.is refl w.status-is w.weights-is (record { done = e.weights; kept = e.kept; taken = e.taken; length = e.length; not_reduced = e.not_reduced; no_domain = e.no_domain })
-      | in-2130706433 w ↦ let e = w.lagrange-in-2130706433.ensures in over w.in-2130706433.is refl w.status-is w.weights-is (record { done = e.weights; kept = e.kept; taken = e.taken; length = e.length; not_reduced = e.not_reduced; no_domain = e.no_domain })
-      | in-18446744069414584321 w ↦ let e = w.lagrange-in-18446744069414584321.ensures in over w.in-18446744069414584321.is refl w.status-is w.weights-is (record { done = e.weights; kept = e.kept; taken = e.taken; length = e.length; not_reduced = e.not_reduced; no_domain = e.no_domain })
-      | in-254 w ↦ let e = w.lagrange-in-254.ensures in over w.in-254.is refl w.status-is w.weights-is (record { done = e.weights; kept = e.kept; taken = e.taken; length = e.length; not_reduced = e.not_reduced; no_domain = e.no_domain })
-      | in-12381 w ↦ let e = w.lagrange-in-12381.ensures in over w.in-12381.is refl w.status-is w.weights-is (record { done = e.weights; kept = e.kept; taken = e.taken; length = e.length; not_reduced = e.not_reduced; no_domain = e.no_domain })
-      | in_default w ↦ over_none (search rules) w.status-is w.weights-is
+    let Done = λ (f : Spelled) (after : List ℕ). AreLagrange f offset point after in
+    let Fit = λ (f : Spelled). FitWeights f offset point old in
+    let Reduced = λ (f : Spelled). ArePlaced f offset point in
+    let Domain = λ (f : Spelled). HaveDomain f old offset in
+    let is : IsOver (TellsOfDomains Done Fit Reduced Domain old) old new (field_named c.args.field) c.match-field.status = elim c.match-field.branch [
+      | in-5 w ↦ over_one w.in-5.is refl w.status-is w.weights-is (let e = w.lagrange.ensures in record { done = e.weights; kept = e.kept; taken = e.taken; length = e.length; not_reduced = e.not_reduced; no_domain = e.no_domain; no_other = e.no_other })
+      | in-433 w ↦ over_one w.in-433.is refl w.status-is w.weights-is (let e = w.lagrange-in-433.ensures in record { done = e.weights; kept = e.kept; taken = e.taken; length = e.length; not_reduced = e.not_reduced; no_domain = e.no_domain; no_other = e.no_other })
+      | in-65537 w ↦ over_one w.in-65537.is refl w.status-is w.weights-is (let e = w.lagrange-in-65537.ensures in record { done = e.weights; kept = e.kept; taken = e.taken; length = e.length; not_reduced = e.not_reduced; no_domain = e.no_domain; no_other = e.no_other })
+      | in-2013265921 w ↦ over_one w.in-2013265921.is refl w.status-is w.weights-is (let e = w.lagrange-in-2013265921.ensures in record { done = e.weights; kept = e.kept; taken = e.taken; length = e.length; not_reduced = e.not_reduced; no_domain = e.no_domain; no_other = e.no_other })
+      | in-2130706433 w ↦ over_one w.in-2130706433.is refl w.status-is w.weights-is (let e = w.lagrange-in-2130706433.ensures in record { done = e.weights; kept = e.kept; taken = e.taken; length = e.length; not_reduced = e.not_reduced; no_domain = e.no_domain; no_other = e.no_other })
+      | in-18446744069414584321 w ↦ over_one w.in-18446744069414584321.is refl w.status-is w.weights-is (let e = w.lagrange-in-18446744069414584321.ensures in record { done = e.weights; kept = e.kept; taken = e.taken; length = e.length; not_reduced = e.not_reduced; no_domain = e.no_domain; no_other = e.no_other })
+      | in-254 w ↦ over_one w.in-254.is refl w.status-is w.weights-is (let e = w.lagrange-in-254.ensures in record { done = e.weights; kept = e.kept; taken = e.taken; length = e.length; not_reduced = e.not_reduced; no_domain = e.no_domain; no_other = e.no_other })
+      | in-12381 w ↦ over_one w.in-12381.is refl w.status-is w.weights-is (let e = w.lagrange-in-12381.ensures in record { done = e.weights; kept = e.kept; taken = e.taken; length = e.length; not_reduced = e.not_reduced; no_domain = e.no_domain; no_other = e.no_other })
+      | in_default w ↦ over_no_field (search rules) w.status-is w.weights-is
     ] in
-    let t = told _ _ _ _ _ old new (field_named c.args.field) c.match-field.status c.status.result answer c.status.ensures in
-    record { weights = t.done; kept = t.kept; taken = t.taken; no_field = t.no_field; length = t.length; not_reduced = t.not_reduced; no_domain = t.no_domain }
+    let t = domain_call Done Fit Reduced Domain old new (field_named c.args.field) c.status.ensures is in
+    record {
+      weights = t.done;
+      kept = t.kept;
+      taken = t.taken;
+      no_field = t.no_field;
+      length = t.length;
+      not_reduced = t.not_reduced;
+      no_domain = t.no_domain;
+      no_other = t.no_other;
+    }
