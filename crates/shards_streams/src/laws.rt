@@ -3,7 +3,7 @@
 ghost use Rattle.std.specs.Prelude.{◌≡◌, ℕ, ◌+◌, ◌*◌, ◌<◌, ◌≤◌, ◌^◌, List, [], Some, get_or, length, take, IfOk, IfErr};
 ghost use Rattle.shards_format.specs.Stripes.{stripes};
 ghost use Rattle.shards_format.specs.Pieces.{IsBody, block_size, blocks, chunk, part_size};
-ghost use Rattle.shards_format.specs.Files.{AreApart};
+ghost use Rattle.shards_format.specs.Files.{AreApart, AreDigests};
 ghost use Rattle.shards_streams.specs.Writers.{piece_sink, HasHashed};
 ghost use Rattle.shards_streams.specs.Readers.{piece_source};
 ghost use Rattle.shards_streams.specs.Laws.{HasPassed, HavePieces};
@@ -18,16 +18,17 @@ use ark_bytes::{Failed, Sink};
 use shards_format::{HEADER, StripeCode, Trailer};
 use std::alloc::{AllocError, Global};
 
-// A sink into memory.
+/// A sink into memory.
 #[derive(Drop)]
-struct ListSink {
-    bytes: Vec<u8>,
+pub struct ListSink {
+    /// What it has taken.
+    pub bytes: Vec<u8>,
     failures: Counter,
 }
 
 impl ListSink {
-    // It has taken nothing yet.
-    fn new(alloc: Global) -> ListSink
+    /// A sink that has taken nothing yet.
+    pub fn new(alloc: Global) -> ListSink
         ensures { result.bytes.items ≡ [] }
     {
         ListSink {
@@ -97,8 +98,8 @@ pub fn first_pieces_are_the_file<C: StripeCode>(
     let _ = code.k();
 }
 
-// The pieces of these bytes in memory, and the trailer of all.
-fn pieces_of<C: StripeCode>(
+/// The pieces of these bytes in memory, and the trailer of all; the only error is refused memory.
+pub fn pieces_of<C: StripeCode>(
     alloc: Global,
     code: &C,
     label: &[u8],
@@ -110,6 +111,8 @@ fn pieces_of<C: StripeCode>(
     ensures len { IfOk result (λ made. made.1.len ≡ length bytes.now) }
     ensures pieces { IfOk result (λ made. HavePieces C.number (C.k_of code.now) (C.n_of code.now) label.now bytes.now
         made.1.digests.items made.0.items) }
+    ensures digests { IfOk result (λ made. AreDigests C.number (C.k_of code.now) (C.n_of code.now) label.now bytes.now
+        made.1.digests.items) }
     ensures memory { IfErr result (λ e. e ≡ StreamError.Memory) }
 {
     let mut writers = list_writers(alloc, code.n())?;

@@ -14,7 +14,7 @@ mod writer;
 pub use checking::{PieceEnds, check_piece, take_header, take_trailer};
 pub use error::StreamError;
 pub use joining::{ChosenPieces, join_into};
-pub use laws::{first_pieces_are_the_file, split_then_join};
+pub use laws::{ListSink, first_pieces_are_the_file, pieces_of, split_then_join};
 pub use reader::PieceReader;
 pub use reading::{take_block, take_bytes};
 pub use repairing::{LostPieces, repair_into};

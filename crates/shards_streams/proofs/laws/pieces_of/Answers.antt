@@ -1,6 +1,6 @@
 use Rattle.std.proofs.Common.{◌≡◌, ℕ, List, [], ◌<◌, length, drop, arith, get_or, sym, ◌∙◌, subst, subst₂}
 use Rattle.std.proofs.lemmas.List.{take_at}
-use Rattle.shards_format.specs.Files.{IsPiece}
+use Rattle.shards_format.specs.Files.{AreDigests, IsPiece}
 use Rattle.shards_streams.specs.declared.writer.PieceWriter.{PieceWriter}
 use Rattle.shards_streams.specs.declared.laws.ListSink.{ListSink}
 use Rattle.shards_streams.specs.Writers.{piece_sink}
@@ -31,3 +31,10 @@ returns-in-Ok-clause-pieces g c =
     subst₂ (λ (x y : List ℕ). IsPiece code.number k n label x digests i y) same (sym now) took.is in
     subst (λ (ws : List (PieceWriter ListSink)). IsPiece code.number k n label c.args.bytes.now digests i (piece_sink (get_or ws i w)).bytes.items)
     (sym whole) is
+
+pub returns-in-Ok-clause-digests : goal.returns-in-Ok-clause-digests
+returns-in-Ok-clause-digests g c =
+    let code = g.C.StripeCode in
+    let split = c.in-Ok.ensures.pieces in
+    subst (λ (x : List ℕ). AreDigests code.number (code.k_of c.args.code.now) (code.n_of c.args.code.now) c.args.label.now x c.in-Ok.trailer.digests.items)
+    (all_taken c.args.bytes.now split.bytes c.split_into.new.source.now split.takes.consumes split.end) split.digests_are
