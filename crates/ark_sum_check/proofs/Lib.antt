@@ -8,4 +8,7 @@ pub mod ValuesThrough
 pub mod TrueRounds
 pub mod EntryTables
 pub mod Accepted
+pub mod AtMost
+pub mod Vectors
 pub mod Unlucky
+pub mod Believed

@@ -1,5 +1,6 @@
 -- The rounds of a sum-check. The first round binds the first variable, and so on.
-use Rattle.std.specs.Prelude.{◌≡◌, ◌≢◌, ◌⊎◌, ℕ, suc, zero, List, [], ◌∷◌, ◌++◌, ◌+◌, ◌<◌, ◌≤◌, length, map}
+use Rattle.std.specs.Prelude.{◌≡◌, ◌≢◌, ◌⊎◌, ℕ, suc, zero, List, [], ◌∷◌, ◌++◌, ◌+◌, ◌<◌, ◌≤◌, All, Contains, Vec, length, map}
+use Rattle.std.specs.declared.alloc.Global.{Global}
 use Rattle.ark_math.specs.Field.{FieldOn, natural}
 use Rattle.ark_math.specs.Draws.{AreDrawn}
 use Rattle.ark_math.specs.Univariate.{IsBelow, IsValue, difference, nothing, of_list}
@@ -102,3 +103,23 @@ pub record HasOneOfFew {F : Type 0} (K : FieldOn F) (d : ℕ) (ts : List (ℕ �
   pub is : rs ≡ before ++ round ∷ after
   pub few : AtMost d (IsUnlucky K d (length after) (left_after K (challenges before) ts) round.values.items)
   pub unlucky : IsUnlucky K d (length after) (left_after K (challenges before) ts) round.values.items round.challenge
+
+-- ---- strategies
+
+-- what a prover sends: the values after the challenges so far
+abbrev pub Strategy : Type 0 → Type 0
+Strategy F = List F → Vec F Global
+
+-- its rounds at these challenges
+abbrev pub rounds_of : {F : Type 0} → Strategy F → List F → List (Round F)
+rounds_of sends [] = []
+rounds_of sends (x ∷ xs) = record { values = sends []; challenge = x } ∷ rounds_of (λ before. sends (x ∷ before)) xs
+
+-- m challenges, each one of these choices
+pub record AreChosen {F : Type 0} (choices : List F) (m : ℕ) (xs : List F) : Type 0 where
+  pub count : length xs ≡ m
+  pub chosen : All (Contains choices) xs
+
+-- at these challenges its rounds are accepted of the claim, and the last claim is the product's value
+abbrev pub IsBelieved : {F : Type 0} → FieldOn F → ℕ → F → Strategy F → List (ℕ → F) → List F → Type 0
+IsBelieved K d claim sends ts xs = AreAccepted K d claim (rounds_of sends xs) (product_value K ts xs)

@@ -1,9 +1,10 @@
 //! What rounds tell, stated as the contract of a function that callers may cite: it promises nothing but its
 //! contract.
 
-ghost use Rattle.std.specs.Prelude.{◌≡◌, ◌⊎◌, ℕ, List, ◌+◌, ◌<◌, ◌≤◌, length};
+ghost use Rattle.std.specs.Prelude.{◌≡◌, ◌≢◌, ◌⊎◌, ℕ, List, ◌+◌, ◌-◌, ◌*◌, ◌^◌, ◌<◌, ◌≤◌, length};
 ghost use Rattle.ark_sum_check.specs.Cube.{cube_sum, product_value};
-ghost use Rattle.ark_sum_check.specs.Rounds.{AreAccepted, AreDifferent, AtMost, HasOneOfFew, IsUnlucky, challenges};
+ghost use Rattle.ark_sum_check.specs.Rounds.{AreAccepted, AreChosen, AreDifferent, AtMost, HasOneOfFew, IsBelieved};
+ghost use Rattle.ark_sum_check.specs.Rounds.{IsUnlucky, Strategy, challenges};
 ghost use Rattle.ark_sum_check.specs.declared.round.Round.{Round};
 
 use ark_traits::Field;
@@ -26,4 +27,16 @@ pub fn true_or_one_of_few<F: Field>(degree: usize)
         → AreAccepted F.field degree claim rounds last
         → last ≡ product_value F.field ts (challenges rounds)
         → (claim ≡ cube_sum F.field (length rounds) ts) ⊎ HasOneOfFew F.field degree ts rounds }
+{}
+
+/// A law of all challenges together: whatever a prover sends, each round's values by the challenges before it,
+/// of a false claim. Of all vectors of `m` challenges from a list of choices at most `m * degree * n^(m - 1)`
+/// lead from it to the product's true value, for `n` choices. Where these are different elements there are
+/// `n^m` vectors: a false claim is believed with probability `m * degree / n` at most.
+pub fn few_believed_challenges<F: Field>(degree: usize)
+    requires { AreDifferent F.field (degree + 1) }
+    ensures { (claim : F) (sends : Strategy F) (ts : List (ℕ → F)) (choices : List F) (m : ℕ)
+        → length ts ≤ degree → claim ≢ cube_sum F.field m ts
+        → AtMost (m * degree * length choices ^ (m - 1))
+        (λ xs. AreChosen choices m xs × IsBelieved F.field degree claim sends ts xs) }
 {}

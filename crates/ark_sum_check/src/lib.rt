@@ -15,7 +15,7 @@ mod verifier;
 mod whole;
 
 pub use error::SumCheckError;
-pub use laws::{few_unlucky_challenges, true_or_one_of_few};
+pub use laws::{few_believed_challenges, few_unlucky_challenges, true_or_one_of_few};
 pub use prover::Prover;
 pub use round::Round;
 pub use sparse::SparseProver;
