@@ -15,12 +15,22 @@ use Rattle.ark_extensions.specs.declared.quadratic.Quadratic.{Quadratic}
 pub same_element : {F M : Type 0} (x y : Quadratic F M) → coefficients x ≡ coefficients y → x ≡ y
 same_element x y e = ap element e
 
+-- an element by what its coefficients are
+pub is_pair : {F M : Type 0} (x : Quadratic F M) {a b : F} → x.c0 ≡ a → x.c1 ≡ b → x ≡ element (a, b)
+is_pair x e f = ap₂ (λ a b. element (a, b)) e f
+
+pub pair_is : {F M : Type 0} {a b c d : F} → a ≡ c → b ≡ d → ◌≡◌ {A = Quadratic F M} (element (a, b)) (element (c, d))
+pair_is e f = ap₂ (λ a b. element (a, b)) e f
+
 pub equal_elements : {F M : Type 0} (eq : F → F → Bool) → ((a b : F) → Decides (eq a b) (a ≡ b)) → (x y : Quadratic F M) → Decides (eq x.c0 y.c0 && eq x.c1 y.c1) (x ≡ y)
 equal_elements eq decides x y =
     let both = pair_Decides (decides x.c0 y.c0) (decides x.c1 y.c1) in
     (λ t. same_element x y (both.0 t), λ e. both.1 (ap coefficients e))
 
 -- ---- as a module over the field below
+
+pub both_are : {A B : Type 0} {a c : A} {b d : B} → a ≡ c → b ≡ d → ◌≡◌ {A = A × B} (a, b) (c, d)
+both_are e f = ap₂ (λ x y. (x, y)) e f
 
 pub pairs_are_module : {F : Type 0} (K : FieldOn F) → IsField K → IsModule K (in_pairs K)
 pairs_are_module K L = paired_is_module (itself_is_module K L) (itself_is_module K L)

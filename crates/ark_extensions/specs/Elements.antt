@@ -45,6 +45,3 @@ four_coefficients a = (coefficients a.c0, coefficients a.c1)
 
 abbrev pub in_fours : {F : Type 0} → FieldOn F → ModuleOn F ((F × F) × (F × F))
 in_fours K = paired (in_pairs K) (in_pairs K)
-
-abbrev pub multiple_of_both : {F M N : Type 0} → FieldOn F → F → Quadratic (Quadratic F M) N → Quadratic (Quadratic F M) N
-multiple_of_both K s a = element (multiple K s a.c0, multiple K s a.c1)

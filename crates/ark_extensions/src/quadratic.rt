@@ -12,7 +12,7 @@ mod roots;
 
 use crate::modulus::QuadraticModulus;
 use ark_base::ConstantZero;
-use ark_traits::{Field, One, Zero};
+use ark_traits::{One, Zero};
 use std::alloc::AllocError;
 use std::default::Default;
 use std::marker::PhantomData;
@@ -55,17 +55,17 @@ impl<F, M> Quadratic<F, M> {
     }
 }
 
-impl<F: Field, M: QuadraticModulus<F>> Zero for Quadratic<F, M> {
-    ghost use Rattle.ark_extensions.specs.Elements.{extension};
+impl<F: Zero, M> Zero for Quadratic<F, M> {
+    ghost use Rattle.ark_extensions.specs.Elements.{element};
 
-    ghost zero = { (extension F.field M.non_residue).zero };
+    ghost zero = { element (F.zero, F.zero) };
 
     fn zero() -> Self {
         Quadratic::new(F::zero(), F::zero())
     }
 
     fn is_zero(&self) -> bool {
-        *self == Self::zero()
+        self.c0.is_zero() && self.c1.is_zero()
     }
 }
 
@@ -80,26 +80,24 @@ impl<F: ConstantZero, M: QuadraticModulus<F>> ConstantZero for Quadratic<F, M> {
     ghost zero_constant = { refl };
 }
 
-impl<F: Field, M: QuadraticModulus<F>> One for Quadratic<F, M> {
-    ghost use Rattle.ark_extensions.specs.Elements.{extension};
+impl<F: Zero + One, M> One for Quadratic<F, M> {
+    ghost use Rattle.ark_extensions.specs.Elements.{element};
 
-    ghost one = { (extension F.field M.non_residue).one };
+    ghost one = { element (F.one, F.zero) };
 
     fn one() -> Self {
         Quadratic::new(F::one(), F::zero())
     }
 
     fn is_one(&self) -> bool {
-        *self == Self::one()
+        self.c0.is_one() && self.c1.is_zero()
     }
 }
 
-impl<F: Field, M: QuadraticModulus<F>> Default for Quadratic<F, M> {
-    ghost use Rattle.ark_extensions.specs.Elements.{extension};
-
-    ghost is_default = { λ x. x ≡ (extension F.field M.non_residue).zero };
+impl<F: Default, M> Default for Quadratic<F, M> {
+    ghost is_default = { λ x. F.is_default x.c0 × F.is_default x.c1 };
 
     fn default() -> Self {
-        Zero::zero()
+        Quadratic::new(F::default(), F::default())
     }
 }

@@ -3,7 +3,6 @@
 use ark_base::{
     FftField, Field, Lanes, PolyError, PrimeField, PrimeField32, PrimeModulus, PrimeModulus32,
 };
-use ark_extensions::{Quadratic, QuadraticModulus};
 use ark_rows::Row;
 use ark_wide::{PrimeField256, PrimeModulus256};
 use std::alloc::Global;
@@ -55,13 +54,6 @@ impl<F: Field + Number> Number for Lanes<F> {
     fn number(&self) -> u64 {
         let first = self.get(0).number().wrapping_mul(31);
         first.wrapping_add(self.get(1).number())
-    }
-}
-
-impl<F: Field + Number, M: QuadraticModulus<F>> Number for Quadratic<F, M> {
-    fn number(&self) -> u64 {
-        let first = self.c0.number().wrapping_mul(31);
-        first.wrapping_add(self.c1.number())
     }
 }
 

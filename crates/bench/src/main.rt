@@ -17,10 +17,8 @@ mod sums;
 mod transforms;
 
 use ark_base::{
-    BabyBear, CanonicalSerialize, Compress, DomainCoeff, F433, F65537, Field, Goldilocks, KoalaBear,
-    Polynomial,
+    BabyBear, CanonicalSerialize, Compress, F433, F65537, Field, Goldilocks, KoalaBear, Polynomial,
 };
-use ark_extensions::{BabyBear4, Goldilocks2};
 use ark_poly::univariate::{DensePolynomial, SparsePolynomial};
 use ark_poly::{
     DenseMultilinearExtension, DenseUVPolynomial, EvaluationDomain, MixedRadixEvaluationDomain,
@@ -30,9 +28,9 @@ use ark_wide::Bls12_381Scalar;
 use at_points::{report_at_points, report_shares};
 use batches::{Counted, Number, Reporter};
 use bytes::{ReadBack, Written};
-use codes::{report_codes, report_rows_in_place};
+use codes::report_codes;
 use draws::Draws;
-use elements::{Operation, report_elements};
+use elements::report_elements;
 use pieces::report_pieces;
 use points::{BoundTable, VARIABLES, ValueAtPoint, polynomial_of_terms};
 use polynomials::{
@@ -58,19 +56,7 @@ fn main(rt: HostRuntime) -> anyhow::Result<()> {
         timed,
     };
     report_all::<F65537, F433, BabyBear, KoalaBear, Goldilocks, FileCode, HostRuntime>(&reporter)?;
-    report_wide_field::<Bls12_381Scalar, HostRuntime>(&reporter)?;
-    report_extension::<BabyBear, BabyBear4, HostRuntime>(
-        &reporter,
-        "baby_bear4_products",
-        "baby_bear_products",
-        "baby_bear4_fft_in_place",
-    )?;
-    report_extension::<Goldilocks, Goldilocks2, HostRuntime>(
-        &reporter,
-        "goldilocks2_products",
-        "goldilocks_products",
-        "goldilocks2_fft_in_place",
-    )
+    report_wide_field::<Bls12_381Scalar, HostRuntime>(&reporter)
 }
 
 // Everything, over a field with 2^16 units, one with mixed domains, and three with large domains; and the pieces of
@@ -135,34 +121,11 @@ fn report_large_field<F: Counted, R: Print + Clock>(
     report_radix2::<F, R>(reporter, &mut draws, names, &[1 << 16, 1 << 20])
 }
 
-// Products of elements of an extension, and a transform of such elements over a domain of the field below.
-fn report_extension<F: Counted, E: Field + DomainCoeff<F> + Number, R: Print + Clock>(
-    reporter: &Reporter<'_, R>,
-    products: &'static str,
-    products_below: &'static str,
-    transform: &'static str,
-) -> anyhow::Result<()> {
-    let mut draws = Draws::new();
-    let below = [(products_below, Operation::Product, 1 << 10)];
-    report_elements::<F, R>(reporter, &mut draws, &below)?;
-    let above = [(products, Operation::Product, 1 << 10)];
-    report_elements::<E, R>(reporter, &mut draws, &above)?;
-    let items = draws.list::<E>(reporter.alloc, 1 << 16)?;
-    report_rows_in_place::<F, E, R>(reporter, transform, items)
-}
-
 // A field of several words.
 fn report_wide_field<F: Counted, R: Print + Clock>(
     reporter: &Reporter<'_, R>,
 ) -> anyhow::Result<()> {
-    let mut draws = Draws::new();
-    let operations = [
-        ("bls12_381_sums", Operation::Sum, 1 << 10),
-        ("bls12_381_differences", Operation::Difference, 1 << 10),
-        ("bls12_381_products", Operation::Product, 1 << 10),
-        ("bls12_381_inverses", Operation::Inverse, 1 << 4),
-    ];
-    report_elements::<F, R>(reporter, &mut draws, &operations)?;
+    report_elements::<F, R>(reporter)?;
     let mut draws = Draws::new();
     let names = ["bls12_381_fft_in_place", "bls12_381_ifft_in_place"];
     report_radix2::<F, R>(reporter, &mut draws, names, &[1 << 12])?;

@@ -32,7 +32,9 @@ mod sum_check_whole;
 mod there_and_back;
 mod words;
 
-use ark_base::{BabyBear, F433, F65537, FftField, Field, PolyError, PrimeField, PrimeModulus, Work};
+use ark_base::{
+    BabyBear, F433, F65537, FftField, Field, PolyError, PrimeField, PrimeModulus, Work,
+};
 use ark_poly::univariate::DensePolynomial;
 use ark_poly::{
     DenseMultilinearExtension, DenseUVPolynomial, EvaluationDomain, MixedRadixEvaluationDomain,

@@ -21,9 +21,10 @@ pub fn values_between<F: WordElement>(
         × AreEvaluated F.spelled coefficients others.now found.new) }
     ensures kept { OnErr result (found.new ≡ found.old) }
 {
-    let Ok(mut coefficients) = Vec::from_slice(alloc, points) else {
+    let Ok(mut room) = Vec::from_slice(alloc, points) else {
         return Err(WordsError::Memory);
     };
-    interpolate::<F>(alloc, points, values, &mut coefficients)?;
-    evaluate::<F>(alloc, &coefficients, others, found)
+    let coefficients = room.as_mut_slice();
+    interpolate::<F>(alloc, points, values, coefficients)?;
+    evaluate::<F>(alloc, coefficients, others, found)
 }

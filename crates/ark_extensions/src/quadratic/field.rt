@@ -1,6 +1,7 @@
 //! The extension as a field.
 
-ghost use Rattle.std.specs.Prelude.{◌≡◌, refl};
+ghost use Rattle.std.specs.Prelude.{◌≡◌};
+ghost use Rattle.std.proofs.Common.{◌∙◌};
 
 use crate::modulus::QuadraticModulus;
 use crate::quadratic::Quadratic;
@@ -24,6 +25,7 @@ impl<F: Field, M: QuadraticModulus<F>> Field for Quadratic<F, M> {
     ghost use Rattle.rand_core.specs.Stream.{Stream};
     ghost use Rattle.ark_extensions.specs.Elements.{extension};
     ghost use Rattle.ark_extensions.specs.ElementLaws.{extension_laws, equal_elements, natural_embedded};
+    ghost use Rattle.ark_extensions.specs.ElementLaws.{is_pair, pair_is};
     ghost use Rattle.ark_extensions.specs.ElementBytes.{in_bytes_elements, in_bytes_alike};
 
     ghost field = { extension F.field M.non_residue };
@@ -47,45 +49,50 @@ impl<F: Field, M: QuadraticModulus<F>> Field for Quadratic<F, M> {
 
     ghost field_laws = { extension_laws F.field F.field_laws M.non_residue M.no_square };
 
-    ghost zero_law = { refl };
+    ghost zero_law = { pair_is F.zero_law F.zero_law };
 
-    ghost one_law = { refl };
+    ghost one_law = { pair_is F.one_law F.zero_law };
 
     ghost equality_law = { equal_elements F.eq F.equality_law };
 
     ghost clone_law = { λ a b e. e };
 
-    ghost default_law = { λ a e. e };
+    ghost default_law = { λ a e. is_pair a (F.default_law a.c0 e.0) (F.default_law a.c1 e.1) };
 
-    ghost from_law = { λ n r fits e. natural_embedded F.field F.field_laws M.non_residue n r e };
+    ghost from_law = { λ n r fits e. natural_embedded F.field F.field_laws M.non_residue n r
+        (is_pair r (F.from_law n r.c0 fits e.0) (e.1 ∙ F.zero_law)) };
 
-    ghost can_add_law = { λ a b. tt };
+    ghost can_add_law = { λ a b. (F.can_add_law a.c0 b.c0, F.can_add_law a.c1 b.c1) };
 
-    ghost add_law = { λ a b r e. e };
+    ghost add_law = { λ a b r e. is_pair r (F.add_law a.c0 b.c0 r.c0 e.0)
+        (F.add_law a.c1 b.c1 r.c1 e.1) };
 
-    ghost can_sub_law = { λ a b. tt };
+    ghost can_sub_law = { λ a b. (F.can_sub_law a.c0 b.c0, F.can_sub_law a.c1 b.c1) };
 
-    ghost sub_law = { λ a b r e. e };
+    ghost sub_law = { λ a b r e. is_pair r (F.sub_law a.c0 b.c0 r.c0 e.0)
+        (F.sub_law a.c1 b.c1 r.c1 e.1) };
 
     ghost can_mul_law = { λ a b. tt };
 
     ghost mul_law = { λ a b r e. e };
 
-    ghost can_add_assign_law = { λ a b. tt };
+    ghost can_add_assign_law = { λ a b. (F.can_add_assign_law a.c0 b.c0, F.can_add_assign_law a.c1 b.c1) };
 
-    ghost add_assign_law = { λ a b r e. e };
+    ghost add_assign_law = { λ a b r e. is_pair r (F.add_assign_law a.c0 b.c0 r.c0 e.0)
+        (F.add_assign_law a.c1 b.c1 r.c1 e.1) };
 
-    ghost can_sub_assign_law = { λ a b. tt };
+    ghost can_sub_assign_law = { λ a b. (F.can_sub_assign_law a.c0 b.c0, F.can_sub_assign_law a.c1 b.c1) };
 
-    ghost sub_assign_law = { λ a b r e. e };
+    ghost sub_assign_law = { λ a b r e. is_pair r (F.sub_assign_law a.c0 b.c0 r.c0 e.0)
+        (F.sub_assign_law a.c1 b.c1 r.c1 e.1) };
 
     ghost can_mul_assign_law = { λ a b. tt };
 
     ghost mul_assign_law = { λ a b r e. e };
 
-    ghost can_neg_law = { λ a. tt };
+    ghost can_neg_law = { λ a. (F.can_neg_law a.c0, F.can_neg_law a.c1) };
 
-    ghost neg_law = { λ a r e. e };
+    ghost neg_law = { λ a r e. is_pair r (F.neg_law a.c0 r.c0 e.0) (F.neg_law a.c1 r.c1 e.1) };
 
     ghost elements_law = { λ mode. in_bytes_elements (F.format mode) F.element_size (F.format_law mode)
         (F.elements_law mode) };
