@@ -3,8 +3,10 @@
 
 A line is a call, its field, its status, the lists that it is given and, after `>`, those that it leaves, all in hexadecimal
 words. What a call changes in place stands in both. Where the status isn't 0, the lists after `>` are those that must still
-be there: `-` is a word of which only that is known.
+be there: `-` is a word of which only that is known. The calls over pieces of files have bytes in place of words, but in the list
+of numbers that they are given first.
 """
+import hashlib
 import random
 
 BN254 = 0x30644E72E131A029B85045B68181585D2833E84879B9709143E1F593F0000001
@@ -25,7 +27,7 @@ FIELDS = [
 BEYOND = {5: 5, 433: 433, 65537: 2**16 + 1, 2013265921: 2**27 + 1, 2130706433: 2**24 + 1, 18446744069414584321: 2**32 + 1,
           254: 2**28 + 1, 12381: 2**32 + 1}
 
-OK, NO_FIELD, LENGTH, NOT_REDUCED, NO_DOMAIN, ZERO_DIVISOR, EQUAL_POINTS, TOO_FEW, NO_CODEWORD = 0, 2, 3, 4, 5, 6, 7, 8, 9
+OK, NO_FIELD, LENGTH, NOT_REDUCED, NO_DOMAIN, ZERO_DIVISOR, EQUAL_POINTS, TOO_FEW, NO_CODEWORD, NOT_PIECES, DAMAGED = 0, 2, 3, 4, 5, 6, 7, 8, 9, 10, 11
 UNKNOWN = "-"
 
 rows = []
@@ -88,6 +90,15 @@ def bound(table, point, p):
     for x in point:
         table = [(a + x * (b - a)) % p for a, b in zip(table[::2], table[1::2])]
     return table
+
+
+def by_entries(indices, values, point, p):
+    total = 0
+    for i, y in dict(zip(indices, values)).items():
+        for j, x in enumerate(point):
+            y = y * (x if i >> j & 1 else 1 - x) % p
+        total += y
+    return [total % p]
 
 
 def through(points, values, p):
@@ -227,14 +238,18 @@ for name, p, words, g, sizes in FIELDS:
                 messages += message
                 codewords += codeword
                 holed += [0 if lost else x for lost, x in zip(erased, codeword)]
+            at = domain(n, 1, p, g)
+            good("code_encode_systematic", [s(message)], [s([value(through(at[:k], message, p), x, p) for x in at])])
             good("code_restore", [s(holed[:n]), erased, [k]], [s(codewords[:n])])
             good("code_restore", [s(holed), [255 * lost for lost in erased], [k]], [s(codewords)])
             good("code_message", [s(holed[:n]), erased], [s(messages[:k])])
             good("code_message", [s(holed), erased], [s(messages)])
             good("code_message", [s(codewords), [0] * n], [s(messages)])
-    bad("code_encode", NO_DOMAIN, [s([1, 2])], [unknown(len(none))])
-    bad("code_encode", LENGTH, [s([1, 2, 3])], [unknown(2)])
-    bad("code_encode", NOT_REDUCED, [s([1, p])], [unknown(4)])
+    for call in ("code_encode", "code_encode_systematic"):
+        bad(call, NO_DOMAIN, [s([1, 2])], [unknown(len(none))])
+        bad(call, LENGTH, [s([1, 2, 3])], [unknown(2)])
+        bad(call, LENGTH, [[]], [unknown(2)])
+        bad(call, NOT_REDUCED, [s([1, p])], [unknown(4)])
     word = s([value([1, 2], x, p) for x in domain(4, 1, p, g)])
     bad("code_restore", TOO_FEW, [word, [1, 1, 0, 1], [2]], [word])
     bad("code_restore", TOO_FEW, [word, [1, 1, 1, 1], [1]], [word])
@@ -258,6 +273,22 @@ for name, p, words, g, sizes in FIELDS:
     bad("code_message", NO_DOMAIN, [s(none), [1] + [0] * (len(none) - 1)], [unknown(2)])
     bad("code_message", NOT_REDUCED, [s([0, 1, 2, p]), [1, 0, 0, 0]], [unknown(2)])
 
+    # multilinear extensions by entries
+    for m, n in ((0, 0), (0, 2), (1, 1), (2, 3), (4, 9), (20, 6), (63, 4)):
+        indices = [rng.randrange(1 << m) for _ in range(n - 1)] + [(1 << m) - 1] * min(n, 1)
+        entries, at = draw(n), draw(m)
+        good("multilinear_evaluate_sparse", [indices, s(entries), s(at)], [s(by_entries(indices, entries, at, p))])
+    good("multilinear_evaluate_sparse", [[2, 1, 2], s([1, p - 1, 3]), s([2, 3])], [s([(2 * 2 - 9) % p])])
+    bad("multilinear_evaluate_sparse", LENGTH, [[0], s([1, 2]), s([1])], [unknown(1)])
+    bad("multilinear_evaluate_sparse", LENGTH, [[0, 1], s([1]), s([1])], [unknown(1)])
+    bad("multilinear_evaluate_sparse", LENGTH, [[0, 4], s([1, 2]), s([1, 2])], [unknown(1)])
+    bad("multilinear_evaluate_sparse", LENGTH, [[2**63], s([1]), s([1] * 63)], [unknown(1)])
+    bad("multilinear_evaluate_sparse", LENGTH, [[], [], s([1] * 64)], [unknown(1)])
+    bad("multilinear_evaluate_sparse", LENGTH, [[0], s([1]), s([1])], [unknown(2)])
+    bad("multilinear_evaluate_sparse", LENGTH, [[2], s([p]), s([1])], [unknown(1)])
+    bad("multilinear_evaluate_sparse", NOT_REDUCED, [[0], s([p]), s([1])], [unknown(1)])
+    bad("multilinear_evaluate_sparse", NOT_REDUCED, [[0], s([1]), s([p])], [unknown(1)])
+
     # lengths that are no multiple of four words
     if words == 4:
         five, four = [1, 0, 0, 0, 1], [1, 0, 0, 0]
@@ -274,8 +305,11 @@ for name, p, words, g, sizes in FIELDS:
         bad("interpolate", LENGTH, [five, five], [[UNKNOWN] * 5])
         bad("lagrange", LENGTH, [four, four], [[UNKNOWN] * 5])
         bad("multilinear_evaluate", LENGTH, [four, [1]], [unknown(1)])
+        bad("multilinear_evaluate_sparse", LENGTH, [[0], five, []], [unknown(1)])
+        bad("multilinear_evaluate_sparse", LENGTH, [[0], four, five], [unknown(1)])
         bad("multilinear_fix", LENGTH, [five, []], [[UNKNOWN] * 5])
-        bad("code_encode", LENGTH, [four, ], [[UNKNOWN] * 5])
+        for call in ("code_encode", "code_encode_systematic"):
+            bad(call, LENGTH, [four], [[UNKNOWN] * 5])
         bad("code_restore", LENGTH, [five, [0], [1]], [five])
         bad("code_message", LENGTH, [four, [0]], [[UNKNOWN] * 5])
 
@@ -290,10 +324,114 @@ for name in (0, 1, 4, 7, 434, 2013265920, 18446744069414584320, 2**64 - 1):
     row("interpolate", name, NO_FIELD, [[1], [1]], [[UNKNOWN]])
     row("lagrange", name, NO_FIELD, [[1], [1]], [[UNKNOWN]])
     row("multilinear_evaluate", name, NO_FIELD, [[1], []], [[UNKNOWN]])
+    row("multilinear_evaluate_sparse", name, NO_FIELD, [[0], [1], []], [[UNKNOWN]])
     row("multilinear_fix", name, NO_FIELD, [[1], []], [[UNKNOWN]])
-    row("code_encode", name, NO_FIELD, [[1]], [[UNKNOWN]])
+    for call in ("code_encode", "code_encode_systematic"):
+        row(call, name, NO_FIELD, [[1]], [[UNKNOWN]])
     row("code_restore", name, NO_FIELD, [[1], [0], [1]], [[1]])
     row("code_message", name, NO_FIELD, [[1], [0]], [[UNKNOWN]])
+
+
+# ---- pieces of files, as docs/FORMAT.md has them
+
+
+def part(i, k, numbers):
+    if i < k:
+        return b"".join(x.to_bytes(2, "little") for x in numbers)
+    mark = 65536 if 65536 not in numbers else next(x for x in range(65537) if x not in numbers)
+    return mark.to_bytes(4, "little") + b"".join((mark if x == 65536 else x).to_bytes(2, "little") for x in numbers)
+
+
+def body(i, k, n, file):
+    at = domain(1 << (n - 1).bit_length(), 1, 65537, 3)
+    parts = b""
+    for start in range(0, len(file), 2048 * k):
+        block = file[start : start + 2048 * k]
+        count = -(-len(block) // (2 * k))
+        block += bytes(2 * k * count - len(block))
+        items = [int.from_bytes(block[2 * j : 2 * j + 2], "little") for j in range(k * count)]
+        stripes = [items[s::count] for s in range(count)]
+        parts += part(i, k, [value(through(at[:k], stripe, 65537), at[i], 65537) for stripe in stripes])
+    return parts
+
+
+def pieces(k, n, label, file):
+    heads = [b"shards\0\2" + b"".join(x.to_bytes(4, "little") for x in (k, n, i, len(label))) + label for i in range(n)]
+    texts = [head + body(i, k, n, file) for i, head in enumerate(heads)]
+    listing = b"".join(hashlib.sha256(text).digest() for text in texts) + len(file).to_bytes(8, "little")
+    return [text + listing + hashlib.sha256(listing).digest() for text in texts]
+
+
+CODE = 65537  # the field of the code of files
+
+
+def of_pieces(call, status, given, left):
+    row(call, CODE, status, given, left)
+
+
+unknown = lambda n: [UNKNOWN] * n
+rng = random.Random(CODE)
+for k, n, label, file in (
+    (1, 1, b"", b""),
+    (2, 3, b"", b"hello"),
+    (2, 4, bytes.fromhex("a401000001000000000000000200000061"), bytes.fromhex("0100020001ff02ff")),
+    (1, 3, b"label", b""),
+    (3, 3, b"", b"\xff" * 7),
+    (3, 5, b"a", b"\0" * 6),
+    (3, 6, b"two words", rng.randbytes(29)),
+    (5, 6, b"", rng.randbytes(1)),
+):
+    made = pieces(k, n, label, file)
+    run = b"".join(made)
+    of_pieces("split", OK, [[k, n], label, file], [run])
+    of_pieces("split", LENGTH, [[k, n], label, file], [unknown(len(run) - 1)])
+    of_pieces("split", LENGTH, [[k, n], label, file], [unknown(len(run) + 1)])
+    for i in range(n):
+        of_pieces("piece_size", OK, [[k, n, i, len(label), len(file)]], [[len(made[i])]])
+    of_pieces("file_size", OK, [[n], run], [[len(file)]])
+    of_pieces("file_size", OK, [[n], made[-1]], [[len(file)]])
+    of_pieces("file_size", NOT_PIECES, [[n + 1], run], [unknown(1)])
+    of_pieces("file_size", NOT_PIECES, [[n], run[:-1]], [unknown(1)])
+    of_pieces("join", OK, [[k, n], run], [file])
+    last = made[n - k :]
+    for chosen in (made[:k], last[::-1], rng.sample(made, k), last + last):
+        of_pieces("join", OK, [[k, n], b"".join(chosen)], [file])
+    # what stands behind the first k counts for nothing, but for the trailer at the end
+    of_pieces("join", OK, [[k, n], b"".join(last) + b"none" + made[0][-32 * n - 40 :]], [file])
+    of_pieces("join", LENGTH, [[k, n], run], [unknown(len(file) + 1)])
+    of_pieces("join", NOT_PIECES, [[k, n], b"".join(last[1:])], [unknown(len(file))])
+    of_pieces("join", NOT_PIECES, [[k, n], run[:-1]], [unknown(len(file))])
+    of_pieces("join", NOT_PIECES, [[k, n], b"none" + run], [unknown(len(file))])
+    of_pieces("join", NOT_PIECES, [[k, n + 1], run], [unknown(len(file))])
+    if k > 1:
+        of_pieces("join", NOT_PIECES, [[k, n], made[0] * k], [unknown(len(file))])
+        of_pieces("join", NOT_PIECES, [[k - 1, n], run], [unknown(len(file))])
+    if label:
+        damaged = bytearray(run)
+        damaged[24] ^= 1
+        of_pieces("join", DAMAGED, [[k, n], damaged], [unknown(len(file))])
+    if file:
+        damaged = bytearray(run)
+        damaged[24 + len(label)] ^= 128
+        of_pieces("join", DAMAGED, [[k, n], damaged], [unknown(len(file))])
+# more than a block
+file = rng.randbytes(2049)
+made = pieces(1, 2, b"", file)
+of_pieces("split", OK, [[1, 2], b"", file], [b"".join(made)])
+of_pieces("join", OK, [[1, 2], made[1]], [file])
+for k, n, i, label_len, length in (
+    (0, 1, 0, 0, 0), (2, 1, 0, 0, 0), (1, 65537, 0, 0, 0), (1, 1, 1, 0, 0), (1, 1, 0, 65536, 0), (1, 1, 0, 0, 2**62),
+    (2**64 - 1, 2**64 - 1, 0, 0, 0), (1, 1, 2**64 - 1, 0, 0), (1, 1, 0, 2**64 - 1, 0), (1, 1, 0, 0, 2**64 - 1),
+):  # fmt: skip
+    of_pieces("piece_size", LENGTH, [[k, n, i, label_len, length]], [unknown(1)])
+of_pieces("piece_size", OK, [[65536, 65536, 65535, 65535, 2**62 - 1]], [[24 + 65535 + 2**46 + 32 * 65536 + 40]])
+of_pieces("piece_size", OK, [[1, 2, 1, 0, 2**62 - 1]], [[24 + 2**62 + 2**53 + 104]])
+for k, n in ((0, 1), (2, 1), (0, 0), (1, 65537), (2**64 - 1, 2**64 - 1)):
+    of_pieces("split", LENGTH, [[k, n], b"", b""], [unknown(96)])
+    of_pieces("join", LENGTH, [[k, n], pieces(1, 1, b"", b"")[0]], [[]])
+of_pieces("file_size", LENGTH, [[65537], b""], [unknown(1)])
+of_pieces("file_size", LENGTH, [[2**64 - 1], b""], [unknown(1)])
+of_pieces("file_size", NOT_PIECES, [[65536], b""], [unknown(1)])
 
 if __name__ == "__main__":
     print("\n".join(rows))

@@ -1,4 +1,4 @@
-/* Polynomials, transforms, multilinear extensions and Reed-Solomon codes over prime fields.
+/* Polynomials, transforms, multilinear extensions and Reed-Solomon codes over prime fields, and files in pieces.
  * SPDX-License-Identifier: MIT OR Apache-2.0
  *
  * Each call is proved to do what is said of it here, for callers that keep to these rules:
@@ -18,8 +18,9 @@
  *
  * Statuses. Whatever can be wrong is judged in the order of the enum below: first whether there is such a field, then
  * lengths, then whether each number is below p, and so on. ARK_MEMORY alone has no condition: it comes where memory was
- * refused. A call that answers anything but ARK_OK has written nothing. ARK_MEMORY, ARK_NO_FIELD and, where there are lists of
- * elements, ARK_LENGTH for a part of an element and ARK_NOT_REDUCED may come from every call; each names the others.
+ * refused. A call that answers anything but ARK_OK has written nothing. ARK_MEMORY may come from every call, and from every
+ * call over a field ARK_NO_FIELD and, where there are lists of elements, ARK_LENGTH for a part of an element and
+ * ARK_NOT_REDUCED; each names the others.
  *
  * Domains. The domain of n elements is offset * w^i for i = 0 .. n - 1, where w = g^((p - 1) / n) and g is the field's
  * generator below. There is one for each power of two up to the field's greatest; the field of 433 elements has those of
@@ -66,7 +67,9 @@ enum {
     ARK_ZERO_DIVISOR = 6, /* the divisor is the zero polynomial */
     ARK_EQUAL_POINTS = 7, /* two points are equal */
     ARK_TOO_FEW = 8,      /* a codeword has too few places left */
-    ARK_NO_CODEWORD = 9   /* no codeword has what is left of a word */
+    ARK_NO_CODEWORD = 9,  /* no codeword has what is left of a word */
+    ARK_NOT_PIECES = 10,  /* the bytes are not as many pieces as give a file back */
+    ARK_DAMAGED = 11      /* a piece has not the digest that is listed for it */
 };
 
 /* The version of the library, as ARK_VERSION has that of the declarations. */
@@ -120,6 +123,14 @@ ark_status ark_lagrange(uint64_t field, const uint64_t *offset, size_t offset_le
 ark_status ark_multilinear_evaluate(uint64_t field, const uint64_t *table, size_t table_len, const uint64_t *point,
                                     size_t point_len, uint64_t *value, size_t value_len);
 
+/* The same by the values that aren't zero: values[i] is that at the corner whose place in the table is indices[i], and all
+ * others are zero. The indices, one word each, stand in any order; where one comes again, its last value counts. The memory goes
+ * with the values' number, not with 2^m.
+ * ARK_LENGTH where there aren't as many indices as values, m is above 63, an index isn't below 2^m, or the value isn't one. */
+ark_status ark_multilinear_evaluate_sparse(uint64_t field, const uint64_t *indices, size_t indices_len, const uint64_t *values,
+                                           size_t values_len, const uint64_t *point, size_t point_len, uint64_t *value,
+                                           size_t value_len);
+
 /* Binds the first k variables to the k elements of the point: the table, of 2^(m - k) elements, of the polynomial in the
  * other variables, of which the first is then variable 0.
  * ARK_LENGTH where the table hasn't 2^m elements for an m at or above k, or the result hasn't 2^(m - k). */
@@ -130,6 +141,11 @@ ark_status ark_multilinear_fix(uint64_t field, const uint64_t *table, size_t tab
  * coefficients at the domain of n elements, with offset 1. Any k places of it tell the rest.
  * ARK_LENGTH where k is none of 1 .. n, ARK_NO_DOMAIN where no domain has n elements. */
 ark_status ark_code_encode(uint64_t field, const uint64_t *message, size_t message_len, uint64_t *word, size_t word_len);
+
+/* The only codeword whose first k elements are the message: the same code in systematic form. `ark_code_restore` takes it as any
+ * codeword. The statuses are those of ark_code_encode. */
+ark_status ark_code_encode_systematic(uint64_t field, const uint64_t *message, size_t message_len, uint64_t *word,
+                                      size_t word_len);
 
 /* Fills the lost places of one word or many: `words` are words of n elements each, one after another, and `erased` has n
  * bytes, of which byte i isn't 0 where place i of every word is lost. A lost place counts for nothing, but holds a number
@@ -145,6 +161,31 @@ ark_status ark_code_restore(uint64_t field, uint64_t *words, size_t words_len, c
  * of ark_code_restore. */
 ark_status ark_code_message(uint64_t field, const uint64_t *words, size_t words_len, const uint8_t *erased, size_t erased_len,
                             uint64_t *messages, size_t messages_len);
+
+/* Files in pieces: any k of n pieces give a file back, 1 <= k <= n <= 65536. A piece is a header, a label of fewer than 65536
+ * bytes, its part of the file, and a trailer with the SHA-256 of all n pieces. The label is the same in all, and says what the
+ * caller likes of the file. The first k pieces have the file's own bytes. Pieces stand in one list, one after another.
+ *
+ * Writes how many bytes piece `number` of 0 .. n - 1 has, of a file of `len` bytes, fewer than 2^62. The first k pieces have
+ * the same length, and so have the others.
+ * ARK_LENGTH where there is no such piece. */
+ark_status ark_piece_size(uint64_t k, uint64_t n, uint64_t number, uint64_t label_len, uint64_t len, uint64_t *size);
+
+/* Writes all n pieces of a file with this label, from piece 0 on.
+ * ARK_LENGTH where there are no such pieces, or `pieces` isn't as long as all of them. */
+ark_status ark_split(uint64_t k, uint64_t n, const uint8_t *label, size_t label_len, const uint8_t *file, size_t file_len,
+                     uint8_t *pieces, size_t pieces_len);
+
+/* Writes how many bytes the file has that the list has pieces of, as the trailer says at the list's end.
+ * ARK_LENGTH where n is above 65536, ARK_NOT_PIECES where the list doesn't end with a trailer of n pieces. */
+ark_status ark_file_size(uint64_t n, const uint8_t *pieces, size_t pieces_len, uint64_t *len);
+
+/* Writes the file of k or more of its pieces, which are whole, in any order. The first k are read, and the last one's trailer.
+ * If this trailer is the file's, whatever else the list has, what is written is the file, or else two texts have one SHA-256.
+ * ARK_LENGTH where k is none of 1 .. n, n is above 65536, or the file has another length by this trailer, ARK_NOT_PIECES where
+ * the list doesn't begin with k pieces of this k and n that differ, or doesn't end with a trailer, ARK_DAMAGED where one of the
+ * first k has not its digest of the trailer. */
+ark_status ark_join(uint64_t k, uint64_t n, const uint8_t *pieces, size_t pieces_len, uint8_t *file, size_t file_len);
 
 #ifdef __cplusplus
 }

@@ -19,7 +19,7 @@ struct list {
 };
 
 struct row {
-    char call[24];
+    char call[32];
     uint64_t field;
     ark_status status;
     struct list given[MOST_LISTS], left[MOST_LISTS];
@@ -89,7 +89,7 @@ static size_t read_lists(const char *text, const char *end, struct list *lists) 
 
 static int read_row(const char *line, struct row *row) {
     int used = 0;
-    if (sscanf(line, "%23s %" SCNu64 " %" SCNu32 ":%n", row->call, &row->field, &row->status, &used) < 3 || used == 0) return 0;
+    if (sscanf(line, "%31s %" SCNu64 " %" SCNu32 ":%n", row->call, &row->field, &row->status, &used) < 3 || used == 0) return 0;
     const char *middle = strchr(line, '>'), *end = line + strcspn(line, "\n");
     if (middle == NULL) return 0;
     row->given_count = read_lists(line + used, middle, row->given);
@@ -128,14 +128,25 @@ static void drop_rows(struct row *rows, size_t count) {
     free(rows);
 }
 
-/* What a row's call is made with: lists of its own for what is written, and bytes where the call takes bytes. */
+/* What a row's call is made with: lists of its own for what is written, and their bytes where the call takes bytes. */
 struct made {
     struct list given[MOST_LISTS], left[MOST_LISTS];
-    uint8_t *erased;
+    uint8_t *bytes[MOST_LISTS], *written;
 };
 
 static int is_in_place(const struct row *row) {
     return !strcmp(row->call, "fft") || !strcmp(row->call, "ifft") || !strcmp(row->call, "code_restore");
+}
+
+/* Whether the call is over pieces of a file, whose lists are of bytes. */
+static int is_of_pieces(const struct row *row) {
+    return !strcmp(row->call, "split") || !strcmp(row->call, "join") || !strcmp(row->call, "file_size");
+}
+
+static uint8_t *bytes_of(struct list it) {
+    uint8_t *bytes = (uint8_t *)reserve(it.len + 1);
+    for (size_t i = 0; i < it.len; i++) bytes[i] = (uint8_t)it.words[i];
+    return bytes;
 }
 
 static struct made make(const struct row *row) {
@@ -144,26 +155,34 @@ static struct made make(const struct row *row) {
     for (size_t i = 0; i < row->given_count; i++) it.given[i] = copy_of(row->given[i]);
     for (size_t i = 0; i < row->left_count; i++)
         it.left[i] = i == 0 && is_in_place(row) ? copy_of(row->given[0]) : list_of(row->left[i].len);
-    if (!strncmp(row->call, "code_", 5) && row->given_count > 1) {
-        it.erased = (uint8_t *)reserve(it.given[1].len + 1);
-        for (size_t i = 0; i < it.given[1].len; i++) it.erased[i] = (uint8_t)it.given[1].words[i];
-    }
+    if (!strncmp(row->call, "code_", 5) || is_of_pieces(row))
+        for (size_t i = 0; i < row->given_count; i++) it.bytes[i] = bytes_of(it.given[i]);
+    if (is_of_pieces(row)) it.written = bytes_of(it.left[0]);
     return it;
 }
 
 static void drop_made(const struct row *row, struct made *it) {
     for (size_t i = 0; i < row->given_count; i++) drop(it->given[i]);
     for (size_t i = 0; i < row->left_count; i++) drop(it->left[i]);
-    free(it->erased);
+    for (size_t i = 0; i < MOST_LISTS; i++) free(it->bytes[i]);
+    free(it->written);
 }
 
 /* A list as two arguments. */
 #define OF(list) (list).words, (list).len
 
+/* Puts the bytes that a call wrote into the list's words, and leaves the old ones for those that it left. */
+static ark_status wrote(ark_status status, struct list into, const uint8_t *written) {
+    for (size_t i = 0; i < into.len; i++)
+        if (status == ARK_OK || written[i] != (uint8_t)OLD_WORD) into.words[i] = written[i];
+    return status;
+}
+
 static ark_status call(const struct row *row, struct made *it) {
     const char *name = row->call;
     uint64_t f = row->field;
-    struct list a = it->given[0], b = it->given[1], x = it->left[0], y = it->left[1];
+    struct list a = it->given[0], b = it->given[1], c = it->given[2], x = it->left[0], y = it->left[1];
+    const uint8_t *second = it->bytes[1], *third = it->bytes[2];
     if (!strcmp(name, "domain_size")) return ark_domain_size(f, a.words[0], x.words);
     if (!strcmp(name, "fft")) return ark_fft(f, OF(x), OF(b));
     if (!strcmp(name, "ifft")) return ark_ifft(f, OF(x), OF(b));
@@ -173,10 +192,19 @@ static ark_status call(const struct row *row, struct made *it) {
     if (!strcmp(name, "interpolate")) return ark_interpolate(f, OF(a), OF(b), OF(x));
     if (!strcmp(name, "lagrange")) return ark_lagrange(f, OF(a), OF(b), OF(x));
     if (!strcmp(name, "multilinear_evaluate")) return ark_multilinear_evaluate(f, OF(a), OF(b), OF(x));
+    if (!strcmp(name, "multilinear_evaluate_sparse")) return ark_multilinear_evaluate_sparse(f, OF(a), OF(b), OF(c), OF(x));
     if (!strcmp(name, "multilinear_fix")) return ark_multilinear_fix(f, OF(a), OF(b), OF(x));
     if (!strcmp(name, "code_encode")) return ark_code_encode(f, OF(a), OF(x));
-    if (!strcmp(name, "code_restore")) return ark_code_restore(f, OF(x), it->erased, b.len, it->given[2].words[0]);
-    if (!strcmp(name, "code_message")) return ark_code_message(f, OF(a), it->erased, b.len, OF(x));
+    if (!strcmp(name, "code_encode_systematic")) return ark_code_encode_systematic(f, OF(a), OF(x));
+    if (!strcmp(name, "code_restore")) return ark_code_restore(f, OF(x), second, b.len, c.words[0]);
+    if (!strcmp(name, "code_message")) return ark_code_message(f, OF(a), second, b.len, OF(x));
+    if (!strcmp(name, "piece_size"))
+        return ark_piece_size(a.words[0], a.words[1], a.words[2], a.words[3], a.words[4], x.words);
+    if (!strcmp(name, "split"))
+        return wrote(ark_split(a.words[0], a.words[1], second, b.len, third, c.len, it->written, x.len), x, it->written);
+    if (!strcmp(name, "join"))
+        return wrote(ark_join(a.words[0], a.words[1], second, b.len, it->written, x.len), x, it->written);
+    if (!strcmp(name, "file_size")) return ark_file_size(a.words[0], second, b.len, x.words);
     printf("no call: %s\n", name);
     exit(2);
 }

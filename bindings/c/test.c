@@ -10,7 +10,7 @@ static void expect(int holds, const char *what, uint64_t field, size_t n) {
 }
 
 static void test_rows(const char *path) {
-    unsigned long seen[10] = {0};
+    unsigned long seen[ARK_DAMAGED + 1] = {0};
     size_t count;
     struct row *rows = read_rows(path, &count);
     for (size_t i = 0; i < count; i++) {
@@ -20,10 +20,10 @@ static void test_rows(const char *path) {
             failures++;
             printf("failed: line %zu, %s over %" PRIu64 ", status %" PRIu32 "\n", i + 1, rows[i].call, rows[i].field, status);
         }
-        if (status < 10) seen[status]++;
+        if (status <= ARK_DAMAGED) seen[status]++;
         drop_made(&rows[i], &it);
     }
-    for (ark_status status = ARK_OK; status <= ARK_NO_CODEWORD; status++)
+    for (ark_status status = ARK_OK; status <= ARK_DAMAGED; status++)
         expect(status == ARK_MEMORY || seen[status] > 0, "a status that no row has", 0, status);
     printf("%zu rows\n", count);
     drop_rows(rows, count);
@@ -136,6 +136,75 @@ static void test_table(uint64_t field, size_t n) {
     drop(at_once);
 }
 
+/* A table by all its entries, the last one first. */
+static void test_entries(uint64_t field, size_t n) {
+    size_t words = ark_words(field), m = 0;
+    while ((size_t)1 << m < n) m++;
+    struct list table = drawn(field, n), point = drawn(field, m), indices = list_of(n), values = list_of(table.len),
+                value = element(field, 0), found = element(field, 0);
+    for (size_t i = 0; i < n; i++) {
+        indices.words[i] = n - 1 - i;
+        memcpy(values.words + i * words, table.words + (n - 1 - i) * words, words * sizeof(uint64_t));
+    }
+    expect(ark_multilinear_evaluate(field, OF(table), OF(point), OF(value)) == ARK_OK, "table", field, n);
+    expect(ark_multilinear_evaluate_sparse(field, OF(indices), OF(values), OF(point), OF(found)) == ARK_OK, "entries", field, n);
+    expect(same(found, value), "the same value", field, n);
+    drop(table);
+    drop(point);
+    drop(indices);
+    drop(values);
+    drop(value);
+    drop(found);
+}
+
+/* A codeword begins with its message, and comes back where as much of the message is lost as can be. */
+static void test_systematic(uint64_t field, size_t n) {
+    size_t words = ark_words(field), k = (n + 1) / 2;
+    struct list message = drawn(field, k), word = list_of(n * words), holed = list_of(n * words);
+    uint8_t *erased = (uint8_t *)reserve(n);
+    expect(ark_code_encode_systematic(field, OF(message), OF(word)) == ARK_OK, "systematic", field, n);
+    expect(!memcmp(word.words, message.words, message.len * sizeof(uint64_t)), "the message first", field, n);
+    for (size_t i = 0; i < n; i++) erased[i] = i < n - k;
+    for (size_t i = 0; i < word.len; i++) holed.words[i] = i < (n - k) * words ? 0 : word.words[i];
+    expect(ark_code_restore(field, OF(holed), erased, n, k) == ARK_OK && same(holed, word), "systematic restored", field, n);
+    drop(message);
+    drop(word);
+    drop(holed);
+    free(erased);
+}
+
+/* Any k of n pieces, the last ones and the first ones, give the file back; a byte that is changed shows. */
+static void test_pieces(uint64_t k, uint64_t n, size_t len) {
+    const uint8_t label[] = {'p', 'i', 'e', 'c', 'e', 's'};
+    uint64_t first, last, found = 0, state = 1;
+    expect(ark_piece_size(k, n, 0, sizeof label, len, &first) == ARK_OK, "piece size", k, n);
+    expect(ark_piece_size(k, n, n - 1, sizeof label, len, &last) == ARK_OK, "piece size", k, n);
+    size_t size = (size_t)(k * first + (n - k) * last), some = (size_t)(k * (k == n ? first : last));
+    uint8_t *file = (uint8_t *)reserve(len + 1), *joined = (uint8_t *)reserve(len + 1), *pieces = (uint8_t *)reserve(size);
+    for (size_t i = 0; i < len; i++) {
+        state ^= state << 13;
+        state ^= state >> 7;
+        state ^= state << 17;
+        file[i] = i % 3 ? (uint8_t)state : 0xff;
+    }
+    memset(joined, 0, len + 1);
+    expect(ark_split(k, n, label, sizeof label, file, len, pieces, size) == ARK_OK, "split", k, n);
+    expect(ark_file_size(n, pieces, size, &found) == ARK_OK && found == len, "file size", k, n);
+    expect(ark_join(k, n, pieces, size, joined, len) == ARK_OK && !memcmp(joined, file, len), "join of all", k, n);
+    if (n >= 2 * k || n == k) {
+        memset(joined, 0, len + 1);
+        const uint8_t *end = pieces + size - some;
+        expect(ark_join(k, n, end, some, joined, len) == ARK_OK && !memcmp(joined, file, len), "join of the last", k, n);
+    }
+    joined[0] = (uint8_t)(len ? file[0] + 1 : 7);
+    pieces[24 + sizeof label - 1] ^= 1; /* (in the first piece's label) */
+    expect(ark_join(k, n, pieces, size, joined, len) == ARK_DAMAGED, "a damaged piece", k, n);
+    expect(joined[0] == (uint8_t)(len ? file[0] + 1 : 7), "nothing written", k, n);
+    free(file);
+    free(joined);
+    free(pieces);
+}
+
 int main(int count, char **words) {
     if (count != 2) return puts("the file of answers is wanted"), 2;
     expect(ark_version() == ARK_VERSION, "version", 0, ark_version());
@@ -153,7 +222,18 @@ int main(int count, char **words) {
             test_transform(fields[i], n);
             if (2 * n <= greatest(fields[i])) test_product(fields[i], n);
             if (n >= 4) test_table(fields[i], n);
+            test_entries(fields[i], n);
+            test_systematic(fields[i], n);
         }
+    for (size_t len = 0; len < 20000; len = 3 * len + 1) {
+        test_pieces(1, 1, len);
+        test_pieces(1, 3, len);
+        test_pieces(3, 8, len);
+        test_pieces(4, 5, len);
+        test_pieces(20, 40, len);
+    }
+    expect(ark_split(1, 1, NULL, 0, NULL, 0, NULL, 0) == ARK_LENGTH, "no room", 1, 1);
+    expect(ark_join(1, 1, NULL, 0, NULL, 0) == ARK_NOT_PIECES, "no pieces", 1, 1);
     printf("%d failures\n", failures);
     return failures != 0;
 }

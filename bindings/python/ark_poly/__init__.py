@@ -1,4 +1,5 @@
-"""Polynomials, transforms, multilinear extensions and Reed-Solomon codes over prime fields, by a library that is proved.
+"""Polynomials, transforms, multilinear extensions and Reed-Solomon codes over prime fields, and files in pieces, by a library
+that is proved.
 
 >>> fft(F65537, [1, 2, 3, 4])[0]
 10
@@ -21,14 +22,16 @@ import array
 import ctypes
 import operator
 import sys
-from typing import Any, Callable, List, Optional, Sequence, Tuple, Union, overload
+from typing import Any, Callable, Iterable, List, Optional, Sequence, Tuple, Union, overload
 
 from ._library import (
     ArkError,
+    Damaged,
     EqualPoints,
     NoCodeword,
     NoDomain,
     NoField,
+    NotPieces,
     NotReduced,
     OutOfMemory,
     TooFew,
@@ -42,11 +45,11 @@ __version__ = "0.5.0+proved.1"
 
 __all__ = [
     "BABYBEAR", "BLS12_381_FR", "BN254_FR", "F433", "F5", "F65537", "GOLDILOCKS", "KOALABEAR",
-    "ArkError", "EqualPoints", "NoCodeword", "NoDomain", "NoField", "NotReduced", "OutOfMemory", "TooFew", "WrongLength",
-    "ZeroDivisor",
-    "code_encode", "code_message", "code_restore", "code_restore_in_place", "divide", "domain_size", "evaluate", "fft",
-    "fft_in_place", "ifft", "ifft_in_place", "interpolate", "lagrange", "library_version", "modulus", "multilinear_evaluate",
-    "multilinear_fix", "multiply", "words",
+    "ArkError", "Damaged", "EqualPoints", "NoCodeword", "NoDomain", "NoField", "NotPieces", "NotReduced", "OutOfMemory",
+    "TooFew", "WrongLength", "ZeroDivisor",
+    "code_encode", "code_encode_systematic", "code_message", "code_restore", "code_restore_in_place", "divide", "domain_size",
+    "evaluate", "fft", "fft_in_place", "ifft", "ifft_in_place", "interpolate", "join", "lagrange", "library_version", "modulus",
+    "multilinear_evaluate", "multilinear_evaluate_sparse", "multilinear_fix", "multiply", "split", "words",
 ]  # fmt: skip
 
 F5 = 5
@@ -202,6 +205,19 @@ def multilinear_evaluate(field: int, table: Elements, point: Elements) -> int:
     return value.numbers()[0]
 
 
+def multilinear_evaluate_sparse(field: int, indices: Elements, values: Elements, point: Elements) -> int:
+    """The same of the table that has these values at these indices, and zero elsewhere. The indices stand in any order; the last
+    value of an index counts.
+
+    >>> multilinear_evaluate_sparse(F65537, [2, 0], [5, 7], [0, 1])
+    5
+    """
+    places, values, point = _indices(indices), _Words.given(field, values), _Words.given(field, point)
+    value = point.room(1)
+    _check(_calls.ark_multilinear_evaluate_sparse(field, *places.pair, *values.pair, *point.pair, *value.pair))
+    return value.numbers()[0]
+
+
 def multilinear_fix(field: int, table: Elements, point: Elements) -> Any:
     """The table of the polynomial in the other variables, where the first ones are bound to the point's elements."""
     table, point = _Words.given(field, table), _Words.given(field, point)
@@ -215,10 +231,23 @@ def multilinear_fix(field: int, table: Elements, point: Elements) -> Any:
 
 def code_encode(field: int, message: Elements, n: int) -> Any:
     """The codeword of a message: the values of the polynomial with these k coefficients at the n elements of a domain."""
+    return _encoded(_calls.ark_code_encode, field, message, n)
+
+
+def code_encode_systematic(field: int, message: Elements, n: int) -> Any:
+    """The only codeword that begins with a message of k items.
+
+    >>> code_encode_systematic(F65537, [1, 2], 4)[:2]
+    [1, 2]
+    """
+    return _encoded(_calls.ark_code_encode_systematic, field, message, n)
+
+
+def _encoded(call: Callable[..., int], field: int, message: Elements, n: int) -> Any:
     message = _Words.given(field, message)
     domain_size(field, n)
     word = message.room(_count(n))
-    _check(_calls.ark_code_encode(field, *message.pair, *word.pair))
+    _check(call(field, *message.pair, *word.pair))
     return word.answer()
 
 
@@ -263,6 +292,58 @@ def _holed(field: int, words: Elements, erased: Optional[Sequence[Any]]) -> Tupl
     return _Words.given(field, [0 if item is None else item for item in items]), _Marks([item is None for item in items])
 
 
+# ---- files in pieces
+
+
+def split(k: int, n: int, file: Any, label: Any = b"") -> List[bytes]:
+    """The n pieces of a file's bytes, any k of which give it back: 1 <= k <= n <= 65536. The label, of fewer than 65536 bytes, is
+    the same in all pieces.
+
+    >>> pieces = split(2, 4, b"hello", b"a label")
+    >>> join(2, 4, [pieces[3], pieces[1]])
+    b'hello'
+    """
+    k, n, file, label = _count(k), _count(n), _bytes(file), _bytes(label)
+    sizes = [_piece_size(k, n, number, len(label), len(file)) for number in (0, max(n - 1, 0))]
+    first = k * sizes[0]
+    made = bytearray(first + (n - k) * sizes[1])
+    room = (ctypes.c_char * len(made)).from_buffer(made)
+    _check(_calls.ark_split(k, n, label, len(label), file, len(file), room, len(made)))
+    starts = [*range(0, first, sizes[0]), *range(first, len(made), sizes[1])]
+    return [bytes(made[start:end]) for start, end in zip(starts, [*starts[1:], len(made)])]
+
+
+def join(k: int, n: int, pieces: Union[bytes, bytearray, memoryview, Iterable[Any]]) -> bytes:
+    """The file of k of its n pieces or more, in any order: a list of them, or their bytes one after another. The first k are read,
+    and the end of the last one.
+
+    >>> join(1, 2, split(1, 2, b"hello")[1][:-1])
+    Traceback (most recent call last):
+    ...
+    ark_poly._library.NotPieces: The bytes are not as many pieces as give a file back, of this k and n, that differ.
+    """
+    k, n, size = _count(k), _count(n), ctypes.c_uint64()
+    given = _bytes(pieces) if isinstance(pieces, (bytes, bytearray, memoryview)) else b"".join(map(_bytes, pieces))
+    _check(_calls.ark_file_size(n, given, len(given), ctypes.byref(size)))
+    if size.value > len(given):
+        # Pieces have no fewer bytes than their file.
+        raise NotPieces(NotPieces.__doc__)
+    file = bytearray(size.value)
+    room = (ctypes.c_char * len(file)).from_buffer(file)
+    _check(_calls.ark_join(k, n, given, len(given), room, len(file)))
+    return bytes(file)
+
+
+def _piece_size(k: int, n: int, number: int, label_len: int, length: int) -> int:
+    size = ctypes.c_uint64()
+    _check(_calls.ark_piece_size(k, n, number, label_len, length, ctypes.byref(size)))
+    return size.value
+
+
+def _bytes(it: Any) -> bytes:
+    return it if isinstance(it, bytes) else memoryview(it).tobytes()
+
+
 # ---- words
 
 
@@ -279,6 +360,15 @@ def _count(number: int) -> int:
     if not 0 <= number < 1 << 60:
         raise WrongLength(WrongLength.__doc__)
     return number
+
+
+def _indices(indices: Elements) -> _Words:
+    """The words of indices, one each."""
+    try:
+        return _Words.of_width(1, indices)
+    except NotReduced:
+        # No table has such an index.
+        raise WrongLength(WrongLength.__doc__) from None
 
 
 def _is_number(it: Any) -> bool:
@@ -328,9 +418,11 @@ class _Words:
     @classmethod
     def given(cls, field: int, elements: Elements) -> _Words:
         """The words of a list that is read."""
-        if isinstance(elements, _Words):
-            return elements
-        width = words(field)
+        return elements if isinstance(elements, _Words) else cls.of_width(words(field), elements)
+
+    @classmethod
+    def of_width(cls, width: int, elements: Elements) -> _Words:
+        """The same, of so many words to an element."""
         numpy = _numpy()
         if numpy is not None and isinstance(elements, numpy.ndarray):
             if elements.ndim > 2 or elements.ndim == 2 and elements.shape[1] != width:

@@ -1,4 +1,4 @@
-"""The shared library and its calls, each over lists of words."""
+"""The shared library and its calls, each over lists of words or of bytes."""
 from __future__ import annotations
 
 import ctypes
@@ -66,9 +66,33 @@ class NoCodeword(ArkError, ValueError):
     status = 9
 
 
+class NotPieces(ArkError, ValueError):
+    """The bytes are not as many pieces as give a file back, of this k and n, that differ."""
+
+    status = 10
+
+
+class Damaged(ArkError, ValueError):
+    """A piece has not the digest that is listed for it."""
+
+    status = 11
+
+
 _ERRORS: Dict[int, Type[ArkError]] = {
     error.status: error
-    for error in (OutOfMemory, NoField, WrongLength, NotReduced, NoDomain, ZeroDivisor, EqualPoints, TooFew, NoCodeword)
+    for error in (
+        OutOfMemory,
+        NoField,
+        WrongLength,
+        NotReduced,
+        NoDomain,
+        ZeroDivisor,
+        EqualPoints,
+        TooFew,
+        NoCodeword,
+        NotPieces,
+        Damaged,
+    )
 }
 
 
@@ -99,10 +123,16 @@ def _load() -> ctypes.CDLL:
         ("interpolate", [word, *words * 3], status),
         ("lagrange", [word, *words * 3], status),
         ("multilinear_evaluate", [word, *words * 3], status),
+        ("multilinear_evaluate_sparse", [word, *words * 4], status),
         ("multilinear_fix", [word, *words * 3], status),
         ("code_encode", [word, *words * 2], status),
+        ("code_encode_systematic", [word, *words * 2], status),
         ("code_restore", [word, *words * 2, word], status),
         ("code_message", [word, *words * 3], status),
+        ("piece_size", [word] * 5 + [ctypes.POINTER(word)], status),
+        ("split", [word, word, *words * 3], status),
+        ("file_size", [word, *words, ctypes.POINTER(word)], status),
+        ("join", [word, word, *words * 2], status),
     ):
         call = getattr(library, "ark_" + name)
         call.argtypes, call.restype = arguments, result

@@ -40,6 +40,7 @@ def rows():
 
 
 ROWS = list(rows())
+OF_PIECES = ("piece_size", "split", "file_size", "join")
 
 
 def numbers(field, words):
@@ -47,8 +48,22 @@ def numbers(field, words):
     return [sum(word << 64 * j for j, word in enumerate(words[i : i + width])) for i in range(0, len(words), width)]
 
 
+def raw_pieces(call, given, left):
+    """The same of a call over pieces, whose lists are bytes."""
+    function = getattr(library, "ark_" + call)
+    lists = [it for words in given[1:] for it in (bytes(words), len(words))]
+    if call in ("piece_size", "file_size"):
+        size = ctypes.c_uint64(OLD)
+        return function(*given[0], *lists, ctypes.byref(size)), [[size.value]]
+    made = bytearray([OLD & 255] * len(left[0]))
+    status = function(*given[0], *lists, (ctypes.c_char * len(made)).from_buffer(made), len(made))
+    return status, [[OLD if status and byte == OLD & 255 else byte for byte in made]]
+
+
 def raw(call, field, given, left):
     """The library's own call over these lists, with what it leaves."""
+    if call in OF_PIECES:
+        return raw_pieces(call, given, left)
     lists = [array.array("Q", words) for words in given]
     if call == "domain_size":
         size = ctypes.c_uint64(OLD)
@@ -58,7 +73,7 @@ def raw(call, field, given, left):
     function = getattr(library, "ark_" + call)
     if call in ("fft", "ifft"):
         return function(field, *pair(lists[0]), *pair(lists[1])), [lists[0].tolist()]
-    if call.startswith("code_") and call != "code_encode":
+    if call in ("code_restore", "code_message"):
         marks = array.array("B", given[1])
         if call == "code_restore":
             return function(field, *pair(lists[0]), *pair(marks), given[2][0]), [lists[0].tolist()]
@@ -71,14 +86,17 @@ def answer(call, field, given, left, kind):
     """What the package answers to a row, where elements are of a kind."""
     width = ark_poly.words(field)
     function = getattr(ark_poly, call)
-    lists = [kind(field, words) for words in (given[:1] if call.startswith("code_") else given)]
+    of_elements = given[:1] if call.startswith("code_") else given[1:] if call == "multilinear_evaluate_sparse" else given
+    lists = [kind(field, words) for words in of_elements]
     if call in ("fft", "ifft"):
         return [function(field, lists[0], numbers(field, given[1])[0])]
     if call == "lagrange":
         return [function(field, len(left[0]) // width, numbers(field, given[1])[0], numbers(field, given[0])[0])]
     if call == "multilinear_evaluate":
         return [[function(field, *lists)]]
-    if call == "code_encode":
+    if call == "multilinear_evaluate_sparse":
+        return [[function(field, given[0], *lists)]]
+    if call in ("code_encode", "code_encode_systematic"):
         return [function(field, lists[0], len(left[0]) // width)]
     if call == "code_restore":
         return [function(field, lists[0], given[2][0], given[1])]
@@ -97,7 +115,7 @@ class Answers(unittest.TestCase):
 
     def check_kind(self, kind, back):
         for call, field, status, given, left in ROWS:
-            if status or call == "domain_size":
+            if status or call == "domain_size" or call in OF_PIECES:
                 continue
             # (the package's products have no zeros behind)
             if call == "multiply" and len(left[0]) != len(given[0]) + len(given[1]) - ark_poly.words(field):
@@ -105,7 +123,7 @@ class Answers(unittest.TestCase):
             with self.subTest(call=call, field=field, given=given):
                 found = answer(call, field, given, left, kind)
                 wanted = [numbers(field, words) for words in left]
-                if call in ("multilinear_evaluate", "lagrange"):
+                if call in ("multilinear_evaluate", "multilinear_evaluate_sparse", "lagrange"):
                     self.assertEqual(found, wanted)
                 else:
                     self.assertEqual([back(field, it) for it in found], wanted)
@@ -224,6 +242,10 @@ class Refusals(unittest.TestCase):
             (ark_poly.WrongLength, lambda: ark_poly.interpolate(f, [1, 2], [1])),
             (ark_poly.WrongLength, lambda: ark_poly.multilinear_evaluate(f, [1, 2, 3], [1])),
             (ark_poly.WrongLength, lambda: ark_poly.multilinear_fix(f, [1, 2], [1, 1])),
+            (ark_poly.WrongLength, lambda: ark_poly.multilinear_evaluate_sparse(f, [1], [1, 2], [1])),
+            (ark_poly.WrongLength, lambda: ark_poly.multilinear_evaluate_sparse(f, [-1], [1], [1])),
+            (ark_poly.WrongLength, lambda: ark_poly.multilinear_evaluate_sparse(f, [2**64], [1], [1])),
+            (ark_poly.WrongLength, lambda: ark_poly.code_encode_systematic(f, [1, 2, 3], 2)),
             (ark_poly.WrongLength, lambda: ark_poly.code_restore(f, [1, 2, 3, 4], 5, [0] * 4)),
             (ark_poly.WrongLength, lambda: ark_poly.code_message(f, [1, 2, 3, 4], 2**59, [0] * 4)),
             (ark_poly.WrongLength, lambda: ark_poly.code_restore(f, [1, 2, 3, 4], 2**64 + 2, [0] * 4)),
@@ -243,6 +265,7 @@ class Refusals(unittest.TestCase):
             (ark_poly.NoDomain, lambda: ark_poly.domain_size(f, 2**70)),
             (ark_poly.NoDomain, lambda: ark_poly.lagrange(f, 2**62, 1)),
             (ark_poly.NoDomain, lambda: ark_poly.code_encode(f, [1], 2**62)),
+            (ark_poly.NoDomain, lambda: ark_poly.code_encode_systematic(f, [1], 3)),
             (ark_poly.ZeroDivisor, lambda: ark_poly.divide(f, [1, 2], [0])),
             (ark_poly.ZeroDivisor, lambda: ark_poly.divide(f, [1, 2], [])),
             (ark_poly.EqualPoints, lambda: ark_poly.interpolate(f, [1, 1], [1, 2])),
@@ -250,6 +273,18 @@ class Refusals(unittest.TestCase):
             (ark_poly.TooFew, lambda: ark_poly.code_message(f, [1, None, None, None], 2)),
             (ark_poly.NoCodeword, lambda: ark_poly.code_restore(f, [1, 2, 3, None], 1)),
             (ark_poly.NoCodeword, lambda: ark_poly.code_message(f, [1, 2, 3, None], 1)),
+            (ark_poly.WrongLength, lambda: ark_poly.split(0, 1, b"")),
+            (ark_poly.WrongLength, lambda: ark_poly.split(2, 1, b"")),
+            (ark_poly.WrongLength, lambda: ark_poly.split(0, 0, b"")),
+            (ark_poly.WrongLength, lambda: ark_poly.split(-1, 1, b"")),
+            (ark_poly.WrongLength, lambda: ark_poly.split(1, 65537, b"")),
+            (ark_poly.WrongLength, lambda: ark_poly.split(1, 1, b"", bytes(65536))),
+            (ark_poly.WrongLength, lambda: ark_poly.join(2, 1, ark_poly.split(1, 1, b""))),
+            (ark_poly.WrongLength, lambda: ark_poly.join(1, 65537, b"")),
+            (ark_poly.NotPieces, lambda: ark_poly.join(1, 1, b"")),
+            (ark_poly.NotPieces, lambda: ark_poly.join(2, 3, ark_poly.split(2, 3, b"hello")[:1])),
+            (ark_poly.NotPieces, lambda: ark_poly.join(2, 3, ark_poly.split(2, 3, b"hello")[:1] * 2)),
+            (ark_poly.Damaged, lambda: ark_poly.join(2, 3, b"".join(ark_poly.split(2, 3, b"hello")).replace(b"he", b"hE"))),
         ):
             with self.subTest(error=error), self.assertRaises(error) as raised:
                 call()
@@ -302,6 +337,47 @@ class Calls(unittest.TestCase):
             holed = [None if i in (0, 2, 3, 5, 7) else item for i, item in enumerate(word)]
             self.assertEqual(ark_poly.code_restore(field, holed, 3), word)
             self.assertEqual(ark_poly.code_message(field, holed, 3), [3, 1, 4])
+            word = ark_poly.code_encode_systematic(field, [3, 1, 4], 8)
+            self.assertEqual(word[:3], [3, 1, 4])
+            self.assertEqual(ark_poly.code_restore(field, [None] * 5 + word[5:], 3), word)
+
+    def test_pieces(self):
+        rng = random.Random(3)
+        for call, _, status, given, left in ROWS:
+            if status or call not in ("split", "join"):
+                continue
+            (k, n), lists = given[0], [bytes(words) for words in given[1:]]
+            if call == "split":
+                label, file = lists
+                pieces = ark_poly.split(k, n, file, label)
+                self.assertEqual((b"".join(pieces), len(pieces)), (bytes(left[0]), n))
+                chosen = rng.sample(pieces, rng.randrange(k, n + 1))
+                for kind in (list, tuple, iter, b"".join, lambda them: bytearray(b"".join(them))):
+                    self.assertEqual(ark_poly.join(k, n, kind(chosen)), file)
+                self.assertEqual(ark_poly.split(k, n, bytearray(file), memoryview(label)), pieces)
+            else:
+                self.assertEqual(ark_poly.join(k, n, lists[0]), bytes(left[0]))
+        for other in ("text", 1, None, ["text"], [1]):
+            with self.assertRaises(TypeError):
+                ark_poly.join(1, 1, other)
+        for other in ("text", 1, None, [1]):
+            with self.assertRaises(TypeError):
+                ark_poly.split(1, 1, other)
+
+    def test_entries(self):
+        rng = random.Random(2)
+        for field in FIELDS:
+            p = ark_poly.modulus(field)
+            point = [rng.randrange(p) for _ in range(4)]
+            table = [rng.randrange(p) for _ in range(16)]
+            at = rng.sample(range(16), 16)
+            value = ark_poly.multilinear_evaluate(field, table, point)
+            found = ark_poly.multilinear_evaluate_sparse(field, [3, *at], [1, *(table[i] for i in at)], point)
+            self.assertEqual(found, value)
+            places = array.array("Q", at)
+            found = ark_poly.multilinear_evaluate_sparse(field, places, [table[i] for i in at], point)
+            self.assertEqual(found, value)
+            self.assertEqual(ark_poly.multilinear_evaluate_sparse(field, [], [], point), 0)
 
     def test_threads(self):
         c = list(range(1 << 8))

@@ -33,6 +33,24 @@ mod sys {
             word: *mut u64,
             word_len: usize,
         ) -> u32;
+        pub fn ark_code_encode_systematic(
+            field: u64,
+            message: *const u64,
+            message_len: usize,
+            word: *mut u64,
+            word_len: usize,
+        ) -> u32;
+        pub fn ark_multilinear_evaluate_sparse(
+            field: u64,
+            indices: *const u64,
+            indices_len: usize,
+            values: *const u64,
+            values_len: usize,
+            point: *const u64,
+            point_len: usize,
+            value: *mut u64,
+            value_len: usize,
+        ) -> u32;
         pub fn ark_divide(
             field: u64,
             dividend: *const u64,
@@ -44,6 +62,19 @@ mod sys {
             remainder: *mut u64,
             remainder_len: usize,
         ) -> u32;
+        pub fn ark_piece_size(k: u64, n: u64, number: u64, label_len: u64, len: u64, size: *mut u64) -> u32;
+        pub fn ark_split(
+            k: u64,
+            n: u64,
+            label: *const u8,
+            label_len: usize,
+            file: *const u8,
+            file_len: usize,
+            pieces: *mut u8,
+            pieces_len: usize,
+        ) -> u32;
+        pub fn ark_file_size(n: u64, pieces: *const u8, pieces_len: usize, len: *mut u64) -> u32;
+        pub fn ark_join(k: u64, n: u64, pieces: *const u8, pieces_len: usize, file: *mut u8, file_len: usize) -> u32;
     }
 
     // Calls that make one list of two.
@@ -79,6 +110,8 @@ pub enum Refusal {
     EqualPoints,
     TooFew,
     NoCodeword,
+    NotPieces,
+    Damaged,
     Other(u32),
 }
 
@@ -95,6 +128,8 @@ fn outcome(status: u32) -> Result<(), Refusal> {
         7 => Refusal::EqualPoints,
         8 => Refusal::TooFew,
         9 => Refusal::NoCodeword,
+        10 => Refusal::NotPieces,
+        11 => Refusal::Damaged,
         other => Refusal::Other(other),
     })
 }
@@ -143,6 +178,29 @@ of_two! {
     multilinear_fix = ark_multilinear_fix
 }
 
+pub fn multilinear_evaluate_sparse(
+    field: u64,
+    indices: &[u64],
+    values: &[u64],
+    point: &[u64],
+    value: &mut [u64],
+) -> Result<(), Refusal> {
+    // SAFETY: as above.
+    outcome(unsafe {
+        sys::ark_multilinear_evaluate_sparse(
+            field,
+            indices.as_ptr(),
+            indices.len(),
+            values.as_ptr(),
+            values.len(),
+            point.as_ptr(),
+            point.len(),
+            value.as_mut_ptr(),
+            value.len(),
+        )
+    })
+}
+
 pub fn divide(
     field: u64,
     dividend: &[u64],
@@ -171,6 +229,13 @@ pub fn code_encode(field: u64, message: &[u64], word: &mut [u64]) -> Result<(), 
     outcome(unsafe { sys::ark_code_encode(field, message.as_ptr(), message.len(), word.as_mut_ptr(), word.len()) })
 }
 
+pub fn code_encode_systematic(field: u64, message: &[u64], word: &mut [u64]) -> Result<(), Refusal> {
+    // SAFETY: as above.
+    outcome(unsafe {
+        sys::ark_code_encode_systematic(field, message.as_ptr(), message.len(), word.as_mut_ptr(), word.len())
+    })
+}
+
 pub fn code_restore(field: u64, words: &mut [u64], erased: &[bool], k: u64) -> Result<(), Refusal> {
     let (marks, places) = (erased.as_ptr().cast(), erased.len());
     // SAFETY: as above; a `bool` is a byte, 0 or 1.
@@ -183,4 +248,30 @@ pub fn code_message(field: u64, words: &[u64], erased: &[bool], messages: &mut [
     outcome(unsafe {
         sys::ark_code_message(field, words.as_ptr(), words.len(), marks, places, messages.as_mut_ptr(), messages.len())
     })
+}
+
+/// Of `k`, `n`, the piece's number, the label's length and the file's.
+pub fn piece_size([k, n, number, label_len, len]: [u64; 5]) -> Result<u64, Refusal> {
+    let mut size = 0;
+    // SAFETY: the place is a word of this function's own.
+    outcome(unsafe { sys::ark_piece_size(k, n, number, label_len, len, &mut size) })?;
+    Ok(size)
+}
+
+pub fn split(k: u64, n: u64, label: &[u8], file: &[u8], pieces: &mut [u8]) -> Result<(), Refusal> {
+    let (made, room) = (pieces.as_mut_ptr(), pieces.len());
+    // SAFETY: as above.
+    outcome(unsafe { sys::ark_split(k, n, label.as_ptr(), label.len(), file.as_ptr(), file.len(), made, room) })
+}
+
+pub fn file_size(n: u64, pieces: &[u8]) -> Result<u64, Refusal> {
+    let mut len = 0;
+    // SAFETY: as above; the place is a word of this function's own.
+    outcome(unsafe { sys::ark_file_size(n, pieces.as_ptr(), pieces.len(), &mut len) })?;
+    Ok(len)
+}
+
+pub fn join(k: u64, n: u64, pieces: &[u8], file: &mut [u8]) -> Result<(), Refusal> {
+    // SAFETY: as above.
+    outcome(unsafe { sys::ark_join(k, n, pieces.as_ptr(), pieces.len(), file.as_mut_ptr(), file.len()) })
 }

@@ -93,6 +93,17 @@ impl<F: FftField> Code<F> {
         Ok(codeword)
     }
 
+    /// The only codeword that begins with the message: the same code in systematic form. `WrongLength` for more or fewer than `k`
+    /// items.
+    pub fn encode_systematic(&self, message: &[F]) -> Result<Vec<F>, RsError> {
+        if message.len() != self.k {
+            return Err(RsError::WrongLength);
+        }
+        let mut codeword = vec![F::ZERO; self.n];
+        outcome(calls::code_encode_systematic(F::NAME, words(message), words_mut(&mut codeword)))?;
+        Ok(codeword)
+    }
+
     /// The codeword that has what is left of the word; `None` is a lost place.
     pub fn restore(&self, word: &[Option<F>]) -> Result<Vec<F>, RsError> {
         let erased: Vec<bool> = word.iter().map(Option::is_none).collect();

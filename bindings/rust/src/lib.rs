@@ -1,4 +1,5 @@
-//! Polynomials, transforms, multilinear extensions and Reed-Solomon codes over prime fields, in ark-poly's own names.
+//! Polynomials, transforms, multilinear extensions and Reed-Solomon codes over prime fields, in ark-poly's own names, and files
+//! in pieces.
 //!
 //! ```
 //! use ark_poly_proved::{BabyBear, EvaluationDomain, Radix2EvaluationDomain};
@@ -13,17 +14,17 @@
 //! # What is proved
 //!
 //! The calls of the library: transforms and their inverses, Lagrange's weights, products, quotients, values and interpolation
-//! of polynomials, values and bound variables of multilinear extensions, all of codes, and the inverse of an element. Each
-//! takes a list of elements where it stands, without a copy. Not proved is what this crate adds: sums, products and powers of
+//! of polynomials, values and bound variables of multilinear extensions, all of codes and of pieces, and the inverse of an
+//! element. Each takes a list of elements where it stands, without a copy. Not proved is what this crate adds: sums, products and powers of
 //! single elements, sums of lists, and that the lists of the library are these types; tests compare them with the library.
 //!
 //! # What differs from ark-poly
 //!
 //! - The fields are six types of this crate, with the operators and functions that `ark-ff` has for elements.
-//! - There is no generic module over the field, no sparse form, and no polynomial in several variables but the multilinear
-//!   ones by their tables.
+//! - There is no generic module over the field, no sparse form but that of multilinear polynomials, which has their values
+//!   alone, and no other polynomial in several variables.
 //! - Where memory is refused the program ends as it does where a `Vec` can't grow.
-//! - [`Code`] is beyond ark-poly.
+//! - [`Code`] and [`pieces`] are beyond ark-poly.
 
 #![warn(missing_docs)]
 #![deny(unsafe_op_in_unsafe_fn)]
@@ -35,6 +36,7 @@ mod domain;
 mod evaluations;
 mod field;
 mod multilinear;
+pub mod pieces;
 mod polynomial;
 #[cfg(test)]
 mod tests;
@@ -43,7 +45,7 @@ pub use code::{Code, RsError};
 pub use domain::{Elements, EvaluationDomain, GeneralEvaluationDomain, Radix2EvaluationDomain};
 pub use evaluations::Evaluations;
 pub use field::{BabyBear, Bls12_381Fr, Bn254Fr, FftField, Field, Goldilocks, KoalaBear, ParseFieldError, F65537};
-pub use multilinear::{DenseMultilinearExtension, MultilinearExtension};
+pub use multilinear::{DenseMultilinearExtension, MultilinearExtension, SparseMultilinearExtension};
 pub use polynomial::{DenseUVPolynomial, Polynomial};
 
 /// Polynomials in one variable, at ark-poly's path.

@@ -1,6 +1,7 @@
 //! The rows of `answers.txt`, which are the library's own answers, and what this crate adds beside them.
 
 use crate::calls::{self, Refusal};
+use crate::pieces::{FileCode, PieceError};
 use crate::*;
 use std::fs;
 
@@ -48,6 +49,8 @@ fn status(outcome: Result<(), Refusal>) -> u32 {
         Err(Refusal::EqualPoints) => 7,
         Err(Refusal::TooFew) => 8,
         Err(Refusal::NoCodeword) => 9,
+        Err(Refusal::NotPieces) => 10,
+        Err(Refusal::Damaged) => 11,
         Err(Refusal::Other(other)) => other,
     }
 }
@@ -57,6 +60,7 @@ fn answer(row: &Row) -> (u32, Vec<Vec<u64>>) {
     let (field, given) = (row.field, &row.given);
     let mut left: Vec<Vec<u64>> = row.left.iter().map(|list| vec![OLD; list.len()]).collect();
     let erased = |i: usize| given[i].iter().map(|mark| *mark != 0).collect::<Vec<bool>>();
+    let bytes = |i: usize| given[i].iter().map(|byte| *byte as u8).collect::<Vec<u8>>();
     let outcome = match row.call.as_str() {
         "domain_size" => calls::domain_size(field, given[0][0]).map(|size| left[0][0] = size),
         "fft" | "ifft" => {
@@ -68,12 +72,29 @@ fn answer(row: &Row) -> (u32, Vec<Vec<u64>>) {
             let (quotient, remainder) = left.split_at_mut(1);
             calls::divide(field, &given[0], &given[1], &mut quotient[0], &mut remainder[0])
         }
+        "multilinear_evaluate_sparse" => {
+            calls::multilinear_evaluate_sparse(field, &given[0], &given[1], &given[2], &mut left[0])
+        }
         "code_encode" => calls::code_encode(field, &given[0], &mut left[0]),
+        "code_encode_systematic" => calls::code_encode_systematic(field, &given[0], &mut left[0]),
         "code_restore" => {
             left[0] = given[0].clone();
             calls::code_restore(field, &mut left[0], &erased(1), given[2][0])
         }
         "code_message" => calls::code_message(field, &given[0], &erased(1), &mut left[0]),
+        "piece_size" => calls::piece_size(given[0].clone().try_into().unwrap()).map(|size| left[0][0] = size),
+        "file_size" => calls::file_size(given[0][0], &bytes(1)).map(|size| left[0][0] = size),
+        "split" | "join" => {
+            let (k, n) = (given[0][0], given[0][1]);
+            let mut made = vec![OLD as u8; left[0].len()];
+            let outcome = match row.call.as_str() {
+                "split" => calls::split(k, n, &bytes(1), &bytes(2), &mut made),
+                _ => calls::join(k, n, &bytes(1), &mut made),
+            };
+            let old = |byte: u8| outcome.is_err() && byte == OLD as u8;
+            left[0] = made.into_iter().map(|byte| if old(byte) { OLD } else { byte.into() }).collect();
+            outcome
+        }
         call => {
             let call = match call {
                 "multiply" => calls::multiply,
@@ -106,6 +127,36 @@ fn the_version() {
 }
 
 #[test]
+fn files_in_pieces() {
+    let file: Vec<u8> = drawn::<F65537>(5000).iter().map(|x| x.to_words()[0] as u8).collect();
+    for (k, n) in [(1, 1), (1, 4), (3, 5), (4, 20)] {
+        let code = FileCode::new(k, n).unwrap();
+        assert_eq!((code.k(), code.n()), (k, n));
+        for len in [0, 1, 7, 4096, 5000] {
+            let pieces = code.split(b"label", &file[..len]).unwrap();
+            assert_eq!(pieces.len(), n);
+            for (number, piece) in pieces.iter().enumerate() {
+                assert_eq!(code.piece_size(number, 5, len), Some(piece.len()));
+            }
+            assert_eq!(code.join(&pieces).unwrap(), file[..len]);
+            assert_eq!(code.join(&pieces[n - k..]).unwrap(), file[..len]);
+            let reversed: Vec<_> = pieces.iter().rev().collect();
+            assert_eq!(code.join(&reversed[..k]).unwrap(), file[..len]);
+            assert_eq!(code.join(&pieces[1..k]), Err(PieceError::NotPieces));
+            let mut damaged = pieces[n - k..].to_vec();
+            damaged[0][28] ^= 1;
+            assert_eq!(code.join(&damaged), Err(PieceError::Damaged));
+        }
+        assert_eq!(code.split(&[0; 65536], &[]), Err(PieceError::TooLong));
+        assert_eq!(code.piece_size(n, 0, 0), None);
+        assert_eq!(code.piece_size(0, 0, 1 << 62), None);
+    }
+    assert_eq!(FileCode::new(0, 1), None);
+    assert_eq!(FileCode::new(2, 1), None);
+    assert_eq!(FileCode::new(1, 65537), None);
+}
+
+#[test]
 fn in_eight_threads() {
     let rows = rows();
     std::thread::scope(|scope| {
@@ -129,6 +180,7 @@ fn send_and_sync() {
     is::<DensePolynomial<Bn254Fr>>();
     is::<Evaluations<Goldilocks>>();
     is::<DenseMultilinearExtension<KoalaBear>>();
+    is::<SparseMultilinearExtension<KoalaBear>>();
     is::<Code<F65537>>();
 }
 
@@ -172,6 +224,7 @@ over_fields! {
     polynomials
     values
     extensions
+    sparse_extensions
     codes
 }
 
@@ -334,6 +387,28 @@ mod generic {
         }
     }
 
+    pub fn sparse_extensions<F: FftField>() {
+        let values = drawn::<F>(8);
+        let mut entries: Vec<(usize, F)> =
+            values.iter().enumerate().map(|(i, value)| (i * 5 % 8 + 8, *value)).collect();
+        entries.insert(3, (entries[5].0, F::from(9)));
+        let sparse = SparseMultilinearExtension::from_evaluations(4, &entries);
+        let mut table = vec![F::zero(); 16];
+        entries.iter().for_each(|(i, value)| table[*i] = *value);
+        let dense = DenseMultilinearExtension::from_evaluations_slice(4, &table);
+        assert_eq!((sparse.degree(), sparse.num_vars()), (4, 4));
+        for shift in 0..4 {
+            let point = drawn::<F>(12)[shift + 4..shift + 8].to_vec();
+            assert_eq!(sparse.evaluate(&point), dense.evaluate(&point));
+        }
+        (0..16).for_each(|i| assert_eq!(sparse[i], dense[i]));
+        // one entry alone, at the last of 2^63 corners
+        let last = SparseMultilinearExtension::from_evaluations(63, &[(usize::MAX >> 1, F::from(7))]);
+        assert_eq!(last.evaluate(&vec![F::from(2); 63]), F::from(7) * F::from(2).pow([63]));
+        let zero = SparseMultilinearExtension::<F>::from_evaluations(0, &[]);
+        assert_eq!(zero.evaluate(&vec![]), F::zero());
+    }
+
     pub fn codes<F: FftField>() {
         let code = Code::<F>::new(5, 12).unwrap();
         assert_eq!((code.k(), code.n()), (5, 16));
@@ -355,6 +430,11 @@ mod generic {
         assert_eq!(code.restore_in_place(&mut holed[1..], &erased), Err(RsError::WrongLength));
         assert_eq!(code.messages(&holed, &erased[1..]), Err(RsError::WrongLength));
         assert_eq!(code.encode(&messages[..6]), Err(RsError::WrongLength));
+        let systematic = code.encode_systematic(&messages[..5]).unwrap();
+        assert_eq!(systematic[..5], messages[..5]);
+        let word: Vec<_> = (0..16).map(|i| (!erased[i]).then_some(systematic[i])).collect();
+        assert_eq!(code.restore(&word).unwrap(), systematic);
+        assert_eq!(code.encode_systematic(&messages[..4]), Err(RsError::WrongLength));
         assert_eq!(code.encode(&[]).unwrap(), vec![F::zero(); 16]);
         assert_eq!(code.encode(&messages[..1]).unwrap(), vec![messages[0]; 16]);
         assert_eq!(code.messages(&[], &erased).unwrap(), []);

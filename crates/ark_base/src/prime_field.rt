@@ -103,8 +103,8 @@ impl<M: PrimeModulus> PrimeField<M> {
         self.value
     }
 
-    /// The element of a number below the modulus, and `None` exactly where it isn't below: without the division of
-    /// `from`.
+    /// The element of a number below the modulus, and `None` exactly where it isn't below: without the
+    /// division of `from`.
     #[inline(always)]
     pub fn from_value(value: u64) -> Option<Self>
         ensures some { IfSome result (λ x. number x ≡ value) }

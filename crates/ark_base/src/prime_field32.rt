@@ -113,8 +113,8 @@ impl<M: PrimeModulus32> PrimeField32<M> {
         PrimeField32::<M>::montgomery_product(self.word, 1)
     }
 
-    /// The element of a number below the prime, and `None` exactly where it isn't below: without the divisions of
-    /// `from`.
+    /// The element of a number below the prime, and `None` exactly where it isn't below: without the
+    /// divisions of `from`.
     #[inline(always)]
     pub fn from_value(value: u32) -> Option<Self>
         ensures some { IfSome result (λ x. number x ≡ value) }

@@ -5,3 +5,4 @@ pub mod OfDomains
 pub mod OfCodes
 pub mod Division
 pub mod Interpolation
+pub mod OfPieces

@@ -1,3 +1,4 @@
 -- The fields that numbers name, and the number of each outcome.
 pub mod Names
 pub mod Statuses
+pub mod Pieces

@@ -1,5 +1,5 @@
 //! Calls for programs in C, and in every language that calls C: those of `ark_words`, over the field that a
-//! number names. `ark_poly.h` says the same of each in C.
+//! number names, and those over pieces of files. `ark_poly.h` says the same of each in C.
 #![tactic(auto)]
 
 ghost use Rattle.std.specs.Prelude.{◌≡◌, ◌≢◌, ◌↔◌, ◌⊎◌, ◌≤◌, IsNone, IsSomeAnd, IfSome, MatchOption, length};
@@ -11,22 +11,25 @@ ghost use Rattle.ark_words.specs.Numbers.{FitValues, BothReduced, AreEvaluated};
 ghost use Rattle.ark_words.specs.Numbers.{AreReduced};
 ghost use Rattle.ark_words.specs.Interpolations.{FitInterpolation, ArePointsDifferent, HasEqualPoints};
 ghost use Rattle.ark_words.specs.Interpolations.{AreInterpolating};
-ghost use Rattle.ark_words.specs.Codes.{FitCode, HasCodeFor, IsEncodable, IsEncoded};
+ghost use Rattle.ark_words.specs.Codes.{FitCode, HasCodeFor, IsEncodable, IsEncoded, IsExtendedToCodeword};
 ghost use Rattle.ark_words.specs.Products.{FitProduct, AreMultiplied};
 ghost use Rattle.ark_words.specs.Products.{FitQuotient, AreZeros, IsDivisible, AreDivided};
 ghost use Rattle.ark_words.specs.Codes.{FitWords, HasCode, HaveCodewords, AreRestored, left_count};
 ghost use Rattle.ark_words.specs.Codes.{FitMessages, AreFound, message_size};
 ghost use Rattle.ark_c.specs.Names.{field_named};
 ghost use Rattle.ark_words.specs.Extensions.{FitExtended, IsExtended, FitFixed, AreFixed};
+ghost use Rattle.ark_words.specs.Extensions.{FitSparse, IsExtendedByEntries};
 ghost use Rattle.ark_words.specs.Weights.{FitWeights, ArePlaced, AreLagrange};
 
+mod pieces;
 mod status;
 
 use ark_base::{BabyBear, F5, F433, F65537, Goldilocks, KoalaBear};
 use ark_wide::{Bls12_381Scalar, Bn254Scalar};
 use ark_words::{
-    divide, domain_size, encode, evaluate, fft, ifft, interpolate, lagrange, message,
-    multilinear_evaluate, multilinear_fix, multiply, restore, width,
+    divide, domain_size, encode, encode_systematic, evaluate, fft, ifft, interpolate, lagrange,
+    message, multilinear_evaluate, multilinear_evaluate_sparse, multilinear_fix, multiply, restore,
+    width,
 };
 use status::status;
 use std::alloc::Global;
@@ -174,6 +177,32 @@ pub extern "C" fn ark_code_encode(
     status(over_field!(field, encode(alloc, message, word)))
 }
 
+/// Writes the only codeword that begins with a message of `k` numbers, where there is room for `n`: the code
+/// in systematic form.
+#[unsafe(no_mangle)]
+pub extern "C" fn ark_code_encode_systematic(
+    alloc: Global,
+    field: u64,
+    message: &[u64],
+    word: &mut [u64],
+) -> u32
+    ensures codeword { result ≡ 0 → IsSomeAnd (field_named field) (λ f.
+        IsExtendedToCodeword f message.now word.new) }
+    ensures kept { result ≢ 0 → word.new ≡ word.old }
+    ensures taken { result ≡ 0 → IsSomeAnd (field_named field) (λ f.
+        IsEncodable f message.now word.old) }
+    ensures no_field { (result ≡ 2) ↔ IsNone (field_named field) }
+    ensures length { (result ≡ 3) ↔ IsSomeAnd (field_named field) (λ f.
+        ¬ FitCode f message.now word.old) }
+    ensures not_reduced { (result ≡ 4) ↔ IsSomeAnd (field_named field) (λ f.
+        FitCode f message.now word.old × (¬ AreReduced f message.now)) }
+    ensures no_domain { (result ≡ 5) ↔ IsSomeAnd (field_named field) (λ f.
+        FitCode f message.now word.old × AreReduced f message.now × (¬ HasCodeFor f word.old)) }
+    ensures no_other { result ≤ 5 }
+{
+    status(over_field!(field, encode_systematic(alloc, message, word)))
+}
+
 /// The coefficients of the product of two polynomials, the lowest first, and zeros in what is left: there is
 /// room where both factors together have at most one number more than the product.
 #[unsafe(no_mangle)]
@@ -222,6 +251,36 @@ pub extern "C" fn ark_multilinear_evaluate(
     ensures no_other { result ≤ 4 }
 {
     status(over_field!(field, multilinear_evaluate(alloc, table, point, extended)))
+}
+
+/// Writes the value at a point of `m` numbers, `m` at most 63, of the multilinear polynomial whose value at
+/// the corner of each index is given, and zero at all others. The last value of an index counts.
+#[unsafe(no_mangle)]
+pub extern "C" fn ark_multilinear_evaluate_sparse(
+    alloc: Global,
+    field: u64,
+    indices: &[u64],
+    values: &[u64],
+    point: &[u64],
+    extended: &mut [u64],
+) -> u32
+    ensures value { result ≡ 0 → IsSomeAnd (field_named field) (λ f.
+        IsExtendedByEntries f indices.now values.now point.now extended.new) }
+    ensures kept { result ≢ 0 → extended.new ≡ extended.old }
+    ensures taken { result ≡ 0 → IsSomeAnd (field_named field) (λ f.
+        FitSparse f indices.now values.now point.now extended.old × BothReduced f values.now point.now) }
+    ensures no_field { (result ≡ 2) ↔ IsNone (field_named field) }
+    ensures length { (result ≡ 3) ↔ IsSomeAnd (field_named field) (λ f.
+        ¬ FitSparse f indices.now values.now point.now extended.old) }
+    ensures not_reduced { (result ≡ 4) ↔ IsSomeAnd (field_named field) (λ f.
+        FitSparse f indices.now values.now point.now extended.old
+        × (¬ BothReduced f values.now point.now)) }
+    ensures no_other { result ≤ 4 }
+{
+    status(over_field!(
+        field,
+        multilinear_evaluate_sparse(alloc, indices, values, point, extended)
+    ))
 }
 
 /// Binds the first variables to the `k` numbers of the point, and writes the table, of `2^(m - k)` numbers, of
@@ -338,9 +397,9 @@ pub extern "C" fn ark_lagrange(
     status(over_field!(field, lagrange(alloc, offset, point, weights)))
 }
 
-/// Puts in place of each word the only codeword that has what is left of it: the words have `n` numbers each and
-/// stand one after another, and a place of which the byte of `erased` isn't 0 is lost in every word. A codeword
-/// is that of a message of `k` numbers.
+/// Puts in place of each word the only codeword that has what is left of it: the words have `n` numbers each
+/// and stand one after another, and a place of which the byte of `erased` isn't 0 is lost in every word. A
+/// codeword is that of a message of `k` numbers.
 #[unsafe(no_mangle)]
 pub extern "C" fn ark_code_restore(
     alloc: Global,
@@ -372,10 +431,10 @@ pub extern "C" fn ark_code_restore(
     status(over_field!(field, restore(alloc, words, erased, k)))
 }
 
-/// Writes the messages of words, of `k` numbers each, one after another: each is the only one whose codeword has
-/// what is left of its word. The words have `n` numbers each and stand one after another, and a place of which the
-/// byte of `erased` isn't 0 is lost in every word. `k` is how many numbers `messages` has room for, over how many
-/// words there are.
+/// Writes the messages of words, of `k` numbers each, one after another: each is the only one whose codeword
+/// has what is left of its word. The words have `n` numbers each and stand one after another, and a place of
+/// which the byte of `erased` isn't 0 is lost in every word. `k` is how many numbers `messages` has room for,
+/// over how many words there are.
 #[unsafe(no_mangle)]
 pub extern "C" fn ark_code_message(
     alloc: Global,

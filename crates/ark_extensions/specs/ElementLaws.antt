@@ -43,6 +43,18 @@ pub equal_fours : {F M N : Type 0} (eq : F → F → Bool) → ((a b : F) → De
 equal_fours eq decides x y =
     pair_Decides (pair_Decides (decides x.c0.c0 y.c0.c0) (decides x.c0.c1 y.c0.c1)) (pair_Decides (decides x.c1.c0 y.c1.c0) (decides x.c1.c1 y.c1.c1))
 
+-- ---- embeddings one after the other
+
+pub embedding_through : {F G H : Type 0} {K : FieldOn F} {E : FieldOn G} {T : FieldOn H} {f : F → G} {g : G → H} → IsFieldEmbedding K E f → IsFieldEmbedding E T g → IsFieldEmbedding K T (λ a. g (f a))
+embedding_through {f = f} {g = g} first second = record {
+  one_to_one = λ a b e. first.one_to_one a b (second.one_to_one (f a) (f b) e);
+  zero_kept = ap g first.zero_kept ∙ second.zero_kept;
+  one_kept = ap g first.one_kept ∙ second.one_kept;
+  plus_kept = λ a b. ap g (first.plus_kept a b) ∙ second.plus_kept (f a) (f b);
+  times_kept = λ a b. ap g (first.times_kept a b) ∙ second.times_kept (f a) (f b);
+  negated_kept = λ a. ap g (first.negated_kept a) ∙ second.negated_kept (f a);
+}
+
 -- ---- as a field
 
 negated_nought : {F : Type 0} (K : FieldOn F) → IsField K → K.zero ≡ K.negated K.zero

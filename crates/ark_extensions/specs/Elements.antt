@@ -30,6 +30,10 @@ extension K w = record {
   negated = λ a. element ((quadratic K w).negated (coefficients a));
 }
 
+-- an element of the field two below
+abbrev pub embedded_twice : {F M N : Type 0} → FieldOn F → F → F → Quadratic (Quadratic F M) N
+embedded_twice K w a = embedded (extension K w) (embedded K a)
+
 -- ---- as a module over the field below, of pairs
 
 abbrev pub in_pairs : {F : Type 0} → FieldOn F → ModuleOn F (F × F)

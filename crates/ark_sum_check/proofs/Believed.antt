@@ -4,9 +4,8 @@ use Rattle.std.specs.Prelude.{Contains}
 use Rattle.std.proofs.lemmas.List.{map-append}
 use Rattle.std.proofs.lemmas.List.Elements.{All-head, All-tail}
 use Rattle.ark_math.specs.Field.{FieldOn, IsField}
-use Rattle.ark_sum_check.specs.Cube.{cube_sum, product_value}
-use Rattle.ark_sum_check.specs.Rounds.{AreChosen, AreDifferent, AtMost, HasOneOfFew, IsBelieved, IsUnlucky, Strategy, challenges, left_after, rounds_of}
-use Rattle.ark_sum_check.specs.declared.round.Round.{Round}
+use Rattle.ark_sum_check.specs.Cube.{SumOfProducts, cube_sum, degree_of, sum_value}
+use Rattle.ark_sum_check.specs.Rounds.{AreChosen, AreDifferent, AtMost, HasOneOfFew, IsBelieved, IsUnlucky, Round, Strategy, challenges, left_after, rounds_of}
 use Rattle.ark_sum_check.proofs.Accepted.{length-challenges}
 use Rattle.ark_sum_check.proofs.AtMost.{AtMost-contained, AtMost-weaker}
 use Rattle.ark_sum_check.proofs.Unlucky.{true_or_few}
@@ -43,18 +42,18 @@ over choices (suc m) (x ∷ xs) h = (
 
 module _ {F : Type 0} (K : FieldOn F) (N : IsField K) (decide : (a b : F) → (a ≡ b) ⊎ (a ≢ b)) (d m : ℕ) where
   -- unlucky after these challenges, of m in all
-  abbrev unlucky_after : Strategy F → List (ℕ → F) → List F → F → Type 0
-  unlucky_after sends ts before x = IsUnlucky K d (m - 1 - length before) (left_after K before ts) (sends before).items x
+  abbrev unlucky_after : Strategy F → SumOfProducts F → List F → F → Type 0
+  unlucky_after sends s before x = IsUnlucky K d (m - 1 - length before) (left_after K before s) (sends before) x
 
-  abbrev bad_after : Strategy F → List (ℕ → F) → List F → F → Type 0
-  bad_after sends ts before x = AtMost d (unlucky_after sends ts before) × unlucky_after sends ts before x
+  abbrev bad_after : Strategy F → SumOfProducts F → List F → F → Type 0
+  bad_after sends s before x = AtMost d (unlucky_after sends s before) × unlucky_after sends s before x
 
-  bad_few : (sends : Strategy F) (ts : List (ℕ → F)) (before : List F) → AtMost d (bad_after sends ts before)
-  bad_few sends ts before zero x apart so = omega arith
-  bad_few sends ts before (suc k) x apart so = (so 0 (omega arith)).0 (suc k) x apart (λ i l. (so i l).1)
+  bad_few : (sends : Strategy F) (s : SumOfProducts F) (before : List F) → AtMost d (bad_after sends s before)
+  bad_few sends s before zero x apart so = omega arith
+  bad_few sends s before (suc k) x apart so = (so 0 (omega arith)).0 (suc k) x apart (λ i l. (so i l).1)
 
-  has_bad : (sends : Strategy F) (ts : List (ℕ → F)) (xs : List F) → length xs ≡ m → HasOneOfFew K d ts (rounds_of sends xs) → HasBad (bad_after sends ts) xs
-  has_bad sends ts xs count o =
+  has_bad : (sends : Strategy F) (s : SumOfProducts F) (xs : List F) → length xs ≡ m → HasOneOfFew K d s (rounds_of sends xs) → HasBad (bad_after sends s) xs
+  has_bad sends s xs count o =
       let rs = rounds_of sends xs in
       let before = challenges o.before in
       let is : xs ≡ before ++ o.round.challenge ∷ challenges o.after =
@@ -62,25 +61,25 @@ module _ {F : Type 0} (K : FieldOn F) (N : IsField K) (decide : (a b : F) → (a
       let all : length xs ≡ length before + suc (length o.after) =
       ap length is ∙ length-append before (o.round.challenge ∷ challenges o.after) ∙ ap (λ n. length before + suc n) (length-challenges o.after) in
       let left : length o.after ≡ m - 1 - length before = omega (arith, all, count) in
-      let values : o.round.values.items ≡ (sends before).items = ap (λ v. v.items) (sym (values_at sends xs o.before o.round o.after o.is)) in
-      let same : (P : (F → Type 0) → Type 0) → P (IsUnlucky K d (length o.after) (left_after K before ts) o.round.values.items) → P (unlucky_after sends ts before) =
-      λ P h. subst₂ (λ n vs. P (IsUnlucky K d n (left_after K before ts) vs)) left values h in
-      subst (HasBad (bad_after sends ts)) (sym is)
-      (HasBad-at (bad_after sends ts) before o.round.challenge (challenges o.after)
+      let values : o.round.values ≡ sends before = sym (values_at sends xs o.before o.round o.after o.is) in
+      let same : (P : (F → Type 0) → Type 0) → P (IsUnlucky K d (length o.after) (left_after K before s) o.round.values) → P (unlucky_after sends s before) =
+      λ P h. subst₂ (λ n vs. P (IsUnlucky K d n (left_after K before s) vs)) left values h in
+      subst (HasBad (bad_after sends s)) (sym is)
+      (HasBad-at (bad_after sends s) before o.round.challenge (challenges o.after)
       (same (λ U. AtMost d U) o.few, same (λ U. U o.round.challenge) o.unlucky))
 
-  pub few_believed : (claim : F) (sends : Strategy F) (ts : List (ℕ → F)) (choices : List F) → length ts ≤ d → AreDifferent K (d + 1) → claim ≢ cube_sum K m ts → AtMost (m * d * length choices ^ (m - 1)) (λ xs. AreChosen choices m xs × IsBelieved K d claim sends ts xs)
-  few_believed claim sends ts choices few different false =
-      AtMost-weaker (m * d * length choices ^ (m - 1)) (λ xs. IsOver (Contains choices) m xs × HasBad (bad_after sends ts) xs) (λ xs. AreChosen choices m xs × IsBelieved K d claim sends ts xs)
+  pub few_believed : (claim : F) (sends : Strategy F) (s : SumOfProducts F) (choices : List F) → degree_of s ≤ d → AreDifferent K (d + 1) → claim ≢ cube_sum K m s → AtMost (m * d * length choices ^ (m - 1)) (λ xs. AreChosen choices m xs × IsBelieved K d claim sends s xs)
+  few_believed claim sends s choices few different false =
+      AtMost-weaker (m * d * length choices ^ (m - 1)) (λ xs. IsOver (Contains choices) m xs × HasBad (bad_after sends s) xs) (λ xs. AreChosen choices m xs × IsBelieved K d claim sends s xs)
       (λ xs h. (over choices m xs h.0, bad xs h.0 h.1))
-      (few_bad K.zero (Contains choices) decide (length choices) (AtMost-contained choices) d m (bad_after sends ts) (bad_few sends ts))
+      (few_bad K.zero (Contains choices) decide (length choices) (AtMost-contained choices) d m (bad_after sends s) (bad_few sends s))
     where
-      bad : (xs : List F) → AreChosen choices m xs → IsBelieved K d claim sends ts xs → HasBad (bad_after sends ts) xs
+      bad : (xs : List F) → AreChosen choices m xs → IsBelieved K d claim sends s xs → HasBad (bad_after sends s) xs
       bad xs chosen believed =
           let rs = rounds_of sends xs in
-          let last = product_value K ts xs in
+          let last = sum_value K s xs in
           let count : length rs ≡ m = length-rounds_of sends xs ∙ chosen.count in
           ⊎_elim
-          (λ (e : claim ≡ cube_sum K (length rs) ts). absurd (false (e ∙ ap (λ n. cube_sum K n ts) count)))
-          (λ (o : HasOneOfFew K d ts rs). has_bad sends ts xs chosen.count o)
-          (true_or_few K N decide d claim rs last ts few (λ l. different) believed (ap (product_value K ts) (sym (challenges_of sends xs))))
+          (λ (e : claim ≡ cube_sum K (length rs) s). absurd (false (e ∙ ap (λ n. cube_sum K n s) count)))
+          (λ (o : HasOneOfFew K d s rs). has_bad sends s xs chosen.count o)
+          (true_or_few K N decide d claim rs last s few (λ l. different) believed (ap (sum_value K s) (sym (challenges_of sends xs))))

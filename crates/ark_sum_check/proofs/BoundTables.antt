@@ -1,16 +1,18 @@
 -- Lists of tables whose first variables are bound one table after the other.
-use Rattle.std.proofs.Common.{◌≡◌, ℕ, ◌+◌, ◌*◌, ◌<◌, ◌≤◌, List, [], ◌∷◌, length, get_or, map, set, take, sym, ◌∙◌, ap, subst, arith, Vec, Global}
+use Rattle.std.proofs.Common.{◌≡◌, ℕ, ◌+◌, ◌*◌, ◌<◌, ◌≤◌, List, [], ◌∷◌, length, get_or, map, set, take, sym, ◌∙◌, ap, subst, arith, ⊎_elim, Vec, Global}
+use mathlib.Core.Path.{fun_ext}
 use Rattle.std.specs.Prelude.{All}
-use Rattle.std.proofs.lemmas.List.{ext_get_or, get_or-take, length-map, length-set, length-take}
+use Rattle.std.proofs.lemmas.Bool.{cases_lt}
+use Rattle.std.proofs.lemmas.List.{get_or-take, get_or_past, length-map, length-set, length-take}
 use Rattle.std.proofs.lemmas.List.Elements.{All-get_or}
 use Rattle.ark_math.specs.Field.{FieldOn, IsField}
 use Rattle.ark_math.specs.Multilinear.{fixed}
 use Rattle.ark_math.specs.Univariate.{IsBelow, nothing, of_list}
 use Rattle.ark_math.proofs.Lists.Lists.{read_as, read_at, written_more, written_rest}
-use Rattle.ark_math.proofs.Polynomials.Multilinear.{bound-below, fixed-one}
+use Rattle.ark_math.proofs.Polynomials.Multilinear.{bound-below, fixed-nothing, fixed-one}
 use Rattle.ark_math.proofs.Polynomials.Univariate.{same_below}
 use Rattle.ark_math.proofs.Polynomials.UnivariateLists.{of_list-past}
-use Rattle.ark_sum_check.specs.Cube.{bound_to}
+use Rattle.ark_sum_check.specs.Cube.{bound_to, sum_with}
 use Rattle.ark_sum_check.specs.Lists.{as_tables}
 
 -- a table's lower half, once it holds what is left
@@ -20,6 +22,10 @@ lower_half K N t x u h e same inside =
     (λ i past. of_list-past K (take h u) i (let e = length-take h u in omega arith))
     (subst (IsBelow K h) (sym (fixed-one K N (of_list K t) x)) (bound-below K N (of_list K t) x h (λ i past. of_list-past K t i (omega arith))))
     (λ i below. get_or-take h u i K.zero below ∙ inside i below)
+
+-- no table past the last one
+pub past_tables : {F : Type 0} (K : FieldOn F) (vs : List (Vec F Global)) (k : ℕ) → length vs ≤ k → get_or (as_tables K vs) k (nothing K) ≡ nothing K
+past_tables K vs k l = get_or_past (as_tables K vs) k (nothing K) (subst (λ n. n ≤ k) (sym (length-map vs (λ w. of_list K w.items))) l)
 
 -- the first i tables are bound to x
 pub record AreBound {F : Type 0} (K : FieldOn F) (x : F) (half : ℕ) (old : List (Vec F Global)) (i : ℕ) (now : List (Vec F Global)) : Type 0 where
@@ -48,16 +54,11 @@ module _ {F : Type 0} (K : FieldOn F) (x : F) (half : ℕ) (old : List (Vec F Gl
       ∙ sym (read_at (λ w. length w.items) 0 old i u (omega (arith, h.count)))
       ∙ All-get_or (λ t. length t.items ≡ n) old i u (omega (arith, h.count)) all
 
-  pub AreBound-tables : (i : ℕ) (now : List (Vec F Global)) → length now ≤ i → AreBound K x half old i now → as_tables K now ≡ bound_to K x (as_tables K old)
-  AreBound-tables i now l h =
-      let f = λ (t : ℕ → F). fixed K t (x ∷ []) in
-      let v = λ (w : Vec F Global). of_list K w.items in
-      ext_get_or (nothing K) (as_tables K now) (bound_to K x (as_tables K old))
-      (length-map now v ∙ h.count ∙ sym (length-map old v) ∙ sym (length-map (as_tables K old) f))
-      (λ k m.
-      let inside : k < length now = subst (λ n. k < n) (length-map now v) m in
-      let in_old : k < length (as_tables K old) = subst (λ n. k < n) (sym (length-map old v)) (omega (arith, h.count, inside)) in
-      h.bound k (omega arith) ∙ read_at f (nothing K) (as_tables K old) k (nothing K) in_old)
+  pub AreBound-tables : IsField K → (i : ℕ) (now : List (Vec F Global)) → length now ≤ i → AreBound K x half old i now → sum_with K (as_tables K now) [] ≡ bound_to K x (sum_with K (as_tables K old) [])
+  AreBound-tables N i now l h = ap (λ ts. record { tables = ts; addends = [] }) (fun_ext (λ k. ⊎_elim
+      (λ (m : k < length now). h.bound k (omega arith))
+      (λ (m : length now ≤ k). past_tables K now k m ∙ sym (ap (λ t. fixed K t (x ∷ [])) (past_tables K old k (omega (arith, h.count))) ∙ fixed-nothing K N (x ∷ [])))
+      (cases_lt k (length now))))
 
   pub AreBound-halves : (i : ℕ) (now : List (Vec F Global)) → length now ≤ i → AreBound K x half old i now → All (λ t. length t.items ≡ half) now
   AreBound-halves i now l h = λ k d m. read_at (λ w. length w.items) 0 now k d m ∙ h.halves k (omega arith)

@@ -1,5 +1,6 @@
 -- Tables by their entries: sums over the even or the odd indices, and the first variable bound one entry after the other.
-use Rattle.std.proofs.Common.{◌≡◌, ◌≢◌, ℕ, ◌+◌, ◌-◌, ◌*◌, ◌/◌, ◌%◌, ◌^◌, ◌<◌, ◌≤◌, List, [], ◌∷◌, ◌++◌, length, get_or, set, take, drop, refl, sym, ◌∙◌, ap, ap₂, subst, arith, ⊎_elim}
+use Rattle.std.proofs.Common.{◌≡◌, ◌≢◌, ℕ, zero, suc, ◌+◌, ◌-◌, ◌*◌, ◌/◌, ◌%◌, ◌^◌, ◌<◌, ◌≤◌, List, [], ◌∷◌, ◌++◌, length, get_or, set, take, drop, refl, sym, ◌∙◌, ap, ap₂, subst, arith, ⊎_elim}
+use mathlib.Core.Path.{fun_ext}
 use Rattle.std.specs.Prelude.{All}
 use Rattle.std.proofs.lemmas.List.{get_or-drop, get_or-set_other, get_or-set_same, get_or-take, get_or_default, length-set, length-take-le, take_more_set}
 use Rattle.std.proofs.lemmas.Bool.{cases_eq}
@@ -9,7 +10,7 @@ use Rattle.std.proofs.Math.Seq.{take-set-lt}
 use Rattle.ark_math.specs.Field.{FieldOn, IsField, minus, natural}
 use Rattle.ark_math.specs.Module.{IsModule, itself, sum_below}
 use Rattle.ark_math.specs.Multilinear.{fixed, weight}
-use Rattle.ark_math.specs.Univariate.{added, monomial, of_pairs}
+use Rattle.ark_math.specs.Univariate.{added, monomial, nothing, of_pairs}
 use Rattle.ark_math.proofs.Algebra.Groups.{itself_is_module}
 use Rattle.ark_math.proofs.Algebra.Sums.{sum_below-plus, sum_below-same}
 use Rattle.ark_math.proofs.Algebra.Regrouped.{sum_below-none, sum_below-single, sum_below-zero}
@@ -17,14 +18,15 @@ use Rattle.ark_math.proofs.Algebra.Solve.{unit, ◌⊖◌, ◌⊗◌}
 use Rattle.ark_math.proofs.Algebra.Ring.{ring2}
 use Rattle.ark_math.proofs.Lists.Lists.{item_of}
 use Rattle.ark_math.proofs.Polynomials.Cube.{weight-even, weight-odd}
-use Rattle.ark_math.proofs.Polynomials.Multilinear.{fixed-added, fixed-monomial}
+use Rattle.ark_math.proofs.Polynomials.Multilinear.{fixed-added, fixed-monomial, fixed-nothing}
 use Rattle.ark_math.proofs.Polynomials.Univariate.{coefficients_are_module, monomial-other, monomial-same}
 use Rattle.ark_math.proofs.Polynomials.UnivariatePairs.{monomial-added, of_pairs-push, take_next}
-use Rattle.ark_sum_check.specs.Cube.{product_at, product_value, round_value}
+use Rattle.ark_sum_check.specs.Cube.{all_of, bound_to, product_of, round_value, sum_at, sum_value}
 use Rattle.ark_sum_check.specs.Provers.{AreRising}
 use Rattle.ark_sum_check.specs.Rounds.{IsTrueRound}
 use Rattle.ark_sum_check.proofs.Products.{half_whole}
-use Rattle.ark_sum_check.proofs.TrueRounds.{AreFirst-none, AreFirst-push, AreFirst-round, natural-one, product_value-none, round_value-side_one, round_value-side_zero}
+use Rattle.ark_sum_check.proofs.TwoTables.{sum_at-one}
+use Rattle.ark_sum_check.proofs.TrueRounds.{AreFirst-none, AreFirst-push, AreFirst-round, natural-one, sum_value-none, round_value-side_one, round_value-side_zero}
 
 -- y is the sum of the values that the entries ps, which are some of all, have at the even or the odd indices, as s says
 abbrev pub IsSideSum : {F : Type 0} → FieldOn F → ℕ → List (ℕ × F) → List (ℕ × F) → F → Type 0
@@ -70,25 +72,33 @@ module _ {F : Type 0} (K : FieldOn F) (N : IsField K) where
       ∙ sym (side-more s half i all x l e)
 
   -- as a sum of products of one factor
-  one_factor : (s h : ℕ) (t : ℕ → F) → sum_below (itself K) h (λ c. t (2 * c + s)) ≡ sum_below (itself K) h (λ c. product_at K (t ∷ []) (2 * c + s))
-  one_factor s h t = sum_below-same (itself K) h (λ c. t (2 * c + s)) (λ c. product_at K (t ∷ []) (2 * c + s)) (λ c l. sym (N.times_one (t (2 * c + s))))
+  one_factor : (s h : ℕ) (t : ℕ → F) → sum_below (itself K) h (λ c. t (2 * c + s)) ≡ sum_below (itself K) h (λ c. sum_at K (product_of K (t ∷ [])) (2 * c + s))
+  one_factor s h t = sum_below-same (itself K) h (λ c. t (2 * c + s)) (λ c. sum_at K (product_of K (t ∷ [])) (2 * c + s)) (λ c l. sym (sum_at-one K N t (2 * c + s)))
+
+  -- a table bound, as such a sum
+  pub factor-bound : (t u : ℕ → F) (x : F) → u ≡ fixed K t (x ∷ []) → product_of K (u ∷ []) ≡ bound_to K x (product_of K (t ∷ []))
+  factor-bound t u x e = ap (λ ts. record { tables = ts; addends = all_of K 1 }) (fun_ext (λ i. table i))
+    where
+      table : (i : ℕ) → get_or (u ∷ []) i (nothing K) ≡ fixed K (get_or (t ∷ []) i (nothing K)) (x ∷ [])
+      table zero = e
+      table (suc i) = sym (fixed-nothing K N (x ∷ []))
 
   -- a round by both sides
-  pub round_of_sides : (m : ℕ) (t : ℕ → F) (zero one : F) (values : List F) → zero ≡ sum_below (itself K) (2 ^ m) (λ c. t (2 * c + 0)) → one ≡ sum_below (itself K) (2 ^ m) (λ c. t (2 * c + 1))
-      → values ≡ ([] ++ zero ∷ []) ++ one ∷ [] → IsTrueRound K 1 m (t ∷ []) values
-  round_of_sides m t zero one values e f is =
-      let ts = t ∷ [] in
+  pub round_of_sides : (m : ℕ) (t : ℕ → F) (even odd : F) (values : List F) → even ≡ sum_below (itself K) (2 ^ m) (λ c. t (2 * c + 0)) → odd ≡ sum_below (itself K) (2 ^ m) (λ c. t (2 * c + 1))
+      → values ≡ ([] ++ even ∷ []) ++ odd ∷ [] → IsTrueRound K 1 m (product_of K (t ∷ [])) values
+  round_of_sides m t even odd values e f is =
+      let ts = product_of K (t ∷ []) in
       let h = 2 ^ m in
-      let first : zero ≡ round_value K m ts (natural K 0) = e ∙ one_factor 0 h t ∙ round_value-side_zero K N m h ts refl in
-      let second : one ≡ round_value K m ts (natural K 1) =
+      let first : even ≡ round_value K m ts (natural K 0) = e ∙ one_factor 0 h t ∙ round_value-side_zero K N m h ts refl in
+      let second : odd ≡ round_value K m ts (natural K 1) =
       f ∙ one_factor 1 h t ∙ round_value-side_one K N m h ts refl ∙ sym (ap (round_value K m ts) (natural-one K N)) in
       subst (IsTrueRound K 1 m ts) (sym is)
-      (AreFirst-round K m ts 1 2 (([] ++ zero ∷ []) ++ one ∷ []) refl
-      (AreFirst-push K m ts 1 ([] ++ zero ∷ []) one (AreFirst-push K m ts 0 [] zero (AreFirst-none K m ts) first) second))
+      (AreFirst-round K m ts 1 2 (([] ++ even ∷ []) ++ odd ∷ []) refl
+      (AreFirst-push K m ts 1 ([] ++ even ∷ []) odd (AreFirst-push K m ts 0 [] even (AreFirst-none K m ts) first) second))
 
   -- the value of no variables
-  pub last_of_sides : (t : ℕ → F) (zero : F) → zero ≡ sum_below (itself K) 1 (λ c. t (2 * c + 0)) → zero ≡ product_value K (t ∷ []) []
-  last_of_sides t zero e = e ∙ one_factor 0 1 t ∙ zero_plus' (product_at K (t ∷ []) 0) ∙ product_value-none K N (t ∷ [])
+  pub last_of_sides : (t : ℕ → F) (even : F) → even ≡ sum_below (itself K) 1 (λ c. t (2 * c + 0)) → even ≡ sum_value K (product_of K (t ∷ [])) []
+  last_of_sides t even e = e ∙ one_factor 0 1 t ∙ zero_plus' (sum_at K (product_of K (t ∷ [])) 0) ∙ sum_value-none K N (product_of K (t ∷ []))
     where
       zero_plus' : (v : F) → K.plus K.zero v ≡ v
       zero_plus' v = N.plus_comm K.zero v ∙ N.plus_zero v

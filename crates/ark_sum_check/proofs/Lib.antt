@@ -3,12 +3,15 @@
 pub mod BoundTables
 pub mod TwoTables
 pub mod Products
+pub mod Steps
 pub mod Factors
 pub mod ValuesThrough
 pub mod TrueRounds
 pub mod EntryTables
 pub mod Accepted
+pub mod Verified
 pub mod AtMost
 pub mod Vectors
 pub mod Unlucky
 pub mod Believed
+pub mod Embeddings

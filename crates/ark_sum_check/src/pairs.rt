@@ -4,7 +4,7 @@ ghost use Rattle.std.specs.Prelude.{◌≡◌, ℕ, ◌+◌, ◌*◌, ◌^◌, �
 ghost use Rattle.ark_math.specs.Field.{natural};
 ghost use Rattle.ark_math.specs.Module.{itself, sum_below};
 ghost use Rattle.ark_math.specs.Univariate.{of_list};
-ghost use Rattle.ark_sum_check.specs.Cube.{bound_to, product_at};
+ghost use Rattle.ark_sum_check.specs.Cube.{bound_to, product_of, sum_at};
 ghost use Rattle.ark_sum_check.specs.Rounds.{IsTrueRound};
 
 use crate::error::SumCheckError;
@@ -22,7 +22,7 @@ pub(crate) fn round_of_two<F: Field>(
     requires left { length left.now ≡ 2 * half }
     requires right { length right.now ≡ 2 * half }
     ensures truth { (m : ℕ) → half ≡ 2 ^ m → IfOk result (λ values. IsTrueRound F.field 2 m
-        (of_list F.field left.now ∷ of_list F.field right.now ∷ []) values.items) }
+        (product_of F.field (of_list F.field left.now ∷ of_list F.field right.now ∷ [])) values.items) }
     ensures memory { IsOkUnless result SumCheckError.Memory }
 {
     let (zero, one, two) = sums_of_two(left, right, half);
@@ -40,12 +40,12 @@ fn sums_of_two<F: Field>(left: &[F], right: &[F], half: usize) -> (F, F, F)
     requires few { half ≤ 2 ^ 62 }
     requires left { length left.now ≡ 2 * half }
     requires right { length right.now ≡ 2 * half }
-    ensures zero { result.0 ≡ sum_below (itself F.field) half (λ c. product_at F.field
-        (of_list F.field left.now ∷ of_list F.field right.now ∷ []) (2 * c + 0)) }
-    ensures one { result.1 ≡ sum_below (itself F.field) half (λ c. product_at F.field
-        (of_list F.field left.now ∷ of_list F.field right.now ∷ []) (2 * c + 1)) }
-    ensures two { result.2 ≡ sum_below (itself F.field) half (product_at F.field
-        (bound_to F.field (natural F.field 2) (of_list F.field left.now ∷ of_list F.field right.now ∷ []))) }
+    ensures zero { result.0 ≡ sum_below (itself F.field) half (λ c. sum_at F.field
+        (product_of F.field (of_list F.field left.now ∷ of_list F.field right.now ∷ [])) (2 * c + 0)) }
+    ensures one { result.1 ≡ sum_below (itself F.field) half (λ c. sum_at F.field
+        (product_of F.field (of_list F.field left.now ∷ of_list F.field right.now ∷ [])) (2 * c + 1)) }
+    ensures two { result.2 ≡ sum_below (itself F.field) half (sum_at F.field (bound_to F.field (natural F.field 2)
+        (product_of F.field (of_list F.field left.now ∷ of_list F.field right.now ∷ [])))) }
 {
     let mut zero = F::zero();
     let mut one = F::zero();

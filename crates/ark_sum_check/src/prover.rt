@@ -1,16 +1,22 @@
 //! The prover of a sum-check.
 
-ghost use Rattle.std.specs.Prelude.{◌≡◌, ℕ, ◌+◌, ◌-◌, ◌*◌, ◌^◌, ◌<◌, ◌≤◌, [], All, length, IfOk, IsOkUnless};
+ghost use Rattle.std.specs.Prelude.{◌≡◌, ◌↔◌, ℕ, ◌+◌, ◌-◌, ◌*◌, ◌^◌, ◌<◌, ◌≤◌, [], All, length, max};
+ghost use Rattle.std.specs.Prelude.{IfOk, IfSome, IsOkUnless, IsTrue, is_some};
 
+mod within;
+
+use crate::addend::{Addend, are_within};
 use crate::error::SumCheckError;
 use crate::pairs::round_of_two;
-use crate::tables::{bind_each, product_of_values, sum_of_bound, sum_of_side};
+use crate::sums::{degree_of_sum, round_of_sum, sum_of_products};
+use crate::tables::bind_each;
 use ark_traits::Field;
 use std::alloc::Global;
 use std::marker::Model;
 
-/// A prover between two rounds: what is left of the factors' tables, whose variables are bound one after the
-/// other, the first one first. Bit i of an index is the value of variable i.
+/// A prover between two rounds: what is left of the tables of a sum of products, whose variables are bound
+/// one after the other, the first one first. Bit i of an index is the value of variable i. Each table is
+/// bound once a round, however many addends have it as a factor.
 ///
 /// ```
 /// let mut prover = Prover::new(num_vars, tables);
@@ -18,41 +24,66 @@ use std::marker::Model;
 /// prover.bind(challenge);            // and so until no variable is left
 /// ```
 ///
-/// Contracts see the lists of the tables' values, and the number of variables left.
+/// Contracts see the lists of the tables' values, the addends, and the number of variables left.
 #[derive(Drop)]
 pub struct Prover<F> {
     tables: Vec<Vec<F>>,
+    // None where all tables make one product.
+    addends: Option<Vec<Addend<F>>>,
     num_vars: usize,
 }
 
 impl<F> Model for Prover<F> {
-    ghost use Rattle.ark_sum_check.specs.Lists.{AreFactors, as_factors};
-    ghost use Rattle.ark_sum_check.specs.Provers.{Factors};
+    ghost use Rattle.ark_sum_check.specs.Lists.{AreSummed, as_summed};
+    ghost use Rattle.ark_sum_check.specs.Provers.{Summed};
 
-    ghost Value = { Factors F };
+    ghost Value = { Summed F };
 
-    ghost view = { λ p. as_factors p.tables.items p.num_vars };
+    ghost view = { λ p. as_summed p.tables.items p.addends p.num_vars };
 
-    ghost invariant = { λ p. AreFactors p.tables.items p.num_vars };
+    ghost invariant = { λ p. AreSummed p.tables.items p.addends p.num_vars };
 }
 
 impl<F: Field> Prover<F> {
-    ghost use Rattle.ark_sum_check.specs.Cube.{bound_to, product_value};
-    ghost use Rattle.ark_sum_check.specs.Lists.{as_tables};
-    ghost use Rattle.ark_sum_check.specs.Provers.{tables_of, variables_of};
+    ghost use Rattle.ark_sum_check.specs.Cube.{bound_to, degree_of, product_of, sum_value, sum_with};
+    ghost use Rattle.ark_sum_check.specs.Lists.{AreWithin, as_products, as_tables};
+    ghost use Rattle.ark_sum_check.specs.Provers.{sum_of, variables_of};
     ghost use Rattle.ark_sum_check.specs.Rounds.{IsTrueRound};
 
-    /// The prover of the sum of the product of these factors, one at least, each of which is given by its
-    /// `2^num_vars` values in the order of their indices, as `to_evaluations` of a dense or a sparse
-    /// extension lists them. Takes no memory.
+    /// The prover of the sum of the product of these factors, each of which is given by its `2^num_vars`
+    /// values in the order of their indices, as `to_evaluations` of a dense or a sparse extension lists them.
+    /// Takes no memory.
     pub fn new(num_vars: usize, tables: Vec<Vec<F>>) -> Self
         requires few { num_vars < 64 }
-        requires not_empty { 0 < length tables.items }
         requires whole { All (λ t. length t.items ≡ 2 ^ num_vars) tables.items }
-        ensures tables { tables_of F.field result ≡ as_tables F.field tables.items }
+        ensures sum { sum_of F.field result ≡ product_of F.field (as_tables F.field tables.items) }
         ensures variables { variables_of result ≡ num_vars }
     {
-        Prover { tables, num_vars }
+        Prover {
+            tables,
+            addends: None,
+            num_vars,
+        }
+    }
+
+    /// The prover of the sum of these addends, products of these tables. `None` where an index is that of no
+    /// table. Takes no memory.
+    pub fn of_sum(num_vars: usize, tables: Vec<Vec<F>>, addends: Vec<Addend<F>>) -> Option<Self>
+        requires few { num_vars < 64 }
+        requires whole { All (λ t. length t.items ≡ 2 ^ num_vars) tables.items }
+        ensures sum { IfSome result (λ prover. sum_of F.field prover
+            ≡ sum_with F.field (as_tables F.field tables.items) (as_products addends.items)) }
+        ensures variables { IfSome result (λ prover. variables_of prover ≡ num_vars) }
+        ensures within { IsTrue (is_some result) ↔ AreWithin (length tables.items) addends.items }
+    {
+        if !are_within(&addends, tables.len()) {
+            return None;
+        }
+        Some(Prover {
+            tables,
+            addends: Some(addends),
+            num_vars,
+        })
     }
 
     /// How many variables are left.
@@ -62,40 +93,35 @@ impl<F: Field> Prover<F> {
         self.num_vars
     }
 
-    /// How many factors there are, one at least: the degree that a round's polynomial may have.
+    /// The degree that a round's polynomial may have: how many factors the longest addend has, and one at
+    /// least.
     pub fn degree(&self) -> usize
-        ensures factors { result ≡ length (tables_of F.field self.now) }
-        ensures positive { 0 < result }
+        ensures degree { result ≡ max 1 (degree_of (sum_of F.field self.now)) }
+        ensures few { result < 2 ^ 63 }
     {
-        self.tables.len()
+        degree_of_sum(&self.addends, self.tables.len()).max(1)
     }
 
-    /// The round that comes next: the sums over the other variables where the first one is 0, 1, .., d, for d
-    /// factors, in time linear in what is left of the tables. Memory is taken for these sums alone.
+    /// The round that comes next: the sums over the other variables where the first one is 0, 1, .., d, for
+    /// the degree d, in one pass over what is left of the tables. Memory is taken for these sums and, unless
+    /// the sum is a product of two factors, for two elements for each table.
     pub fn round(&self, alloc: Global) -> Result<Vec<F>, SumCheckError>
         requires { 0 < variables_of self.now }
-        ensures truth { IfOk result (λ values. IsTrueRound F.field (length (tables_of F.field self.now))
-            (variables_of self.now - 1) (tables_of F.field self.now) values.items) }
+        ensures truth { IfOk result (λ values. IsTrueRound F.field (max 1 (degree_of (sum_of F.field self.now)))
+            (variables_of self.now - 1) (sum_of F.field self.now) values.items) }
         ensures memory { IsOkUnless result SumCheckError.Memory }
     {
         let half = half(self.num_vars);
-        let degree = self.tables.len();
-        if degree == 2 {
+        if self.addends.is_none() && self.tables.len() == 2 {
             return round_of_two(alloc, &self.tables[0], &self.tables[1], half);
         }
-        let mut values = Vec::with_capacity(alloc, degree + 1)?;
-        values.push(sum_of_side(&self.tables, half, 0))?;
-        values.push(sum_of_side(&self.tables, half, 1))?;
-        for i in 2..degree + 1 {
-            values.push(sum_of_bound(&self.tables, half, F::from(i as u64)))?;
-        }
-        Ok(values)
+        round_of_sum(alloc, &self.tables, &self.addends, self.degree(), half)
     }
 
     /// Binds the first variable to the challenge, in each table in place.
     pub fn bind(&mut self, challenge: F)
         requires { 0 < variables_of self.old }
-        ensures tables { tables_of F.field self.new ≡ bound_to F.field challenge (tables_of F.field self.old) }
+        ensures sum { sum_of F.field self.new ≡ bound_to F.field challenge (sum_of F.field self.old) }
         ensures variables { variables_of self.new ≡ variables_of self.old - 1 }
     {
         let half = half(self.num_vars);
@@ -103,12 +129,17 @@ impl<F: Field> Prover<F> {
         self.num_vars -= 1;
     }
 
-    /// The product's value once no variable is left.
-    pub fn last_value(&self) -> F
+    /// The sum's value once no variable is left. Takes memory for an element for each table.
+    pub fn last_value(&self, alloc: Global) -> Result<F, SumCheckError>
         requires { variables_of self.now ≡ 0 }
-        ensures { result ≡ product_value F.field (tables_of F.field self.now) [] }
+        ensures value { IfOk result (λ value. value ≡ sum_value F.field (sum_of F.field self.now) []) }
+        ensures memory { IsOkUnless result SumCheckError.Memory }
     {
-        product_of_values(&self.tables, 0)
+        let mut values = Vec::with_capacity(alloc, self.tables.len())?;
+        for table in &self.tables {
+            values.push(table[0])?;
+        }
+        Ok(sum_of_products(&self.addends, &values))
     }
 }
 

@@ -41,7 +41,7 @@ impl<F> Model for SparseProver<F> {
 }
 
 impl<F: Field> SparseProver<F> {
-    ghost use Rattle.ark_sum_check.specs.Cube.{bound_to, product_value};
+    ghost use Rattle.ark_sum_check.specs.Cube.{bound_to, sum_value};
     ghost use Rattle.ark_sum_check.specs.Provers.{AreRising, factor_of};
     ghost use Rattle.ark_sum_check.specs.Rounds.{IsTrueRound};
 
@@ -80,7 +80,7 @@ impl<F: Field> SparseProver<F> {
     /// Binds the first variable to the challenge, in one pass over the entries and in place.
     pub fn bind(&mut self, challenge: F)
         requires { 0 < self.old.variables }
-        ensures tables { factor_of F.field self.new ≡ bound_to F.field challenge (factor_of F.field self.old) }
+        ensures sum { factor_of F.field self.new ≡ bound_to F.field challenge (factor_of F.field self.old) }
         ensures variables { self.new.variables ≡ self.old.variables - 1 }
         ensures rising { AreRising self.old.entries → AreRising self.new.entries }
         ensures few { length self.new.entries ≤ length self.old.entries }
@@ -92,7 +92,7 @@ impl<F: Field> SparseProver<F> {
     /// The factor's value once no variable is left.
     pub fn last_value(&self) -> F
         requires { self.now.variables ≡ 0 }
-        ensures { result ≡ product_value F.field (factor_of F.field self.now) [] }
+        ensures { result ≡ sum_value F.field (factor_of F.field self.now) [] }
     {
         let (value, _) = sums_of_sides(&self.entries);
         value

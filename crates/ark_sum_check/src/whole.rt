@@ -1,58 +1,50 @@
 //! A prover's rounds from the first to the last.
 
-ghost use Rattle.std.specs.Prelude.{◌≡◌, List, length, IfOk, IsOkUnless, ⊤};
-ghost use Rattle.ark_sum_check.specs.Cube.{cube_sum, product_value};
-ghost use Rattle.ark_sum_check.specs.Provers.{factor_of, tables_of, variables_of};
-ghost use Rattle.ark_sum_check.specs.Rounds.{AreAccepted, AreChallenged, AreTrueRounds, challenges};
+ghost use Rattle.std.specs.Prelude.{◌≡◌, [], ◌∷◌, length, max, IfOk, IsOkUnless};
+ghost use Rattle.ark_sum_check.specs.Cube.{cube_sum, degree_of, sum_value};
+ghost use Rattle.ark_sum_check.specs.Embedded.{embedded_sum};
+ghost use Rattle.ark_sum_check.specs.Provers.{factor_of, sum_of, variables_of};
+ghost use Rattle.ark_sum_check.specs.Rounds.{AreAccepted, AreChallenged, AreTrueRounds, rounds_in};
 
+use crate::challenger::Challenger;
 use crate::error::SumCheckError;
+use crate::proof::Proof;
 use crate::prover::Prover;
-use crate::round::Round;
 use crate::sparse::SparseProver;
+use ark_extensions::ExtensionOf;
 use ark_traits::Field;
 use std::alloc::Global;
 
-/// Where challenges come from, as from a transcript or a generator. Nothing is promised of them but what an
-/// `impl` says by `challenge_gives`: from a state, for a round's values, which challenge may come, and which
-/// state after it.
-pub trait Challenger<F> {
-    ghost challenge_gives: { Self → List F → F → Self → Type 0 } = { λ _ _ _ _. ⊤ };
-
-    /// The challenge after a round with these values.
-    fn challenge(&mut self, values: &[F]) -> F
-        ensures { challenge_gives self.old values.now result self.new };
-}
-
 /// All rounds, with challenges as they come, each of which the challenger gives for the values of its round.
-/// Whatever these are, the rounds are true and so accepted of the sum over the cube, with the product's value
+/// Whatever these are, the rounds are true and so accepted of the sum over the cube, with the true value
 /// at the challenges as the last claim.
 pub fn prove<F: Field, C: Challenger<F>>(
     alloc: Global,
     prover: Prover<F>,
     challenger: &mut C,
-) -> Result<Vec<Round<F>>, SumCheckError>
-    ensures count { IfOk result (λ rounds. length rounds.items ≡ variables_of prover) }
-    ensures truth { IfOk result (λ rounds. AreTrueRounds F.field (length (tables_of F.field prover))
-        (tables_of F.field prover) rounds.items) }
-    ensures accepted { IfOk result (λ rounds. AreAccepted F.field (length (tables_of F.field prover))
-        (cube_sum F.field (variables_of prover) (tables_of F.field prover)) rounds.items
-        (product_value F.field (tables_of F.field prover) (challenges rounds.items))) }
-    ensures drawn { IfOk result (λ rounds.
-        AreChallenged C.challenge_gives challenger.old rounds.items challenger.new) }
+) -> Result<Proof<F>, SumCheckError>
+    ensures rounds { IfOk result (λ proof. length proof.rounds.items ≡ variables_of prover) }
+    ensures point { IfOk result (λ proof. length proof.point.items ≡ variables_of prover) }
+    ensures truth { IfOk result (λ proof. AreTrueRounds F.field (max 1 (degree_of (sum_of F.field prover)))
+        (sum_of F.field prover) (rounds_in proof)) }
+    ensures accepted { IfOk result (λ proof. AreAccepted F.field (max 1 (degree_of (sum_of F.field prover)))
+        (cube_sum F.field (variables_of prover) (sum_of F.field prover)) (rounds_in proof)
+        (sum_value F.field (sum_of F.field prover) proof.point.items)) }
+    ensures drawn { IfOk result (λ proof.
+        AreChallenged C.challenge_gives challenger.old (rounds_in proof) challenger.new) }
     ensures memory { IsOkUnless result SumCheckError.Memory }
 {
-    // There is a factor, so a round has two values at least.
-    let degree = prover.degree();
-    prove!(degree > 0);
     let mut left = prover;
     let mut rounds = Vec::with_capacity(alloc, left.num_vars())?;
+    let mut point = Vec::with_capacity(alloc, left.num_vars())?;
     'variables: while left.num_vars() > 0 {
         let values = left.round(alloc)?;
         let challenge = challenger.challenge(&values);
         left.bind(challenge);
-        rounds.push(Round { values, challenge })?;
+        rounds.push(values)?;
+        point.push(challenge)?;
     }
-    Ok(rounds)
+    Ok(Proof { rounds, point })
 }
 
 /// All rounds of a factor that is given by its entries, as `prove` makes them of one that is given by all its
@@ -61,26 +53,81 @@ pub fn prove_sparse<F: Field, C: Challenger<F>>(
     alloc: Global,
     prover: SparseProver<F>,
     challenger: &mut C,
-) -> Result<Vec<Round<F>>, SumCheckError>
-    ensures count { IfOk result (λ rounds. length rounds.items ≡ prover.variables) }
-    ensures truth { IfOk result (λ rounds. AreTrueRounds F.field 1 (factor_of F.field prover) rounds.items) }
-    ensures accepted { IfOk result (λ rounds. AreAccepted F.field 1
-        (cube_sum F.field prover.variables (factor_of F.field prover)) rounds.items
-        (product_value F.field (factor_of F.field prover) (challenges rounds.items))) }
-    ensures drawn { IfOk result (λ rounds.
-        AreChallenged C.challenge_gives challenger.old rounds.items challenger.new) }
+) -> Result<Proof<F>, SumCheckError>
+    ensures rounds { IfOk result (λ proof. length proof.rounds.items ≡ prover.variables) }
+    ensures point { IfOk result (λ proof. length proof.point.items ≡ prover.variables) }
+    ensures truth { IfOk result (λ proof. AreTrueRounds F.field 1 (factor_of F.field prover) (rounds_in proof)) }
+    ensures accepted { IfOk result (λ proof. AreAccepted F.field 1
+        (cube_sum F.field prover.variables (factor_of F.field prover)) (rounds_in proof)
+        (sum_value F.field (factor_of F.field prover) proof.point.items)) }
+    ensures drawn { IfOk result (λ proof.
+        AreChallenged C.challenge_gives challenger.old (rounds_in proof) challenger.new) }
     ensures memory { IsOkUnless result SumCheckError.Memory }
 {
     let mut left = prover;
     let mut rounds = Vec::with_capacity(alloc, left.num_vars())?;
+    let mut point = Vec::with_capacity(alloc, left.num_vars())?;
     'variables: while left.num_vars() > 0 {
-        let sums = left.round(alloc)?;
-        let challenge = challenger.challenge(&sums);
+        let values = left.round(alloc)?;
+        let challenge = challenger.challenge(&values);
         left.bind(challenge);
-        rounds.push(Round {
-            values: sums,
-            challenge,
-        })?;
+        rounds.push(values)?;
+        point.push(challenge)?;
     }
-    Ok(rounds)
+    Ok(Proof { rounds, point })
+}
+
+/// All rounds of a sum whose tables lie in a field below that of the challenges, as `prove` makes them of the
+/// sum with each table's values and each coefficient embedded: the first round is made below.
+pub fn prove_within<F: Field, E: ExtensionOf<F>, C: Challenger<E>>(
+    alloc: Global,
+    prover: &Prover<F>,
+    challenger: &mut C,
+) -> Result<Proof<E>, SumCheckError>
+    ensures rounds { IfOk result (λ proof. length proof.rounds.items ≡ variables_of prover.now) }
+    ensures point { IfOk result (λ proof. length proof.point.items ≡ variables_of prover.now) }
+    ensures truth { IfOk result (λ proof. AreTrueRounds E.field (max 1 (degree_of (sum_of F.field prover.now)))
+        (embedded_sum E.within (sum_of F.field prover.now)) (rounds_in proof)) }
+    ensures accepted { IfOk result (λ proof. AreAccepted E.field (max 1 (degree_of (sum_of F.field prover.now)))
+        (cube_sum E.field (variables_of prover.now) (embedded_sum E.within (sum_of F.field prover.now)))
+        (rounds_in proof)
+        (sum_value E.field (embedded_sum E.within (sum_of F.field prover.now)) proof.point.items)) }
+    ensures drawn { IfOk result (λ proof.
+        AreChallenged C.challenge_gives challenger.old (rounds_in proof) challenger.new) }
+    ensures memory { IsOkUnless result SumCheckError.Memory }
+{
+    if prover.num_vars() == 0 {
+        return Ok(no_rounds(alloc));
+    }
+    let values = prover.round_within(alloc)?;
+    let challenge = challenger.challenge(&values);
+    let left = prover.bind_within(alloc, challenge)?;
+    let rest = prove(alloc, left, challenger)?;
+    let proof = with_first(rest, values, challenge)?;
+    Ok(proof)
+}
+
+fn no_rounds<F: Drop>(alloc: Global) -> Proof<F>
+    ensures rounds { result.rounds.items ≡ [] }
+    ensures point { result.point.items ≡ [] }
+{
+    Proof {
+        rounds: Vec::new(alloc),
+        point: Vec::new(alloc),
+    }
+}
+
+// One round before the others.
+fn with_first<F: Drop>(
+    mut rest: Proof<F>,
+    values: Vec<F>,
+    challenge: F,
+) -> Result<Proof<F>, SumCheckError>
+    ensures rounds { IfOk result (λ proof. proof.rounds.items ≡ values ∷ rest.rounds.items) }
+    ensures point { IfOk result (λ proof. proof.point.items ≡ challenge ∷ rest.point.items) }
+    ensures memory { IsOkUnless result SumCheckError.Memory }
+{
+    rest.rounds.insert(0, values)?;
+    rest.point.insert(0, challenge)?;
+    Ok(rest)
 }

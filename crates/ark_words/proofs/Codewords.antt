@@ -1,22 +1,22 @@
 -- What a decoder gives, in plain numbers, and words one after another.
-use Rattle.std.proofs.Common.{◌≡◌, zero, suc, ◌+◌, ◌*◌, ◌%◌, ◌<◌, ◌≤◌, ◌==◌, ℕ, not, true, false, List, [], ◌∷◌, ◌++◌, All, length, map, get_or, slice_range, take, drop, refl, sym, ap, ap₂, subst, ◌∙◌, arith, rules, below_more, mod-eq_of_lt}
+use Rattle.std.proofs.Common.{◌≡◌, zero, suc, ◌+◌, ◌*◌, ◌<◌, ◌≤◌, ◌==◌, ℕ, not, true, false, List, [], ◌∷◌, ◌++◌, length, map, get_or, slice_range, take, drop, refl, sym, ap, subst, ◌∙◌, arith, rules, below_more}
 use Rattle.std.proofs.lemmas.List.{length-append, length-map, take-append-le, take-map, drop-map, drop_at}
 use Rattle.std.proofs.lemmas.Slice.{between_is, between_to_end}
 use Rattle.ark_math.specs.Module.{ModuleOn, IsItself, itself, item}
 use Rattle.ark_math.specs.Domain.{Domain}
 use Rattle.ark_math.specs.Transform.{transform, fit}
-use Rattle.ark_math.proofs.Callers.Transforms.{same_from_meanings, fit-same, transform-length, transform-meanings}
-use Rattle.ark_math.proofs.Lists.Tabulated.{length-tabulate}
-use Rattle.ark_math.proofs.Transforms.Carried.{same_carries, meaning_linear, transform-linear, transform-carried}
+use Rattle.ark_math.proofs.Callers.Transforms.{same_from_meanings, fit-same}
+use Rattle.ark_math.proofs.Transforms.Carried.{same_carries, meaning_linear, transform-linear}
 use Rattle.ark_numbers.specs.Fields.{Known, operations}
-use Rattle.ark_numbers.specs.Answers.{coset_of, AreValues}
-use Rattle.ark_numbers.proofs.Values.{NumberField, shown_field, field_laws, module_laws, number_carries, domain_carried, elements_of, residue, values_of_elements}
+use Rattle.ark_numbers.specs.Answers.{coset_of}
+use Rattle.ark_numbers.proofs.Values.{NumberField, shown_field, number_carries, elements_of, residue}
 use Rattle.rs_code.specs.Code.{DecoderOver}
 use Rattle.rs_code.specs.Codeword.{AgreesElsewhere}
 use Rattle.rs_code.specs.Codeword.{IsCodeword as IsOverCode}
-use Rattle.rs_code.proofs.Messages.{transform-fitted}
-use Rattle.ark_words.specs.Codes.{AgreesWith, IsCodeword, HasCodeword, IsRestored, IsFound, word_at}
+use Rattle.ark_words.specs.Codes.{AgreesWith, HasCodeword, IsRestored, IsFound, word_at}
 use Rattle.ark_words.specs.Decoders.{IsDecoderFor, marks}
+use Rattle.ark_words.proofs.CodesInNumbers.{IsSubgroup, transform_numbers, values_numbers, codeword_numbers, codeword_elements, codeword_length}
+use Rattle.ark_words.proofs.Interpolated.{numbers_back}
 use Rattle.ark_words.proofs.WordLists.{number_end, numbers_below}
 
 -- ---- words one after another
@@ -65,11 +65,6 @@ is_left (suc byte) e = absurd (search rules)
 unmarked_left : (erased : List ℕ) (i : ℕ) → get_or (marks erased) i true ≡ false → get_or erased i 1 ≡ 0
 unmarked_left erased i e = is_left (get_or erased i 1) (sym (get_or-under (λ byte. not (byte == 0)) 1 erased i) ∙ e)
 
--- numbers below the modulus are their own residues
-same_reduced : (p : ℕ) (m : List ℕ) → All (λ x. x < p) m → map (λ x. x % p) m ≡ m
-same_reduced p [] all = refl
-same_reduced p (x ∷ m) all = ap₂ (λ y ys. y ∷ ys) (mod-eq_of_lt (all 0 0 (omega arith))) (same_reduced p m (λ i d l. all (suc i) d (omega arith)))
-
 -- ---- the decoder's words as numbers
 
 module _ {F M : Type 0} (S : NumberField F) (V : ModuleOn F M) (meaning : F → M) (own : IsItself S.field V meaning)
@@ -85,6 +80,9 @@ module _ {F M : Type 0} (S : NumberField F) (V : ModuleOn F M) (meaning : F → 
 
   abbrev over : Domain F
   over = d.code.domain
+
+  subgroup : IsSubgroup S (length erased) over
+  subgroup = record { lawful = D.lawful; offset = D.subgroup; size = D.size }
 
   agrees_numbers : (word c : List F) → AgreesElsewhere V d.erased (map meaning word) (map meaning c) → AgreesWith erased (map number word) (map number c)
   agrees_numbers word c agrees i left =
@@ -102,59 +100,15 @@ module _ {F M : Type 0} (S : NumberField F) (V : ModuleOn F M) (meaning : F → 
       let same = agrees i (unmarked_left erased i (ap (λ places. get_or places i true) (sym D.marked) ∙ mark)) in
       value c ∙ ap meaning (S.numbering.same _ _ (sym (plain c) ∙ same ∙ plain word)) ∙ sym (value word)
 
-  -- values over the code's domain are those over the domain of n elements
-  transform_numbers : (xs : List F) → map number (transform S.field (itself S.field) over xs) ≡ transform (operations f) (itself (operations f)) (coset_of f over.size 1) (map number xs)
-  transform_numbers xs =
-      let L = operations f in
-      let one = ap number D.subgroup ∙ (number_carries S).one_kept ∙ sym (mod-eq_of_lt S.prime.above_one) in
-      transform-carried (number_carries S) over xs ∙ ap (λ e. transform L (itself L) e (map number xs)) (domain_carried S over 1 D.lawful one)
-
-  pub values_numbers : (xs c : List F) → c ≡ transform S.field (itself S.field) over xs → AreValues f (coset_of f (length erased) 1) (map number xs) (map number c)
-  values_numbers xs c e =
-      subst (λ n. AreValues f (coset_of f n 1) (map number xs) (map number c)) D.size (ap (map number) e ∙ transform_numbers xs)
-
-  -- every meaning is some element's
-  abbrev preimages : List M → List F
-  preimages m = map (λ y. (own.onto y).0) m
-
-  meanings_back : (m : List M) → map meaning (preimages m) ≡ m
-  meanings_back [] = refl
-  meanings_back (y ∷ m) = ap₂ (λ z zs. z ∷ zs) (own.onto y).1 (meanings_back m)
-
-  codeword_numbers : (c : List F) → IsOverCode S.field V over k (map meaning c) → IsCodeword f (length erased) k (map number c)
-  codeword_numbers c w =
-      let K = S.field in
-      let xs = preimages w.0 in
-      let short : length xs ≤ k = omega (arith, length-map w.0 (λ y. (own.onto y).0), w.1) in
-      let whole = fit (itself K) xs k in
-      let plain = transform-meanings K V own over xs c (w.2 ∙ ap (transform K V over) (sym (meanings_back w.0))) in (
-        map number whole,
-        (length-map whole number ∙ length-tabulate k (item (itself K) xs), numbers_below S.numbering whole),
-        values_numbers whole c (plain ∙ sym (transform-fitted (field_laws S) (module_laws S) over k xs short)),
-      )
-
-  -- a codeword in numbers is one of elements
-  codeword_elements : (other : List ℕ) → IsCodeword f (length erased) k other → (ys : List F) × (map number ys ≡ other) × IsOverCode S.field V over k (map meaning ys)
-  codeword_elements other w =
-      let K = S.field in
-      let L = operations f in
-      let xs = elements_of S w.0 in
-      let numbers = values_of_elements S w.0 ∙ same_reduced S.modulus w.0 w.1.1 in
-      let is = subst (λ n. other ≡ transform L (itself L) (coset_of f n 1) w.0) (sym D.size) w.2 in (
-        transform K (itself K) over xs,
-        transform_numbers xs ∙ ap (transform L (itself L) (coset_of f over.size 1)) numbers ∙ sym is,
-        (map meaning xs, omega (arith, length-map xs meaning, length-map w.0 (residue S), w.1.0), transform-linear (same_carries K) (meaning_linear own) over xs),
-      )
-
   -- what `restore` gives
   pub restored_numbers : (word c : List F) → IsOverCode S.field V over k (map meaning c) → AgreesElsewhere V d.erased (map meaning word) (map meaning c)
       → ((other : List M) → IsOverCode S.field V over k other → AgreesElsewhere V d.erased (map meaning word) other → other ≡ map meaning c)
       → IsRestored f erased k (map number word) (map number c)
   restored_numbers word c codeword agrees only = record {
-    codeword = codeword_numbers c codeword;
+    codeword = codeword_numbers S V meaning own over (length erased) subgroup k c codeword;
     agrees = agrees_numbers word c agrees;
     only = λ other w same.
-        let found = codeword_elements other w in
+        let found = codeword_elements S V meaning own over (length erased) subgroup k other w in
         let there = numbers_agree word found.0 (subst (AgreesWith erased (map number word)) (sym found.1) same) in
         sym found.1 ∙ ap (map number) (same_from_meanings S.field V own found.0 c (only (map meaning found.0) found.2 there));
   }
@@ -170,14 +124,13 @@ module _ {F M : Type 0} (S : NumberField F) (V : ModuleOn F M) (meaning : F → 
       let c = transform K (itself K) over m in
       record {
         message = (length-map m number ∙ len, numbers_below S.numbering m);
-        agrees = (map number c, values_numbers m c refl, agrees_numbers word c (subst (AgreesElsewhere V d.erased (map meaning word)) (sym (values m)) agrees));
+        agrees = (map number c, values_numbers S V meaning own over (length erased) subgroup m c refl, agrees_numbers word c (subst (AgreesElsewhere V d.erased (map meaning word)) (sym (values m)) agrees));
         only = λ other w same.
             let xs = elements_of S other in
             let ys = transform K (itself K) over xs in
-            let numbers = values_of_elements S other ∙ same_reduced S.modulus other w.1 in
+            let numbers = numbers_back S other w.1 in
             let long : length (map meaning xs) ≡ k = length-map xs meaning ∙ length-map other (residue S) ∙ w.0 in
-            let is = subst (λ n. same.0 ≡ transform L (itself L) (coset_of f n 1) other) (sym D.size) same.1 in
-            let plain = transform_numbers xs ∙ ap (transform L (itself L) (coset_of f over.size 1)) numbers ∙ sym is in
+            let plain = transform_numbers S V meaning own over (length erased) subgroup xs ∙ ap (transform L (itself L) (coset_of f (length erased) 1)) numbers ∙ sym same.1 in
             let there = subst (AgreesElsewhere V d.erased (map meaning word)) (values xs) (numbers_agree word ys (subst (AgreesWith erased (map number word)) (sym plain) same.2)) in
             let whole = sym (fit-same V (map meaning xs) k long) ∙ only (map meaning xs) (omega (arith, long)) there in
             sym numbers ∙ ap (map number) (same_from_meanings K V own xs m whole);
@@ -187,8 +140,8 @@ module _ {F M : Type 0} (S : NumberField F) (V : ModuleOn F M) (meaning : F → 
   pub no_codeword_numbers : (word : List F) → ((other : List M) → IsOverCode S.field V over k other → AgreesElsewhere V d.erased (map meaning word) other → ⊥)
       → HasCodeword f erased k (map number word) → ⊥
   no_codeword_numbers word none has =
-      let found = codeword_elements has.0 has.1 in
+      let found = codeword_elements S V meaning own over (length erased) subgroup k has.0 has.1 in
       none (map meaning found.0) found.2 (numbers_agree word found.0 (subst (AgreesWith erased (map number word)) (sym found.1) has.2))
 
-  pub codeword_length : (c : List F) → IsOverCode S.field V over k (map meaning c) → length c ≡ length erased
-  codeword_length c w = sym (length-map c meaning) ∙ ap length w.2 ∙ transform-length S.field V over w.0 ∙ D.size
+  pub decoded_length : (c : List F) → IsOverCode S.field V over k (map meaning c) → length c ≡ length erased
+  decoded_length c w = codeword_length S V meaning own over (length erased) subgroup k c w

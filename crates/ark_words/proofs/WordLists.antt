@@ -1,6 +1,6 @@
 -- Lists of words as numbers.
 use Rattle.std.proofs.Common.{◌≡◌, zero, suc, ◌+◌, ◌-◌, ◌*◌, ◌/◌, ◌%◌, ◌<◌, ◌≤◌, ℕ, List, [], ◌∷◌, ◌++◌, All, length, map, get_or, slice_set, slice_index_or, slice_range, drop, refl, sym, ap, ap₂, subst, ◌∙◌, arith, below_more}
-use Rattle.std.proofs.lemmas.Nat.{mul-le, div-add-mod', div-mul-add}
+use Rattle.std.proofs.lemmas.Nat.{mul-le, div-add-mod', div-mul-add, le-div}
 use Rattle.std.proofs.lemmas.List.{length-drop, length-map, length-take-le, map-append}
 use Rattle.std.proofs.lemmas.Slice.{between_is, between-put_mid, take-put_mid_below}
 use borrow.Rule.Slice.PartMut.{put_mid}
@@ -130,3 +130,18 @@ whole_words width count words whole e =
     let parts = div-add-mod' (length words) width in
     let none : length words ≡ length words / width * width = omega arith in
     none ∙ ap (λ n. n * width) (sym e)
+
+-- some whole numbers, and as many of them at most as there are in a longer list
+pub some_numbers : (width : ℕ) (words : List ℕ) → length words % width ≡ 0 → 0 < length words → 0 < length words / width
+some_numbers width words whole some =
+    let parts = div-add-mod' (length words) width in
+    positive (length words / width) width (omega (arith, parts, whole, some))
+  where
+    positive : (n w : ℕ) → 0 < n * w → 0 < n
+    positive zero w l = omega (arith, l)
+    positive (suc n) w l = omega arith
+
+pub fewer_numbers : (width : ℕ) (words more : List ℕ) → 0 < width → length words % width ≡ 0 → length words ≤ length more → length words / width ≤ length more / width
+fewer_numbers width words more some whole l =
+    let parts = div-add-mod' (length words) width in
+    le-div (length words / width) (length more) width some (omega (arith, parts, whole, l))

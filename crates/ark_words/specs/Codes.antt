@@ -1,6 +1,6 @@
 -- Reed-Solomon codes over lists of words: the codeword of a message of k numbers is the n values of the polynomial with these
 -- coefficients over the domain of n elements with offset 1.
-use Rattle.std.specs.Prelude.{◌≡◌, ℕ, ◌+◌, ◌*◌, ◌/◌, ◌%◌, ◌<◌, ◌≤◌, ◌==◌, List, All, length, get_or, slice_range, count_by}
+use Rattle.std.specs.Prelude.{◌≡◌, ℕ, ◌+◌, ◌*◌, ◌/◌, ◌%◌, ◌<◌, ◌≤◌, ◌==◌, List, All, length, get_or, slice_range, take, count_by}
 use Rattle.ark_numbers.specs.Fields.{Known}
 use Rattle.ark_numbers.specs.Answers.{IsLength, coset_of, AreValues}
 use Rattle.ark_words.specs.Numbers.{Spelled, numbers, AreWhole, AreReduced}
@@ -27,6 +27,26 @@ IsEncodable f message word = FitCode f message word × AreReduced f message × H
 abbrev pub IsEncoded : Spelled → List ℕ → List ℕ → Type 0
 IsEncoded f message word = AreValues f.known (coset_of f.known (length word / f.width) 1) (numbers f.width message) (numbers f.width word)
 
+-- ---- the code in systematic form
+
+-- k numbers below the modulus
+abbrev pub IsMessage : Known → ℕ → List ℕ → Type 0
+IsMessage f k m = (length m ≡ k) × All (λ x. x < f.modulus) m
+
+-- c is the codeword of n numbers of some message of k
+abbrev pub IsCodeword : Known → ℕ → ℕ → List ℕ → Type 0
+IsCodeword f n k c = (m : List ℕ) × IsMessage f k m × AreValues f (coset_of f n 1) m c
+
+-- c is the only codeword of n numbers that begins with the k numbers of m
+pub record IsSystematic (f : Known) (n : ℕ) (m c : List ℕ) : Type 0 where
+  pub codeword : IsCodeword f n (length m) c
+  pub begins : take (length m) c ≡ m
+  pub only : (other : List ℕ) → IsCodeword f n (length m) other → take (length m) other ≡ m → other ≡ c
+
+-- the word spells the only codeword that begins with the message
+abbrev pub IsExtendedToCodeword : Spelled → List ℕ → List ℕ → Type 0
+IsExtendedToCodeword f message word = IsSystematic f.known (length word / f.width) (numbers f.width message) (numbers f.width word)
+
 -- ---- a word with places lost: those of which the byte isn't 0
 
 -- how many places are left
@@ -36,14 +56,6 @@ left_count erased = count_by (λ byte. byte == 0) erased
 -- c has the word's numbers at the places that are left
 abbrev pub AgreesWith : List ℕ → List ℕ → List ℕ → Type 0
 AgreesWith erased word c = (i : ℕ) → get_or erased i 1 ≡ 0 → get_or c i 0 ≡ get_or word i 0
-
--- k numbers below the modulus
-abbrev pub IsMessage : Known → ℕ → List ℕ → Type 0
-IsMessage f k m = (length m ≡ k) × All (λ x. x < f.modulus) m
-
--- c is the codeword of n numbers of some message of k
-abbrev pub IsCodeword : Known → ℕ → ℕ → List ℕ → Type 0
-IsCodeword f n k c = (m : List ℕ) × IsMessage f k m × AreValues f (coset_of f n 1) m c
 
 -- a codeword has what is left of a word
 abbrev pub HasCodeword : Known → List ℕ → ℕ → List ℕ → Type 0

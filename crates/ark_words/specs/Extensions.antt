@@ -1,8 +1,8 @@
 -- Multilinear extensions over lists of words: a table of the values at the 2 ^ m corners of a cube, of which place i has the
 -- one whose variable j is bit j of i, and a point.
-use Rattle.std.specs.Prelude.{◌≡◌, ℕ, ◌-◌, ◌^◌, ◌/◌, ◌≤◌, List, length}
+use Rattle.std.specs.Prelude.{◌≡◌, ℕ, ◌-◌, ◌^◌, ◌/◌, ◌<◌, ◌≤◌, List, All, length, zip}
 use Rattle.ark_math.specs.Module.{tabulate}
-use Rattle.ark_math.specs.Multilinear.{extension, fixed}
+use Rattle.ark_math.specs.Multilinear.{extension, fixed, written}
 use Rattle.ark_math.specs.Univariate.{of_list}
 use Rattle.ark_math.specs.Words.{number_of_words}
 use Rattle.ark_numbers.specs.Fields.{operations}
@@ -20,6 +20,21 @@ FitExtended f table point value = AreWhole f table × AreWhole f point × IsOne 
 -- the new words spell the extension's value at the point
 abbrev pub IsExtended : Spelled → List ℕ → List ℕ → List ℕ → Type 0
 IsExtended f table point new = number_of_words new ≡ extension (operations f.known) (corner_values f table) (numbers f.width point)
+
+-- ---- a table by some of its entries, indices and as many values: the last value of an index counts, and others are zero
+
+-- the value at each corner
+abbrev pub entry_values : Spelled → List ℕ → List ℕ → ℕ → ℕ
+entry_values f indices values = written 0 (zip indices (numbers f.width values))
+
+-- entries, a point of m numbers, m at most 63, and a value
+abbrev pub FitSparse : Spelled → List ℕ → List ℕ → List ℕ → List ℕ → Type 0
+FitSparse f indices values point value = AreWhole f values × AreWhole f point × IsOne f value × (length indices ≡ length values / f.width)
+    × (length point / f.width < 64) × All (λ i. i < 2 ^ (length point / f.width)) indices
+
+-- the new words spell the extension's value at the point
+abbrev pub IsExtendedByEntries : Spelled → List ℕ → List ℕ → List ℕ → List ℕ → Type 0
+IsExtendedByEntries f indices values point new = number_of_words new ≡ extension (operations f.known) (entry_values f indices values) (numbers f.width point)
 
 -- ---- a point of k numbers, for the first k of m variables, and a table for the others
 

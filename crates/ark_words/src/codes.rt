@@ -4,7 +4,7 @@ ghost use Rattle.std.specs.Prelude.{◌≡◌, ◌↔◌, ℕ, ◌*◌, ◌/◌,
 ghost use Rattle.std.specs.Prelude.{All, IfSome, IsNone};
 ghost use Rattle.ark_math.specs.Domain.{Kind, IsDomain, IsSize};
 ghost use Rattle.ark_univariate.specs.Domains.{general_domain};
-ghost use Rattle.ark_words.specs.Codes.{FitCode, HasCodeFor, IsEncodable, IsEncoded};
+ghost use Rattle.ark_words.specs.Codes.{FitCode, HasCodeFor, IsEncodable, IsEncoded, IsExtendedToCodeword};
 ghost use Rattle.ark_words.specs.Codes.{FitWords, HasCode, HasCodeword, HaveCodewords, IsRestored};
 ghost use Rattle.ark_words.specs.Codes.{AreRestored, left_count, word_at};
 ghost use Rattle.ark_words.specs.Codes.{FitMessages, IsFound, AreFound, message_size};
@@ -52,6 +52,36 @@ pub fn encode<F: WordElement>(
     Ok(())
 }
 
+/// Writes the codeword that begins with a message of `k` numbers, where the word has room for `n`: the code
+/// in systematic form. There is exactly one such codeword. It takes memory for `k` elements, and what
+/// `encode_systematic` of `rs_code` takes.
+///
+/// The errors are those of `encode`, in its order.
+pub fn encode_systematic<F: WordElement>(
+    alloc: Global,
+    message: &[u64],
+    word: &mut [u64],
+) -> Result<(), WordsError>
+    ensures codeword { OnOk result (IsExtendedToCodeword F.spelled message.now word.new) }
+    ensures kept { OnErr result (word.new ≡ word.old) }
+    ensures taken { OnOk result (IsEncodable F.spelled message.now word.old) }
+    ensures length { (result ≡ Err WordsError.Length) ↔ (¬ FitCode F.spelled message.now word.old) }
+    ensures not_reduced { (result ≡ Err WordsError.NotReduced)
+        ↔ (FitCode F.spelled message.now word.old × (¬ AreReduced F.spelled message.now)) }
+    ensures no_domain { (result ≡ Err WordsError.NoDomain)
+        ↔ (FitCode F.spelled message.now word.old × AreReduced F.spelled message.now
+        × (¬ HasCodeFor F.spelled word.old)) }
+    ensures no_other { IfErr result IsOfDomains }
+{
+    let (domain, items) = judged::<F>(alloc, message, word)?;
+    let k = message.len() / F::WIDTH;
+    let Ok(extended) = Code::<F>::over(domain, k).encode_systematic(alloc, &items) else {
+        return Err(WordsError::Memory);
+    };
+    put(word, &extended);
+    Ok(())
+}
+
 // The domain of the word and the message's elements, or the first fault.
 fn judged<F: WordElement>(
     alloc: Global,
@@ -80,17 +110,17 @@ fn judged<F: WordElement>(
     Ok((domain, elements(alloc, message)?))
 }
 
-/// Puts in place of each word the only codeword that has what is left of it. The words have `n` numbers each and
-/// stand one after another, one or more; `erased` has `n` bytes, and a place of which the byte isn't 0 is lost
-/// in every word. A codeword is that of a message of `k` numbers. What is at a lost place counts for nothing, but
-/// is a number below the modulus. One decoder serves all words: the call takes memory for them twice, and what
-/// `decoder` and `restore` of `rs_code` take.
+/// Puts in place of each word the only codeword that has what is left of it. The words have `n` numbers each
+/// and stand one after another, one or more; `erased` has `n` bytes, and a place of which the byte isn't 0 is
+/// lost in every word. A codeword is that of a message of `k` numbers. What is at a lost place counts for
+/// nothing, but is a number below the modulus. One decoder serves all words: the call takes memory for them
+/// twice, and what `decoder` and `restore` of `rs_code` take.
 ///
 /// The errors are judged in this order: `Length` where the words aren't whole elements, are none, or their
 /// number no multiple of `n`, or where `k` is none of `1 ..= n`; `NotReduced` where a number isn't below the
-/// modulus; `NoDomain` where no domain of the field has `n` elements; `TooFew` where fewer than `k` places are
-/// left; `NoCodeword` where no codeword has what is left of some word. `Memory` comes only where none of the
-/// first four does.
+/// modulus; `NoDomain` where no domain of the field has `n` elements; `TooFew` where fewer than `k` places
+/// are left; `NoCodeword` where no codeword has what is left of some word. `Memory` comes only where none of
+/// the first four does.
 pub fn restore<F: WordElement>(
     alloc: Global,
     words: &mut [u64],
@@ -125,18 +155,18 @@ pub fn restore<F: WordElement>(
     }
 }
 
-/// Writes the messages of words, of `k` numbers each, one after another: each is the only one whose codeword has
-/// what is left of its word. The words have `n` numbers each and stand one after another, one or more; `erased`
-/// has `n` bytes, and a place of which the byte isn't 0 is lost in every word. What is at a lost place counts for
-/// nothing, but is a number below the modulus. `k` is how many numbers `messages` has room for, over how many
-/// words there are. One decoder serves all words: the call takes memory for words and messages, and what
-/// `decoder` and `message` of `rs_code` take.
+/// Writes the messages of words, of `k` numbers each, one after another: each is the only one whose codeword
+/// has what is left of its word. The words have `n` numbers each and stand one after another, one or more;
+/// `erased` has `n` bytes, and a place of which the byte isn't 0 is lost in every word. What is at a lost
+/// place counts for nothing, but is a number below the modulus. `k` is how many numbers `messages` has room
+/// for, over how many words there are. One decoder serves all words: the call takes memory for words and
+/// messages, and what `decoder` and `message` of `rs_code` take.
 ///
 /// The errors are judged in this order: `Length` where words or messages aren't whole elements, the words are
-/// none, or their number no multiple of `n`, or that of the messages none of the words', or where `k` is none of
-/// `1 ..= n`; `NotReduced` where a number of the words isn't below the modulus; `NoDomain` where no domain of the
-/// field has `n` elements; `TooFew` where fewer than `k` places are left; `NoCodeword` where no codeword has what
-/// is left of some word. `Memory` comes only where none of the first four does.
+/// none, or their number no multiple of `n`, or that of the messages none of the words', or where `k` is none
+/// of `1 ..= n`; `NotReduced` where a number of the words isn't below the modulus; `NoDomain` where no domain
+/// of the field has `n` elements; `TooFew` where fewer than `k` places are left; `NoCodeword` where no
+/// codeword has what is left of some word. `Memory` comes only where none of the first four does.
 pub fn message<F: WordElement>(
     alloc: Global,
     words: &[u64],

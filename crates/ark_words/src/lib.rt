@@ -16,12 +16,12 @@ mod products;
 mod transforms;
 mod weights;
 
-pub use codes::{encode, message, restore};
+pub use codes::{encode, encode_systematic, message, restore};
 pub use division::divide;
 pub use domains::domain_size;
 pub use element::{WordElement, width};
 pub use error::WordsError;
-pub use extensions::{multilinear_evaluate, multilinear_fix};
+pub use extensions::{multilinear_evaluate, multilinear_evaluate_sparse, multilinear_fix};
 pub use interpolations::interpolate;
 pub use points::evaluate;
 pub use products::multiply;

@@ -3,6 +3,7 @@
 use ark_base::{
     FftField, Field, Lanes, PolyError, PrimeField, PrimeField32, PrimeModulus, PrimeModulus32,
 };
+use ark_extensions::Quadratic;
 use ark_rows::Row;
 use ark_wide::{PrimeField256, PrimeModulus256};
 use std::alloc::Global;
@@ -54,6 +55,13 @@ impl<F: Field + Number> Number for Lanes<F> {
     fn number(&self) -> u64 {
         let first = self.get(0).number().wrapping_mul(31);
         first.wrapping_add(self.get(1).number())
+    }
+}
+
+impl<F: Number, M> Number for Quadratic<F, M> {
+    fn number(&self) -> u64 {
+        let first = self.c0.number().wrapping_mul(31);
+        first.wrapping_add(self.c1.number())
     }
 }
 

@@ -175,7 +175,8 @@ fn report_rows<R: Print + Clock>(
     )
 }
 
-fn report_rows_in_place<F: Counted, T: DomainCoeff<F> + Number, R: Print + Clock>(
+/// A transform of these items over the field's domain of as many elements.
+pub fn report_rows_in_place<F: Counted, T: DomainCoeff<F> + Number, R: Print + Clock>(
     reporter: &Reporter<'_, R>,
     name: &str,
     rows: Vec<T>,

@@ -34,6 +34,19 @@ impl Draws {
         Ok(list)
     }
 
+    /// Elements drawn among all of a field, which numbers of a word may be few of.
+    pub fn random_list<F: Field>(
+        &mut self,
+        alloc: Global,
+        len: usize,
+    ) -> Result<Vec<F>, AllocError> {
+        let mut list = Vec::with_capacity(alloc, len)?;
+        for _ in 0..len {
+            list.push(F::rand(&mut self.rng))?;
+        }
+        Ok(list)
+    }
+
     pub fn bytes(&mut self, alloc: Global, len: usize) -> Result<Vec<u8>, AllocError> {
         let mut bytes = Vec::with_capacity(alloc, len)?;
         for _ in 0..len {

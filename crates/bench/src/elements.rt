@@ -1,15 +1,14 @@
 //! Sums, differences, products and inverses of elements, one after another.
 
-use crate::batches::{Benchmark, Counted, Reporter, mixed};
-use crate::draws::Draws;
+use crate::batches::{Benchmark, Number, Reporter, mixed};
 use ark_base::{Field, PolyError};
 use std::alloc::Global;
 use std::io::Print;
 use std::time::Clock;
 
-// What is made of two elements at the same place.
+/// What is made of two elements at the same place.
 #[derive(Clone, Copy)]
-enum Operation {
+pub enum Operation {
     Sum,
     Difference,
     Product,
@@ -35,7 +34,7 @@ struct OfElements<F: Field> {
     right: Vec<F>,
 }
 
-impl<F: Counted> Benchmark for OfElements<F> {
+impl<F: Field + Number> Benchmark for OfElements<F> {
     fn call(&mut self, _alloc: Global) -> Result<(), PolyError> {
         match self.operation {
             Operation::Sum => each(Operation::Sum, &mut self.left, &self.right),
@@ -59,25 +58,18 @@ fn each<F: Field>(operation: Operation, left: &mut [F], right: &[F]) {
     }
 }
 
-/// Operations on elements of a field of several words, under these names: a size is how many there are.
-pub fn report_elements<F: Counted, R: Print + Clock>(
+/// An operation on two lists of as many elements of a field, under this name: the size is how many there are.
+pub fn report_elements<F: Field + Number, R: Print + Clock>(
     reporter: &Reporter<'_, R>,
+    (name, operation): (&'static str, Operation),
+    left: Vec<F>,
+    right: Vec<F>,
 ) -> anyhow::Result<()> {
-    let mut draws = Draws::new();
-    for (name, operation, count) in [
-        ("bls12_381_sums", Operation::Sum, 1 << 10),
-        ("bls12_381_differences", Operation::Difference, 1 << 10),
-        ("bls12_381_products", Operation::Product, 1 << 10),
-        ("bls12_381_inverses", Operation::Inverse, 1 << 4),
-    ] {
-        let left = draws.list::<F>(reporter.alloc, count)?;
-        let right = draws.list::<F>(reporter.alloc, count)?;
-        let mut benchmark = OfElements {
-            operation,
-            left,
-            right,
-        };
-        reporter.report(name, count, &mut benchmark)?;
-    }
-    Ok(())
+    let count = left.len();
+    let mut benchmark = OfElements {
+        operation,
+        left,
+        right,
+    };
+    reporter.report(name, count, &mut benchmark)
 }

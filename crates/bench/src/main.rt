@@ -17,8 +17,10 @@ mod sums;
 mod transforms;
 
 use ark_base::{
-    BabyBear, CanonicalSerialize, Compress, F433, F65537, Field, Goldilocks, KoalaBear, Polynomial,
+    BabyBear, CanonicalSerialize, Compress, DomainCoeff, F433, F65537, Field, Goldilocks,
+    KoalaBear, Polynomial,
 };
+use ark_extensions::{BabyBear4, ExtensionOf};
 use ark_poly::univariate::{DensePolynomial, SparsePolynomial};
 use ark_poly::{
     DenseMultilinearExtension, DenseUVPolynomial, EvaluationDomain, MixedRadixEvaluationDomain,
@@ -28,11 +30,11 @@ use ark_wide::Bls12_381Scalar;
 use at_points::{report_at_points, report_shares};
 use batches::{Counted, Number, Reporter};
 use bytes::{ReadBack, Written};
-use codes::report_codes;
+use codes::{report_codes, report_rows_in_place};
 use draws::Draws;
-use elements::report_elements;
+use elements::{Operation, report_elements};
 use pieces::report_pieces;
-use points::{BoundTable, VARIABLES, ValueAtPoint, polynomial_of_terms};
+use points::{BoundTable, VARIABLES, ValueAtPoint, ValueOfBaseTable, polynomial_of_terms};
 use polynomials::{
     Interpolation, LongDivision, NaiveProduct, OfTwo, Quotients, SparseProduct, Value, Way,
 };
@@ -42,7 +44,7 @@ use std::alloc::AllocGlobal;
 use std::env;
 use std::io::Print;
 use std::time::Clock;
-use sums::{TABLE_VARIABLES, TwoFactors};
+use sums::{RowsBelow, TABLE_VARIABLES, TwoFactors, TwoFactorsBelow};
 use transforms::{Call, OverDomain};
 
 fn main(rt: HostRuntime) -> anyhow::Result<()> {
@@ -56,7 +58,21 @@ fn main(rt: HostRuntime) -> anyhow::Result<()> {
         timed,
     };
     report_all::<F65537, F433, BabyBear, KoalaBear, Goldilocks, FileCode, HostRuntime>(&reporter)?;
-    report_wide_field::<Bls12_381Scalar, HostRuntime>(&reporter)
+    report_wide_field::<Bls12_381Scalar, HostRuntime>(&reporter)?;
+    report_extension_field::<BabyBear, BabyBear4, HostRuntime>(
+        &reporter,
+        "baby_bear_products",
+        [
+            "baby_bear4_sums",
+            "baby_bear4_products",
+            "baby_bear4_inverses",
+            "baby_bear4_fft_in_place",
+            "baby_bear4_mle_evaluate",
+            "baby_bear4_sum_check_two_factors",
+        ],
+    )?;
+    let names = ["baby_bear4_mle_dense_evaluate", "baby_bear4_sum_check_rows"];
+    report_rows_below::<BabyBear, BabyBear4, HostRuntime>(&reporter, names)
 }
 
 // Everything, over a field with 2^16 units, one with mixed domains, and three with large domains; and the pieces of
@@ -121,11 +137,85 @@ fn report_large_field<F: Counted, R: Print + Clock>(
     report_radix2::<F, R>(reporter, &mut draws, names, &[1 << 16, 1 << 20])
 }
 
+// The value of a table of an extension at a point, and all rounds of a sum of products of four tables below it.
+fn report_rows_below<F: Field, E: ExtensionOf<F> + Number, R: Print + Clock>(
+    reporter: &Reporter<'_, R>,
+    [evaluate, rows]: [&'static str; 2],
+) -> anyhow::Result<()> {
+    let alloc = reporter.alloc;
+    let mut draws = Draws::new();
+    let table = draws.random_list::<E>(alloc, 1 << TABLE_VARIABLES)?;
+    if table.len() == 1 << TABLE_VARIABLES {
+        let mut value = ValueAtPoint {
+            polynomial: DenseMultilinearExtension::from_evaluations_vec(TABLE_VARIABLES, table),
+            point: draws.random_list::<E>(alloc, TABLE_VARIABLES)?,
+        };
+        reporter.report(evaluate, TABLE_VARIABLES, &mut value)?;
+    }
+    let mut tables = Vec::with_capacity(alloc, 4)?;
+    for _ in 0..4u32 {
+        tables.push(draws.random_list::<F>(alloc, 1 << TABLE_VARIABLES)?)?;
+    }
+    let last = E::zero();
+    reporter.report(
+        rows,
+        TABLE_VARIABLES,
+        &mut RowsBelow::<F, E> { tables, last },
+    )
+}
+
+// Products of elements below an extension; of its own sums, products, inverses, a transform over a domain of elements
+// below, and of tables of these a value at a point and a sum-check.
+fn report_extension_field<
+    F: Counted,
+    E: ExtensionOf<F> + DomainCoeff<F> + Number,
+    R: Print + Clock,
+>(reporter: &Reporter<'_, R>, below: &'static str, names: [&'static str; 6]) -> anyhow::Result<()> {
+    let [sums, products, inverses, transform, evaluate, sum_check] = names;
+    let alloc = reporter.alloc;
+    let mut draws = Draws::new();
+    let left = draws.list::<F>(alloc, 1 << 10)?;
+    let right = draws.list::<F>(alloc, 1 << 10)?;
+    report_elements(reporter, (below, Operation::Product), left, right)?;
+    for (name, operation, count) in [
+        (sums, Operation::Sum, 1 << 10),
+        (products, Operation::Product, 1 << 10),
+        (inverses, Operation::Inverse, 1 << 4),
+    ] {
+        let left = draws.random_list::<E>(alloc, count)?;
+        let right = draws.random_list::<E>(alloc, count)?;
+        report_elements(reporter, (name, operation), left, right)?;
+    }
+    let items = draws.random_list::<E>(alloc, 1 << 16)?;
+    report_rows_in_place::<F, E, R>(reporter, transform, items)?;
+    let mut value = ValueOfBaseTable::<F, E> {
+        table: draws.list(alloc, 1 << 16)?,
+        point: draws.random_list(alloc, 16)?,
+    };
+    reporter.report(evaluate, 16, &mut value)?;
+    let mut factors = TwoFactorsBelow::<F, E> {
+        left: draws.list(alloc, 1 << TABLE_VARIABLES)?,
+        right: draws.list(alloc, 1 << TABLE_VARIABLES)?,
+        last: E::zero(),
+    };
+    reporter.report(sum_check, TABLE_VARIABLES, &mut factors)
+}
+
 // A field of several words.
 fn report_wide_field<F: Counted, R: Print + Clock>(
     reporter: &Reporter<'_, R>,
 ) -> anyhow::Result<()> {
-    report_elements::<F, R>(reporter)?;
+    let mut draws = Draws::new();
+    for (name, operation, count) in [
+        ("bls12_381_sums", Operation::Sum, 1 << 10),
+        ("bls12_381_differences", Operation::Difference, 1 << 10),
+        ("bls12_381_products", Operation::Product, 1 << 10),
+        ("bls12_381_inverses", Operation::Inverse, 1 << 4),
+    ] {
+        let left = draws.list::<F>(reporter.alloc, count)?;
+        let right = draws.list::<F>(reporter.alloc, count)?;
+        report_elements(reporter, (name, operation), left, right)?;
+    }
     let mut draws = Draws::new();
     let names = ["bls12_381_fft_in_place", "bls12_381_ifft_in_place"];
     report_radix2::<F, R>(reporter, &mut draws, names, &[1 << 12])?;

@@ -3,6 +3,8 @@
 use crate::batches::{Benchmark, Number};
 use crate::draws::Draws;
 use ark_base::{Field, PolyError, Polynomial};
+use ark_extensions::ExtensionOf;
+use ark_extensions::embedded::{evaluate_multilinear, is_table_len};
 use ark_poly::multivariate::{SparsePolynomial, SparseTerm, Term};
 use ark_poly::{DenseMVPolynomial, DenseMultilinearExtension, MultilinearExtension};
 use std::alloc::{AllocError, Global};
@@ -21,6 +23,32 @@ impl<F: Field + Number, P: Polynomial<F, Point = Vec<F>>> Benchmark for ValueAtP
     fn call(&mut self, alloc: Global) -> Result<(), PolyError> {
         if self.polynomial.point_fits(&self.point) {
             let value = self.polynomial.evaluate(alloc, &self.point)?;
+            if let Some(first) = self.point.first_mut() {
+                *first = value;
+            }
+        }
+        Ok(())
+    }
+
+    fn checksum(&self) -> u64 {
+        match self.point.first() {
+            Some(first) => first.number(),
+            None => 0,
+        }
+    }
+}
+
+/// The value at a point of a table over a field below that of the point, of which it is the first item of the next one.
+#[derive(Drop)]
+pub struct ValueOfBaseTable<F: Field, E: Field> {
+    pub table: Vec<F>,
+    pub point: Vec<E>,
+}
+
+impl<F: Field, E: ExtensionOf<F> + Number> Benchmark for ValueOfBaseTable<F, E> {
+    fn call(&mut self, alloc: Global) -> Result<(), PolyError> {
+        if is_table_len(self.table.len(), self.point.len()) {
+            let value = evaluate_multilinear(alloc, &self.table, &self.point)?;
             if let Some(first) = self.point.first_mut() {
                 *first = value;
             }

@@ -1,32 +1,31 @@
 //! A verifier's answer to a claim, and what it means.
 
-ghost use Rattle.std.specs.Prelude.{◌≡◌, ◌⊎◌, ℕ, List, ◌≤◌, length, IfOk, true};
-ghost use Rattle.ark_sum_check.specs.Cube.{cube_sum, product_value};
-ghost use Rattle.ark_sum_check.specs.Rounds.{AreAccepted, HasOneOfFew, challenges};
+ghost use Rattle.std.specs.Prelude.{◌≡◌, ◌⊎◌, ◌≤◌, IfOk, true};
+ghost use Rattle.ark_sum_check.specs.Cube.{SumOfProducts, cube_sum, degree_of, sum_value};
+ghost use Rattle.ark_sum_check.specs.Rounds.{HasOneOfFew, rounds_in};
 
 use ark_base::Field;
-use ark_sum_check::{Round, SumCheckError, Verdict, true_or_one_of_few, verify};
+use ark_sum_check::{Challenger, Claim, Proof, SumCheckError, Verdict, true_or_one_of_few, verify};
 use std::alloc::Global;
 
-/// Whether rounds are accepted of a claim on the sum over the cube of a product of at most `degree` factors, with
-/// this value as the last claim: that of the product at the challenges, as openings of the factors give it. Then the
-/// claim is the sum, or at one of the rounds the challenge is one of at most `degree` elements, which are settled
-/// before it is drawn.
-pub fn is_accepted<F: Field>(
+/// Whether a proof is accepted of a claim on a sum over the cube, where the sum of products has this value at
+/// the proof's point, as openings of its tables there give it. Then the claim is the sum, or at one of the
+/// rounds the challenge is one of at most as many elements as the degree, which are settled before it is
+/// drawn.
+pub fn is_accepted<F: Field, C: Challenger<F>>(
     alloc: Global,
-    degree: usize,
-    claim: F,
-    rounds: &[Round<F>],
+    claim: Claim<F>,
+    proof: &Proof<F>,
     value: F,
+    challenger: &mut C,
 ) -> Result<bool, SumCheckError>
-    ensures complete { AreAccepted F.field degree claim rounds.now value → IfOk result (λ fits. fits ≡ true) }
-    ensures sound { IfOk result (λ fits. fits ≡ true → (ts : List (ℕ → F)) → length ts ≤ degree
-        → value ≡ product_value F.field ts (challenges rounds.now)
-        → (claim ≡ cube_sum F.field (length rounds.now) ts) ⊎ HasOneOfFew F.field degree ts rounds.now) }
+    ensures { IfOk result (λ fits. fits ≡ true → (s : SumOfProducts F) → degree_of s ≤ claim.degree
+        → value ≡ sum_value F.field s proof.now.point.items
+        → (claim.sum ≡ cube_sum F.field claim.num_vars s) ⊎ HasOneOfFew F.field claim.degree s (rounds_in proof.now)) }
 {
-    true_or_one_of_few::<F>(degree);
-    match verify(alloc, degree, claim, rounds)? {
-        Verdict::Accepted(last) => Ok(last == value),
-        Verdict::Refused(_) => Ok(false),
+    true_or_one_of_few::<F>(claim.degree);
+    match verify(alloc, claim, &proof.rounds, challenger)? {
+        Verdict::Reduced(last, point) => Ok(last == value && point == proof.point),
+        _ => Ok(false),
     }
 }

@@ -1,9 +1,9 @@
-//! Small callers, as a user of the crates writes them: a transform and back, values on a coset, an interpolation, the
-//! convolution of two lists, a combination of two polynomials, openings, exact costs, the first round of a sum-check,
-//! what chooses a value of a table, values that are lost and restored, a wrong one that is refused, a polynomial in a
-//! file, one error for a program, the values of a sparse polynomial, fields and a module of one's own, secrets in
-//! shares, whole sum-checks, values between given ones by words alone, and bytes in pieces. The program prints what each
-//! gives.
+//! Small callers, as a user of the crates writes them: a transform and back, values on a coset, an
+//! interpolation, the convolution of two lists, a combination of two polynomials, openings, exact costs, the
+//! first round of a sum-check, what chooses a value of a table, values that are lost and restored, a wrong
+//! one that is refused, a polynomial in a file, one error for a program, the values of a sparse polynomial,
+//! fields, an extension and a module of one's own, secrets in shares, whole sum-checks, by a transcript too,
+//! values between given ones by words alone, and bytes in pieces. The program prints what each gives.
 #![tactic(auto)]
 
 mod accepted;
@@ -21,7 +21,11 @@ mod large_field;
 mod module;
 mod one_pass_opening;
 mod opening;
+mod own_extension;
 mod protocols;
+mod row_bytes;
+mod row_sum_check;
+mod rows;
 mod saving;
 mod selector;
 mod shared_sum;
@@ -30,6 +34,7 @@ mod sparse;
 mod sum_check;
 mod sum_check_whole;
 mod there_and_back;
+mod transcript;
 mod words;
 
 use ark_base::{
@@ -53,7 +58,9 @@ use kept::from_last_pieces;
 use large_field::{F18446742974197923841, size_for_a_hundred_million};
 use module::{Point, points_of_curve};
 use opening::opening;
+use own_extension::{F433Squared, value_in_extension};
 use protocols::print_protocols;
+use rows::print_rows;
 use rs_code::{Code, RsError};
 use saving::{load, save, saved_and_loaded};
 use selector::selector;
@@ -113,6 +120,7 @@ fn main(rt: HostRuntime) -> anyhow::Result<()> {
     });
     print_points(&rt, &curve(alloc, &coeffs)?)?;
     print_protocols(&rt, alloc)?;
+    print_rows(&rt, alloc)?;
     let mut squares = [0, 0];
     values_between::<BabyBear>(alloc, &[1, 2, 3], &[1, 4, 9], &[10, 100], &mut squares)?;
     println!(rt; "squares at 10 and 100 from those at 1, 2 and 3: {squares:?}")?;
@@ -345,6 +353,15 @@ fn print_fields(rt: &impl Print, alloc: Global) -> anyhow::Result<()> {
     if let Some(y) = quotient(four, five) {
         println!(rt; "four fifths modulo 2^255 - 19: {y:?}")?;
     }
+    let root = F433Squared::new(F433::from(0), F433::from(1));
+    let value = value_in_extension(&[1, 2, 3].map(F433::from), root);
+    let coefficients = [value.c0, value.c1];
+    print_list(
+        rt,
+        alloc,
+        "1 + 2 x + 3 x^2 at x, a square root of 5 modulo 433",
+        &coefficients,
+    )?;
     if let Some(size) = size_for_a_hundred_million() {
         println!(rt; "room for a hundred million coefficients: {size}")?;
     }

@@ -14,7 +14,7 @@ use crate::sum_check_whole::{sum_check_of_entries, sum_check_whole};
 use ark_base::{F65537, Field, PolyError, PrimeField, PrimeModulus};
 use ark_poly::{DenseMultilinearExtension, DenseUVPolynomial, Polynomial};
 use ark_sharing::{SharingError, share};
-use ark_sum_check::{Challenger, Prover, Round, SparseProver, SumCheckError, Verdict, prove};
+use ark_sum_check::{Challenger, Claim, Prover, SparseProver, SumCheckError, Verdict, prove};
 use ark_wide::Bls12_381Scalar;
 use rand::rngs::StdRng;
 use rand::{CryptoRng, SeedableRng};
@@ -85,47 +85,59 @@ fn print_sum_checks(rt: &impl Print, alloc: Global) -> anyhow::Result<()> {
     let left = [1, 2, 3, 4].map(F65537::from);
     let right = [5, 6, 7, 8].map(F65537::from);
     for claim in [70, 71] {
-        let mut drawn = Drawn {
-            left: vec![in alloc; F65537::from(20), F65537::from(10)]?,
-        };
+        let (mut drawn, mut again) = (twenty_and_ten(alloc)?, twenty_and_ten(alloc)?);
         let prover = two_factors(alloc, &left, &right)?;
-        let verdict = sum_check_whole(alloc, prover, F65537::from(claim), &mut drawn)?;
+        let verdict = sum_check_whole(alloc, prover, F65537::from(claim), &mut drawn, &mut again)?;
         print_verdict(rt, claim, verdict)?;
     }
-    let mut drawn = Drawn {
-        left: vec![in alloc; F65537::from(2); 40]?,
-    };
+    let (mut drawn, mut again) = (forty_twos(alloc)?, forty_twos(alloc)?);
     let prover = three_entries(alloc)?;
-    let verdict = sum_check_of_entries(alloc, prover, F65537::from(23), &mut drawn)?;
+    let verdict = sum_check_of_entries(alloc, prover, F65537::from(23), &mut drawn, &mut again)?;
     print_verdict(rt, 23, verdict)
 }
 
-// The same rounds of a true claim and of a false one, with the product's value at the challenges.
+// One proof for a true claim and for a false one, with the product's value at its point.
 fn print_answers(rt: &impl Print, alloc: Global) -> anyhow::Result<()> {
     let left = [1, 2, 3, 4].map(F65537::from);
     let right = [5, 6, 7, 8].map(F65537::from);
-    let mut drawn = Drawn {
-        left: vec![in alloc; F65537::from(20), F65537::from(10)]?,
-    };
-    let rounds = prove(alloc, two_factors(alloc, &left, &right)?, &mut drawn)?;
-    let value = value_at(alloc, &left, &rounds)? * value_at(alloc, &right, &rounds)?;
-    for claim in [70, 71] {
-        let accepted = is_accepted(alloc, 2, F65537::from(claim), &rounds, value)?;
-        println!(rt; "sum {claim} with this value: {accepted}")?;
+    let mut drawn = twenty_and_ten(alloc)?;
+    let proof = prove(alloc, two_factors(alloc, &left, &right)?, &mut drawn)?;
+    let value = value_at(alloc, &left, &proof.point)? * value_at(alloc, &right, &proof.point)?;
+    for sum in [70, 71] {
+        let claim = Claim {
+            num_vars: 2,
+            degree: 2,
+            sum: F65537::from(sum),
+        };
+        let mut again = twenty_and_ten(alloc)?;
+        let accepted = is_accepted(alloc, claim, &proof, value, &mut again)?;
+        println!(rt; "sum {sum} with this value: {accepted}")?;
     }
     Ok(())
 }
 
-// The value of a factor of two variables at the challenges.
-fn value_at<F: Field>(alloc: Global, table: &[F; 4], rounds: &[Round<F>]) -> Result<F, PolyError>
-    requires { length rounds.now ≡ 2 }
+// The value of a factor of two variables at a point.
+fn value_at<F: Field>(alloc: Global, table: &[F; 4], point: &Vec<F>) -> Result<F, PolyError>
+    requires { length point.now.items ≡ 2 }
 {
-    let challenges: Vec<F> = rounds.iter().map(|round| round.challenge).collect(alloc)?;
     let extension = DenseMultilinearExtension::from_evaluations_vec(
         2,
         Vec::from_slice(alloc, table)?,
     );
-    extension.evaluate(alloc, &challenges)
+    extension.evaluate(alloc, point)
+}
+
+fn twenty_and_ten<F: Field>(alloc: Global) -> Result<Drawn<F>, SumCheckError> {
+    let mut left = Vec::with_capacity(alloc, 2)?;
+    left.push(F::from(20))?;
+    left.push(F::from(10))?;
+    Ok(Drawn { left })
+}
+
+fn forty_twos<F: Field>(alloc: Global) -> Result<Drawn<F>, SumCheckError> {
+    Ok(Drawn {
+        left: vec![in alloc; F::from(2); 40]?,
+    })
 }
 
 // Whether two sharings of one secret give the first point different shares, as drawn coefficients do.
@@ -187,11 +199,12 @@ fn print_verdict<M: PrimeModulus>(
     verdict: Verdict<PrimeField<M>>,
 ) -> anyhow::Result<()> {
     match verdict {
-        Verdict::Accepted(last) => println!(rt;
+        Verdict::Reduced(value, _) => println!(rt;
             "sum {claim}: the product's value is {}",
-            last.value()
+            value.value()
         )?,
         Verdict::Refused(round) => println!(rt; "sum {claim}: round {round} is refused")?,
+        Verdict::WrongCount => println!(rt; "sum {claim}: not as many rounds as variables")?,
     }
     Ok(())
 }

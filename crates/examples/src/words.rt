@@ -7,8 +7,8 @@ ghost use Rattle.ark_words.specs.Numbers.{AreEvaluated};
 use ark_words::{WordElement, WordsError, evaluate, interpolate};
 use std::alloc::Global;
 
-/// Writes the values at other points of the polynomial that has these values at these points, the only one of a degree
-/// below their number. Each number is as many words as an element of the field has.
+/// Writes the values at other points of the polynomial that has these values at these points, the only one of
+/// a degree below their number. Each number is as many words as an element of the field has.
 pub fn values_between<F: WordElement>(
     alloc: Global,
     points: &[u64],

@@ -19,7 +19,9 @@ mod several;
 mod shares;
 mod sum_checks;
 mod swept;
+mod transcripts;
 mod univariate;
+mod within;
 
 use crate::blocks::OfBlocks;
 use crate::bytes::answer_of_bytes;
@@ -31,7 +33,9 @@ use crate::several::OfSeveral;
 use crate::shares::OfShares;
 use crate::sum_checks::OfSumChecks;
 use crate::swept::{Ended, attempt};
+use crate::transcripts::OfTranscripts;
 use crate::univariate::OfOne;
+use crate::within::{F25, OfWithin};
 use ark_base::PolyError;
 use ark_poly::multivariate::{self, SparseTerm};
 use ark_poly::univariate::{DensePolynomial, SparsePolynomial};
@@ -70,6 +74,7 @@ fn ended<R: Print>(
     let (form, name) = (form.as_str(), name.as_str());
     match field.as_str() {
         "5" => over_any::<ark_base::F5, R>(alloc, watched, form, name, given),
+        "25" => attempt::<OfWithin<ark_base::F5, F25>, R>(alloc, watched, name, given),
         "433" => over_mixed::<ark_base::F433, R>(alloc, watched, form, name, given),
         "65537" => over_general::<ark_base::F65537, R>(alloc, watched, form, name, given),
         BLS12_381 => of_protocols::<ark_wide::Bls12_381Scalar, R>(
@@ -107,7 +112,9 @@ fn over_any<F: Numbered, R: Print>(
         "several_variables" => attempt::<OfSeveral<F>, R>(alloc, watched, name, given),
         "decoder" => attempt::<OfDecoder<F>, R>(alloc, watched, name, given),
         "blocks" => attempt::<OfBlocks<F>, R>(alloc, watched, name, given),
-        "shares" | "sum_checks" => of_protocols::<F, R>(alloc, watched, form, name, given),
+        "shares" | "sum_checks" | "transcript" => of_protocols::<F, R>(
+            alloc, watched, form, name, given,
+        ),
         _ => over_mixed::<F, R>(alloc, watched, form, name, given),
     }
 }
@@ -123,6 +130,7 @@ fn of_protocols<F: Numbered, R: Print>(
     match form {
         "shares" => attempt::<OfShares<F>, R>(alloc, watched, name, given),
         "sum_checks" => attempt::<OfSumChecks<F>, R>(alloc, watched, name, given),
+        "transcript" => attempt::<OfTranscripts<F>, R>(alloc, watched, name, given),
         _ => Ended::none(alloc),
     }
 }

@@ -2,6 +2,7 @@
 
 ghost use Rattle.std.specs.Prelude.{◌≡◌, ◌≢◌, ◌↔◌, IfSome, IsNone};
 
+use crate::embedded::ExtensionOf;
 use crate::modulus::QuadraticModulus;
 use crate::quadratic::Quadratic;
 use ark_traits::Field;
@@ -36,4 +37,49 @@ impl<F: Field, M: QuadraticModulus<F>> Quadratic<F, M> {
     {
         Quadratic::new(factor * self.c0, factor * self.c1)
     }
+}
+
+impl<F: Field, M: QuadraticModulus<F>> ExtensionOf<F> for Quadratic<F, M> {
+    ghost use Rattle.ark_extensions.specs.Elements.{embedded};
+    ghost use Rattle.ark_extensions.specs.ElementLaws.{embedding};
+
+    ghost within = { embedded F.field };
+
+    #[inline(always)]
+    fn embed(value: F) -> Self {
+        Quadratic::<F, M>::embed(value)
+    }
+
+    #[inline(always)]
+    fn mul_by_base(self, factor: F) -> Self {
+        Quadratic::<F, M>::mul_by_base(self, factor)
+    }
+
+    ghost embeds = { embedding F.field F.field_laws M.non_residue };
+}
+
+/// The field two below.
+impl<F: Field, M: QuadraticModulus<F>, N: QuadraticModulus<Quadratic<F, M>>> ExtensionOf<F>
+    for Quadratic<Quadratic<F, M>, N> {
+    ghost use Rattle.ark_extensions.specs.Elements.{embedded_twice, extension};
+    ghost use Rattle.ark_extensions.specs.ElementLaws.{embedding, embedding_through, extension_laws};
+
+    ghost within = { embedded_twice F.field M.non_residue };
+
+    #[inline(always)]
+    fn embed(value: F) -> Self {
+        Quadratic::<Quadratic<F, M>, N>::embed(Quadratic::<F, M>::embed(value))
+    }
+
+    #[inline(always)]
+    fn mul_by_base(self, factor: F) -> Self {
+        Quadratic::new(
+            Quadratic::<F, M>::mul_by_base(self.c0, factor),
+            Quadratic::<F, M>::mul_by_base(self.c1, factor),
+        )
+    }
+
+    ghost embeds = { embedding_through (embedding F.field F.field_laws M.non_residue)
+        (embedding (extension F.field M.non_residue)
+        (extension_laws F.field F.field_laws M.non_residue M.no_square) N.non_residue) };
 }

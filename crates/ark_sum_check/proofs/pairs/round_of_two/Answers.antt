@@ -1,7 +1,7 @@
 use Rattle.std.proofs.Common.{◌≡◌, [], ◌∷◌, ◌++◌, refl, sym, ap, subst, ◌∙◌}
 use Rattle.ark_math.specs.Field.{natural}
 use Rattle.ark_math.specs.Univariate.{of_list}
-use Rattle.ark_sum_check.specs.Cube.{round_value}
+use Rattle.ark_sum_check.specs.Cube.{product_of, round_value}
 use Rattle.ark_sum_check.proofs.TrueRounds.{AreFirst, AreFirst-none, AreFirst-push, AreFirst-round, natural-one, round_value-bound, round_value-side_one, round_value-side_zero}
 use Rattle.ark_sum_check.proofs.pairs.round_of_two.Goals as goal
 
@@ -9,7 +9,7 @@ pub returns-clause-truth : goal.returns-clause-truth
 returns-clause-truth g c = λ m power.
     let K = g.F.Field.field in
     let N = g.met.F.Field.field_laws in
-    let ts = of_list K c.args.left.now ∷ of_list K c.args.right.now ∷ [] in
+    let ts = product_of K (of_list K c.args.left.now ∷ of_list K c.args.right.now ∷ []) in
     let h = c.args.half in
     let sums = c.sums_of_two-zero.result in
     let zero : sums.0 ≡ round_value K m ts (natural K 0) = c.sums_of_two-zero.ensures.zero ∙ round_value-side_zero K N m h ts power in

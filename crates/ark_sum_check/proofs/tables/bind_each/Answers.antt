@@ -19,7 +19,7 @@ loop-i-preserved g c =
 
 pub returns-clause-values : goal.returns-clause-values
 returns-clause-values g c =
-    AreBound-tables g.F.Field.field c.args.x c.args.half c.args.tables.now c.loop-i.i c.loop-i.tables (omega arith) c.loop-i.invariant
+    AreBound-tables g.F.Field.field c.args.x c.args.half c.args.tables.now g.met.F.Field.field_laws c.loop-i.i c.loop-i.tables (omega arith) c.loop-i.invariant
 
 pub returns-clause-len : goal.returns-clause-len
 returns-clause-len g c =

@@ -1,44 +1,64 @@
-use Rattle.std.proofs.Common.{◌≡◌, ◌-◌, ◌<◌, ◌∷◌, [], ◌++◌, length, length-append, sym, ap, ◌∙◌, subst, arith}
-use Rattle.ark_sum_check.specs.Cube.{cube_sum, product_value}
-use Rattle.ark_sum_check.specs.Provers.{tables_of, variables_of}
-use Rattle.ark_sum_check.specs.Rounds.{AreAccepted, AreChallenged, IsTrueRound, challenges}
-use Rattle.ark_sum_check.specs.declared.round.Round.{Round}
-use Rattle.ark_sum_check.proofs.Accepted.{AreChallenged-push, AreTrueSoFar, AreTrueSoFar-end, AreTrueSoFar-more, length-bound_to, true_accepted}
+use Rattle.std.proofs.Common.{◌≡◌, ◌+◌, ◌-◌, ◌<◌, ◌≤◌, ◌∷◌, [], ◌++◌, length, length-append, max, sym, ap, ap₂, ◌∙◌, subst, subst₂, arith}
+use Rattle.ark_sum_check.specs.Cube.{cube_sum, degree_of, sum_value}
+use Rattle.ark_sum_check.specs.Provers.{sum_of, variables_of}
+use Rattle.ark_sum_check.specs.Rounds.{AreAccepted, AreChallenged, IsTrueRound, Round, rounds_at}
+use Rattle.ark_sum_check.proofs.Accepted.{AreChallenged-push, AreTrueSoFar, AreTrueSoFar-end, AreTrueSoFar-more, true_accepted}
+use Rattle.ark_sum_check.proofs.Verified.{challenges-rounds_at, length-rounds_at, rounds_at-push}
 use Rattle.ark_sum_check.proofs.whole.prove.Goals as goal
+
+pub returns-clause-truth : goal.returns-clause-truth
+returns-clause-truth g c =
+    let K = g.F.Field.field in
+    let s = sum_of K c.args.prover in
+    let none : variables_of c.variables.left ≡ 0 = omega arith in
+    AreTrueSoFar-end K (max 1 (degree_of s)) s (rounds_at c.variables.rounds.items c.variables.point.items) (sum_of K c.variables.left) (variables_of c.variables.left) none c.variables.invariant.truth
 
 pub returns-clause-accepted : goal.returns-clause-accepted
 returns-clause-accepted g c =
     let K = g.F.Field.field in
-    let p = c.args.prover in
-    let ts = tables_of K p in
+    let s = sum_of K c.args.prover in
+    let d = max 1 (degree_of s) in
     let left = c.variables.left in
-    let rs = c.variables.rounds.items in
+    let v = c.variables.invariant in
+    let vs = c.variables.rounds.items in
+    let xs = c.variables.point.items in
+    let rs = rounds_at vs xs in
     let none : variables_of left ≡ 0 = omega arith in
-    let count : length rs ≡ variables_of p = omega (arith, c.variables.invariant.count) in
-    let some : 0 < length ts = subst (λ n. 0 < n) c.degree-degree.ensures.factors c.degree-degree.ensures.positive in
-    subst (λ n. AreAccepted K (length ts) (cube_sum K n ts) rs (product_value K ts (challenges rs))) count
-    (true_accepted K g.met.F.Field.field_laws (length ts) ts rs some (omega arith)
-    (AreTrueSoFar-end K (length ts) ts rs (tables_of K left) (variables_of left) none c.variables.invariant.truth))
+    let few : length xs ≤ length vs = omega (arith, v.same) in
+    let count : length rs ≡ variables_of c.args.prover = omega (arith, v.count, v.same, length-rounds_at vs xs few) in
+    subst₂ (λ n p. AreAccepted K d (cube_sum K n s) rs (sum_value K s p)) count (challenges-rounds_at vs xs few)
+    (true_accepted K g.met.F.Field.field_laws d s rs (omega arith) (omega arith)
+    (AreTrueSoFar-end K d s rs (sum_of K left) (variables_of left) none v.truth))
 
 pub variables-preserved : goal.variables-preserved
 variables-preserved g c =
     let K = g.F.Field.field in
     let gives = g.C.Challenger.challenge_gives in
     let v = c.variables.invariant in
-    let ts = tables_of K c.args.prover in
-    let us = tables_of K c.variables.left in
-    let vs = tables_of K c.bind.new.self in
-    let rs = c.variables.rounds.items in
-    let r : Round g.row.F.Denot = record { values = c.in_ok-values.values; challenge = c.challenge-challenge.result } in
-    let items : c.push.new.self.items ≡ rs ++ r ∷ [] = c.in_ok-push.ensures.items in
+    let s = sum_of K c.args.prover in
+    let d = max 1 (degree_of s) in
+    let us = sum_of K c.variables.left in
+    let ws = sum_of K c.bind.new.self in
+    let vs = c.variables.rounds.items in
+    let xs = c.variables.point.items in
+    let rs = rounds_at vs xs in
+    let sent = c.in_ok-values.values in
+    let r : Round g.row.F.Denot = record { values = sent.items; challenge = c.challenge-challenge.result } in
+    let pushed : c.push.new.self.items ≡ vs ++ sent ∷ [] = c.in_ok-push.ensures.items in
+    let drawn : c.push-in-variables.new.self.items ≡ xs ++ r.challenge ∷ [] = c.in_ok-push-2.ensures.items in
+    let items : rounds_at c.push.new.self.items c.push-in-variables.new.self.items ≡ rs ++ r ∷ [] =
+    ap₂ rounds_at pushed drawn ∙ rounds_at-push vs xs sent r.challenge v.same in
     let some : 0 < variables_of c.variables.left = omega arith in
+    let more : length c.push.new.self.items ≡ length vs + 1 = ap length pushed ∙ length-append vs (sent ∷ []) in
+    let further : length c.push-in-variables.new.self.items ≡ length xs + 1 = ap length drawn ∙ length-append xs (r.challenge ∷ []) in
     record {
-      count = omega (arith, ap length items, length-append rs (r ∷ []));
-      factors = ap length c.bind.ensures.tables ∙ length-bound_to K g.met.F.Field.field_laws us r.challenge ∙ v.factors;
+      count = omega (arith, more);
+      same = omega (arith, more, further, v.same);
+      degree = ap degree_of c.bind.ensures.sum ∙ v.degree;
       truth =
-          subst (λ ss. AreTrueSoFar K (length ts) ts ss (variables_of c.bind.new.self) vs) (sym items)
-          (subst (λ n. AreTrueSoFar K (length ts) ts (rs ++ r ∷ []) n vs) (sym c.bind.ensures.variables)
-          (AreTrueSoFar-more K (length ts) ts rs r (variables_of c.variables.left) us vs some (subst (λ d. IsTrueRound K d (variables_of c.variables.left - 1) us r.values.items) v.factors c.in_ok-values.ensures.truth) c.bind.ensures.tables v.truth));
+          subst (λ ss. AreTrueSoFar K d s ss (variables_of c.bind.new.self) ws) (sym items)
+          (subst (λ n. AreTrueSoFar K d s (rs ++ r ∷ []) n ws) (sym c.bind.ensures.variables)
+          (AreTrueSoFar-more K d s rs r (variables_of c.variables.left) us ws some (subst (λ n. IsTrueRound K (max 1 n) (variables_of c.variables.left - 1) us r.values) v.degree c.in_ok-values.ensures.truth) c.bind.ensures.sum v.truth));
       drawn =
           subst (λ ss. AreChallenged gives c.args.challenger.now ss c.challenge-challenge.new.self) (sym items)
           (AreChallenged-push gives c.args.challenger.now rs c.variables.challenger c.deref.result.now r c.challenge-challenge.new.self v.drawn c.challenge-challenge.ensures c.deref.ensures.value);

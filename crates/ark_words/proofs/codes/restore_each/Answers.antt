@@ -3,7 +3,7 @@ use Rattle.std.proofs.lemmas.List.{length-append, length-map, map-append}
 use Rattle.std.proofs.lemmas.Nat.{div-add-mod'}
 use Rattle.ark_numbers.proofs.Values.{number_field, shown_field}
 use Rattle.ark_words.specs.Codes.{HasCodeword, IsRestored, word_at}
-use Rattle.ark_words.proofs.Codewords.{part_under, more_words, restored_numbers, no_codeword_numbers, codeword_length}
+use Rattle.ark_words.proofs.Codewords.{part_under, more_words, restored_numbers, no_codeword_numbers, decoded_length}
 use Rattle.rs_code.specs.declared.error.RsError.TheVariants.{NoCodeword}
 use Rattle.ark_words.proofs.Faults.{same_error}
 use Rattle.ark_words.proofs.codes.restore_each.Goals as goal
@@ -28,7 +28,7 @@ loop-j-preserved g c =
     let f = shown_field S in
     let found = restored_numbers S V meaning own d erased c.requires.decoder (slice_range items (j * n) ((j + 1) * n)) codeword has.codeword has.agrees has.only in
     let here = subst (λ w. IsRestored f erased d.code.k w (map number codeword)) (part_under number items (j * n) ((j + 1) * n)) found in
-    let wide = codeword_length S V meaning own d erased c.requires.decoder codeword has.codeword in
+    let wide = decoded_length S V meaning own d erased c.requires.decoder codeword has.codeword in
     let after : c.extend_from_slice.new.self.items ≡ before ++ codeword = c.in_ok-extend_from_slice.ensures.items ∙ ap (λ t. before ++ t) c.deref.ensures.value in
     let long : length before ≡ j * n = c.loop-j.invariant.0 in (
       ap length after ∙ length-append before codeword ∙ omega (arith, long, wide),

@@ -1,41 +1,47 @@
-use Rattle.std.proofs.Common.{◌≡◌, ◌+◌, ◌-◌, ◌*◌, [], ◌∷◌, ◌++◌, length, sym, ap, subst, ◌∙◌, arith}
-use Rattle.ark_math.specs.Field.{natural}
-use Rattle.ark_math.specs.Module.{itself, sum_below}
-use Rattle.ark_sum_check.specs.Cube.{product_at, round_value}
-use Rattle.ark_sum_check.specs.Lists.{as_tables}
-use Rattle.ark_sum_check.proofs.Factors.{round_seen}
-use Rattle.ark_sum_check.proofs.TrueRounds.{AreFirst, AreFirst-none, AreFirst-push, AreFirst-round, natural-one, round_value-side_one, round_value-side_zero}
+use Rattle.std.proofs.Common.{◌≡◌, ◌-◌, [], ◌∷◌, None, length, max, not, sym, ap, ap₂, subst, ◌∙◌, arith}
+use Rattle.ark_math.specs.Univariate.{of_list}
+use Rattle.std.proofs.lemmas.Result.{IfOk-weaker}
+use Rattle.ark_sum_check.specs.Cube.{degree_of, product_of}
+use Rattle.ark_sum_check.specs.Provers.{sum_of, variables_of}
+use Rattle.ark_sum_check.specs.Rounds.{IsTrueRound}
+use Rattle.ark_sum_check.proofs.Factors.{longest-all, none_seen, round_seen, sum_seen, summed, summed-two}
 use Rattle.ark_sum_check.proofs.prover.Prover.round.Goals as goal
-
-pub loop-i-init : goal.loop-i-init
-loop-i-init g c =
-    let K = g.F.Field.field in
-    let N = g.met.F.Field.field_laws in
-    let ts = as_tables K c.self.inside.tables.items in
-    let m = c.self.inside.num_vars - 1 in
-    let h = c.half-half.result in
-    let y = c.sum_of_side.result in
-    let z = c.sum_of_side-2.result in
-    let first : y ≡ round_value K m ts (natural K 0) =
-    c.sum_of_side.ensures
-    ∙ ap (λ vs. sum_below (itself K) h (λ b. product_at K (as_tables K vs) (2 * b + 0))) c.deref-2.ensures.value
-    ∙ round_value-side_zero K N m h ts c.half-half.ensures.power in
-    let second : z ≡ round_value K m ts (natural K 1) =
-    c.sum_of_side-2.ensures
-    ∙ ap (λ vs. sum_below (itself K) h (λ b. product_at K (as_tables K vs) (2 * b + 1))) c.deref-3.ensures.value
-    ∙ round_value-side_one K N m h ts c.half-half.ensures.power
-    ∙ sym (ap (round_value K m ts) (natural-one K N)) in
-    subst (AreFirst K m ts 2)
-    (sym (c.in_ok-push-2.ensures.items ∙ ap (λ vs. vs ++ z ∷ []) (c.in_ok-push.ensures.items ∙ ap (λ vs. vs ++ y ∷ []) c.in_ok-values.ensures.items)))
-    (AreFirst-push K m ts 1 ([] ++ y ∷ []) z (AreFirst-push K m ts 0 [] y (AreFirst-none K m ts) first) second)
 
 pub returns-clause-truth : goal.returns-clause-truth
 returns-clause-truth g c =
     let K = g.F.Field.field in
     let vs = c.self.inside.tables.items in
+    let bs = c.self.inside.addends in
     let n = c.self.inside.num_vars in
-    let values = c.loop-i.values.items in
-    let d = c.len-degree.result in
-    let count : d ≡ length vs = omega (arith, c.len-degree.ensures, c.self.inside.tables.ok) in
-    let all : c.loop-i.i ≡ d + 1 = omega arith in
-    round_seen K vs n c.args.self.now d values c.self.view_is count (AreFirst-round K (n - 1) (as_tables K vs) d c.loop-i.i values all c.loop-i.invariant)
+    let p = c.args.self.now in
+    let d = c.degree.result in
+    IfOk-weaker c.round_of_sum.result
+    (λ values. IsTrueRound K d (n - 1) (summed K c.deref-2.result.now bs) values.items)
+    (λ values. IsTrueRound K (max 1 (degree_of (sum_of K p))) (variables_of p - 1) (sum_of K p) values.items)
+    (λ values h. round_seen K vs bs n p d values.items c.self.view_is c.degree.ensures.degree
+    (subst (λ us. IsTrueRound K d (n - 1) (summed K us bs) values.items) c.deref-2.ensures.value h))
+    (c.round_of_sum.ensures.truth (n - 1) c.half-half.ensures.power)
+
+pub returns-then-len-eq2-clause-truth : goal.returns-then-len-eq2-clause-truth
+returns-then-len-eq2-clause-truth g c =
+    let K = g.F.Field.field in
+    let vs = c.self.inside.tables.items in
+    let bs = c.self.inside.addends in
+    let n = c.self.inside.num_vars in
+    let p = c.args.self.now in
+    let left = c.deref.result.now in
+    let right = c.deref-then-len-eq2.result.now in
+    let s = product_of K (of_list K left ∷ of_list K right ∷ []) in
+    let count : length vs ≡ 2 = omega (arith, c.len.ensures, c.if-len-eq2.true, c.self.inside.tables.ok) in
+    let none : bs ≡ None = none_seen bs (c.is_none.ensures ∙ ap not c.if-is_none.true) in
+    let same : summed K vs bs ≡ s =
+    ap (summed K vs) none
+    ∙ summed-two K vs c.index.result.now c.index-then-len-eq2.result.now count c.index.ensures c.index-then-len-eq2.ensures
+    ∙ ap₂ (λ x y. product_of K (of_list K x ∷ of_list K y ∷ [])) (sym c.deref.ensures.value) (sym c.deref-then-len-eq2.ensures.value) in
+    let two : degree_of (sum_of K p) ≡ 2 = ap degree_of (sym (sum_seen K vs bs n p c.self.view_is) ∙ same) ∙ longest-all K 2 in
+    let degree : 2 ≡ max 1 (degree_of (sum_of K p)) = omega (arith, two) in
+    IfOk-weaker c.round_of_two.result
+    (λ values. IsTrueRound K 2 (n - 1) s values.items)
+    (λ values. IsTrueRound K (max 1 (degree_of (sum_of K p))) (variables_of p - 1) (sum_of K p) values.items)
+    (λ values h. round_seen K vs bs n p 2 values.items c.self.view_is degree (subst (λ t. IsTrueRound K 2 (n - 1) t values.items) (sym same) h))
+    (c.round_of_two.ensures.truth (n - 1) c.half-half.ensures.power)

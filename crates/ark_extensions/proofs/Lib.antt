@@ -1,0 +1,2 @@
+-- Lemmas over plain variables.
+pub mod BaseLists
