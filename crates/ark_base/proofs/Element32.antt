@@ -1,5 +1,5 @@
 -- Elements and their words, as the proofs of a field's calls cite them.
-use Rattle.std.proofs.Common.{◌≡◌, ℕ, ◌+◌, ◌-◌, ◌*◌, ◌%◌, ◌^◌, ◌<◌, sym, ap, ◌∙◌, le_of_lt, mod-lt, mod-eq_of_lt, zero-mul}
+use Rattle.std.proofs.Common.{◌≡◌, ℕ, ◌+◌, ◌-◌, ◌*◌, ◌%◌, ◌^◌, ◌<◌, sym, ap, ap₂, ◌∙◌, le_of_lt, mod-lt, mod-eq_of_lt, zero-mul}
 use Rattle.std.specs.Prelude.{nat_eq, ◌==◌}
 use Rattle.std.specs.Ordering.{on}
 use Rattle.std.specs.Cmp.{both_ways}
@@ -7,7 +7,7 @@ use Rattle.std.proofs.lemmas.Bool.{eqb-true, eq-eqb}
 use Rattle.std.proofs.Math.Nat.{zero-mod}
 use Rattle.ark_math.specs.Field.{minus}
 use Rattle.std.proofs.lemmas.Nat.{mul-mod_second}
-use Rattle.ark_base.specs.Montgomery.{inverse_of_power, form_back, form_of_number, from_form, sum_of_forms, difference_of_forms, negated_form, product_of_forms}
+use Rattle.ark_base.specs.Montgomery.{inverse_of_power, form_back, form_of_number, from_form, sum_of_forms, difference_of_forms, negated_form, form_of_reduced, product_of_forms, sum_of_products_of_forms}
 use Rattle.ark_base.specs.Residues.{residue_of}
 use Rattle.ark_base.specs.ResiduesLaws.{number_of_residue, number_of_zero, minus_number}
 use Rattle.ark_base.specs.Element32.{Shown, number, element, number_of_element, numbering, field_of, one_of_power, same_by_number, same_by_word}
@@ -51,11 +51,6 @@ module _ {M : Type 0} {g : Ghosts M} (S : Shown g) where
   number_of_negated x z e =
       negated_form g.MODULUS (inverse_of_power g.MODULUS 32) x.word z.word (le_of_lt S.numbers.prime.above_one) (le_of_lt x.reduced) e
 
-  number_of_product : (x y z : PrimeField32 M g) → (2 ^ 32 * z.word) % g.MODULUS ≡ (x.word * y.word) % g.MODULUS → number z ≡ (number x * number y) % g.MODULUS
-  unfolding number
-  number_of_product x y z e =
-      product_of_forms g.MODULUS (2 ^ 32) (inverse_of_power g.MODULUS 32) x.word y.word z.word (one_of_power g S) z.reduced e
-
   pub residue_is : (x : PrimeField32 M g) (v : ℕ) → number x ≡ v % g.MODULUS → x ≡ residue_of (numbering {M = M} {g = g} S) S.numbers.prime v
   residue_is x v e = same_by_number S _ _ (e ∙ sym (number_of_residue (numbering {M = M} {g = g} S) S.numbers.prime v))
 
@@ -69,8 +64,44 @@ module _ {M : Type 0} {g : Ghosts M} (S : Shown g) where
   pub negated_is : (x z : PrimeField32 M g) → z.word ≡ (g.MODULUS - x.word) % g.MODULUS → z ≡ (field_of {M = M} {g = g} S).negated x
   negated_is x z e = residue_is z (g.MODULUS - number x) (number_of_negated x z e)
 
+  -- ---- sums of products that are reduced once
+
+  -- the element that a sum of products of words is reduced to
+  abbrev reduced : ℕ → PrimeField32 M g
+  reduced v = residue_of (numbering {M = M} {g = g} S) S.numbers.prime (v * inverse_of_power g.MODULUS 32 * inverse_of_power g.MODULUS 32)
+
+  reduced_is : (z : PrimeField32 M g) (v : ℕ) → (2 ^ 32 * z.word) % g.MODULUS ≡ v % g.MODULUS → z ≡ reduced v
+  unfolding number
+  reduced_is z v e = residue_is z _ (form_of_reduced g.MODULUS (2 ^ 32) (inverse_of_power g.MODULUS 32) v z.word (one_of_power g S) z.reduced e)
+
+  product_reduced : (x y : PrimeField32 M g) → reduced (x.word * y.word) ≡ (field_of {M = M} {g = g} S).times x y
+  unfolding number
+  product_reduced x y = residue_is (reduced (x.word * y.word)) (number x * number y)
+      (number_of_residue (numbering {M = M} {g = g} S) S.numbers.prime _ ∙ product_of_forms g.MODULUS (inverse_of_power g.MODULUS 32) x.word y.word)
+
+  sum_reduced : (v w : ℕ) → reduced (v + w) ≡ (field_of {M = M} {g = g} S).plus (reduced v) (reduced w)
+  sum_reduced v w = residue_is (reduced (v + w)) (number {g = g} (reduced v) + number {g = g} (reduced w))
+      (number_of_residue (numbering {M = M} {g = g} S) S.numbers.prime _
+      ∙ sum_of_products_of_forms g.MODULUS (inverse_of_power g.MODULUS 32) v w
+      ∙ sym (ap₂ (λ m n. (m + n) % g.MODULUS) (number_of_residue (numbering {M = M} {g = g} S) S.numbers.prime _) (number_of_residue (numbering {M = M} {g = g} S) S.numbers.prime _)))
+
   pub product_is : (x y z : PrimeField32 M g) → (2 ^ 32 * z.word) % g.MODULUS ≡ (x.word * y.word) % g.MODULUS → z ≡ (field_of {M = M} {g = g} S).times x y
-  product_is x y z e = residue_is z (number x * number y) (number_of_product x y z e)
+  product_is x y z e = reduced_is z (x.word * y.word) e ∙ product_reduced x y
+
+  two_products : (x y z w : PrimeField32 M g) → reduced (x.word * y.word + z.word * w.word)
+      ≡ (field_of {M = M} {g = g} S).plus ((field_of {M = M} {g = g} S).times x y) ((field_of {M = M} {g = g} S).times z w)
+  two_products x y z w =
+      sum_reduced (x.word * y.word) (z.word * w.word) ∙ ap₂ (field_of {M = M} {g = g} S).plus (product_reduced x y) (product_reduced z w)
+
+  pub four_products_are : (a b c d : PrimeField32 M g × PrimeField32 M g) (z : PrimeField32 M g) →
+      (2 ^ 32 * z.word) % g.MODULUS ≡ (a.0.word * a.1.word + b.0.word * b.1.word + (c.0.word * c.1.word + d.0.word * d.1.word)) % g.MODULUS →
+      z ≡ (field_of {M = M} {g = g} S).plus
+      ((field_of {M = M} {g = g} S).plus ((field_of {M = M} {g = g} S).times a.0 a.1) ((field_of {M = M} {g = g} S).times b.0 b.1))
+      ((field_of {M = M} {g = g} S).plus ((field_of {M = M} {g = g} S).times c.0 c.1) ((field_of {M = M} {g = g} S).times d.0 d.1))
+  four_products_are a b c d z e =
+      reduced_is z _ e
+      ∙ sum_reduced (a.0.word * a.1.word + b.0.word * b.1.word) (c.0.word * c.1.word + d.0.word * d.1.word)
+      ∙ ap₂ (field_of {M = M} {g = g} S).plus (two_products a.0 a.1 b.0 b.1) (two_products c.0 c.1 d.0 d.1)
 
   number_of_nothing : (x : PrimeField32 M g) → x.word ≡ 0 → number x ≡ 0
   unfolding number

@@ -1,5 +1,5 @@
 -- Montgomery's reduction by a word of 32 bits, over plain numbers.
-use Rattle.std.proofs.Common.{◌≡◌, ℕ, ◌+◌, ◌*◌, ◌/◌, ◌%◌, ap, ◌∙◌, arith}
+use Rattle.std.proofs.Common.{◌≡◌, ℕ, ◌+◌, ◌*◌, ◌/◌, ◌%◌, ◌-◌, ◌≤◌, sym, ap, ◌∙◌, arith}
 use Rattle.std.proofs.Math.Nat.{mod-add-div, add-mul-mod_self_right}
 use Rattle.std.proofs.lemmas.Nat.{mul-mod_second}
 
@@ -25,3 +25,8 @@ reduced_is v i p m r inverse is e =
     ∙ mul-mod_second 4294967296 (s / 4294967296) p
     ∙ ap (λ y. y % p) whole
     ∙ add-mul-mod_self_right v m p
+
+-- a word of 64 bits less 2 ^ 32 times p
+pub less_wide : (v p w : ℕ) → w ≡ 4294967296 * p → w ≤ v → (v - w) % p ≡ v % p
+less_wide v p w is more =
+    sym (add-mul-mod_self_right (v - w) 4294967296 p) ∙ ap (λ y. y % p) (omega (arith, is, more))

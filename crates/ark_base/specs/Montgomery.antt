@@ -57,19 +57,23 @@ sum_of_forms p r a b c e =
 swap : (a b r : ℕ) → a * b * r * r ≡ a * r * (b * r)
 swap a b r = omega arith
 
-pub product_of_forms : (p s r a b c : ℕ) → (s * r) % p ≡ 1 → c < p → (s * c) % p ≡ (a * b) % p →
-    (c * r) % p ≡ ((a * r) % p * ((b * r) % p)) % p
-product_of_forms p s r a b c one below e =
-    let same : c ≡ (a * b * r) % p =
+-- what is reduced once is the form of v times r
+pub form_of_reduced : (p s r v c : ℕ) → (s * r) % p ≡ 1 → c < p → (s * c) % p ≡ v % p → (c * r) % p ≡ (v * r * r) % p
+form_of_reduced p s r v c one below e =
+    let same : c ≡ (v * r) % p =
     sym (form_back p s r c one below)
     ∙ ap (λ y. (y % p * r) % p) (mul_comm c s)
     ∙ ap (λ y. (y * r) % p) e
-    ∙ mul-mod_first (a * b) r p in
-    ap (λ y. (y * r) % p) same
-    ∙ mul-mod_first (a * b * r) r p
-    ∙ ap (λ y. y % p) (swap a b r)
-    ∙ sym (mul-mod_second (a * r) (b * r) p)
-    ∙ sym (mul-mod_first (a * r) ((b * r) % p) p)
+    ∙ mul-mod_first v r p in
+    ap (λ y. (y * r) % p) same ∙ mul-mod_first (v * r) r p
+
+pub product_of_forms : (p r a b : ℕ) → (a * b * r * r) % p ≡ ((a * r) % p * ((b * r) % p)) % p
+product_of_forms p r a b =
+    ap (λ y. y % p) (swap a b r) ∙ sym (mul-mod_second (a * r) (b * r) p) ∙ sym (mul-mod_first (a * r) ((b * r) % p) p)
+
+pub sum_of_products_of_forms : (p r v w : ℕ) → ((v + w) * r * r) % p ≡ ((v * r * r) % p + (w * r * r) % p) % p
+sum_of_products_of_forms p r v w =
+    ap (λ y. (y * r) % p) (add-mul v w r) ∙ ap (λ y. y % p) (add-mul (v * r) (w * r) r) ∙ add-mod (v * r * r) (w * r * r) p
 
 -- what is missing to p, of a number and of its form: both with what is there leave nothing
 missing : (p a r m q : ℕ) → a ≤ p → m ≤ p → m + p * q ≡ a * r → (p - a) * r + (q + 1) * p ≡ p - m + r * p

@@ -42,6 +42,30 @@ pub fn product(a: u32, b: u32, p: u32, i: u32) -> u32
     reduce(a as u64 * b as u64, p, i)
 }
 
+// Montgomery's reduction of a number that may be twice as large, such as the sum of four products.
+#[inline(always)]
+pub fn reduce_sum(value: u64, p: u32, i: u32) -> u32
+    requires small { p < 2 ^ 31 }
+    requires inverse { (p * i + 1) % 2 ^ 32 ≡ 0 }
+    requires sum { value < 2 ^ 32 * (2 * p) }
+    ensures below { result < p }
+    ensures residue { (2 ^ 32 * result) % p ≡ value % p }
+{
+    reduce(less_once_wide(value, p), p, i)
+}
+
+// A number below 2^32 times twice `p`, less 2^32 times `p` where it isn't below that.
+#[inline(always)]
+fn less_once_wide(value: u64, p: u32) -> u64
+    requires small { p < 2 ^ 31 }
+    requires twice { value < 2 ^ 32 * (2 * p) }
+    ensures below { result < 2 ^ 32 * p }
+    ensures residue { result % p ≡ value % p }
+{
+    let whole = (p as u64) << 32;
+    if value < whole { value } else { value - whole }
+}
+
 // The sum modulo `p`.
 #[inline(always)]
 pub fn plus(a: u32, b: u32, p: u32) -> u32

@@ -11,7 +11,7 @@ mod bytes;
 
 use crate::constants::ConstantZero;
 use crate::montgomery32;
-use crate::montgomery32::{negated, plus, product};
+use crate::montgomery32::{negated, plus, product, reduce_sum};
 use crate::prime_numbers::{PrimeNumbers, hexadecimal};
 use ark_traits::{DomainCoeff, FftField, Field, One, Zero};
 use rand::{Rng, RngExt};
@@ -128,6 +128,46 @@ impl<M: PrimeModulus32> PrimeField32<M> {
             marker: PhantomData,
         };
         Some(form * PrimeField32::<M>::reduce(1 << 32))
+    }
+
+    /// The sum of four products, which is reduced once.
+    #[inline(always)]
+    pub fn sum_of_four_products(
+        first: (Self, Self),
+        second: (Self, Self),
+        third: (Self, Self),
+        fourth: (Self, Self),
+    ) -> Self
+        ensures { result ≡ (field_of M.modulus).plus
+            ((field_of M.modulus).plus ((field_of M.modulus).times first.0 first.1)
+            ((field_of M.modulus).times second.0 second.1))
+            ((field_of M.modulus).plus ((field_of M.modulus).times third.0 third.1)
+            ((field_of M.modulus).times fourth.0 fourth.1)) }
+    {
+        let left = first.0.word_product(first.1) + second.0.word_product(second.1);
+        let right = third.0.word_product(third.1) + fourth.0.word_product(fourth.1);
+        PrimeField32::of_word_products(left + right)
+    }
+
+    // The sum of products whose words' products add up to this.
+    #[inline(always)]
+    fn of_word_products(sum: u64) -> Self
+        requires four { sum < 4 * (2 ^ 31 * M.MODULUS) }
+        ensures residue { (2 ^ 32 * result.word) % M.MODULUS ≡ sum % M.MODULUS }
+    {
+        PrimeField32 {
+            word: reduce_sum(sum, M::MODULUS, M::NEGATED_INVERSE),
+            marker: PhantomData,
+        }
+    }
+
+    // The product of the words, not reduced.
+    #[inline(always)]
+    fn word_product(self, rhs: Self) -> u64
+        ensures product { result ≡ self.word * rhs.word }
+        ensures below { result < 2 ^ 31 * M.MODULUS }
+    {
+        self.word as u64 * rhs.word as u64
     }
 
     // The element of a word, by a division.

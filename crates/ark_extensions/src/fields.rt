@@ -1,6 +1,9 @@
 //! Extensions of the prime fields that proof systems compute over, of 124 to 128 bits.
 
+ghost use Rattle.std.specs.Prelude.{◌≡◌};
 ghost use Rattle.std.proofs.Common.{refl, lit<};
+ghost use Rattle.ark_base.specs.Element32.{field_of};
+ghost use Rattle.ark_extensions.specs.Elements.{extension};
 ghost use Rattle.ark_extensions.specs.NonResidues.{no_square_by_power, root_of_minus_one};
 
 use crate::modulus::QuadraticModulus;
@@ -8,8 +11,32 @@ use crate::quadratic::Quadratic;
 use crate::tower::{Quartic, QuarticModulus};
 use ark_base::{
     BabyBear, BabyBearModulus, Goldilocks, GoldilocksModulus, KoalaBear, KoalaBearModulus,
-    PrimeModulus, PrimeModulus32,
+    PrimeField32, PrimeModulus, PrimeModulus32,
 };
+
+// The sum `a * b + c * d` over a field on words of 32 bits, each coefficient's four products reduced once.
+#[inline(always)]
+fn sum_reduced_once<P: PrimeModulus32, M: QuadraticModulus<PrimeField32<P>>>(
+    a: &Quadratic<PrimeField32<P>, M>,
+    b: &Quadratic<PrimeField32<P>, M>,
+    c: &Quadratic<PrimeField32<P>, M>,
+    d: &Quadratic<PrimeField32<P>, M>,
+) -> Quadratic<PrimeField32<P>, M>
+    ensures { result ≡ (extension (field_of P.modulus) M.non_residue).plus
+        ((extension (field_of P.modulus) M.non_residue).times a.now b.now)
+        ((extension (field_of P.modulus) M.non_residue).times c.now d.now) }
+{
+    let (a_turned, c_turned) = (M::times_non_residue(a.c1), M::times_non_residue(c.c1));
+    Quadratic::new(
+        PrimeField32::sum_of_four_products(
+            (a.c0, b.c0),
+            (a_turned, b.c1),
+            (c.c0, d.c0),
+            (c_turned, d.c1),
+        ),
+        PrimeField32::sum_of_four_products((a.c0, b.c1), (a.c1, b.c0), (c.c0, d.c1), (c.c1, d.c0)),
+    )
+}
 
 /// 11, which is no square modulo 2^31 - 2^27 + 1.
 #[derive(Clone, Copy)]
@@ -24,6 +51,16 @@ impl QuadraticModulus<BabyBear> for BabyBear4Modulus {
 
     fn non_residue() -> BabyBear {
         BabyBear::from(11)
+    }
+
+    #[inline(always)]
+    fn sum_of_products(
+        a: &Quadratic<BabyBear, Self>,
+        b: &Quadratic<BabyBear, Self>,
+        c: &Quadratic<BabyBear, Self>,
+        d: &Quadratic<BabyBear, Self>,
+    ) -> Quadratic<BabyBear, Self> {
+        sum_reduced_once(a, b, c, d)
     }
 
     ghost no_square = { no_square_by_power (numbering ⟦<BabyBearModulus as PrimeModulus32>⟧.modulus)
@@ -50,6 +87,16 @@ impl QuadraticModulus<KoalaBear> for KoalaBear4Modulus {
 
     fn non_residue() -> KoalaBear {
         KoalaBear::from(3)
+    }
+
+    #[inline(always)]
+    fn sum_of_products(
+        a: &Quadratic<KoalaBear, Self>,
+        b: &Quadratic<KoalaBear, Self>,
+        c: &Quadratic<KoalaBear, Self>,
+        d: &Quadratic<KoalaBear, Self>,
+    ) -> Quadratic<KoalaBear, Self> {
+        sum_reduced_once(a, b, c, d)
     }
 
     ghost no_square = { no_square_by_power (numbering ⟦<KoalaBearModulus as PrimeModulus32>⟧.modulus)

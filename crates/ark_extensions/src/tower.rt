@@ -38,6 +38,19 @@ impl<F: Field, M: QuarticModulus<F>> QuadraticModulus<Quadratic<F, M>> for RootM
         Quadratic::new(M::times_non_residue(element.c1), element.c0)
     }
 
+    /// By the four products of coefficients, of which two are summed at a time.
+    #[inline(always)]
+    fn product(
+        a: &Quadratic<Quadratic<F, M>, Self>,
+        b: &Quadratic<Quadratic<F, M>, Self>,
+    ) -> Quadratic<Quadratic<F, M>, Self> {
+        let turned = Self::times_non_residue(a.c1);
+        Quadratic::new(
+            M::sum_of_products(&a.c0, &b.c0, &turned, &b.c1),
+            M::sum_of_products(&a.c0, &b.c1, &a.c1, &b.c0),
+        )
+    }
+
     ghost no_square = { root_no_square F.field F.field_laws M.non_residue M.no_square
         M.minus_one.0 M.minus_one.1 };
 }

@@ -8,6 +8,7 @@ ghost use Rattle.ark_transcript.specs.Calls.{Call};
 ghost use Rattle.ark_sum_check.specs.Cube.{SumOfProducts, cube_sum, degree_of, sum_value};
 ghost use Rattle.ark_sum_check.specs.Provers.{sum_of, variables_of};
 ghost use Rattle.ark_sum_check.specs.Rounds.{AreAccepted, AreDifferent, AreTrueRounds, IsRefusedAt, IsSound, rounds_at};
+ghost use Rattle.ark_sum_check.specs.Verdicts.{IfReduced};
 ghost use Rattle.ark_sum_check.specs.declared.verifier.Verdict.{Verdict};
 ghost use Rattle.ark_fiat_shamir.specs.Derived.{AreDerived, claim_of};
 
@@ -82,14 +83,12 @@ pub fn verify_transcript<F: Field>(
 ) -> Result<Verdict<F>, SumCheckError>
     ensures count { IfOk result (λ verdict. (verdict ≡ Verdict.WrongCount)
         ↔ (length proof.now.rounds.items ≢ claim.num_vars)) }
-    ensures point { IfOk result (λ verdict. (value : F) (point : Vec F Global)
-        → verdict ≡ Verdict.Reduced value point → length point.items ≡ claim.num_vars) }
-    ensures accepted { IfOk result (λ verdict. (value : F) (point : Vec F Global)
-        → verdict ≡ Verdict.Reduced value point → AreAccepted F.field claim.degree claim.sum
-        (rounds_at proof.now.rounds.items point.items) value) }
-    ensures derived { IfOk result (λ verdict. (value : F) (point : Vec F Global)
-        → verdict ≡ Verdict.Reduced value point → AreDerived F.field (F.format Compress.Yes) F.element_size
-        claim transcript.old (rounds_at proof.now.rounds.items point.items) transcript.new) }
+    ensures point { IfReduced result (λ value point. length point.items ≡ claim.num_vars) }
+    ensures accepted { IfReduced result (λ value point.
+        AreAccepted F.field claim.degree claim.sum (rounds_at proof.now.rounds.items point.items) value) }
+    ensures derived { IfReduced result (λ value point.
+        AreDerived F.field (F.format Compress.Yes) F.element_size claim transcript.old
+        (rounds_at proof.now.rounds.items point.items) transcript.new) }
     ensures refused { IfOk result (λ verdict. (i : ℕ) → verdict ≡ Verdict.Refused i
         → (point : List F) × (after : List Call)
         × AreDerived F.field (F.format Compress.Yes) F.element_size claim transcript.old
@@ -101,11 +100,10 @@ pub fn verify_transcript<F: Field>(
         (rounds_at proof.now.rounds.items point) after
         → AreAccepted F.field claim.degree claim.sum (rounds_at proof.now.rounds.items point) value
         → IfOk result (λ verdict. (p : Vec F Global) × (p.items ≡ point) × (verdict ≡ Verdict.Reduced value p)) }
-    ensures sound { IfOk result (λ verdict. (value : F) (point : Vec F Global)
-        → verdict ≡ Verdict.Reduced value point → (s : SumOfProducts F) → degree_of s ≤ claim.degree
+    ensures sound { IfReduced result (λ value point. (s : SumOfProducts F) → degree_of s ≤ claim.degree
         → IsSound F.field claim.degree claim.sum (rounds_at proof.now.rounds.items point.items) value s) }
-    ensures different { IfOk result (λ verdict. (value : F) (point : Vec F Global)
-        → verdict ≡ Verdict.Reduced value point → 0 < claim.num_vars → AreDifferent F.field (claim.degree + 1)) }
+    ensures different { IfReduced result (λ value point.
+        0 < claim.num_vars → AreDifferent F.field (claim.degree + 1)) }
     ensures unreduced { IfOk result (λ verdict. ((value : F) (point : Vec F Global)
         → verdict ≢ Verdict.Reduced value point) → transcript.new ≡ transcript.old) }
     ensures kept { OnErr result (transcript.new ≡ transcript.old) }

@@ -5,3 +5,4 @@ pub mod Embedded
 pub mod Lists
 pub mod Provers
 pub mod Rounds
+pub mod Verdicts

@@ -6,6 +6,7 @@ ghost use Rattle.std.specs.declared.alloc.Global.{Global};
 ghost use Rattle.ark_sum_check.specs.Cube.{SumOfProducts, degree_of};
 ghost use Rattle.ark_sum_check.specs.Rounds.{AddsUp, AreAccepted, AreChallenged, AreDifferent, IsDetermined};
 ghost use Rattle.ark_sum_check.specs.Rounds.{IsRefusedAt, IsRoundOf, IsSound, rounds_at};
+ghost use Rattle.ark_sum_check.specs.Verdicts.{IfReduced};
 
 use crate::challenger::Challenger;
 use crate::error::SumCheckError;
@@ -101,14 +102,11 @@ pub fn verify<F: Field, C: Challenger<F>>(
     challenger: &mut C,
 ) -> Result<Verdict<F>, SumCheckError>
     ensures count { IfOk result (λ verdict. (verdict ≡ Verdict.WrongCount) ↔ (length rounds.now ≢ claim.num_vars)) }
-    ensures point { IfOk result (λ verdict. (value : F) (point : Vec F Global)
-        → verdict ≡ Verdict.Reduced value point → length point.items ≡ claim.num_vars) }
-    ensures accepted { IfOk result (λ verdict. (value : F) (point : Vec F Global)
-        → verdict ≡ Verdict.Reduced value point
-        → AreAccepted F.field claim.degree claim.sum (rounds_at rounds.now point.items) value) }
-    ensures drawn { IfOk result (λ verdict. (value : F) (point : Vec F Global)
-        → verdict ≡ Verdict.Reduced value point
-        → AreChallenged C.challenge_gives challenger.old (rounds_at rounds.now point.items) challenger.new) }
+    ensures point { IfReduced result (λ value point. length point.items ≡ claim.num_vars) }
+    ensures accepted { IfReduced result (λ value point.
+        AreAccepted F.field claim.degree claim.sum (rounds_at rounds.now point.items) value) }
+    ensures drawn { IfReduced result (λ value point.
+        AreChallenged C.challenge_gives challenger.old (rounds_at rounds.now point.items) challenger.new) }
     ensures refused { IfOk result (λ verdict. (i : ℕ) → verdict ≡ Verdict.Refused i → (point : List F)
         × AreChallenged C.challenge_gives challenger.old (rounds_at rounds.now point) challenger.new
         × IsRefusedAt F.field claim.degree claim.sum (rounds_at rounds.now point) i) }
@@ -117,11 +115,10 @@ pub fn verify<F: Field, C: Challenger<F>>(
         → AreChallenged C.challenge_gives challenger.old (rounds_at rounds.now point) end
         → AreAccepted F.field claim.degree claim.sum (rounds_at rounds.now point) value
         → IfOk result (λ verdict. (p : Vec F Global) × (p.items ≡ point) × (verdict ≡ Verdict.Reduced value p)) }
-    ensures sound { IfOk result (λ verdict. (value : F) (point : Vec F Global)
-        → verdict ≡ Verdict.Reduced value point → (s : SumOfProducts F) → degree_of s ≤ claim.degree
+    ensures sound { IfReduced result (λ value point. (s : SumOfProducts F) → degree_of s ≤ claim.degree
         → IsSound F.field claim.degree claim.sum (rounds_at rounds.now point.items) value s) }
-    ensures different { IfOk result (λ verdict. (value : F) (point : Vec F Global)
-        → verdict ≡ Verdict.Reduced value point → 0 < claim.num_vars → AreDifferent F.field (claim.degree + 1)) }
+    ensures different { IfReduced result (λ value point.
+        0 < claim.num_vars → AreDifferent F.field (claim.degree + 1)) }
     ensures small { result ≡ Err SumCheckError.SmallCharacteristic → AreDifferent F.field (claim.degree + 1) → ⊥ }
 {
     if rounds.len() != claim.num_vars {

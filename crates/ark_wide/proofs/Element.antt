@@ -7,7 +7,7 @@ use Rattle.std.proofs.lemmas.Bool.{and_parts, and_from, eqb-true, eq-eqb}
 use Rattle.std.proofs.Math.Nat.{zero-mod}
 use Rattle.std.proofs.lemmas.Nat.{mul-mod_first}
 use Rattle.ark_wide.specs.Words.{integer, IsMontgomery}
-use Rattle.ark_base.specs.Montgomery.{inverse_of_power, to_form, from_form, sum_of_forms, difference_of_forms, negated_form, product_of_forms}
+use Rattle.ark_base.specs.Montgomery.{inverse_of_power, to_form, from_form, sum_of_forms, difference_of_forms, negated_form, form_of_reduced, product_of_forms}
 use Rattle.ark_wide.specs.Modulus256Laws.{integer_of_modulus, integer_of_r, integer_of_r_squared, montgomery}
 use Rattle.ark_math.specs.Field.{minus}
 use Rattle.ark_base.specs.Residues.{residue_of}
@@ -75,8 +75,9 @@ module _ {M : Type 0} {g : Ghosts M} (S : Shown g) where
       number z ≡ (number x * number y) % g.MODULUS
   unfolding number
   number_of_product x y z e =
-      product_of_forms g.MODULUS (2 ^ 256) (inverse_of_power g.MODULUS 256) (integer x.words) (integer y.words) (integer z.words)
+      form_of_reduced g.MODULUS (2 ^ 256) (inverse_of_power g.MODULUS 256) (integer x.words * integer y.words) (integer z.words)
       (one_of_power g S) z.reduced e
+      ∙ product_of_forms g.MODULUS (inverse_of_power g.MODULUS 256) (integer x.words) (integer y.words)
 
   -- what operations on forms give, where the modulus is read
   pub sum_is : (x y z : PrimeField256 M g) (m : BigInteger256) → m ≡ g.MODULUS_WORDS →

@@ -1,12 +1,12 @@
 //! Calls of a sum-check's prover and verifier.
 
-ghost use Rattle.std.specs.Prelude.{◌≡◌, ◌≢◌, ◌↔◌, ◌<◌, ◌-◌, ◌^◌, [], All, length, max, IfOk, Vec, true};
-ghost use Rattle.std.specs.declared.alloc.Global.{Global};
+ghost use Rattle.std.specs.Prelude.{◌≡◌, ◌≢◌, ◌↔◌, ◌<◌, ◌-◌, ◌^◌, [], All, length, max, IfOk, true};
 ghost use Rattle.ark_sum_check.specs.Cube.{bound_to, degree_of, sum_value, sum_with};
 ghost use Rattle.ark_sum_check.specs.Lists.{AreWithin, as_products, as_tables};
 ghost use Rattle.ark_sum_check.specs.Provers.{sum_of, variables_of};
 ghost use Rattle.ark_sum_check.specs.Rounds.{AreAccepted, AreChallenged, IsRoundOf, IsTrueRound};
 ghost use Rattle.ark_sum_check.specs.Rounds.{rounds_at, rounds_in};
+ghost use Rattle.ark_sum_check.specs.Verdicts.{IfReduced};
 
 use ark_base::Field;
 use ark_sum_check::{
@@ -93,12 +93,10 @@ pub fn verified<F: Field, C: Challenger<F>>(
     challenger: &mut C,
 ) -> Result<Verdict<F>, SumCheckError>
     ensures count { IfOk result (λ verdict. (verdict ≡ Verdict.WrongCount) ↔ (length rounds.now ≢ claim.num_vars)) }
-    ensures accepted { IfOk result (λ verdict. (value : F) (point : Vec F Global)
-        → verdict ≡ Verdict.Reduced value point
-        → AreAccepted F.field claim.degree claim.sum (rounds_at rounds.now point.items) value) }
-    ensures drawn { IfOk result (λ verdict. (value : F) (point : Vec F Global)
-        → verdict ≡ Verdict.Reduced value point
-        → AreChallenged C.challenge_gives challenger.old (rounds_at rounds.now point.items) challenger.new) }
+    ensures accepted { IfReduced result (λ value point.
+        AreAccepted F.field claim.degree claim.sum (rounds_at rounds.now point.items) value) }
+    ensures drawn { IfReduced result (λ value point.
+        AreChallenged C.challenge_gives challenger.old (rounds_at rounds.now point.items) challenger.new) }
 {
     verify(alloc, claim, rounds, challenger)
 }

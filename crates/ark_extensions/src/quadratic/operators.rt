@@ -88,13 +88,9 @@ impl<F: Field, M: QuadraticModulus<F>> Mul<Quadratic<F, M>> for Quadratic<F, M> 
 
     ghost mul_gives = { λ a b r. r ≡ (extension F.field M.non_residue).times a b };
 
-    /// By Karatsuba's three products: the middle one is that of the sums, less both others.
     #[inline(always)]
     fn mul(self, rhs: Quadratic<F, M>) -> Quadratic<F, M> {
-        let low = self.c0 * rhs.c0;
-        let high = self.c1 * rhs.c1;
-        let sums = (self.c0 + self.c1) * (rhs.c0 + rhs.c1);
-        Quadratic::new(low + M::times_non_residue(high), sums - low - high)
+        M::product(&self, &rhs)
     }
 }
 

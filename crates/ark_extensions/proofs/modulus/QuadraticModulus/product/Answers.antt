@@ -2,15 +2,15 @@ use Rattle.std.proofs.Common.{◌≡◌, ap, ap₂, ◌∙◌}
 use Rattle.ark_math.specs.Field.{minus}
 use Rattle.ark_extensions.specs.Elements.{element}
 use Rattle.ark_extensions.specs.QuadraticLaws.{karatsuba}
-use Rattle.ark_extensions.proofs.quadratic.operators.QuadraticMul.mul.Goals as goal
+use Rattle.ark_extensions.proofs.modulus.QuadraticModulus.product.Goals as goal
 
 pub returns : goal.returns
 returns g c =
     let K = g.F.Field.field in
-    let w = g.M.QuadraticModulus.non_residue in
+    let w = g.Self.QuadraticModulus.non_residue in
     let L = g.met.F.Field in
-    let a = c.args.self in
-    let b = c.args.rhs in
+    let a = c.args.a.now in
+    let b = c.args.b.now in
     let low : c.mul-low.result ≡ K.times a.c0 b.c0 = L.mul_law _ _ _ c.mul-low.ensures in
     let high : c.mul-high.result ≡ K.times a.c1 b.c1 = L.mul_law _ _ _ c.mul-high.ensures in
     let sums : c.mul-sums.result ≡ K.times (K.plus a.c0 a.c1) (K.plus b.c0 b.c1) =
