@@ -16,17 +16,18 @@ use ark_base::{
 
 // The sum `a * b + c * d` over a field on words of 32 bits, each coefficient's four products reduced once.
 #[inline(always)]
-fn sum_reduced_once<P: PrimeModulus32, M: QuadraticModulus<PrimeField32<P>>>(
+fn sum_reduced_once<P: PrimeModulus32, M>(
+    w: PrimeField32<P>,
     a: &Quadratic<PrimeField32<P>, M>,
     b: &Quadratic<PrimeField32<P>, M>,
     c: &Quadratic<PrimeField32<P>, M>,
     d: &Quadratic<PrimeField32<P>, M>,
 ) -> Quadratic<PrimeField32<P>, M>
-    ensures { result ≡ (extension (field_of P.modulus) M.non_residue).plus
-        ((extension (field_of P.modulus) M.non_residue).times a.now b.now)
-        ((extension (field_of P.modulus) M.non_residue).times c.now d.now) }
+    ensures { result ≡ (extension (field_of P.modulus) w).plus
+        ((extension (field_of P.modulus) w).times a.now b.now)
+        ((extension (field_of P.modulus) w).times c.now d.now) }
 {
-    let (a_turned, c_turned) = (M::times_non_residue(a.c1), M::times_non_residue(c.c1));
+    let (a_turned, c_turned) = (w * a.c1, w * c.c1);
     Quadratic::new(
         PrimeField32::sum_of_four_products(
             (a.c0, b.c0),
@@ -60,7 +61,7 @@ impl QuadraticModulus<BabyBear> for BabyBear4Modulus {
         c: &Quadratic<BabyBear, Self>,
         d: &Quadratic<BabyBear, Self>,
     ) -> Quadratic<BabyBear, Self> {
-        sum_reduced_once(a, b, c, d)
+        sum_reduced_once(Self::non_residue(), a, b, c, d)
     }
 
     ghost no_square = { no_square_by_power (numbering ⟦<BabyBearModulus as PrimeModulus32>⟧.modulus)
@@ -96,7 +97,7 @@ impl QuadraticModulus<KoalaBear> for KoalaBear4Modulus {
         c: &Quadratic<KoalaBear, Self>,
         d: &Quadratic<KoalaBear, Self>,
     ) -> Quadratic<KoalaBear, Self> {
-        sum_reduced_once(a, b, c, d)
+        sum_reduced_once(Self::non_residue(), a, b, c, d)
     }
 
     ghost no_square = { no_square_by_power (numbering ⟦<KoalaBearModulus as PrimeModulus32>⟧.modulus)
