@@ -1,9 +1,10 @@
-//! Small callers, as a user of the crates writes them: a transform and back, values on a coset, an
-//! interpolation, the convolution of two lists, a combination of two polynomials, openings, exact costs, the
-//! first round of a sum-check, what chooses a value of a table, values that are lost and restored, a wrong
-//! one that is refused, a polynomial in a file, one error for a program, the values of a sparse polynomial,
-//! fields, an extension and a module of one's own, secrets in shares, whole sum-checks, by a transcript too,
-//! values between given ones by words alone, and bytes in pieces. The program prints what each gives.
+//! Small callers, as a user of the crates writes them: a transform and back, values on a coset, a transform
+//! in parts, an interpolation, the convolution of two lists, a combination of two polynomials, openings,
+//! exact costs, the first round of a sum-check, what chooses a value of a table, values that are lost and
+//! restored, a wrong one that is refused, a polynomial in a file, one error for a program, the values of a
+//! sparse polynomial, fields, an extension and a module of one's own, secrets in shares, whole sum-checks,
+//! by a transcript too, values between given ones by words alone, and bytes in pieces. The program prints
+//! what each gives.
 #![tactic(auto)]
 
 mod accepted;
@@ -15,6 +16,7 @@ mod curve25519;
 mod errors;
 mod field;
 mod holders;
+mod in_parts;
 mod interpolation;
 mod kept;
 mod large_field;
@@ -53,6 +55,7 @@ use curve25519::Curve25519Coordinate;
 use errors::{CallError, value_of_saved};
 use field::{F97, quotient};
 use holders::{lost_and_restored, message_restored, restored_if_right};
+use in_parts::sixteen_in_parts;
 use interpolation::interpolated_value;
 use kept::from_last_pieces;
 use large_field::{F18446742974197923841, size_for_a_hundred_million};
@@ -80,6 +83,8 @@ fn main(rt: HostRuntime) -> anyhow::Result<()> {
     print_list(&rt, alloc, "there and back", &back)?;
     let others = on_coset(alloc, F97::from(5), &[10, 20, 30, 40].map(F97::from))?;
     print_list(&rt, alloc, "values on a coset", &others)?;
+    let parts = sixteen_in_parts(alloc)?;
+    print_list(&rt, alloc, "four rows of a transform in parts", &parts)?;
     let secret = at_zero(alloc, F97::from(5), &others)?;
     print_list(&rt, alloc, "the value at zero from these", &[secret])?;
     let both = convolution(

@@ -14,6 +14,7 @@ mod domains;
 mod forms;
 mod given;
 mod kinds;
+mod parts;
 mod programs;
 mod several;
 mod shares;
@@ -28,6 +29,7 @@ use crate::bytes::answer_of_bytes;
 use crate::codes::{OfCode, OfDecoder};
 use crate::domains::OverDomain;
 use crate::forms::OfForm;
+use crate::parts::OfParts;
 use crate::programs::OfProgram;
 use crate::several::OfSeveral;
 use crate::shares::OfShares;
@@ -112,6 +114,7 @@ fn over_any<F: Numbered, R: Print>(
         "several_variables" => attempt::<OfSeveral<F>, R>(alloc, watched, name, given),
         "decoder" => attempt::<OfDecoder<F>, R>(alloc, watched, name, given),
         "blocks" => attempt::<OfBlocks<F>, R>(alloc, watched, name, given),
+        "parts" => attempt::<OfParts<F>, R>(alloc, watched, name, given),
         "shares" | "sum_checks" | "transcript" => of_protocols::<F, R>(
             alloc, watched, form, name, given,
         ),
