@@ -1,6 +1,6 @@
 //! Values of polynomials and tables over a field at points of a greater one, without a copy of them there.
 
-ghost use Rattle.std.specs.Prelude.{◌≡◌, ◌↔◌, ◌*◌, ◌/◌, ◌^◌, [], ◌∷◌, length, map, IfOk, IsTrue};
+ghost use Rattle.std.specs.Prelude.{◌≡◌, ◌≢◌, ◌↔◌, ◌*◌, ◌/◌, ◌^◌, [], ◌∷◌, length, map, IfOk, IfSome, IsNone, IsTrue};
 ghost use Rattle.ark_math.specs.Multilinear.{extension, fixed};
 ghost use Rattle.ark_math.specs.Univariate.{IsValue, of_list};
 ghost use Rattle.ark_extensions.specs.Quadratics.{IsFieldEmbedding};
@@ -16,6 +16,11 @@ pub trait ExtensionOf<F: Field>: Field {
     /// An element of `F`, as one of this field.
     fn embed(value: F) -> Self
         ensures { result ≡ within value };
+
+    /// The element of `F` that this one is, and `None` exactly where it is none.
+    fn as_base(&self) -> Option<F>
+        ensures some { IfSome result (λ a. self.now ≡ within a) }
+        ensures none { IsNone result ↔ ((a : F) → self.now ≢ within a) };
 
     /// The product by an element of `F`, by fewer products of `F` than that by any element takes.
     fn mul_by_base(self, factor: F) -> Self

@@ -128,10 +128,12 @@ impl QuadraticModulus<Goldilocks> for Goldilocks2Modulus {
         7 (lit< tt) (lit< tt) refl };
 }
 
-/// The extension of degree four of `BabyBear`, by a fourth root of 11, as in Plonky3.
+/// The extension of degree four of `BabyBear`, by a fourth root of 11, as in Plonky3. In bytes the coefficients
+/// of the root's powers follow as 1, y^2, y, y^3.
 pub type BabyBear4 = Quartic<BabyBear, BabyBear4Modulus>;
 
-/// The extension of degree four of `KoalaBear`, by a fourth root of 3, as in Plonky3.
+/// The extension of degree four of `KoalaBear`, by a fourth root of 3, as in Plonky3. In bytes the coefficients
+/// of the root's powers follow as 1, y^2, y, y^3.
 pub type KoalaBear4 = Quartic<KoalaBear, KoalaBear4Modulus>;
 
 /// The extension of degree two of `Goldilocks`, by a square root of 7, as in Plonky2 and Plonky3.

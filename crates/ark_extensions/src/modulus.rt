@@ -8,7 +8,7 @@ use crate::quadratic::Quadratic;
 use ark_traits::Field;
 
 /// An element `w` of a field that is no square, so that x^2 - w has no root in the field. Products in the
-/// extension are `w`'s too, so that a field may have them by a way of its own.
+/// extension belong to the modulus, so that a field may have them by a way of its own.
 pub trait QuadraticModulus<F: Field>: Copy {
     ghost non_residue: { F };
 
@@ -23,7 +23,8 @@ pub trait QuadraticModulus<F: Field>: Copy {
         Self::non_residue() * element
     }
 
-    /// The product in the extension: by Karatsuba's three, the middle one that of the sums, less both others.
+    /// The product in the extension. By default by Karatsuba's three: the middle one is that of the sums, less
+    /// both others.
     #[inline(always)]
     fn product(a: &Quadratic<F, Self>, b: &Quadratic<F, Self>) -> Quadratic<F, Self>
         ensures { result ≡ (extension F.field non_residue).times a.now b.now }

@@ -47,3 +47,7 @@ AreDerived K e size claim calls rounds after = AreChallenged (IsRoundChallenge K
 -- the claim that a prover's sum is this
 abbrev pub claim_of : {F : Type 0} → FieldOn F → Summed F → F → Claim F
 claim_of K p sum = record { num_vars = variables_of p; degree = max 1 (degree_of (sum_of K p)); sum = sum }
+
+-- the same of a prover whose tables lie in a field below, with the sum by f
+abbrev pub claim_within : {F E : Type 0} → FieldOn F → (F → E) → Summed F → F → Claim E
+claim_within K f p sum = record { num_vars = variables_of p; degree = max 1 (degree_of (sum_of K p)); sum = f sum }

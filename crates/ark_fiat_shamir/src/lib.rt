@@ -8,6 +8,10 @@
 //! let mut transcript = Transcript::new(b"my protocol"); // the verifier's own
 //! let verdict = verify_transcript(alloc, claim, &proof, &mut transcript)?;
 //! ```
+//!
+//! Before such a call the transcript must have absorbed what fixes the tables: themselves, or a commitment to
+//! them. Else a prover may choose tables after it sees the challenges, and of those the bounds on false
+//! claims say nothing.
 #![tactic(auto)]
 
 mod challenger;
@@ -18,4 +22,4 @@ mod whole;
 pub use challenger::TranscriptChallenger;
 pub use laws::{one_challenge_a_round, one_transcript_after};
 pub use proof::SumCheckProof;
-pub use whole::{Proved, prove_transcript, verify_transcript};
+pub use whole::{Proved, prove_transcript, prove_transcript_within, verify_transcript};

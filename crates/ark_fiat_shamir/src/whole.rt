@@ -6,15 +6,17 @@ ghost use Rattle.std.specs.declared.alloc.Global.{Global};
 ghost use Rattle.ark_bytes.specs.declared.compress.Compress.{Compress};
 ghost use Rattle.ark_transcript.specs.Calls.{Call};
 ghost use Rattle.ark_sum_check.specs.Cube.{SumOfProducts, cube_sum, degree_of, sum_value};
+ghost use Rattle.ark_sum_check.specs.Embedded.{embedded_sum};
 ghost use Rattle.ark_sum_check.specs.Provers.{sum_of, variables_of};
 ghost use Rattle.ark_sum_check.specs.Rounds.{AreAccepted, AreDifferent, AreTrueRounds, IsRefusedAt, IsSound, rounds_at};
 ghost use Rattle.ark_sum_check.specs.Verdicts.{IfReduced};
 ghost use Rattle.ark_sum_check.specs.declared.verifier.Verdict.{Verdict};
-ghost use Rattle.ark_fiat_shamir.specs.Derived.{AreDerived, claim_of};
+ghost use Rattle.ark_fiat_shamir.specs.Derived.{AreDerived, claim_of, claim_within};
 
 use crate::challenger::TranscriptChallenger;
 use crate::proof::SumCheckProof;
-use ark_sum_check::{Claim, Prover, SumCheckError, Verdict, prove, verify};
+use ark_extensions::ExtensionOf;
+use ark_sum_check::{Claim, Prover, SumCheckError, Verdict, prove, prove_within, verify};
 use ark_traits::Field;
 use ark_transcript::Transcript;
 use std::alloc::Global;
@@ -33,7 +35,8 @@ pub struct Proved<F> {
 /// number of variables, its degree and this sum, and then each round's values before its challenge. The rounds
 /// are true, so a verifier accepts them where the sum is that over the cube, and reduces them to the true
 /// value at the point. Of another sum the first round is refused: a caller knows the sum, as zero for a row of
-/// constraints, and takes no pass over the tables for it here. An error leaves the transcript as it was.
+/// constraints, and takes no pass over the tables for it here. An error leaves the transcript as it was. Before,
+/// the transcript must have absorbed what fixes the tables, as the head of this crate says.
 pub fn prove_transcript<F: Field>(
     alloc: Global,
     prover: Prover<F>,
@@ -70,11 +73,53 @@ pub fn prove_transcript<F: Field>(
     })
 }
 
+/// All rounds of a sum whose tables lie in a field below that of the challenges, as `prove_transcript` makes
+/// them of the sum with each table's values and each coefficient embedded: the first round is made below. The
+/// claim that is absorbed has this sum embedded, and so has a verifier's. An error leaves the transcript as it
+/// was. Before, the transcript must have absorbed what fixes the tables, as the head of this crate says.
+pub fn prove_transcript_within<F: Field, E: ExtensionOf<F>>(
+    alloc: Global,
+    prover: &Prover<F>,
+    sum: F,
+    transcript: &mut Transcript,
+) -> Result<Proved<E>, SumCheckError>
+    ensures rounds { IfOk result (λ made. length made.proof.rounds.items ≡ variables_of prover.now) }
+    ensures point { IfOk result (λ made. length made.point.items ≡ variables_of prover.now) }
+    ensures truth { IfOk result (λ made. AreTrueRounds E.field (max 1 (degree_of (sum_of F.field prover.now)))
+        (embedded_sum E.within (sum_of F.field prover.now))
+        (rounds_at made.proof.rounds.items made.point.items)) }
+    ensures accepted { IfOk result (λ made. AreAccepted E.field (max 1 (degree_of (sum_of F.field prover.now)))
+        (cube_sum E.field (variables_of prover.now) (embedded_sum E.within (sum_of F.field prover.now)))
+        (rounds_at made.proof.rounds.items made.point.items)
+        (sum_value E.field (embedded_sum E.within (sum_of F.field prover.now)) made.point.items)) }
+    ensures derived { IfOk result (λ made. AreDerived E.field (E.format Compress.Yes) E.element_size
+        (claim_within F.field E.within prover.now sum) transcript.old
+        (rounds_at made.proof.rounds.items made.point.items) transcript.new) }
+    ensures kept { OnErr result (transcript.new ≡ transcript.old) }
+    ensures memory { IsOkUnless result SumCheckError.Memory }
+{
+    let claim = Claim {
+        num_vars: prover.num_vars(),
+        degree: prover.degree(),
+        sum: E::embed(sum),
+    };
+    let mut challenger = TranscriptChallenger::of_claim(alloc, &claim, transcript)?;
+    let made = prove_within(alloc, prover, &mut challenger)?;
+    *transcript = challenger.into_transcript();
+    Ok(Proved {
+        proof: SumCheckProof {
+            rounds: made.rounds,
+        },
+        point: made.point,
+    })
+}
+
 /// What a verifier says of a proof of a claim, as `verify` of `ark_sum_check` says it, where the challenges
 /// follow from the transcript: it absorbs the claim, and then each round's values before its challenge. A
 /// proof that `prove_transcript` made of a true claim, after the same calls, is reduced to the true value at
 /// the prover's point. What else is reduced are accepted rounds, of which `true_or_one_of_few` and
 /// `few_believed_challenges` speak. A proof that isn't reduced, and an error, leave the transcript as it was.
+/// Before, the transcript must have absorbed what fixes the tables, as the head of this crate says.
 pub fn verify_transcript<F: Field>(
     alloc: Global,
     claim: Claim<F>,

@@ -94,7 +94,7 @@ impl<F: FftField> Parts<F> {
     /// The transforms of a block of any `count` columns, as `r` rows of `count` items: each column of the
     /// answer is the transform of the block's over the domain of the columns. `Memory` is the only error.
     ///
-    /// It takes `r/2 * log2(r)` butterflies a column, and memory for `r/2` field elements and a column
+    /// It takes `r/2 * log2(r)` butterflies a column, at most a product an item, and memory for `r/2` field elements and a column
     /// beside the answer.
     pub fn columns<T: DomainCoeff<F>>(
         &self,
@@ -124,7 +124,7 @@ impl<F: FftField> Parts<F> {
     /// columns: each row of the answer is the transform of the block's over the domain of its row, whose
     /// offset makes the twiddles. `Memory` is the only error.
     ///
-    /// It takes `c/2 * log2(c)` butterflies a row and a product an item, and memory for `c/2` field
+    /// It takes `c/2 * log2(c)` butterflies a row, at most a product an item, and memory for `c/2` field
     /// elements and a row beside the answer.
     pub fn rows<T: DomainCoeff<F>>(
         &self,

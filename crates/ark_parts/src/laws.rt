@@ -68,13 +68,18 @@ pub fn parts_make_the_product<F: FftField>(parts: &Parts<F>)
 }
 
 /// A law: the counts of blocks add up to those of a block of all their lists, and those of all columns and
-/// all rows to as many butterflies as one transform of all items has, and at most two scalings an item.
+/// all rows, in either order, to as many butterflies as one transform of all items has, and at most two
+/// scalings an item.
 pub fn parts_cost<F: FftField>(parts: &Parts<F>)
     ensures cuts { (n j k : ℕ) (before between after : Counts) → GrowsByTransforms j n before between
         → GrowsByTransforms k n between after → GrowsByTransforms (j + k) n before after }
     ensures passes { (before between after : Counts)
         → GrowsByTransforms parts.now.row.size parts.now.column.size before between
         → GrowsByTransforms parts.now.column.size parts.now.row.size between after
+        → GrowsByParts parts.now.whole.size before after }
+    ensures back { (before between after : Counts)
+        → GrowsByTransforms parts.now.column.size parts.now.row.size before between
+        → GrowsByTransforms parts.now.row.size parts.now.column.size between after
         → GrowsByParts parts.now.whole.size before after }
 {
     let _ = &parts.whole;

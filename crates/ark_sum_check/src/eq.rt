@@ -11,7 +11,7 @@ use ark_traits::Field;
 use std::alloc::Global;
 
 /// The table of eq, the extension that is one where corner and point are the same, at this point: the value
-/// at a corner is the product of the point's items where the corner's are one, and of one less them
+/// at a corner is the product of the point's items where the corner's are one, and of one less each
 /// elsewhere. The sum over the cube of its product with a factor is the factor's value at the point.
 pub fn eq_table<F: Field>(alloc: Global, point: &[F]) -> Result<Vec<F>, SumCheckError>
     requires { length point.now < 64 }

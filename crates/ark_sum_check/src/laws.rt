@@ -1,5 +1,5 @@
-//! What rounds tell, stated as the contract of a function that callers may cite: it promises nothing but its
-//! contract.
+//! What rounds tell, stated as the contracts of functions that callers may cite: they promise nothing but
+//! their contracts.
 
 ghost use Rattle.std.specs.Prelude.{◌≡◌, ◌≢◌, ◌⊎◌, ℕ, List, ◌+◌, ◌-◌, ◌*◌, ◌^◌, ◌<◌, ◌≤◌, length};
 ghost use Rattle.ark_sum_check.specs.Cube.{SumOfProducts, cube_sum, degree_of, sum_value};

@@ -104,7 +104,7 @@ impl<F: Field> Prover<F> {
 
     /// The round that comes next: the sums over the other variables where the first one is 0, 1, .., d, for
     /// the degree d, in one pass over what is left of the tables. Memory is taken for these sums and, unless
-    /// the sum is a product of two factors, for two elements for each table.
+    /// the prover was made by `new` of two tables, for two elements for each table.
     pub fn round(&self, alloc: Global) -> Result<Vec<F>, SumCheckError>
         requires { 0 < variables_of self.now }
         ensures truth { IfOk result (λ values. IsTrueRound F.field (max 1 (degree_of (sum_of F.field self.now)))

@@ -19,7 +19,8 @@ use std::alloc::Global;
 pub struct Claim<F> {
     /// The number of variables.
     pub num_vars: usize,
-    /// The degree that each round's polynomial may have, as a prover's `degree` tells it.
+    /// The degree that each round's polynomial may have, as a prover's `degree` tells it. With 0 every round is
+    /// refused.
     pub degree: usize,
     /// What the sum over the cube is claimed to be.
     pub sum: F,
@@ -46,8 +47,8 @@ pub enum Verdict<F> {
     /// Each round was accepted. What is left to check: that the sum of products has this value at this point,
     /// the challenges.
     Reduced(F, Vec<F>),
-    /// The round with this index was refused: it hasn't one value more than the degree, or those at 0 and 1
-    /// don't add up to the claim before it.
+    /// The round with this index was refused: it hasn't one value more than the degree, two at least, or those
+    /// at 0 and 1 don't add up to the claim before it.
     Refused(usize),
     /// There are not as many rounds as variables.
     WrongCount,
@@ -57,7 +58,7 @@ impl<F: Field> Verifier<F> {
     /// Takes a round's values and the challenge after it, and says whether it was accepted: whether it has
     /// one value more than the degree, two at least, and those at 0 and 1 add up to the claim. Then the claim
     /// becomes the value at the challenge. A verifier that refused a round, or answered an error, is as it
-    /// was. `SmallCharacteristic` where 0, 1, .., d are not different elements.
+    /// was. `SmallCharacteristic` where the round is one to accept and 0, 1, .., d are not different elements.
     pub fn take(&mut self, alloc: Global, values: &[F], challenge: F) -> Result<bool, SumCheckError>
         ensures accepted { IfOk result (λ fits. fits ≡ true
             → IsRoundOf F.field self.old.degree self.old.claim values.now challenge self.new.claim) }
@@ -94,7 +95,8 @@ impl<F: Field> Verifier<F> {
 /// What a verifier says of a proof of a claim: of each round's values, as they were sent. The challenges are
 /// drawn here, each for its round's values, and none comes from the prover. A false claim is reduced to a
 /// false value, unless a round is unlucky; how few challenges make one so, say `few_unlucky_challenges` and
-/// `few_believed_challenges`. Where a round was accepted, 0, 1, .., d are different elements.
+/// `few_believed_challenges`. Where a claim of one variable or more is reduced, 0, 1, .., d are different
+/// elements.
 pub fn verify<F: Field, C: Challenger<F>>(
     alloc: Global,
     claim: Claim<F>,

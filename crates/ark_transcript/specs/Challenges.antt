@@ -33,9 +33,11 @@ IsChallenge {F} K e size label (suc tries) calls x after =
     ((challenge_of calls label size ≡ e.spelling x) × (after ≡ then_asked calls label size))
     ⊎ (((y : F) → challenge_of calls label size ≢ e.spelling y) × IsChallenge K e size label tries (then_asked calls label size) x after)
 
--- two texts have one digest
-pub record HasCollision : Type 0 where
-  pub left : List ℕ
-  pub right : List ℕ
+-- the text whose digest is the first block of a challenge
+abbrev pub hashed_for : List Call → List ℕ → ℕ → List ℕ
+hashed_for calls label size = spelled (then_asked calls label size) ++ to_le_bytes w64 0
+
+-- two texts differ and have one digest
+pub record Collide (left right : List ℕ) : Type 0 where
   pub differ : left ≢ right
   pub same : sha256 left ≡ sha256 right

@@ -5,7 +5,8 @@ ghost use Rattle.std.specs.Prelude.{◌≡◌, ◌⊎◌, ℕ, List, ◌++◌, �
 ghost use Rattle.std.specs.Int.{w64, to_le_bytes};
 ghost use Rattle.ark_bytes.specs.declared.compress.Compress.{Compress};
 ghost use Rattle.ark_transcript.specs.Calls.{AllFit, Call, spelled};
-ghost use Rattle.ark_transcript.specs.Challenges.{HasCollision, IsChallenge, challenge_of, then_asked};
+ghost use Rattle.ark_transcript.specs.Challenges.{Collide, IsChallenge};
+ghost use Rattle.ark_transcript.specs.Challenges.{challenge_of, hashed_for, then_asked};
 
 use ark_traits::Field;
 
@@ -18,12 +19,12 @@ pub fn transcripts_differ()
 {}
 
 /// A law: challenges of 32 bytes or more that are equal come after the same calls and under the same label,
-/// or there are two texts of one SHA-256.
+/// or the two texts that their first blocks hash differ and have one SHA-256.
 pub fn challenges_differ()
     ensures { (cs ds : List Call) (label other : List ℕ) (size : ℕ) → 32 ≤ size
         → AllFit (then_asked cs label size) → AllFit (then_asked ds other size)
         → challenge_of cs label size ≡ challenge_of ds other size
-        → ((cs ≡ ds) × (label ≡ other)) ⊎ HasCollision }
+        → ((cs ≡ ds) × (label ≡ other)) ⊎ Collide (hashed_for cs label size) (hashed_for ds other size) }
 {}
 
 /// A law: the same calls and the same label have one challenge in a field, and the same calls after it.

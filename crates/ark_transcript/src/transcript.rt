@@ -1,6 +1,6 @@
 //! Transcripts.
 
-ghost use Rattle.std.specs.Prelude.{◌≡◌, ◌≢◌, List, [], ◌∷◌, ◌++◌, ◌≤◌, ◌^◌, length};
+ghost use Rattle.std.specs.Prelude.{◌≡◌, ◌≢◌, List, [], ◌∷◌, ◌++◌, ◌<◌, ◌≤◌, ◌^◌, length};
 ghost use Rattle.std.specs.Prelude.{IfOk, IfSome, IsNone, OnOk, OnErr};
 ghost use Rattle.std.specs.Int.{w64, from_le_bytes};
 ghost use Rattle.ark_bytes.specs.declared.compress.Compress.{Compress};
@@ -79,6 +79,7 @@ impl Transcript {
     pub fn absorb<T: CanonicalSerialize>(&mut self, label: &[u8], value: &T) -> Result<(), TooLong>
         ensures ok { OnOk result
             (self.new ≡ self.old ++ Absorbed label.now ((T.format Compress.Yes).spelling value.now) ∷ []) }
+        ensures short { OnOk result (length ((T.format Compress.Yes).spelling value.now) < 2 ^ 64) }
         ensures kept { OnErr result (self.new ≡ self.old) }
         ensures long { OnErr result (2 ^ 64 ≤ length ((T.format Compress.Yes).spelling value.now)) }
     {
@@ -109,11 +110,13 @@ impl Transcript {
     }
 
     /// An element of the field that follows from all calls before and the label. As many bytes are asked for
-    /// as an element has, again and again until they spell one, 4096 times at most; after these it is the
-    /// number that eight more bytes spell. A refusal of memory comes before anything was asked for.
+    /// as an element has, again and again until they spell one, 4096 times at most. Where all these fail it
+    /// is the number that eight more bytes spell, reduced, so one of the residues of numbers below 2^64: the
+    /// usual outcome in a field where far fewer than one in 4096 strings of an element's length spell one. A
+    /// refusal of memory comes before anything was asked for.
     pub fn challenge<F: Field>(&mut self, alloc: Global, label: &[u8]) -> Result<F, AllocError>
-        ensures element { IfOk result (λ x. IsChallenge F.field (F.format Compress.Yes) F.element_size label.now 4096
-            self.old x self.new) }
+        ensures element { IfOk result (λ x.
+            IsChallenge F.field (F.format Compress.Yes) F.element_size label.now 4096 self.old x self.new) }
         ensures kept { OnErr result (self.new ≡ self.old) }
     {
         let mut bytes = element_buffer::<F>(alloc)?;
@@ -121,7 +124,9 @@ impl Transcript {
     }
 
     /// The element that `challenge` gives, by a buffer of as many bytes as an element has, as
-    /// `element_buffer` makes it: so no memory is taken, and none refused.
+    /// `element_buffer` makes it: so no memory is taken, and none refused. As there, it is a residue of a
+    /// number below 2^64 where all 4096 tries fail, as they mostly do in a field whose elements are rare
+    /// among the strings of their length.
     pub fn challenge_in<F: Field>(&mut self, alloc: Global, label: &[u8], bytes: &mut [u8]) -> F
         requires { length bytes.old ≡ F.element_size }
         ensures { IsChallenge F.field (F.format Compress.Yes) F.element_size label.now 4096

@@ -20,7 +20,7 @@ use ark_base::{
     BabyBear, CanonicalSerialize, Compress, DomainCoeff, F433, F65537, Field, Goldilocks,
     KoalaBear, Polynomial,
 };
-use ark_extensions::{BabyBear4, ExtensionOf};
+use ark_extensions::{BabyBear4, ExtensionOf, Goldilocks2};
 use ark_poly::univariate::{DensePolynomial, SparsePolynomial};
 use ark_poly::{
     DenseMultilinearExtension, DenseUVPolynomial, EvaluationDomain, MixedRadixEvaluationDomain,
@@ -72,7 +72,9 @@ fn main(rt: HostRuntime) -> anyhow::Result<()> {
         ],
     )?;
     let names = ["baby_bear4_mle_dense_evaluate", "baby_bear4_sum_check_rows"];
-    report_rows_below::<BabyBear, BabyBear4, HostRuntime>(&reporter, names)
+    report_rows_below::<BabyBear, BabyBear4, HostRuntime>(&reporter, names)?;
+    let names = ["goldilocks_products", "goldilocks2_products"];
+    report_products::<Goldilocks, Goldilocks2, HostRuntime>(&reporter, names)
 }
 
 // Everything, over a field with 2^16 units, one with mixed domains, and three with large domains; and the pieces of
@@ -199,6 +201,21 @@ fn report_extension_field<
         last: E::zero(),
     };
     reporter.report(sum_check, TABLE_VARIABLES, &mut factors)
+}
+
+// Products of elements below an extension, and of its own.
+fn report_products<F: Counted, E: ExtensionOf<F> + Number, R: Print + Clock>(
+    reporter: &Reporter<'_, R>,
+    [below, products]: [&'static str; 2],
+) -> anyhow::Result<()> {
+    let alloc = reporter.alloc;
+    let mut draws = Draws::new();
+    let left = draws.list::<F>(alloc, 1 << 10)?;
+    let right = draws.list::<F>(alloc, 1 << 10)?;
+    report_elements(reporter, (below, Operation::Product), left, right)?;
+    let left = draws.random_list::<E>(alloc, 1 << 10)?;
+    let right = draws.random_list::<E>(alloc, 1 << 10)?;
+    report_elements(reporter, (products, Operation::Product), left, right)
 }
 
 // A field of several words.

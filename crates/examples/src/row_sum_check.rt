@@ -14,8 +14,13 @@ use ark_transcript::Transcript;
 use std::alloc::Global;
 
 /// What a verifier says of the proof of a prover, once it was written to bytes and read back. Where the prover's
-/// sum is zero, it is reduced to the true value at the point.
-pub fn row_sum_check<F: Field>(alloc: Global, prover: Prover<F>) -> anyhow::Result<Verdict<F>>
+/// sum is zero, it is reduced to the true value at the point. Both first absorb a commitment to the tables, so
+/// that no prover can choose them by the challenges.
+pub fn row_sum_check<F: Field>(
+    alloc: Global,
+    prover: Prover<F>,
+    commitment: &[u8],
+) -> anyhow::Result<Verdict<F>>
     ensures { cube_sum F.field (variables_of prover) (sum_of F.field prover) ≡ F.field.zero
         → IfOk result (λ verdict. (point : Vec F Global)
         × (verdict ≡ Verdict.Reduced (sum_value F.field (sum_of F.field prover) point.items) point)) }
@@ -26,9 +31,11 @@ pub fn row_sum_check<F: Field>(alloc: Global, prover: Prover<F>) -> anyhow::Resu
         sum: F::zero(),
     };
     let mut transcript = Transcript::new(b"rows");
+    transcript.absorb_bytes(b"tables", commitment);
     let made = prove_transcript(alloc, prover, F::zero(), &mut transcript)?;
     let proof = written_then_read(alloc, &made.proof, Compress::Yes)?;
     let mut again = Transcript::new(b"rows");
+    again.absorb_bytes(b"tables", commitment);
     let verdict = verify_transcript(alloc, claim, &proof, &mut again)?;
     Ok(verdict)
 }

@@ -6,9 +6,12 @@ ghost use Rattle.ark_extensions.specs.NonResidues.{no_square_by_power};
 use crate::given::{element_named, named, size_named};
 use crate::sum_checks::{Always, lists_of, prover_of, text_of_rounds};
 use crate::swept::Call;
+use crate::transcripts::next_number;
 use ark_base::{F5, Field, Modulus5, PolyError, PrimeModulus};
 use ark_extensions::{ExtensionOf, Quadratic, QuadraticModulus};
+use ark_fiat_shamir::{Proved, prove_transcript_within};
 use ark_sum_check::{Proof, Prover, SumCheckError, prove_within};
+use ark_transcript::Transcript;
 use std::alloc::Global;
 use std::fmt::Display;
 use test_cases::answers::Answer;
@@ -35,12 +38,14 @@ impl QuadraticModulus<F5> for NonResidue2 {
 /// The field of 25 elements, by a square root of 2.
 pub type F25 = Quadratic<F5, NonResidue2>;
 
-/// Factors of so many variables by all values, and a challenge of the field above.
+/// Factors of so many variables by all values, a sum, a challenge of the field above, and a transcript.
 #[derive(Drop)]
 pub struct OfWithin<F: Numbered, E: Field> {
     num_vars: usize,
     tables: Vec<Vec<F>>,
+    claim: F,
     challenge: E,
+    transcript: Transcript,
 }
 
 /// What the calls answer.
@@ -49,6 +54,7 @@ pub enum Answered<E: Field> {
     Values(Vec<E>),
     Left(Prover<E>),
     Proof(Proof<E>),
+    Proved(Proved<E>),
     Refused(SumCheckError),
     NoFit,
     NoCall,
@@ -61,7 +67,9 @@ impl<F: Numbered, E: ExtensionOf<F> + Display> Call for OfWithin<F, E> {
         Ok(OfWithin {
             num_vars: size_named(words, "variables"),
             tables: lists_of(alloc, named(words, "tables"))?,
+            claim: element_named(words, "claim"),
             challenge: E::embed(element_named(words, "challenge")),
+            transcript: Transcript::new(b"sweep"),
         })
     }
 
@@ -73,7 +81,10 @@ impl<F: Numbered, E: ExtensionOf<F> + Display> Call for OfWithin<F, E> {
     }
 
     fn is_same(&self, other: &Self) -> bool {
-        self.tables == other.tables && self.challenge == other.challenge
+        self.tables == other.tables
+            && self.claim == other.claim
+            && self.challenge == other.challenge
+            && next_number(&self.transcript) == next_number(&other.transcript)
     }
 
     fn text(&self, alloc: Global, answered: &Answered<E>) -> Answer {
@@ -81,6 +92,7 @@ impl<F: Numbered, E: ExtensionOf<F> + Display> Call for OfWithin<F, E> {
             Answered::Values(values) => text_of_numbers(alloc, values),
             Answered::Left(prover) => { Ok(format!(in alloc; "{}", prover.num_vars())?) }
             Answered::Proof(proof) => text_of_rounds(alloc, &proof.rounds),
+            Answered::Proved(made) => text_of_rounds(alloc, &made.proof.rounds),
             Answered::Refused(error) => Ok(format!(in alloc; "error {}: {error}", *error as u32)?),
             Answered::NoFit => no_fit(alloc),
             Answered::NoCall => no_case(alloc),
@@ -91,7 +103,7 @@ impl<F: Numbered, E: ExtensionOf<F> + Display> Call for OfWithin<F, E> {
 impl<F: Numbered, E: ExtensionOf<F> + Display> OfWithin<F, E> {
     // Makes a call of the prover.
     fn of_prover(
-        &self,
+        &mut self,
         alloc: Global,
         name: &str,
         prover: &Prover<F>,
@@ -110,6 +122,15 @@ impl<F: Numbered, E: ExtensionOf<F> + Display> OfWithin<F, E> {
             },
             "prove_within" => match prove_within(alloc, prover, &mut Always { challenge }) {
                 Ok(proof) => Answered::Proof(proof),
+                Err(error) => Answered::Refused(error),
+            },
+            "prove_transcript_within" => match prove_transcript_within(
+                alloc,
+                prover,
+                self.claim,
+                &mut self.transcript,
+            ) {
+                Ok(made) => Answered::Proved(made),
                 Err(error) => Answered::Refused(error),
             },
             _ => Answered::NoCall,

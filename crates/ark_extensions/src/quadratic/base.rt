@@ -18,6 +18,14 @@ impl<F: Field, M: QuadraticModulus<F>> Quadratic<F, M> {
         Quadratic::new(value, F::zero())
     }
 
+    /// `embed`, by the name that users of ark-ff know.
+    #[inline(always)]
+    pub fn from_base(value: F) -> Self
+        ensures { result ≡ embedded F.field value }
+    {
+        Quadratic::<F, M>::embed(value)
+    }
+
     /// The element of the field below that this one is, and `None` exactly where it is none.
     pub fn as_base(&self) -> Option<F>
         ensures some { IfSome result (λ a. self.now ≡ embedded F.field a) }
@@ -50,6 +58,10 @@ impl<F: Field, M: QuadraticModulus<F>> ExtensionOf<F> for Quadratic<F, M> {
         Quadratic::<F, M>::embed(value)
     }
 
+    fn as_base(&self) -> Option<F> {
+        Quadratic::<F, M>::as_base(self)
+    }
+
     #[inline(always)]
     fn mul_by_base(self, factor: F) -> Self {
         Quadratic::<F, M>::mul_by_base(self, factor)
@@ -69,6 +81,13 @@ impl<F: Field, M: QuadraticModulus<F>, N: QuadraticModulus<Quadratic<F, M>>> Ext
     #[inline(always)]
     fn embed(value: F) -> Self {
         Quadratic::<Quadratic<F, M>, N>::embed(Quadratic::<F, M>::embed(value))
+    }
+
+    fn as_base(&self) -> Option<F> {
+        match Quadratic::<Quadratic<F, M>, N>::as_base(self) {
+            Some(below) => Quadratic::<F, M>::as_base(&below),
+            None => None,
+        }
     }
 
     #[inline(always)]
