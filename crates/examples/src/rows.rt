@@ -43,10 +43,18 @@ fn print_point<F: Field + Display>(rt: &impl Print, alloc: Global, value: F) -> 
 fn four_rows<F: Field>(alloc: Global) -> Result<Rows<F>, AllocError> {
     Ok(Rows {
         num_vars: 2,
-        a: Vec::from_slice(alloc, &[1, 2, 3, 4].map(F::from))?,
-        b: Vec::from_slice(alloc, &[5, 6, 7, 8].map(F::from))?,
-        c: Vec::from_slice(alloc, &[5, 12, 21, 32].map(F::from))?,
+        a: elements(alloc, &[1, 2, 3, 4])?,
+        b: elements(alloc, &[5, 6, 7, 8])?,
+        c: elements(alloc, &[5, 12, 21, 32])?,
     })
+}
+
+fn elements<F: Field>(alloc: Global, numbers: &[u64]) -> Result<Vec<F>, AllocError> {
+    let mut elements = Vec::with_capacity(alloc, numbers.len())?;
+    for number in numbers {
+        elements.push(F::from(*number))?;
+    }
+    Ok(elements)
 }
 
 fn print_whole<F: Field + Display>(
@@ -54,13 +62,23 @@ fn print_whole<F: Field + Display>(
     alloc: Global,
     rows: &Rows<F>,
 ) -> anyhow::Result<()> {
-    let Some(prover) = prover_of_rows(alloc, rows, &[3, 5].map(F::from))? else {
+    let point = elements::<F>(alloc, &[3, 5])?;
+    let Some(prover) = prover_of_rows(alloc, rows, &point)? else {
         return Ok(());
     };
-    match row_sum_check(alloc, prover, b"a commitment")? {
-        Verdict::Reduced(value, _) => println!(rt; "four rows: reduced to {value}")?,
-        Verdict::Refused(round) => println!(rt; "four rows: round {round} is refused")?,
-        Verdict::WrongCount => println!(rt; "four rows: another number of rounds")?,
+    let verdict = row_sum_check(alloc, prover, b"a commitment")?;
+    print_verdict(rt, "four rows", &verdict)
+}
+
+fn print_verdict<F: Display>(
+    rt: &impl Print,
+    what: &str,
+    verdict: &Verdict<F>,
+) -> anyhow::Result<()> {
+    match verdict {
+        Verdict::Reduced(value, _) => println!(rt; "{what}: reduced to {value}")?,
+        Verdict::Refused(round) => println!(rt; "{what}: round {round} is refused")?,
+        Verdict::WrongCount => println!(rt; "{what}: another number of rounds")?,
     }
     Ok(())
 }
@@ -93,8 +111,23 @@ pub fn prover_of_rows<F: Field>(
     tables.push(Vec::from_slice(alloc, &rows.a)?)?;
     tables.push(Vec::from_slice(alloc, &rows.b)?)?;
     tables.push(Vec::from_slice(alloc, &rows.c)?)?;
-    let addends = row_addends(alloc)?;
-    Ok(Prover::of_sum(rows.num_vars, tables, addends))
+    Ok(prover_of(rows.num_vars, tables, row_addends(alloc)?))
+}
+
+// The prover, where each table has a value at each corner.
+fn prover_of<F: Field>(
+    num_vars: usize,
+    tables: Vec<Vec<F>>,
+    addends: Vec<Addend<F>>,
+) -> Option<Prover<F>> {
+    if num_vars >= 64 {
+        return None;
+    }
+    let len = 1 << num_vars;
+    if !tables.iter().all(|table| table.len() == len) {
+        return None;
+    }
+    Prover::of_sum(num_vars, tables, addends)
 }
 
 // eq * a * b, and eq * c with a minus, by the indices of their tables.

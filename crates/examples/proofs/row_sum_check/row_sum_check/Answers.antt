@@ -31,7 +31,7 @@ returns g c = λ none.
     let count : length us ≡ length vs = sym (length-map us (λ v. v.items)) ∙ ap length told ∙ length-map vs (λ v. v.items) in
     let claim : claim_of K p c.zero-2.result ≡ record { num_vars = c.num_vars.result; degree = c.degree.result; sum = c.zero.result } =
     rw (c.num_vars.ensures, c.degree.ensures.degree, c.zero.ensures, c.zero-2.ensures) refl in
-    let absorbed = λ (cs : List Call). cs ++ Absorbed [116, 97, 98, 108, 101, 115] c.args.commitment.now ∷ [] in
+    let absorbed = λ (cs : List Call). cs ++ Absorbed (116 ∷ 97 ∷ 98 ∷ 108 ∷ 101 ∷ 115 ∷ []) c.args.commitment.now ∷ [] in
     let begun : c.absorb_bytes.new.self ≡ c.absorb_bytes-2.new.self =
     c.absorb_bytes.ensures ∙ ap absorbed (c.new-transcript.ensures ∙ sym c.new-again.ensures) ∙ sym c.absorb_bytes-2.ensures in
     let h = c.in_ok-verdict.ensures.complete xs c.prove_transcript.new.transcript value (made.point ∙ sym c.num_vars.ensures) (count ∙ made.rounds ∙ sym c.num_vars.ensures)
