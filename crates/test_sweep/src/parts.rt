@@ -33,7 +33,7 @@ impl<F: Numbered> Call for OfParts<F> {
 
     fn given(alloc: Global, words: &[String]) -> Result<Self, PolyError> {
         let domain: Radix2EvaluationDomain<F> = domain_named(words, "domain")?;
-        let log_rows = size_named(words, "log_rows") as u32;
+        let log_rows = u32::try_from(size_named(words, "log_rows")).unwrap_or(u32::MAX);
         Ok(OfParts {
             parts: Parts::new(domain.coset(), log_rows).ok_or(PolyError::NoDomain)?,
             block: elements(alloc, named(words, "block"))?,
