@@ -1,5 +1,5 @@
 -- Elements and their words, as the proofs of a field's calls cite them.
-use Rattle.std.proofs.Common.{◌≡◌, ℕ, ◌+◌, ◌-◌, ◌*◌, ◌%◌, ◌^◌, ◌<◌, sym, ap, ap₂, ◌∙◌, le_of_lt, mod-lt, mod-eq_of_lt, zero-mul}
+use Rattle.std.proofs.Common.{◌≡◌, ℕ, ◌+◌, ◌-◌, ◌*◌, ◌%◌, ◌^◌, ◌<◌, sym, ap, ap₂, ◌∙◌, le_of_lt, mod-lt, mod-eq_of_lt, mul_comm, zero-mul}
 use Rattle.std.specs.Prelude.{nat_eq, ◌==◌}
 use Rattle.std.specs.Ordering.{on}
 use Rattle.std.specs.Cmp.{both_ways}
@@ -10,7 +10,7 @@ use Rattle.std.proofs.lemmas.Nat.{mul-mod_second}
 use Rattle.ark_base.specs.Montgomery.{inverse_of_power, form_back, form_of_number, from_form, sum_of_forms, difference_of_forms, negated_form, form_of_reduced, product_of_forms, sum_of_products_of_forms}
 use Rattle.ark_base.specs.Residues.{residue_of}
 use Rattle.ark_base.specs.ResiduesLaws.{number_of_residue, number_of_zero, minus_number}
-use Rattle.ark_base.specs.Element32.{Shown, number, element, number_of_element, numbering, field_of, one_of_power, same_by_number, same_by_word}
+use Rattle.ark_base.specs.Element32.{Shown, number, element, number_of_element, numbering, field_of, one_of_power, same_by_number, same_by_word, unit}
 use Rattle.ark_base.specs.declared.prime_field32.PrimeField32.{PrimeField32}
 use Rattle.ark_base.specs.declared.prime_field32.PrimeModulus32.{Ghosts}
 
@@ -28,6 +28,13 @@ module _ {M : Type 0} {g : Ghosts M} (S : Shown g) where
       ap (λ n. (number x * n) % g.MODULUS) e
       ∙ mul-mod_second (number x) (2 ^ 32) g.MODULUS
       ∙ form_of_number g.MODULUS (2 ^ 32) (inverse_of_power g.MODULUS 32) x.word (one_of_power g S) x.reduced
+
+  -- and that of the unit's multiple by the element
+  pub unit_times : (x : PrimeField32 M g) → number {M = M} {g = g} ((field_of {M = M} {g = g} S).times (unit {M = M} {g = g} S) x) ≡ x.word
+  unit_times x =
+      number_of_residue (numbering {M = M} {g = g} S) S.numbers.prime _
+      ∙ ap (λ n. n % g.MODULUS) (mul_comm (number {g = g} (unit {M = M} {g = g} S)) (number x))
+      ∙ word_of_number x (unit {M = M} {g = g} S) (number_of_residue (numbering {M = M} {g = g} S) S.numbers.prime (2 ^ 32))
 
   pub word_is_number : (x : PrimeField32 M g) (w : ℕ) → w < g.MODULUS → (2 ^ 32 * w) % g.MODULUS ≡ (x.word * 1) % g.MODULUS → w ≡ number x
   unfolding number

@@ -8,7 +8,7 @@ use Rattle.ark_math.specs.Root.{Adicity, adicity_of}
 use Rattle.ark_base.specs.Montgomery.{inverse_of_power, inverse_undoes, form_back, same_forms}
 use Rattle.ark_base.specs.Modulus32.{IsModulus32}
 use Rattle.ark_base.specs.Modulus32Laws.{is_odd}
-use Rattle.ark_base.specs.Residues.{Numbering, residues}
+use Rattle.ark_base.specs.Residues.{Numbering, residue_of, residues}
 use Rattle.ark_base.specs.declared.prime_field32.PrimeField32.{PrimeField32}
 use Rattle.ark_base.specs.declared.prime_field32.PrimeModulus32.{Ghosts}
 
@@ -64,3 +64,7 @@ module _ {M : Type 0} {g : Ghosts M} (S : Shown g) where
   -- the field that a modulus gives
   abbrev pub field_of : FieldOn (PrimeField32 M g)
   field_of = residues numbering S.numbers.prime
+
+  -- the element whose number is 2 ^ 32 modulo p: its multiples' numbers are the words
+  abbrev pub unit : PrimeField32 M g
+  unit = residue_of numbering S.numbers.prime (2 ^ 32)

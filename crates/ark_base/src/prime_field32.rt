@@ -102,7 +102,7 @@ impl<M: PrimeModulus32> PrimeField32<M> {
     ghost use Rattle.rand_core.specs.Stream.{next_u64};
     ghost use Rattle.rand.specs.Draw.{Gives};
     ghost use Rattle.rand.specs.Uniform.{canon};
-    ghost use Rattle.ark_base.specs.Element32.{number, field_of};
+    ghost use Rattle.ark_base.specs.Element32.{number, field_of, unit};
 
     /// The number below the modulus that the element is: it is so many ones added up.
     pub fn value(self) -> u32
@@ -168,6 +168,30 @@ impl<M: PrimeModulus32> PrimeField32<M> {
         ensures below { result < 2 ^ 31 * M.MODULUS }
     {
         self.word as u64 * rhs.word as u64
+    }
+
+    /// The element whose product with `unit` has this number, and `None` exactly where that isn't below the
+    /// prime. It takes no product: for maps that keep multiples, such as transforms, this is the number itself.
+    #[inline(always)]
+    pub fn from_scaled(value: u32) -> Option<Self>
+        ensures some { IfSome result (λ x. number ((field_of M.modulus).times (unit M.modulus) x) ≡ value) }
+        ensures none { IsNone result ↔ (M.MODULUS ≤ value) }
+    {
+        if value >= M::MODULUS {
+            return None;
+        }
+        Some(PrimeField32 {
+            word: value,
+            marker: PhantomData,
+        })
+    }
+
+    /// The number of the element's product with `unit`.
+    #[inline(always)]
+    pub fn scaled(self) -> u32
+        ensures { result ≡ number ((field_of M.modulus).times (unit M.modulus) self) }
+    {
+        self.word
     }
 
     // The element of a word, by a division.

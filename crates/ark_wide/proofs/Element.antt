@@ -1,18 +1,18 @@
 -- Elements and their words, as the proofs of a field's calls cite them.
-use Rattle.std.proofs.Common.{◌≡◌, ℕ, ◌+◌, ◌-◌, ◌*◌, ◌%◌, ◌^◌, ◌<◌, sym, ap, subst, ◌∙◌, mod-lt, le_of_lt, zero-mul}
+use Rattle.std.proofs.Common.{◌≡◌, ℕ, ◌+◌, ◌-◌, ◌*◌, ◌%◌, ◌^◌, ◌<◌, sym, ap, subst, ◌∙◌, mod-lt, le_of_lt, mul_comm, zero-mul}
 use Rattle.std.specs.Prelude.{Bool, true, nat_eq, ◌==◌, ◌&&◌}
 use Rattle.std.specs.Ordering.{on}
 use Rattle.std.specs.Cmp.{both_ways}
 use Rattle.std.proofs.lemmas.Bool.{and_parts, and_from, eqb-true, eq-eqb}
 use Rattle.std.proofs.Math.Nat.{zero-mod}
-use Rattle.std.proofs.lemmas.Nat.{mul-mod_first}
+use Rattle.std.proofs.lemmas.Nat.{mul-mod_first, mul-mod_second}
 use Rattle.ark_wide.specs.Words.{integer, IsMontgomery}
-use Rattle.ark_base.specs.Montgomery.{inverse_of_power, to_form, from_form, sum_of_forms, difference_of_forms, negated_form, form_of_reduced, product_of_forms}
+use Rattle.ark_base.specs.Montgomery.{inverse_of_power, form_of_number, to_form, from_form, sum_of_forms, difference_of_forms, negated_form, form_of_reduced, product_of_forms}
 use Rattle.ark_wide.specs.Modulus256Laws.{integer_of_modulus, integer_of_r, integer_of_r_squared, montgomery}
 use Rattle.ark_math.specs.Field.{minus}
 use Rattle.ark_base.specs.Residues.{residue_of}
 use Rattle.ark_base.specs.ResiduesLaws.{number_of_residue, number_of_zero, number_of_one, minus_number}
-use Rattle.ark_wide.specs.Element.{Shown, number, numbering, field_of, one_of_power, same_by_number, same_by_words}
+use Rattle.ark_wide.specs.Element.{Shown, number, numbering, field_of, one_of_power, same_by_number, same_by_words, unit}
 use Rattle.ark_wide.specs.declared.words.BigInteger256.{BigInteger256}
 use Rattle.ark_wide.specs.declared.prime_field.PrimeField256.{PrimeField256}
 use Rattle.ark_wide.specs.declared.prime_field.PrimeModulus256.{Ghosts}
@@ -78,6 +78,16 @@ module _ {M : Type 0} {g : Ghosts M} (S : Shown g) where
       form_of_reduced g.MODULUS (2 ^ 256) (inverse_of_power g.MODULUS 256) (integer x.words * integer y.words) (integer z.words)
       (one_of_power g S) z.reduced e
       ∙ product_of_forms g.MODULUS (inverse_of_power g.MODULUS 256) (integer x.words) (integer y.words)
+
+  -- the number of the unit's multiple by an element
+  pub unit_times : (x : PrimeField256 M g) → number {M = M} {g = g} ((field_of {M = M} {g = g} S).times (unit {M = M} {g = g} S) x) ≡ integer x.words
+  unfolding number
+  unit_times x =
+      number_of_residue (numbering {M = M} {g = g} S) S.numbers.prime _
+      ∙ ap (λ n. n % g.MODULUS) (mul_comm (number {g = g} (unit {M = M} {g = g} S)) (number x))
+      ∙ ap (λ n. (number x * n) % g.MODULUS) (number_of_residue (numbering {M = M} {g = g} S) S.numbers.prime (2 ^ 256))
+      ∙ mul-mod_second (number x) (2 ^ 256) g.MODULUS
+      ∙ form_of_number g.MODULUS (2 ^ 256) (inverse_of_power g.MODULUS 256) (integer x.words) (one_of_power g S) x.reduced
 
   -- what operations on forms give, where the modulus is read
   pub sum_is : (x y z : PrimeField256 M g) (m : BigInteger256) → m ≡ g.MODULUS_WORDS →

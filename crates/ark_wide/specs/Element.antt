@@ -10,7 +10,7 @@ use Rattle.ark_wide.specs.WordsLaws.{integer_of_words, are_words_of, same_words}
 use Rattle.ark_base.specs.Montgomery.{inverse_of_power, inverse_undoes, form_back, same_forms}
 use Rattle.ark_wide.specs.Modulus256.{IsModulus256}
 use Rattle.ark_wide.specs.Modulus256Laws.{is_odd}
-use Rattle.ark_base.specs.Residues.{Numbering, residues}
+use Rattle.ark_base.specs.Residues.{Numbering, residue_of, residues}
 use Rattle.ark_wide.specs.declared.words.BigInteger256.{BigInteger256}
 use Rattle.ark_wide.specs.declared.prime_field.PrimeField256.{PrimeField256}
 use Rattle.ark_wide.specs.declared.prime_field.PrimeModulus256.{Ghosts}
@@ -88,3 +88,7 @@ module _ {M : Type 0} {g : Ghosts M} (S : Shown g) where
   -- the field that a modulus gives
   abbrev pub field_of : FieldOn (PrimeField256 M g)
   field_of = residues numbering S.numbers.prime
+
+  -- the element whose number is 2 ^ 256 modulo p: its multiples' numbers are those of the words
+  abbrev pub unit : PrimeField256 M g
+  unit = residue_of numbering S.numbers.prime (2 ^ 256)

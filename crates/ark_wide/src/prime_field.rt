@@ -127,7 +127,7 @@ impl<M: PrimeModulus256> Clone for PrimeField256<M> {
 impl<M: PrimeModulus256> PrimeField256<M> {
     ghost use Rattle.ark_math.specs.Words.{number_of_words};
     ghost use Rattle.ark_base.specs.Residues.{root_of};
-    ghost use Rattle.ark_wide.specs.Element.{number, numbering, field_of};
+    ghost use Rattle.ark_wide.specs.Element.{number, numbering, field_of, unit};
 
     /// The element of a number, modulo the prime.
     pub const fn reduce(value: BigInteger256) -> Self
@@ -174,6 +174,34 @@ impl<M: PrimeModulus256> PrimeField256<M> {
         ensures { number_of_words result ≡ number self }
     {
         self.into_bigint().to_words()
+    }
+
+    /// The element whose product with `unit` has the number that these words spell, the low one first, and
+    /// `None` exactly where that isn't below the prime. It takes no product: for maps that keep multiples, such
+    /// as transforms, this is the number itself.
+    #[inline(always)]
+    pub fn from_scaled(words: [u64; 4]) -> Option<Self>
+        ensures some { IfSome result (λ x. number ((field_of M.modulus).times (unit M.modulus) x)
+            ≡ number_of_words words) }
+        ensures none { IsNone result ↔ (M.MODULUS ≤ number_of_words words) }
+    {
+        let value = BigInteger256::new(words);
+        if is_below(value, M::MODULUS_WORDS) {
+            Some(PrimeField256 {
+                words: value,
+                marker: PhantomData,
+            })
+        } else {
+            None
+        }
+    }
+
+    /// The words of the number of the element's product with `unit`, the low one first.
+    #[inline(always)]
+    pub fn scaled(self) -> [u64; 4]
+        ensures { number_of_words result ≡ number ((field_of M.modulus).times (unit M.modulus) self) }
+    {
+        self.words.to_words()
     }
 
     // The root of unity of the greatest order that domains take.
