@@ -19,6 +19,8 @@ ghost use Rattle.ark_words.specs.Codes.{FitMessages, AreFound, message_size};
 ghost use Rattle.ark_c.specs.Names.{field_named};
 ghost use Rattle.ark_words.specs.Extensions.{FitExtended, IsExtended, FitFixed, AreFixed};
 ghost use Rattle.ark_words.specs.Extensions.{FitSparse, IsExtendedByEntries};
+ghost use Rattle.ark_words.specs.Parts.{FitColumns, FitRows, HaveParts, AreColumnsTransformed, AreRowsTransformed};
+ghost use Rattle.ark_words.specs.Parts.{AreColumnsTransformedBack, AreRowsTransformedBack};
 ghost use Rattle.ark_words.specs.Weights.{FitWeights, ArePlaced, AreLagrange};
 
 mod pieces;
@@ -27,9 +29,9 @@ mod status;
 use ark_base::{BabyBear, F5, F433, F65537, Goldilocks, KoalaBear};
 use ark_wide::{Bls12_381Scalar, Bn254Scalar};
 use ark_words::{
-    divide, domain_size, encode, encode_systematic, evaluate, fft, ifft, interpolate, lagrange,
-    message, multilinear_evaluate, multilinear_evaluate_sparse, multilinear_fix, multiply, restore,
-    width,
+    divide, domain_size, encode, encode_systematic, evaluate, fft, fft_columns, fft_rows, ifft,
+    ifft_columns, ifft_rows, interpolate, lagrange, message, multilinear_evaluate,
+    multilinear_evaluate_sparse, multilinear_fix, multiply, restore, width,
 };
 use status::status;
 use std::alloc::Global;
@@ -123,6 +125,144 @@ pub extern "C" fn ark_ifft(alloc: Global, field: u64, words: &mut [u64], offset:
     ensures no_other { result ≤ 5 }
 {
     status(over_field!(field, ifft(alloc, words, offset)))
+}
+
+/// A transform in parts, first the columns: a list of `2^(log_rows + log_columns)` numbers is read as `2^log_rows`
+/// rows of `2^log_columns` numbers each. Each column of a block of any columns, as so many rows, becomes its values
+/// over the domain of `2^log_rows` elements whose offset is that of the whole to the power `2^log_columns`.
+#[unsafe(no_mangle)]
+pub extern "C" fn ark_fft_columns(
+    alloc: Global,
+    field: u64,
+    words: &mut [u64],
+    log_rows: u32,
+    log_columns: u32,
+    offset: &[u64],
+) -> u32
+    ensures values { result ≡ 0 → IsSomeAnd (field_named field) (λ f.
+        AreColumnsTransformed f log_rows log_columns words.old offset.now words.new) }
+    ensures kept { result ≢ 0 → words.new ≡ words.old }
+    ensures taken { result ≡ 0 → IsSomeAnd (field_named field) (λ f.
+        FitColumns f log_rows log_columns words.old offset.now × HaveReduced f words.old offset.now
+        × HaveParts f log_rows log_columns offset.now) }
+    ensures no_field { (result ≡ 2) ↔ IsNone (field_named field) }
+    ensures length { (result ≡ 3) ↔ IsSomeAnd (field_named field) (λ f.
+        ¬ FitColumns f log_rows log_columns words.old offset.now) }
+    ensures not_reduced { (result ≡ 4) ↔ IsSomeAnd (field_named field) (λ f.
+        FitColumns f log_rows log_columns words.old offset.now
+        × (¬ HaveReduced f words.old offset.now)) }
+    ensures no_domain { (result ≡ 5) ↔ IsSomeAnd (field_named field) (λ f.
+        FitColumns f log_rows log_columns words.old offset.now × HaveReduced f words.old offset.now
+        × (¬ HaveParts f log_rows log_columns offset.now)) }
+    ensures no_other { result ≤ 5 }
+{
+    status(over_field!(
+        field,
+        fft_columns(alloc, words, log_rows, log_columns, offset)
+    ))
+}
+
+/// Then the rows: each row of a block of any whole rows, of which the first is row `first` of all, becomes its values
+/// over the domain of `2^log_columns` elements whose offset is that element of the whole domain which has the row's
+/// number. Item `j` of row `i` is then item `i + 2^log_rows * j` of `ark_fft` of the whole list.
+#[unsafe(no_mangle)]
+pub extern "C" fn ark_fft_rows(
+    alloc: Global,
+    field: u64,
+    words: &mut [u64],
+    log_rows: u32,
+    log_columns: u32,
+    first: u64,
+    offset: &[u64],
+) -> u32
+    ensures values { result ≡ 0 → IsSomeAnd (field_named field) (λ f.
+        AreRowsTransformed f log_rows log_columns first words.old offset.now words.new) }
+    ensures kept { result ≢ 0 → words.new ≡ words.old }
+    ensures taken { result ≡ 0 → IsSomeAnd (field_named field) (λ f.
+        FitRows f log_rows log_columns first words.old offset.now × HaveReduced f words.old offset.now
+        × HaveParts f log_rows log_columns offset.now) }
+    ensures no_field { (result ≡ 2) ↔ IsNone (field_named field) }
+    ensures length { (result ≡ 3) ↔ IsSomeAnd (field_named field) (λ f.
+        ¬ FitRows f log_rows log_columns first words.old offset.now) }
+    ensures not_reduced { (result ≡ 4) ↔ IsSomeAnd (field_named field) (λ f.
+        FitRows f log_rows log_columns first words.old offset.now
+        × (¬ HaveReduced f words.old offset.now)) }
+    ensures no_domain { (result ≡ 5) ↔ IsSomeAnd (field_named field) (λ f.
+        FitRows f log_rows log_columns first words.old offset.now × HaveReduced f words.old offset.now
+        × (¬ HaveParts f log_rows log_columns offset.now)) }
+    ensures no_other { result ≤ 5 }
+{
+    status(over_field!(
+        field,
+        fft_rows(alloc, words, log_rows, log_columns, first, offset)
+    ))
+}
+
+/// Takes the rows of a block back, which `ark_fft_rows` with the same numbers takes to these.
+#[unsafe(no_mangle)]
+pub extern "C" fn ark_ifft_rows(
+    alloc: Global,
+    field: u64,
+    words: &mut [u64],
+    log_rows: u32,
+    log_columns: u32,
+    first: u64,
+    offset: &[u64],
+) -> u32
+    ensures coefficients { result ≡ 0 → IsSomeAnd (field_named field) (λ f.
+        AreRowsTransformedBack f log_rows log_columns first words.old offset.now words.new) }
+    ensures kept { result ≢ 0 → words.new ≡ words.old }
+    ensures taken { result ≡ 0 → IsSomeAnd (field_named field) (λ f.
+        FitRows f log_rows log_columns first words.old offset.now × HaveReduced f words.old offset.now
+        × HaveParts f log_rows log_columns offset.now) }
+    ensures no_field { (result ≡ 2) ↔ IsNone (field_named field) }
+    ensures length { (result ≡ 3) ↔ IsSomeAnd (field_named field) (λ f.
+        ¬ FitRows f log_rows log_columns first words.old offset.now) }
+    ensures not_reduced { (result ≡ 4) ↔ IsSomeAnd (field_named field) (λ f.
+        FitRows f log_rows log_columns first words.old offset.now
+        × (¬ HaveReduced f words.old offset.now)) }
+    ensures no_domain { (result ≡ 5) ↔ IsSomeAnd (field_named field) (λ f.
+        FitRows f log_rows log_columns first words.old offset.now × HaveReduced f words.old offset.now
+        × (¬ HaveParts f log_rows log_columns offset.now)) }
+    ensures no_other { result ≤ 5 }
+{
+    status(over_field!(
+        field,
+        ifft_rows(alloc, words, log_rows, log_columns, first, offset)
+    ))
+}
+
+/// Takes the columns of a block back, after the rows, which `ark_fft_columns` with the same numbers takes to these.
+#[unsafe(no_mangle)]
+pub extern "C" fn ark_ifft_columns(
+    alloc: Global,
+    field: u64,
+    words: &mut [u64],
+    log_rows: u32,
+    log_columns: u32,
+    offset: &[u64],
+) -> u32
+    ensures coefficients { result ≡ 0 → IsSomeAnd (field_named field) (λ f.
+        AreColumnsTransformedBack f log_rows log_columns words.old offset.now words.new) }
+    ensures kept { result ≢ 0 → words.new ≡ words.old }
+    ensures taken { result ≡ 0 → IsSomeAnd (field_named field) (λ f.
+        FitColumns f log_rows log_columns words.old offset.now × HaveReduced f words.old offset.now
+        × HaveParts f log_rows log_columns offset.now) }
+    ensures no_field { (result ≡ 2) ↔ IsNone (field_named field) }
+    ensures length { (result ≡ 3) ↔ IsSomeAnd (field_named field) (λ f.
+        ¬ FitColumns f log_rows log_columns words.old offset.now) }
+    ensures not_reduced { (result ≡ 4) ↔ IsSomeAnd (field_named field) (λ f.
+        FitColumns f log_rows log_columns words.old offset.now
+        × (¬ HaveReduced f words.old offset.now)) }
+    ensures no_domain { (result ≡ 5) ↔ IsSomeAnd (field_named field) (λ f.
+        FitColumns f log_rows log_columns words.old offset.now × HaveReduced f words.old offset.now
+        × (¬ HaveParts f log_rows log_columns offset.now)) }
+    ensures no_other { result ≤ 5 }
+{
+    status(over_field!(
+        field,
+        ifft_columns(alloc, words, log_rows, log_columns, offset)
+    ))
 }
 
 /// The values at points, in their order, of the polynomial with these coefficients, the lowest first: there

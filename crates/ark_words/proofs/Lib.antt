@@ -14,3 +14,6 @@ pub mod Codewords
 pub mod Interpolated
 pub mod EqualPoints
 pub mod Through
+pub mod Multiples
+pub mod PartsInNumbers
+pub mod PartsLaw

@@ -118,11 +118,15 @@ written_all width words items some len each =
     ap (λ n. tabulate n (number_at width words)) count
     ∙ sym (is_tabulated 0 items (length items) (number_at width words) refl (λ j l. sym (each j l)))
 
+-- all that a function gives is below p
+pub all_below : {F : Type 0} {p : ℕ} (f : F → ℕ) → ((x : F) → f x < p) → (items : List F) → All (λ x. x < p) (map f items)
+all_below f below [] i d l = absurd (omega arith)
+all_below f below (x ∷ items) zero d l = below x
+all_below f below (x ∷ items) (suc i) d l = all_below f below items i d (omega arith)
+
 -- the numbers of elements are below the modulus
 pub numbers_below : {F : Type 0} {p : ℕ} (N : Numbering F p) (items : List F) → All (λ x. x < p) (map N.number items)
-numbers_below N [] i d l = absurd (omega arith)
-numbers_below N (x ∷ items) zero d l = N.below x
-numbers_below N (x ∷ items) (suc i) d l = numbers_below N items i d (omega arith)
+numbers_below N items = all_below N.number N.below items
 
 -- whole numbers take all words
 pub whole_words : (width count : ℕ) (words : List ℕ) → length words % width ≡ 0 → count ≡ length words / width → length words ≡ count * width

@@ -9,3 +9,4 @@ pub mod ExtensionExamples
 pub mod Weights
 pub mod Decoders
 pub mod Interpolations
+pub mod Parts

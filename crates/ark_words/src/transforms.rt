@@ -1,4 +1,4 @@
-//! Transforms in place.
+//! Transforms in place. They keep multiples, so that elements are read and written without a product.
 
 ghost use Rattle.std.specs.Prelude.{◌≡◌, ◌↔◌, ◌/◌, map, length, OnOk, OnErr, IfOk, IfErr};
 ghost use Rattle.ark_math.specs.Domain.{IsDomain};
@@ -11,7 +11,8 @@ ghost use Rattle.ark_words.specs.Numbers.{AreTransformed, AreTransformedBack};
 use crate::domains::exact_domain;
 use crate::element::WordElement;
 use crate::error::WordsError;
-use crate::lists::{elements, put, refusal};
+use crate::lists::refusal;
+use crate::scaled::{put_scaled, scaled_elements};
 use ark_traits::Work;
 use ark_univariate::domain::{EvaluationDomain, GeneralEvaluationDomain};
 use std::alloc::Global;
@@ -43,7 +44,7 @@ pub fn fft<F: WordElement>(
     let Ok(()) = domain.fft_counted(alloc, &mut coeffs, &mut Work::new()) else {
         return Err(WordsError::Memory);
     };
-    put(words, &coeffs);
+    put_scaled(words, &coeffs);
     Ok(())
 }
 
@@ -70,7 +71,7 @@ pub fn ifft<F: WordElement>(
     let Ok(()) = domain.ifft_counted(alloc, &mut evals, &mut Work::new()) else {
         return Err(WordsError::Memory);
     };
-    put(words, &evals);
+    put_scaled(words, &evals);
     Ok(())
 }
 
@@ -84,7 +85,8 @@ fn judged<F: WordElement>(
     ensures offset { IfOk result (λ p. F.numbering.number (general_domain p.0).offset
         ≡ number_of_words offset.now) }
     ensures lawful { IfOk result (λ p. IsDomain F.field F.adicity F.root (general_domain p.0)) }
-    ensures numbers { IfOk result (λ p. map F.numbering.number p.1.items ≡ numbers F.WIDTH words.now) }
+    ensures numbers { IfOk result (λ p. map (λ x. F.numbering.number (F.field.times F.unit x)) p.1.items
+        ≡ numbers F.WIDTH words.now) }
     ensures taken { OnOk result (AreTransformable F.spelled words.now offset.now) }
     ensures fault { IfErr result (IsFault (HaveLengths F.spelled words.now offset.now)
         (HaveReduced F.spelled words.now offset.now) (HaveDomain F.spelled words.now offset.now)) }
@@ -99,5 +101,5 @@ fn judged<F: WordElement>(
     let Some(domain) = exact_domain(words.len() / width, offset) else {
         return Err(refusal::<F>(words, WordsError::NoDomain));
     };
-    Ok((domain, elements(alloc, words)?))
+    Ok((domain, scaled_elements(alloc, words)?))
 }

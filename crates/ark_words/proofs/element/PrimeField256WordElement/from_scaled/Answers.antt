@@ -1,0 +1,12 @@
+use Rattle.std.proofs.Common.{◌≡◌, subst, IfSome}
+use Rattle.ark_math.specs.Words.{number_of_words}
+use Rattle.ark_wide.specs.Element.{numbering, field_of, unit}
+use Rattle.ark_words.proofs.WordLists.{four_words}
+use Rattle.ark_words.proofs.element.PrimeField256WordElement.from_scaled.Goals as goal
+
+pub returns-clause-some : goal.returns-clause-some
+returns-clause-some g c =
+    let M = g.M.PrimeModulus256.modulus in
+    let N = numbering {M = g.row.M.Denot} {g = g.M.PrimeModulus256} M in
+    subst (λ words. IfSome c.from_scaled.result (λ x. N.number ((field_of M).times (unit M) x) ≡ number_of_words words)) (four_words c.args.words.now c.requires)
+    c.from_scaled.ensures.some
