@@ -21,6 +21,7 @@ ghost use Rattle.ark_words.specs.Extensions.{FitExtended, IsExtended, FitFixed, 
 ghost use Rattle.ark_words.specs.Extensions.{FitSparse, IsExtendedByEntries};
 ghost use Rattle.ark_words.specs.Parts.{FitColumns, FitRows, HaveParts, AreColumnsTransformed, AreRowsTransformed};
 ghost use Rattle.ark_words.specs.Parts.{AreColumnsTransformedBack, AreRowsTransformedBack};
+ghost use Rattle.ark_words.specs.Values.{FitPairs, AreProducts};
 ghost use Rattle.ark_words.specs.Weights.{FitWeights, ArePlaced, AreLagrange};
 
 mod pieces;
@@ -31,7 +32,7 @@ use ark_wide::{Bls12_381Scalar, Bn254Scalar};
 use ark_words::{
     divide, domain_size, encode, encode_systematic, evaluate, fft, fft_columns, fft_rows, ifft,
     ifft_columns, ifft_rows, interpolate, lagrange, message, multilinear_evaluate,
-    multilinear_evaluate_sparse, multilinear_fix, multiply, restore, width,
+    multilinear_evaluate_sparse, multilinear_fix, multiply, multiply_values, restore, width,
 };
 use status::status;
 use std::alloc::Global;
@@ -366,6 +367,29 @@ pub extern "C" fn ark_multiply(
     ensures no_other { result ≤ 4 }
 {
     status(over_field!(field, multiply(alloc, left, right, product)))
+}
+
+/// Multiplies each number by the number at the same place of another list: where both hold values of polynomials at
+/// the same points, in whatever order, these are the values of the product.
+#[unsafe(no_mangle)]
+pub extern "C" fn ark_multiply_values(
+    alloc: Global,
+    field: u64,
+    values: &mut [u64],
+    others: &[u64],
+) -> u32
+    ensures products { result ≡ 0 → IsSomeAnd (field_named field) (λ f.
+        AreProducts f values.old others.now values.new) }
+    ensures kept { result ≢ 0 → values.new ≡ values.old }
+    ensures taken { result ≡ 0 → IsSomeAnd (field_named field) (λ f.
+        FitPairs f values.old others.now × BothReduced f values.old others.now) }
+    ensures no_field { (result ≡ 2) ↔ IsNone (field_named field) }
+    ensures length { (result ≡ 3) ↔ IsSomeAnd (field_named field) (λ f. ¬ FitPairs f values.old others.now) }
+    ensures not_reduced { (result ≡ 4) ↔ IsSomeAnd (field_named field) (λ f.
+        FitPairs f values.old others.now × (¬ BothReduced f values.old others.now)) }
+    ensures no_other { result ≤ 4 }
+{
+    status(over_field!(field, multiply_values(alloc, values, others)))
 }
 
 /// Writes the value at a point of `m` numbers of the only multilinear polynomial in `m` variables with these

@@ -17,3 +17,4 @@ pub mod Through
 pub mod Multiples
 pub mod PartsInNumbers
 pub mod PartsLaw
+pub mod WordsApart

@@ -1,10 +1,12 @@
 -- Lists of words as numbers.
 use Rattle.std.proofs.Common.{◌≡◌, zero, suc, ◌+◌, ◌-◌, ◌*◌, ◌/◌, ◌%◌, ◌<◌, ◌≤◌, ℕ, List, [], ◌∷◌, ◌++◌, All, length, map, get_or, slice_set, slice_index_or, slice_range, drop, refl, sym, ap, ap₂, subst, ◌∙◌, arith, below_more}
 use Rattle.std.proofs.lemmas.Nat.{mul-le, div-add-mod', div-mul-add, le-div}
-use Rattle.std.proofs.lemmas.List.{length-drop, length-map, length-take-le, map-append}
+use Rattle.std.proofs.lemmas.List.{get_or-map, length-drop, length-map, length-take-le, map-append}
 use Rattle.std.proofs.lemmas.Slice.{between_is, between-put_mid, take-put_mid_below}
 use borrow.Rule.Slice.PartMut.{put_mid}
+use Rattle.ark_math.specs.Field.{FieldOn}
 use Rattle.ark_math.specs.Module.{tabulate}
+use Rattle.ark_math.specs.Univariate.{of_list}
 use Rattle.ark_math.specs.Words.{number_of_words}
 use Rattle.ark_math.proofs.Lists.Tabulated.{length-tabulate, get_or-tabulate, is_tabulated, tabulate-push}
 use Rattle.ark_base.specs.Residues.{Numbering}
@@ -77,6 +79,14 @@ length-numbers width words = length-tabulate (length words / width) (number_at w
 -- as many elements as numbers
 pub length_read : {F : Type 0} (number : F → ℕ) (width : ℕ) (items : List F) (words : List ℕ) → map number items ≡ numbers width words → length items ≡ length words / width
 length_read number width items words e = sym (length-map items number) ∙ ap length e ∙ length-numbers width words
+
+-- the number at a place is that of the item there
+pub number_of_item : {F : Type 0} (K : FieldOn F) (number : F → ℕ) (width : ℕ) (items : List F) (words : List ℕ) (i : ℕ) → map number items ≡ numbers width words → number K.zero ≡ 0 → i < length words / width
+    → number_at width words i ≡ number (of_list K items i)
+number_of_item K number width items words i read zero_kept l =
+    let n : length items ≡ length words / width = length_read number width items words read in
+    sym (get_or-tabulate (length words / width) (number_at width words) i 0 l)
+    ∙ ap (λ zs. get_or zs i 0) (sym read) ∙ get_or-map number items i K.zero 0 (omega arith)
 
 -- one element more is read
 pub read_more : {F : Type 0} (number : F → ℕ) (f : ℕ → ℕ) (n : ℕ) (items after : List F) (x : F) → after ≡ items ++ x ∷ [] → map number items ≡ tabulate n f → number x ≡ f n

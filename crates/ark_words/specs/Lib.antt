@@ -10,3 +10,4 @@ pub mod Weights
 pub mod Decoders
 pub mod Interpolations
 pub mod Parts
+pub mod Values

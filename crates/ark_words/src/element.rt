@@ -79,11 +79,11 @@ impl<M: PrimeModulus> WordElement for PrimeField<M> {
     }
 
     fn from_scaled(words: &[u64]) -> Option<Self> {
-        PrimeField::from_value(words[0])
+        Self::from_words(words)
     }
 
     fn write_scaled(self, words: &mut [u64]) {
-        words[0] = self.value();
+        self.write_words(words);
     }
 
     ghost spelled_law = { refl };

@@ -1,8 +1,9 @@
 //! What calls make together, stated as contracts of functions that callers may cite: they promise nothing but
 //! their contracts.
 
-ghost use Rattle.std.specs.Prelude.{◌≡◌, ◌≢◌, ℕ, ◌+◌, ◌*◌, ◌<◌, ◌≤◌, ◌^◌, List, All, length};
+ghost use Rattle.std.specs.Prelude.{◌≡◌, ◌≢◌, ℕ, ◌+◌, ◌*◌, ◌<◌, ◌≤◌, ◌^◌, List, ◌++◌, All, length};
 ghost use Rattle.ark_numbers.specs.Answers.{coset_of, AreValues, AreInterpolated};
+ghost use Rattle.ark_words.specs.Codes.{FitWords, AreRestored, FitMessages, AreFound, message_size};
 ghost use Rattle.ark_words.specs.Parts.{AreColumns, AreRows, AreRowsBack, AreColumnsBack, AreOrdered};
 
 use crate::element::WordElement;
@@ -29,6 +30,22 @@ pub fn parts_make_the_inverse<F: WordElement>()
         → AreOrdered F.spelled.known a b values rows
         → AreRowsBack F.spelled.known a b h rows before → AreColumnsBack F.spelled.known a b h before xs
         → AreInterpolated F.spelled.known (coset_of F.spelled.known (2 ^ a * 2 ^ b) h) values xs }
+{
+    let _ = F::WIDTH;
+}
+
+/// A law: words are apart. Where the words of two lists were restored, or their messages found, by a call each, so are
+/// those of both lists together: cuts make no difference.
+pub fn words_are_apart<F: WordElement>()
+    ensures restored { (erased old more new made : List ℕ) (k : ℕ) → FitWords F.spelled old erased k
+        → length new ≡ length old
+        → AreRestored F.spelled old erased k new → AreRestored F.spelled more erased k made
+        → AreRestored F.spelled (old ++ more) erased k (new ++ made) }
+    ensures found { (erased words more messages others : List ℕ) → FitMessages F.spelled words erased messages
+        → AreFound F.spelled words erased (message_size F.spelled words erased messages) messages
+        → AreFound F.spelled more erased (message_size F.spelled words erased messages) others
+        → AreFound F.spelled (words ++ more) erased (message_size F.spelled words erased messages)
+        (messages ++ others) }
 {
     let _ = F::WIDTH;
 }

@@ -11,10 +11,7 @@ use std::alloc::{AllocError, Global};
 
 /// The elements whose multiples by the unit have the numbers that the words spell. Memory is no matter where a
 /// number isn't below the modulus.
-pub fn scaled_elements<F: WordElement>(
-    alloc: Global,
-    words: &[u64],
-) -> Result<Vec<F>, WordsError>
+pub fn scaled_elements<F: WordElement>(alloc: Global, words: &[u64]) -> Result<Vec<F>, WordsError>
     ensures numbers { IfOk result (λ items. map (λ x. F.numbering.number (F.field.times F.unit x)) items.items
         ≡ numbers F.WIDTH words.now) }
     ensures refusal { IfErr result (IsRefusal (All (λ x. x < F.modulus) (numbers F.WIDTH words.now))
@@ -28,10 +25,7 @@ pub fn scaled_elements<F: WordElement>(
 }
 
 // The elements, and `None` where a number isn't below the modulus: both in one pass.
-fn read_scaled<F: WordElement>(
-    alloc: Global,
-    words: &[u64],
-) -> Result<Option<Vec<F>>, AllocError>
+fn read_scaled<F: WordElement>(alloc: Global, words: &[u64]) -> Result<Option<Vec<F>>, AllocError>
     ensures { IfOk result (λ read. MatchOption read (¬ All (λ x. x < F.modulus) (numbers F.WIDTH words.now))
         (λ items. map (λ x. F.numbering.number (F.field.times F.unit x)) items.items
         ≡ numbers F.WIDTH words.now)) }

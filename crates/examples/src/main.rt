@@ -3,7 +3,7 @@
 //! exact costs, the first round of a sum-check, what chooses a value of a table, values that are lost and
 //! restored, a wrong one that is refused, a polynomial in a file, one error for a program, the values of a
 //! sparse polynomial, fields, an extension and a module of one's own, secrets in shares, whole sum-checks,
-//! by a transcript too, values between given ones by words alone, and bytes in pieces. The program prints
+//! by a transcript too, calls by words alone, and bytes in pieces. The program prints
 //! what each gives.
 #![tactic(auto)]
 
@@ -75,7 +75,7 @@ use std::fs::{self, File, Files};
 use std::io::{Print, Write};
 use sum_check::{first_round, last_value, next_claim};
 use there_and_back::there_and_back;
-use words::values_between;
+use words::{transformed_by_parts, values_between};
 
 fn main(rt: HostRuntime) -> anyhow::Result<()> {
     let alloc = rt.alloc();
@@ -129,6 +129,9 @@ fn main(rt: HostRuntime) -> anyhow::Result<()> {
     let mut squares = [0, 0];
     values_between::<BabyBear>(alloc, &[1, 2, 3], &[1, 4, 9], &[10, 100], &mut squares)?;
     println!(rt; "squares at 10 and 100 from those at 1, 2 and 3: {squares:?}")?;
+    let mut numbers = [1, 2, 3, 4, 5, 6, 7, 8];
+    transformed_by_parts::<BabyBear>(alloc, &mut numbers, 1, 2, &[1])?;
+    println!(rt; "two rows of a transform over words: {numbers:?}")?;
     print_kept::<FileCode, _>(&rt, alloc)
 }
 
