@@ -55,6 +55,20 @@ def domain(n, offset, p, g):
     return [offset * pow(w, i, p) % p for i in range(n)]
 
 
+def columns_made(block, a, b, offset, p, g):
+    """A block of columns of 2^a rows of 2^b items: the values of each."""
+    k = len(block) >> a
+    made = [[value(block[j::k], x, p) for x in domain(1 << a, pow(offset, 1 << b, p), p, g)] for j in range(k)]
+    return [x for row in zip(*made) for x in row]
+
+
+def rows_made(block, a, b, first, offset, p, g):
+    """A block of rows from number `first` on: the values of each."""
+    w, c = pow(g, p - 1 >> a + b, p), 1 << b
+    rows = [block[i : i + c] for i in range(0, len(block), c)]
+    return [value(row, x, p) for i, row in enumerate(rows, first) for x in domain(c, offset * pow(w, i, p), p, g)]
+
+
 def product(a, b, p):
     out = [0] * max(len(a) + len(b) - 1, 0)
     for i, x in enumerate(a):
@@ -289,12 +303,63 @@ for name, p, words, g, sizes in FIELDS:
     bad("multilinear_evaluate_sparse", NOT_REDUCED, [[0], s([p]), s([1])], [unknown(1)])
     bad("multilinear_evaluate_sparse", NOT_REDUCED, [[0], s([1]), s([p])], [unknown(1)])
 
+    # transforms in parts
+    most = (p - 1 & 1 - p).bit_length() - 1
+    parts = ("fft_columns", "ifft_columns", "fft_rows", "ifft_rows")
+    shape = lambda call, a, b, first=0: [a, b, first][: 3 if "rows" in call else 2]
+
+    def columns(block, a, b, offset):
+        made = columns_made(block, a, b, offset, p, g)
+        good("fft_columns", [s(block), [a, b], s([offset])], [s(made)])
+        good("ifft_columns", [s(made), [a, b], s([offset])], [s(block)])
+        return made
+
+    def some_rows(block, a, b, first, offset):
+        made = rows_made(block, a, b, first, offset, p, g)
+        good("fft_rows", [s(block), [a, b, first], s([offset])], [s(made)])
+        good("ifft_rows", [s(made), [a, b, first], s([offset])], [s(block)])
+        return made
+
+    for a, b, offset in ((0, 0, g), (1, 1, 1), (1, 2, g), (2, 1, p - 1)):
+        if a + b <= most:
+            r, c, items = 1 << a, 1 << b, draw(1 << a + b)
+            made = some_rows(columns(items, a, b, offset), a, b, 0, offset)
+            at = domain(r * c, offset, p, g)
+            assert made == [value(items, at[i + r * j], p) for i in range(r) for j in range(c)]
+    # some columns, more than a row has, and none; the last row, and none behind it; the greatest domain
+    for a, b, k in ((1, 1, 1), (1, 0, 3), (1, 1, 0), (0, most, 2), (1, most - 1, 1), (most, 0, 0)):
+        columns(draw(k << a), a, b, g)
+    last = 2 ** (most - 1) - 1
+    for a, b, first, k in ((1, 1, 1, 1), (1, 1, 2, 0), (most, 0, 2 * last, 2), (most - 1, 1, last, 1), (0, most, 0, 0)):
+        some_rows(draw(k << b), a, b, first, g)
+    for call in parts:
+        bad(call, NO_DOMAIN, [[], shape(call, most + 1, 0), s([1])], [[]])
+        bad(call, NO_DOMAIN, [[], shape(call, 1, 62), s([1])], [[]])
+        bad(call, NO_DOMAIN, [s([1, 2]), shape(call, 1, 1), s([0])], [s([1, 2])])
+        bad(call, LENGTH, [s([1, 2, 3]), shape(call, 1, 1), s([1])], [s([1, 2, 3])])
+        bad(call, LENGTH, [s([1, 2]), shape(call, 1, 1), []], [s([1, 2])])
+        bad(call, LENGTH, [s([1, 2]), shape(call, 1, 1), s([1, 1])], [s([1, 2])])
+        for a, b in ((64, 0), (32, 32), (2**32 - 1, 1)):
+            bad(call, LENGTH, [[], shape(call, a, b), s([1])], [[]])
+        bad(call, NOT_REDUCED, [s([1, p]), shape(call, 1, 1), s([1])], [s([1, p])])
+        bad(call, NOT_REDUCED, [[], shape(call, 1, 1), s([p])], [[]])
+        # (of two reasons the first one)
+        bad(call, LENGTH, [s([1, p, 2]), shape(call, 1, 1), s([p])], [s([1, p, 2])])
+        bad(call, NOT_REDUCED, [s([1, p]), shape(call, 1, 1), s([0])], [s([1, p])])
+        bad(call, NOT_REDUCED, [[], shape(call, most + 1, 0), s([2**(64 * words) - 1])], [[]])
+    for call in parts[2:]:
+        for first, k in ((1, 2), (2, 1), (3, 0), (2**64 - 1, 1), (2**64 - 1, 0)):
+            bad(call, LENGTH, [s([1, 2] * k), [1, 1, first], s([1])], [s([1, 2] * k)])
+
     # lengths that are no multiple of four words
     if words == 4:
         five, four = [1, 0, 0, 0, 1], [1, 0, 0, 0]
         for call in ("fft", "ifft"):
             bad(call, LENGTH, [five, four], [five])
             bad(call, LENGTH, [four, [1]], [four])
+        for call in parts:
+            bad(call, LENGTH, [five, shape(call, 0, 0), four], [five])
+            bad(call, LENGTH, [four, shape(call, 0, 0), [1]], [four])
         bad("multiply", LENGTH, [five, four], [unknown(2)])
         bad("multiply", LENGTH, [four, five], [unknown(2)])
         bad("multiply", LENGTH, [four, four], [[UNKNOWN] * 5])
@@ -318,6 +383,8 @@ for name in (0, 1, 4, 7, 434, 2013265920, 18446744069414584320, 2**64 - 1):
     row("domain_size", name, NO_FIELD, [[1]], [[UNKNOWN]])
     for call in ("fft", "ifft"):
         row(call, name, NO_FIELD, [[1], [1]], [[1]])
+    for call in parts:
+        row(call, name, NO_FIELD, [[1], shape(call, 64, 0), []], [[1]])
     row("multiply", name, NO_FIELD, [[1], [1]], [[UNKNOWN]])
     row("divide", name, NO_FIELD, [[1], [1]], [[UNKNOWN], [UNKNOWN]])
     row("evaluate", name, NO_FIELD, [[1], [1]], [[UNKNOWN]])

@@ -88,6 +88,29 @@ ark_status ark_domain_size(uint64_t field, uint64_t at_least, uint64_t *size);
 ark_status ark_fft(uint64_t field, uint64_t *words, size_t len, const uint64_t *offset, size_t offset_len);
 ark_status ark_ifft(uint64_t field, uint64_t *words, size_t len, const uint64_t *offset, size_t offset_len);
 
+/* Transforms in parts, which threads or machines may do apart. A list of n = 2^(log_rows + log_columns) elements is read as
+ * r = 2^log_rows rows of c = 2^log_columns elements: item (i, j) is its element i * c + j. Let h be the offset, and w that of
+ * the domain of n elements. After all columns and then all rows, item (i, j) is element i + r * j of what ark_fft makes of the
+ * list. All rows of ark_ifft_rows and then all columns of ark_ifft_columns take this back. A call does one block, of any
+ * columns or of rows that follow each other, and takes memory for some three blocks of columns, or two of rows.
+ *
+ * `words` are k columns, as r rows of k elements. Each column is transformed as by ark_fft or ark_ifft with offset h^c.
+ * ARK_LENGTH where the offset isn't one element, log_rows + log_columns is above 63, or the number of elements is no multiple
+ * of r, ARK_NO_DOMAIN where no domain has n elements or the offset is zero. */
+ark_status ark_fft_columns(uint64_t field, uint64_t *words, size_t words_len, uint32_t log_rows, uint32_t log_columns,
+                           const uint64_t *offset, size_t offset_len);
+ark_status ark_ifft_columns(uint64_t field, uint64_t *words, size_t words_len, uint32_t log_rows, uint32_t log_columns,
+                            const uint64_t *offset, size_t offset_len);
+
+/* `words` are whole rows, the first of which is row number `first`. Row i is transformed as by ark_fft or ark_ifft with offset
+ * h * w^i.
+ * ARK_LENGTH where the offset isn't one element, log_rows + log_columns is above 63, the number of elements is no multiple of
+ * c, or first + the number of rows is above r, ARK_NO_DOMAIN where no domain has n elements or the offset is zero. */
+ark_status ark_fft_rows(uint64_t field, uint64_t *words, size_t words_len, uint32_t log_rows, uint32_t log_columns,
+                        uint64_t first, const uint64_t *offset, size_t offset_len);
+ark_status ark_ifft_rows(uint64_t field, uint64_t *words, size_t words_len, uint32_t log_rows, uint32_t log_columns,
+                         uint64_t first, const uint64_t *offset, size_t offset_len);
+
 /* The product of two polynomials: coefficient k is the sum of left[i] * right[j] over i + j = k, and zeros fill what is left.
  * ARK_LENGTH where left and right have more than one element more than product. */
 ark_status ark_multiply(uint64_t field, const uint64_t *left, size_t left_len, const uint64_t *right, size_t right_len,

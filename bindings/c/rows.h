@@ -135,7 +135,7 @@ struct made {
 };
 
 static int is_in_place(const struct row *row) {
-    return !strcmp(row->call, "fft") || !strcmp(row->call, "ifft") || !strcmp(row->call, "code_restore");
+    return strstr(row->call, "fft") != NULL || !strcmp(row->call, "code_restore");
 }
 
 /* Whether the call is over pieces of a file, whose lists are of bytes. */
@@ -183,9 +183,14 @@ static ark_status call(const struct row *row, struct made *it) {
     uint64_t f = row->field;
     struct list a = it->given[0], b = it->given[1], c = it->given[2], x = it->left[0], y = it->left[1];
     const uint8_t *second = it->bytes[1], *third = it->bytes[2];
+    uint32_t log_rows = b.len > 1 ? (uint32_t)b.words[0] : 0, log_columns = b.len > 1 ? (uint32_t)b.words[1] : 0;
     if (!strcmp(name, "domain_size")) return ark_domain_size(f, a.words[0], x.words);
     if (!strcmp(name, "fft")) return ark_fft(f, OF(x), OF(b));
     if (!strcmp(name, "ifft")) return ark_ifft(f, OF(x), OF(b));
+    if (!strcmp(name, "fft_columns")) return ark_fft_columns(f, OF(x), log_rows, log_columns, OF(c));
+    if (!strcmp(name, "ifft_columns")) return ark_ifft_columns(f, OF(x), log_rows, log_columns, OF(c));
+    if (!strcmp(name, "fft_rows")) return ark_fft_rows(f, OF(x), log_rows, log_columns, b.words[2], OF(c));
+    if (!strcmp(name, "ifft_rows")) return ark_ifft_rows(f, OF(x), log_rows, log_columns, b.words[2], OF(c));
     if (!strcmp(name, "multiply")) return ark_multiply(f, OF(a), OF(b), OF(x));
     if (!strcmp(name, "divide")) return ark_divide(f, OF(a), OF(b), OF(x), OF(y));
     if (!strcmp(name, "evaluate")) return ark_evaluate(f, OF(a), OF(b), OF(x));

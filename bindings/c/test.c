@@ -95,6 +95,57 @@ static void test_transform(uint64_t field, size_t n) {
     drop(value);
 }
 
+typedef ark_status columns_call(uint64_t, uint64_t *, size_t, uint32_t, uint32_t, const uint64_t *, size_t);
+typedef ark_status rows_call(uint64_t, uint64_t *, size_t, uint32_t, uint32_t, uint64_t, const uint64_t *, size_t);
+
+/* A list's columns from one to another, through a block of their own. */
+static void do_columns(columns_call *call, uint64_t field, struct list it, const uint32_t *logs, size_t from, size_t to) {
+    size_t words = ark_words(field), r = (size_t)1 << logs[0], row = words << logs[1], width = (to - from) * words;
+    struct list offset = element(field, 3), block = list_of(r * width);
+    uint64_t *first = it.words + from * words;
+    for (size_t i = 0; i < r; i++) memcpy(block.words + i * width, first + i * row, width * sizeof(uint64_t));
+    expect(call(field, OF(block), logs[0], logs[1], OF(offset)) == ARK_OK, "columns", field, r);
+    for (size_t i = 0; i < r; i++) memcpy(first + i * row, block.words + i * width, width * sizeof(uint64_t));
+    drop(offset);
+    drop(block);
+}
+
+/* A list's rows one by one, the last one first. */
+static void do_rows(rows_call *call, uint64_t field, struct list it, const uint32_t *logs) {
+    size_t row = ark_words(field) << logs[1];
+    struct list offset = element(field, 3);
+    for (size_t i = (size_t)1 << logs[0]; i-- > 0;)
+        expect(call(field, it.words + i * row, row, logs[0], logs[1], i, OF(offset)) == ARK_OK, "rows", field, i);
+    drop(offset);
+}
+
+/* A transform in parts, and back, of a list that is read as rows in all ways. */
+static void test_parts(uint64_t field, uint32_t log) {
+    size_t words = ark_words(field), n = (size_t)1 << log;
+    struct list offset = element(field, 3), c = drawn(field, n), v = copy_of(c);
+    expect(ark_fft(field, OF(v), OF(offset)) == ARK_OK, "fft", field, n);
+    for (uint32_t log_rows = 0; log_rows <= log; log_rows++) {
+        const uint32_t logs[2] = {log_rows, log - log_rows};
+        size_t columns = (size_t)1 << logs[1];
+        struct list it = copy_of(c);
+        do_columns(ark_fft_columns, field, it, logs, columns / 3, columns);
+        do_columns(ark_fft_columns, field, it, logs, 0, columns / 3);
+        do_rows(ark_fft_rows, field, it, logs);
+        for (size_t i = 0; i < n; i++) {
+            const uint64_t *place = v.words + (i / columns + (i % columns << log_rows)) * words;
+            expect(!memcmp(it.words + i * words, place, words * sizeof(uint64_t)), "the whole of parts", field, i);
+        }
+        do_rows(ark_ifft_rows, field, it, logs);
+        do_columns(ark_ifft_columns, field, it, logs, columns / 3, columns);
+        do_columns(ark_ifft_columns, field, it, logs, 0, columns / 3);
+        expect(same(it, c), "parts taken back", field, n);
+        drop(it);
+    }
+    drop(offset);
+    drop(c);
+    drop(v);
+}
+
 /* The value of a product is the product of the values, and the product over one factor the other. */
 static void test_product(uint64_t field, size_t n) {
     size_t words = ark_words(field);
@@ -216,7 +267,11 @@ int main(int count, char **words) {
     expect(ark_evaluate(f, NULL, 0, &point, 1, &value, 1) == ARK_OK && value == 0, "no coefficients", f, 0);
     expect(ark_evaluate(f, &point, 1, NULL, 0, NULL, 0) == ARK_OK, "no points", f, 0);
     expect(ark_fft(f, NULL, 0, &point, 1) == ARK_NO_DOMAIN, "no items", f, 0);
+    expect(ark_fft_columns(f, NULL, 0, 1, 1, &point, 1) == ARK_OK, "no columns", f, 0);
+    expect(ark_ifft_rows(f, NULL, 0, 1, 1, 2, &point, 1) == ARK_OK, "no rows", f, 0);
     test_rows(words[1]);
+    for (size_t i = 0; i < FIELDS; i++)
+        for (uint32_t log = 0; (size_t)1 << log <= greatest(fields[i]); log++) test_parts(fields[i], log);
     for (size_t i = 0; i < FIELDS; i++)
         for (size_t n = 1; n <= greatest(fields[i]); n *= 2) {
             test_transform(fields[i], n);

@@ -1,7 +1,7 @@
 //! Sums and products of single elements: numbers of `N` words, the low one first, below a modulus of at most `64 * N - 1`
 //! bits, or of one word.
 
-/// A modulus, with what products of four words take.
+/// A modulus, with what products of numbers above 2^32 take.
 pub struct Modulus<const N: usize> {
     pub words: [u64; N],
     /// Minus the inverse of the lowest word modulo 2^64.
@@ -76,13 +76,9 @@ impl<const N: usize> Modulus<N> {
     }
 
     pub const fn times(&self, a: [u64; N], b: [u64; N]) -> [u64; N] {
-        if N == 1 {
+        if N == 1 && self.words[0] >> 32 == 0 {
             let mut product = [0; N];
-            product[0] = if self.words[0] >> 32 == 0 {
-                a[0] * b[0] % self.words[0]
-            } else {
-                (a[0] as u128 * b[0] as u128 % self.words[0] as u128) as u64
-            };
+            product[0] = a[0] * b[0] % self.words[0];
             return product;
         }
         self.montgomery(self.montgomery(a, b), self.square)

@@ -94,6 +94,43 @@ mod sys {
         };
     }
 
+    // Of blocks of columns, and of rows.
+    macro_rules! of_columns {
+        ($($name:ident)*) => {
+            extern "C" {
+                $(pub fn $name(
+                    field: u64,
+                    words: *mut u64,
+                    words_len: usize,
+                    log_rows: u32,
+                    log_columns: u32,
+                    offset: *const u64,
+                    offset_len: usize,
+                ) -> u32;)*
+            }
+        };
+    }
+
+    macro_rules! of_rows {
+        ($($name:ident)*) => {
+            extern "C" {
+                $(pub fn $name(
+                    field: u64,
+                    words: *mut u64,
+                    words_len: usize,
+                    log_rows: u32,
+                    log_columns: u32,
+                    first: u64,
+                    offset: *const u64,
+                    offset_len: usize,
+                ) -> u32;)*
+            }
+        };
+    }
+
+    of_columns! { ark_fft_columns ark_ifft_columns }
+    of_rows! { ark_fft_rows ark_ifft_rows }
+
     of_two! {
         ark_multiply ark_evaluate ark_interpolate ark_lagrange ark_multilinear_evaluate ark_multilinear_fix
     }
@@ -156,6 +193,39 @@ pub fn fft(field: u64, words: &mut [u64], offset: &[u64]) -> Result<(), Refusal>
 pub fn ifft(field: u64, words: &mut [u64], offset: &[u64]) -> Result<(), Refusal> {
     // SAFETY: as above.
     outcome(unsafe { sys::ark_ifft(field, words.as_mut_ptr(), words.len(), offset.as_ptr(), offset.len()) })
+}
+
+/// Logarithms of the numbers of rows and of columns in which a list is read.
+pub type Shape = [u32; 2];
+
+macro_rules! of_columns {
+    ($($name:ident = $call:ident)*) => {
+        $(pub fn $name(field: u64, words: &mut [u64], shape: Shape, offset: &[u64]) -> Result<(), Refusal> {
+            let (place, len, [log_rows, log_columns]) = (words.as_mut_ptr(), words.len(), shape);
+            // SAFETY: as above.
+            outcome(unsafe { sys::$call(field, place, len, log_rows, log_columns, offset.as_ptr(), offset.len()) })
+        })*
+    };
+}
+
+macro_rules! of_rows {
+    ($($name:ident = $call:ident)*) => {
+        $(pub fn $name(field: u64, words: &mut [u64], shape: Shape, first: u64, offset: &[u64]) -> Result<(), Refusal> {
+            let (place, len, [log_rows, log_columns]) = (words.as_mut_ptr(), words.len(), shape);
+            // SAFETY: as above.
+            outcome(unsafe { sys::$call(field, place, len, log_rows, log_columns, first, offset.as_ptr(), offset.len()) })
+        })*
+    };
+}
+
+of_columns! {
+    fft_columns = ark_fft_columns
+    ifft_columns = ark_ifft_columns
+}
+
+of_rows! {
+    fft_rows = ark_fft_rows
+    ifft_rows = ark_ifft_rows
 }
 
 macro_rules! of_two {

@@ -88,9 +88,13 @@ impl<F: FftField> Code<F> {
         }
         let mut codeword = vec![F::ZERO; self.n];
         if !message.is_empty() {
-            outcome(calls::code_encode(F::NAME, words(message), words_mut(&mut codeword)))?;
+            self.encode_into(message, &mut codeword)?;
         }
         Ok(codeword)
+    }
+
+    pub(crate) fn encode_into(&self, message: &[F], codeword: &mut [F]) -> Result<(), RsError> {
+        outcome(calls::code_encode(F::NAME, words(message), words_mut(codeword)))
     }
 
     /// The only codeword that begins with the message: the same code in systematic form. `WrongLength` for more or fewer than `k`
@@ -130,12 +134,16 @@ impl<F: FftField> Code<F> {
         self.fits(many, erased)?;
         let mut messages = vec![F::ZERO; many.len() / self.n * self.k];
         if !many.is_empty() {
-            outcome(calls::code_message(F::NAME, words(many), erased, words_mut(&mut messages)))?;
+            self.messages_into(many, erased, &mut messages)?;
         }
         Ok(messages)
     }
 
-    fn fits(&self, many: &[F], erased: &[bool]) -> Result<(), RsError> {
+    pub(crate) fn messages_into(&self, many: &[F], erased: &[bool], messages: &mut [F]) -> Result<(), RsError> {
+        outcome(calls::code_message(F::NAME, words(many), erased, words_mut(messages)))
+    }
+
+    pub(crate) fn fits(&self, many: &[F], erased: &[bool]) -> Result<(), RsError> {
         if erased.len() != self.n || many.len() % self.n != 0 {
             return Err(RsError::WrongLength);
         }

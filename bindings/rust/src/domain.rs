@@ -110,7 +110,7 @@ fn first<F: FftField>(list: &[F], n: usize) -> Vec<F> {
 }
 
 // A domain has a size of the field, and no offset 0.
-fn expect_domain(outcome: Result<(), Refusal>) {
+pub(crate) fn expect_domain(outcome: Result<(), Refusal>) {
     outcome.expect("a domain of the library's");
 }
 

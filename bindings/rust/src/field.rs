@@ -8,6 +8,7 @@ use std::fmt::{self, Debug, Display};
 use std::hash::Hash;
 use std::iter::{Product, Sum};
 use std::ops::{Add, AddAssign, Div, DivAssign, Mul, MulAssign, Neg, Sub, SubAssign};
+use std::ptr;
 use std::str::FromStr;
 
 mod sealed {
@@ -33,6 +34,15 @@ pub(crate) fn words<F: Element>(elements: &[F]) -> &[u64] {
 pub(crate) fn words_mut<F: Element>(elements: &mut [F]) -> &mut [u64] {
     // SAFETY: as above.
     unsafe { std::slice::from_raw_parts_mut(elements.as_mut_ptr().cast(), elements.len() * F::WORDS) }
+}
+
+/// So many zeros. The memory comes as zeros, so that nothing is written: its pages are made where they are first used, by each
+/// thread its own.
+pub(crate) fn zeros<F: Element>(n: usize) -> Vec<F> {
+    let words = Box::into_raw(vec![0u64; n * F::WORDS].into_boxed_slice());
+    // SAFETY: an element is `WORDS` words, so that the block is as large and as aligned as one of `n` elements, and 0 is below
+    // every modulus.
+    unsafe { Box::from_raw(ptr::slice_from_raw_parts_mut(words.cast::<F>(), n)) }.into_vec()
 }
 
 /// A prime field. Its elements are numbers below the prime.

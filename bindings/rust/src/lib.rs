@@ -16,7 +16,13 @@
 //! The calls of the library: transforms and their inverses, Lagrange's weights, products, quotients, values and interpolation
 //! of polynomials, values and bound variables of multilinear extensions, all of codes and of pieces, and the inverse of an
 //! element. Each takes a list of elements where it stands, without a copy. Not proved is what this crate adds: sums, products and powers of
-//! single elements, sums of lists, and that the lists of the library are these types; tests compare them with the library.
+//! single elements, sums of lists, how threads share a list, and that the lists of the library are these types; tests compare them
+//! with the library.
+//!
+//! # Threads
+//!
+//! Calls may be made from any number of threads, and each is done by the thread that makes it. [`parallel`] shares one among several:
+//! a long transform in parts, which are blocks of columns and of rows of its list, a product of polynomials, and many words of a code.
 //!
 //! # What differs from ark-poly
 //!
@@ -24,7 +30,7 @@
 //! - There is no generic module over the field, no sparse form but that of multilinear polynomials, which has their values
 //!   alone, and no other polynomial in several variables.
 //! - Where memory is refused the program ends as it does where a `Vec` can't grow.
-//! - [`Code`] and [`pieces`] are beyond ark-poly.
+//! - [`Code`], [`pieces`] and [`parallel`] are beyond ark-poly.
 
 #![warn(missing_docs)]
 #![deny(unsafe_op_in_unsafe_fn)]
@@ -36,6 +42,7 @@ mod domain;
 mod evaluations;
 mod field;
 mod multilinear;
+pub mod parallel;
 pub mod pieces;
 mod polynomial;
 #[cfg(test)]

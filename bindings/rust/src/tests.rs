@@ -61,12 +61,23 @@ fn answer(row: &Row) -> (u32, Vec<Vec<u64>>) {
     let mut left: Vec<Vec<u64>> = row.left.iter().map(|list| vec![OLD; list.len()]).collect();
     let erased = |i: usize| given[i].iter().map(|mark| *mark != 0).collect::<Vec<bool>>();
     let bytes = |i: usize| given[i].iter().map(|byte| *byte as u8).collect::<Vec<u8>>();
+    let shape = |numbers: &[u64]| [numbers[0] as u32, numbers[1] as u32];
     let outcome = match row.call.as_str() {
         "domain_size" => calls::domain_size(field, given[0][0]).map(|size| left[0][0] = size),
         "fft" | "ifft" => {
             left[0] = given[0].clone();
             let call = if row.call == "fft" { calls::fft } else { calls::ifft };
             call(field, &mut left[0], &given[1])
+        }
+        "fft_columns" | "ifft_columns" => {
+            left[0] = given[0].clone();
+            let call = if row.call == "fft_columns" { calls::fft_columns } else { calls::ifft_columns };
+            call(field, &mut left[0], shape(&given[1]), &given[2])
+        }
+        "fft_rows" | "ifft_rows" => {
+            left[0] = given[0].clone();
+            let call = if row.call == "fft_rows" { calls::fft_rows } else { calls::ifft_rows };
+            call(field, &mut left[0], shape(&given[1]), given[1][2], &given[2])
         }
         "divide" => {
             let (quotient, remainder) = left.split_at_mut(1);
@@ -226,11 +237,15 @@ over_fields! {
     extensions
     sparse_extensions
     codes
+    parts
+    long_lists_in_parts
+    many_words
 }
 
 mod generic {
     use super::*;
     use crate::field::{words, words_mut};
+    use crate::parallel::{self, Parts};
 
     /// The library's sum, product and difference: values of linear polynomials.
     fn linear<F: Field>(c: F, b: F, x: F) -> F {
@@ -441,5 +456,99 @@ mod generic {
         assert_eq!(Code::<F>::new(0, 4), None);
         assert_eq!(Code::<F>::new(5, 4), None);
         assert_eq!(Code::<F>::new(1, usize::MAX), None);
+    }
+
+    /// Lists of any shape, in blocks of one of their longer columns or rows, of some, and of all.
+    pub fn parts<F: FftField>() {
+        for log in 0..=12 {
+            let size = 1 << log;
+            let items = drawn::<F>(size);
+            for (i, threads) in [1, 2, 3, 4, 7].into_iter().enumerate() {
+                let offset = [F::ONE, F::GENERATOR][i % 2];
+                let values = Radix2EvaluationDomain::new_coset(size, offset).unwrap().fft(&items);
+                for log_rows in [0, log / 3, (log + 1) / 2, log] {
+                    let shape = [log_rows, log - log_rows];
+                    let block = F::WORDS * 8 * [1, 3, size][(i + log_rows as usize) % 3] << shape[0].max(shape[1]);
+                    let parts = Parts { shape, threads, block };
+                    let mut list = items.clone();
+                    parts.fft(&mut list, offset).unwrap();
+                    assert_eq!(list, values, "{parts:?}");
+                    parts.ifft(&mut list, offset).unwrap();
+                    assert_eq!(list, items, "{parts:?}");
+                }
+            }
+            for threads in [2, 7] {
+                let parts = Parts { shape: [log / 2, log - log / 2], threads, block: 1 << 10 };
+                let (left, right) = (&items[..(size + 1) / 2], &items[size / 2..]);
+                let mut product = vec![F::ZERO; size];
+                calls::multiply(F::NAME, words(left), words(right), words_mut(&mut product)).unwrap();
+                assert_eq!(parts.product(left, right).unwrap(), product, "{parts:?}");
+                // of fewer items and more
+                let domain = Radix2EvaluationDomain::<F>::new(size).unwrap();
+                let mut list = left.to_vec();
+                parts.fft(&mut list, F::ONE).unwrap();
+                assert_eq!(list, domain.fft(left), "{parts:?}");
+                list.truncate(size / 2);
+                let coeffs = domain.ifft(&list);
+                parts.ifft(&mut list, F::ONE).unwrap();
+                assert_eq!(list, coeffs, "{parts:?}");
+                list.push(F::ONE);
+                parts.fft(&mut list, F::ONE).unwrap();
+                assert_eq!(list, domain.fft(&coeffs), "{parts:?}");
+            }
+        }
+    }
+
+    pub fn long_lists_in_parts<F: FftField>() {
+        let coset = GeneralEvaluationDomain::<F>::new_coset(1 << 16, F::GENERATOR).unwrap();
+        let items = drawn::<F>(1 << 16);
+        let values = coset.fft(&items);
+        for threads in [0, 1, 3] {
+            let mut list = items.clone();
+            parallel::fft_in_place(coset, &mut list, threads);
+            assert_eq!(list, values);
+            parallel::ifft_in_place(coset, &mut list, threads);
+            assert_eq!(list, items);
+        }
+        let (left, right) = items.split_at(1 << 15);
+        let [left, right] = [left, right].map(DensePolynomial::from_coefficients_slice);
+        assert_eq!(parallel::mul(&left, &right, 2), &left * &right);
+        let zero = DensePolynomial::zero();
+        assert_eq!(parallel::mul(&left, &zero, 2), zero);
+        assert_eq!(parallel::mul(&zero, &zero, 2), zero);
+    }
+
+    pub fn many_words<F: FftField>() {
+        let code = Code::<F>::new(5, 12).unwrap();
+        let erased: Vec<bool> = (0..16).map(|i| i % 3 != 1).collect();
+        for (count, threads) in [(0, 2), (1, 2), (5000, 1), (5000, 2), (5000, 7)] {
+            let messages = drawn::<F>(5 * count);
+            let codewords: Vec<F> = messages.chunks(5).flat_map(|message| code.encode(message).unwrap()).collect();
+            assert_eq!(parallel::encode(&code, &messages, threads).unwrap(), codewords);
+            let mut holed = codewords.clone();
+            holed.iter_mut().enumerate().filter(|(i, _)| erased[i % 16]).for_each(|(_, item)| *item = F::ONE);
+            assert_eq!(parallel::messages(&code, &holed, &erased, threads).unwrap(), messages);
+            let before = holed.clone();
+            parallel::restore_in_place(&code, &mut holed, &erased, threads).unwrap();
+            assert_eq!(holed, codewords);
+            holed.copy_from_slice(&before);
+            let none = [true; 16];
+            if count > 0 {
+                assert_eq!(parallel::messages(&code, &holed, &none, threads), Err(RsError::TooManyErased));
+                // one of the last word's places is wrong, and nothing is changed
+                let mut left = [false; 16];
+                left[..10].copy_from_slice(&erased[..10]);
+                let mut wrong = holed.clone();
+                wrong[16 * count - 1] += F::ONE;
+                let before = wrong.clone();
+                let outcome = parallel::restore_in_place(&code, &mut wrong, &left, threads);
+                assert_eq!(outcome, Err(RsError::NoCodeword));
+                assert_eq!(wrong, before);
+                assert_eq!(parallel::messages(&code, &wrong, &left, threads), Err(RsError::NoCodeword));
+                assert_eq!(parallel::encode(&code, &messages[1..], threads), Err(RsError::WrongLength));
+            }
+            assert_eq!(parallel::restore_in_place(&code, &mut holed, &erased[1..], threads), Err(RsError::WrongLength));
+            assert_eq!(parallel::messages(&code, &drawn::<F>(17), &erased, threads), Err(RsError::WrongLength));
+        }
     }
 }
