@@ -18,6 +18,10 @@ try:
     import numpy
 except ImportError:
     numpy = None
+try:
+    import dask.array
+except ImportError:
+    dask = None
 
 HERE = os.path.dirname(os.path.abspath(__file__))
 ANSWERS = os.path.join(HERE, "..", "..", "answers.txt")
@@ -47,6 +51,10 @@ OF_PIECES = ("piece_size", "split", "file_size", "join")
 def numbers(field, words):
     width = ark_poly.words(field)
     return [sum(word << 64 * j for j, word in enumerate(words[i : i + width])) for i in range(0, len(words), width)]
+
+
+def spelled(field, items):
+    return [item >> 64 * j & 2**64 - 1 for item in items for j in range(ark_poly.words(field))]
 
 
 def raw_pieces(call, given, left):
@@ -89,7 +97,9 @@ def answer(call, field, given, left, kind):
     """What the package answers to a row, where elements are of a kind."""
     width = ark_poly.words(field)
     function = getattr(ark_poly, call)
-    of_elements = given[:1] if call.startswith("code_") or call in OF_PARTS else given[1:] if call == "multilinear_evaluate_sparse" else given
+    of_elements = given[1:] if call == "multilinear_evaluate_sparse" else given
+    if call.startswith("code_") or call in OF_PARTS:
+        of_elements = given[:1]
     lists = [kind(field, words) for words in of_elements]
     if call in OF_PARTS:
         return [function(field, lists[0], *given[1], numbers(field, given[2])[0])]
@@ -273,16 +283,15 @@ class Parts(unittest.TestCase):
         self.check_parts(lambda field, items: items, lambda field, block: block)
 
     def test_array(self):
-        spelled = lambda field, items: array.array("Q", (item >> 64 * j & 2**64 - 1 for item in items for j in range(ark_poly.words(field))))
-        self.check_parts(spelled, lambda field, block: numbers(field, block.tolist()))
+        as_array = lambda field, items: array.array("Q", spelled(field, items))
+        self.check_parts(as_array, lambda field, block: numbers(field, block.tolist()))
 
     @unittest.skipIf(numpy is None, "no numpy")
     def test_numpy(self):
-        def spelled(field, items):
-            width = ark_poly.words(field)
-            return numpy.array([item >> 64 * j & 2**64 - 1 for item in items for j in range(width)], dtype=numpy.uint64).reshape(-1, width)
+        def as_rows(field, items):
+            return numpy.array(spelled(field, items), dtype=numpy.uint64).reshape(-1, ark_poly.words(field))
 
-        self.check_parts(spelled, lambda field, block: numbers(field, block.ravel().tolist()))
+        self.check_parts(as_rows, lambda field, block: numbers(field, block.ravel().tolist()))
 
     def test_refusals(self):
         f = ark_poly.BABYBEAR
@@ -298,9 +307,9 @@ class Parts(unittest.TestCase):
             (ark_poly.NoDomain, (f, [], 27, 1)),
             (ark_poly.NoDomain, (f, [1], 0, 0, 0)),
         ):
-            for call in (ark_poly.fft_columns, ark_poly.ifft_columns, ark_poly.fft_columns_in_place, ark_poly.ifft_columns_in_place):
-                with self.subTest(given=of_columns), self.assertRaises(error):
-                    call(*of_columns)
+            for call in ("fft_columns", "ifft_columns", "fft_columns_in_place", "ifft_columns_in_place"):
+                with self.subTest(call=call, given=of_columns), self.assertRaises(error):
+                    getattr(ark_poly, call)(*of_columns)
         for error, of_rows in (
             (ark_poly.NoField, (7, [1], 0, 64, -1)),
             (ark_poly.WrongLength, (f, [1, 2, 3], 1, 1, 0)),
@@ -313,9 +322,9 @@ class Parts(unittest.TestCase):
             (ark_poly.NoDomain, (f, [], 27, 1, 0)),
             (ark_poly.NoDomain, (f, [1], 0, 0, 0, 0)),
         ):
-            for call in (ark_poly.fft_rows, ark_poly.ifft_rows, ark_poly.fft_rows_in_place, ark_poly.ifft_rows_in_place):
-                with self.subTest(given=of_rows), self.assertRaises(error):
-                    call(*of_rows)
+            for call in ("fft_rows", "ifft_rows", "fft_rows_in_place", "ifft_rows_in_place"):
+                with self.subTest(call=call, given=of_rows), self.assertRaises(error):
+                    getattr(ark_poly, call)(*of_rows)
 
 
 class Threads(unittest.TestCase):
@@ -331,10 +340,9 @@ class Threads(unittest.TestCase):
             self.skipTest("no numpy")
         self.rng = random.Random(5)
 
-    def spelled(self, field, count):
-        p, width = ark_poly.modulus(field), ark_poly.words(field)
-        words = array.array("Q", b"".join(self.rng.randrange(p).to_bytes(8 * width, "little") for _ in range(count)))
-        return numpy.array(words).reshape(-1, width)
+    def drawn(self, field, count):
+        words = spelled(field, [self.rng.randrange(ark_poly.modulus(field)) for _ in range(count)])
+        return numpy.array(words, dtype=numpy.uint64).reshape(-1, ark_poly.words(field))
 
     def check(self, found, wanted):
         self.assertIs(type(found), type(wanted))
@@ -352,7 +360,7 @@ class Threads(unittest.TestCase):
                 for field in FIELDS[2:]:
                     for threads in (0, 1, 3):
                         for count in (1 << 16 if field == ark_poly.KOALABEAR else 1 << 9, 1 << 4, 2):
-                            values = self.spelled(field, count)
+                            values = self.drawn(field, count)
                             made = ark_poly.fft(field, values, 3)
                             self.check(parallel.fft(field, values, 3, threads), made)
                             self.check(parallel.ifft(field, made, 3, threads), values)
@@ -373,7 +381,7 @@ class Threads(unittest.TestCase):
         from ark_poly import parallel
 
         for field in FIELDS[2:]:
-            messages = self.spelled(field, 3 * 50)
+            messages = self.drawn(field, 3 * 50)
             words = numpy.concatenate([ark_poly.code_encode(field, messages[i : i + 3], 8) for i in range(0, len(messages), 3)])
             self.check(parallel.code_encode(field, messages[:3], 8), words[:8])
             erased = [0, 1, 1, 0, 1, 0, 0, 1]
@@ -411,6 +419,84 @@ class Threads(unittest.TestCase):
             (ark_poly.WrongLength, lambda: parallel.code_message(f, words, 0, [0] * 4)),
             (ark_poly.NoCodeword, lambda: parallel.code_restore(f, words, 1, [0] * 4)),
             (ark_poly.TooFew, lambda: parallel.code_message(f, words, 2, [1, 1, 1, 0])),
+        ):
+            with self.subTest(error=error), self.assertRaises(error):
+                call()
+
+
+@unittest.skipIf(numpy is None or dask is None, "no numpy or no dask")
+class Chunks(unittest.TestCase):
+    """The calls of `ark_poly.dask`, on one thread; `cluster.py` has them on processes."""
+
+    def setUp(self):
+        self.rng = random.Random(6)
+        scheduler = dask.config.set(scheduler="synchronous")
+        scheduler.__enter__()
+        self.addCleanup(scheduler.__exit__, None, None, None)
+
+    def drawn(self, field, count):
+        words = spelled(field, [self.rng.randrange(ark_poly.modulus(field)) for _ in range(count)])
+        array_ = numpy.array(words, dtype=numpy.uint64)
+        return array_ if ark_poly.words(field) == 1 else array_.reshape(-1, 4)
+
+    def chunked(self, items, size):
+        return dask.array.from_array(items, chunks=(size, *items.shape[1:]))
+
+    def check(self, found, wanted):
+        self.assertEqual((found.shape, found.dtype), (wanted.shape, wanted.dtype))
+        computed = found.compute()
+        self.assertEqual((computed.shape, computed.dtype), (wanted.shape, wanted.dtype))
+        self.assertTrue(numpy.array_equal(computed, wanted))
+
+    def test_transforms_and_products(self):
+        from ark_poly import dask as ark_dask
+
+        for field, count, size in (
+            (ark_poly.F5, 4, 2),
+            (ark_poly.F65537, 128, 16),
+            (ark_poly.GOLDILOCKS, 64, 10),
+            (ark_poly.GOLDILOCKS, 2, 1),
+            (ark_poly.BLS12_381_FR, 128, 16),
+            (ark_poly.BN254_FR, 32, 32),
+            (ark_poly.BN254_FR, 1, 1),
+        ):
+            items = self.drawn(field, count)
+            values = ark_poly.fft(field, items, 3)
+            self.check(ark_dask.fft(self.chunked(items, size), field, 3), values)
+            self.check(ark_dask.ifft(self.chunked(values, size), field, 3), items)
+            if field != ark_poly.F5:
+                other = self.drawn(field, count // 3 + 1)
+                found = ark_dask.multiply(self.chunked(items, size), self.chunked(other, 3), field)
+                self.check(found, ark_poly.multiply(field, items, other))
+
+    def test_restore(self):
+        from ark_poly import dask as ark_dask
+
+        for field in (ark_poly.BABYBEAR, ark_poly.BN254_FR):
+            words = numpy.concatenate([ark_poly.code_encode(field, self.drawn(field, 3), 8) for _ in range(10)])
+            erased = [1, 0, 1, 1, 0, 0, 1, 1]
+            holed = words.copy()
+            holed.reshape(10, 8, -1)[:, [0, 2, 3, 6, 7]] = 1
+            self.check(ark_dask.restore(self.chunked(holed, 19), field, 3, erased), words)
+
+    def test_refusals(self):
+        from ark_poly import dask as ark_dask
+
+        f, ones = ark_poly.F65537, numpy.ones(64, dtype=numpy.uint64)
+        list_, word = self.chunked(ones, 8), self.chunked(numpy.arange(4, dtype=numpy.uint64), 4)
+        for error, call in (
+            (ark_poly.NoField, lambda: ark_dask.fft(list_, 7)),
+            (TypeError, lambda: ark_dask.fft(list_.astype(int), f)),
+            (ark_poly.WrongLength, lambda: ark_dask.fft(list_, ark_poly.BN254_FR)),
+            (ark_poly.NoDomain, lambda: ark_dask.fft(list_, ark_poly.F5)),
+            (ark_poly.NoDomain, lambda: ark_dask.fft(list_[:63], f)),
+            (ark_poly.NoDomain, lambda: ark_dask.ifft(list_, f, 0)),
+            (ark_poly.NoDomain, lambda: ark_dask.multiply(list_, list_, ark_poly.F433)),
+            (ark_poly.WrongLength, lambda: ark_dask.multiply(list_, list_[:0], f)),
+            (ark_poly.WrongLength, lambda: ark_dask.restore(list_, f, 2, [0] * 48)),
+            (ark_poly.NotReduced, lambda: ark_dask.fft(list_ * f, f).compute()),
+            (ark_poly.NotReduced, lambda: ark_dask.fft(list_, f, f).compute()),
+            (ark_poly.NoCodeword, lambda: ark_dask.restore(word, f, 1, [0] * 4).compute()),
         ):
             with self.subTest(error=error), self.assertRaises(error):
                 call()
