@@ -14,7 +14,8 @@ four words, as `BN254_FR`, is four of them, the low one first; an array of numpy
 flat.
 
 The functions that end in `_in_place` write over such words, or over a `list`. Where a call raises, nothing was written. While a
-call runs, other threads do too, and none may write over what the call was given.
+call runs, other threads do too, and none may write over what the call was given. `ark_poly.parallel` makes the long calls on
+many threads, `ark_poly.dask` on many machines.
 """
 from __future__ import annotations
 
@@ -48,8 +49,10 @@ __all__ = [
     "ArkError", "Damaged", "EqualPoints", "NoCodeword", "NoDomain", "NoField", "NotPieces", "NotReduced", "OutOfMemory",
     "TooFew", "WrongLength", "ZeroDivisor",
     "code_encode", "code_encode_systematic", "code_message", "code_restore", "code_restore_in_place", "divide", "domain_size",
-    "evaluate", "fft", "fft_in_place", "ifft", "ifft_in_place", "interpolate", "join", "lagrange", "library_version", "modulus",
-    "multilinear_evaluate", "multilinear_evaluate_sparse", "multilinear_fix", "multiply", "split", "words",
+    "evaluate", "fft", "fft_columns", "fft_columns_in_place", "fft_in_place", "fft_rows", "fft_rows_in_place", "ifft",
+    "ifft_columns", "ifft_columns_in_place", "ifft_in_place", "ifft_rows", "ifft_rows_in_place", "interpolate", "join",
+    "lagrange", "library_version", "modulus", "multilinear_evaluate", "multilinear_evaluate_sparse", "multilinear_fix",
+    "multiply", "split", "words",
 ]  # fmt: skip
 
 F5 = 5
@@ -117,29 +120,98 @@ def ifft(field: int, values: Elements, offset: int = 1) -> Any:
 
 def fft_in_place(field: int, words: Any, offset: int = 1) -> None:
     """`fft` over writable words of 64 bits in one piece, or a `list`."""
-    if isinstance(words, list):
-        words[:] = fft(field, words, offset)
-    else:
-        _transform(_calls.ark_fft, field, _Words.written(field, words), offset)
+    _write(_calls.ark_fft, field, words, offset)
 
 
 def ifft_in_place(field: int, words: Any, offset: int = 1) -> None:
     """`ifft` over writable words of 64 bits in one piece, or a `list`."""
+    _write(_calls.ark_ifft, field, words, offset)
+
+
+def _write(call: Callable[..., int], field: int, words: Any, offset: int, *place: int) -> None:
     if isinstance(words, list):
-        words[:] = ifft(field, words, offset)
+        words[:] = _transformed(call, field, words, offset, *place)
     else:
-        _transform(_calls.ark_ifft, field, _Words.written(field, words), offset)
+        _transform(call, field, _Words.written(field, words), offset, *place)
 
 
-def _transformed(call: Callable[..., int], field: int, values: Elements, offset: int) -> Any:
+def _transformed(call: Callable[..., int], field: int, values: Elements, offset: int, *place: int) -> Any:
     copy = _Words.given(field, values).copy()
-    _transform(call, field, copy, offset)
+    _transform(call, field, copy, offset, *place)
     return copy.answer()
 
 
-def _transform(call: Callable[..., int], field: int, words: _Words, offset: int) -> None:
+def _transform(call: Callable[..., int], field: int, words: _Words, offset: int, *place: int) -> None:
     at = _Words.given(field, [offset])
-    _check(call(field, *words.pair, *at.pair))
+    _check(call(field, *words.pair, *place, *at.pair))
+
+
+# ---- transforms in parts
+
+
+def fft_columns(field: int, block: Elements, log_rows: int, log_columns: int, offset: int = 1) -> Any:
+    """The first half of `fft` with this offset, on some columns of a list of r = 2**log_rows rows of c = 2**log_columns elements:
+    item (i, j) is its number i * c + j. The block is r rows of any number of elements, in each of the columns that are taken one.
+
+    When all columns are done, and then by `fft_rows` all rows, item (i, j) is number i + r * j of the transform.
+
+    >>> fft(F65537, [1, 2, 3, 4])
+    [10, 510, 65535, 65023]
+    >>> columns = [fft_columns(F65537, column, 1, 1) for column in ([1, 3], [2, 4])]
+    >>> [fft_rows(F65537, row, 1, 1, i) for i, row in enumerate(zip(*columns))]
+    [[10, 65535], [510, 65023]]
+
+    It raises `WrongLength` where the block isn't r rows or log_rows + log_columns is above 63, and `NoDomain` where the field has
+    no domain of r * c elements or the offset is zero.
+    """
+    return _transformed(_calls.ark_fft_columns, field, block, offset, *_logs(field, log_rows, log_columns))
+
+
+def fft_rows(field: int, block: Elements, log_rows: int, log_columns: int, first: int, offset: int = 1) -> Any:
+    """The second half of `fft`, on some whole rows of such a list, of which the first is row number `first`.
+
+    It raises `WrongLength` where the block isn't whole rows, they go beyond row r - 1 or log_rows + log_columns is above 63, and
+    `NoDomain` where the field has no domain of r * c elements or the offset is zero.
+    """
+    return _transformed(_calls.ark_fft_rows, field, block, offset, *_logs(field, log_rows, log_columns), _count(first))
+
+
+def ifft_rows(field: int, block: Elements, log_rows: int, log_columns: int, first: int, offset: int = 1) -> Any:
+    """The rows that `fft_rows` takes to these: the first half of `ifft`."""
+    return _transformed(_calls.ark_ifft_rows, field, block, offset, *_logs(field, log_rows, log_columns), _count(first))
+
+
+def ifft_columns(field: int, block: Elements, log_rows: int, log_columns: int, offset: int = 1) -> Any:
+    """The columns that `fft_columns` takes to these: the second half of `ifft`."""
+    return _transformed(_calls.ark_ifft_columns, field, block, offset, *_logs(field, log_rows, log_columns))
+
+
+def fft_columns_in_place(field: int, words: Any, log_rows: int, log_columns: int, offset: int = 1) -> None:
+    """`fft_columns` over writable words of 64 bits in one piece, or a `list`."""
+    _write(_calls.ark_fft_columns, field, words, offset, *_logs(field, log_rows, log_columns))
+
+
+def fft_rows_in_place(field: int, words: Any, log_rows: int, log_columns: int, first: int, offset: int = 1) -> None:
+    """`fft_rows` over writable words of 64 bits in one piece, or a `list`."""
+    _write(_calls.ark_fft_rows, field, words, offset, *_logs(field, log_rows, log_columns), _count(first))
+
+
+def ifft_rows_in_place(field: int, words: Any, log_rows: int, log_columns: int, first: int, offset: int = 1) -> None:
+    """`ifft_rows` over writable words of 64 bits in one piece, or a `list`."""
+    _write(_calls.ark_ifft_rows, field, words, offset, *_logs(field, log_rows, log_columns), _count(first))
+
+
+def ifft_columns_in_place(field: int, words: Any, log_rows: int, log_columns: int, offset: int = 1) -> None:
+    """`ifft_columns` over writable words of 64 bits in one piece, or a `list`."""
+    _write(_calls.ark_ifft_columns, field, words, offset, *_logs(field, log_rows, log_columns))
+
+
+def _logs(field: int, log_rows: int, log_columns: int) -> Tuple[int, int]:
+    words(field)
+    logs = operator.index(log_rows), operator.index(log_columns)
+    if min(logs) < 0 or sum(logs) >= 64:
+        raise WrongLength(WrongLength.__doc__)
+    return logs
 
 
 # ---- polynomials

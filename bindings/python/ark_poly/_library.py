@@ -111,12 +111,17 @@ def _load() -> ctypes.CDLL:
         raise ImportError(f"no library: ARK_POLY_SO names libark_poly.so, or it stands beside {__file__} ({error})") from None
     word, size, status = ctypes.c_uint64, ctypes.c_size_t, ctypes.c_uint32
     words = [ctypes.c_void_p, size]
+    logs = [ctypes.c_uint32] * 2
     for name, arguments, result in (
         ("version", [], ctypes.c_uint32),
         ("words", [word], size),
         ("domain_size", [word, word, ctypes.POINTER(word)], status),
         ("fft", [word, *words * 2], status),
         ("ifft", [word, *words * 2], status),
+        ("fft_columns", [word, *words, *logs, *words], status),
+        ("fft_rows", [word, *words, *logs, word, *words], status),
+        ("ifft_rows", [word, *words, *logs, word, *words], status),
+        ("ifft_columns", [word, *words, *logs, *words], status),
         ("multiply", [word, *words * 3], status),
         ("divide", [word, *words * 4], status),
         ("evaluate", [word, *words * 3], status),

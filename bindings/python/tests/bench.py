@@ -1,10 +1,11 @@
-"""Times transforms through the package, over numpy's words in place and over lists, and numpy's own of complex numbers: a line
-`name<TAB>size<TAB>nanoseconds` each, the least of many batches."""
+"""Times transforms through the package, over numpy's words in place and over lists, on one core and on all, and numpy's own of
+complex numbers: a line `name<TAB>size<TAB>nanoseconds` each, the least of many batches."""
 import time
 
 import numpy
 
 import ark_poly
+from ark_poly import parallel
 
 BATCHES = 30
 
@@ -32,6 +33,11 @@ def main():
         print(f"babybear_fft_of_a_list\t{size}\t{least(lambda: ark_poly.fft(ark_poly.BABYBEAR, items), calls)}")
         complex_numbers = numbers.astype(numpy.complex128)
         print(f"numpy_fft\t{size}\t{least(lambda: numpy.fft.fft(complex_numbers), calls)}")
+    rows = numpy.zeros((1 << 20, 4), dtype=numpy.uint64)
+    rows[:, 0] = numpy.arange(1 << 20)
+    for name, threads in (("one_core", 1), ("all_cores", 0)):
+        nanoseconds = least(lambda: parallel.fft(ark_poly.BLS12_381_FR, rows, threads=threads), 1)
+        print(f"bls12_381_fft_on_{name}\t{1 << 20}\t{nanoseconds}")
 
 
 if __name__ == "__main__":

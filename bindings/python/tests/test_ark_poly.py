@@ -18,6 +18,10 @@ try:
     import numpy
 except ImportError:
     numpy = None
+try:
+    import dask.array
+except ImportError:
+    dask = None
 
 HERE = os.path.dirname(os.path.abspath(__file__))
 ANSWERS = os.path.join(HERE, "..", "..", "answers.txt")
@@ -40,12 +44,17 @@ def rows():
 
 
 ROWS = list(rows())
+OF_PARTS = ("fft_columns", "fft_rows", "ifft_rows", "ifft_columns")
 OF_PIECES = ("piece_size", "split", "file_size", "join")
 
 
 def numbers(field, words):
     width = ark_poly.words(field)
     return [sum(word << 64 * j for j, word in enumerate(words[i : i + width])) for i in range(0, len(words), width)]
+
+
+def spelled(field, items):
+    return [item >> 64 * j & 2**64 - 1 for item in items for j in range(ark_poly.words(field))]
 
 
 def raw_pieces(call, given, left):
@@ -71,6 +80,8 @@ def raw(call, field, given, left):
     made = [array.array("Q", [OLD] * len(words)) for words in left]
     pair = lambda words: (words.buffer_info()[0], len(words))
     function = getattr(library, "ark_" + call)
+    if call in OF_PARTS:
+        return function(field, *pair(lists[0]), *given[1], *pair(lists[2])), [lists[0].tolist()]
     if call in ("fft", "ifft"):
         return function(field, *pair(lists[0]), *pair(lists[1])), [lists[0].tolist()]
     if call in ("code_restore", "code_message"):
@@ -86,8 +97,12 @@ def answer(call, field, given, left, kind):
     """What the package answers to a row, where elements are of a kind."""
     width = ark_poly.words(field)
     function = getattr(ark_poly, call)
-    of_elements = given[:1] if call.startswith("code_") else given[1:] if call == "multilinear_evaluate_sparse" else given
+    of_elements = given[1:] if call == "multilinear_evaluate_sparse" else given
+    if call.startswith("code_") or call in OF_PARTS:
+        of_elements = given[:1]
     lists = [kind(field, words) for words in of_elements]
+    if call in OF_PARTS:
+        return [function(field, lists[0], *given[1], numbers(field, given[2])[0])]
     if call in ("fft", "ifft"):
         return [function(field, lists[0], numbers(field, given[1])[0])]
     if call == "lagrange":
@@ -228,6 +243,263 @@ class Places(unittest.TestCase):
         self.assertEqual(ark_poly.fft(ark_poly.BABYBEAR, b"\1\2"), ark_poly.fft(ark_poly.BABYBEAR, [1, 2]))
         self.assertEqual(ark_poly.fft(ark_poly.BABYBEAR, range(4))[0], 6)
         self.assertEqual(ark_poly.fft(ark_poly.BABYBEAR, (i for i in range(4)))[0], 6)
+
+
+class Parts(unittest.TestCase):
+    """Transforms by columns and by rows, of every field."""
+
+    def check_parts(self, kind, back):
+        rng = random.Random(4)
+        for field in FIELDS:
+            p = ark_poly.modulus(field)
+            for log_rows, log_columns in ((0, 0), (0, 2), (1, 1), (2, 0)) + (((2, 3), (3, 1)) if p > 433 else ()):
+                r, c, offset = 1 << log_rows, 1 << log_columns, rng.randrange(1, p)
+                logs = log_rows, log_columns
+                list_ = [rng.randrange(p) for _ in range(r * c)]
+                values = ark_poly.fft(field, list_, offset)
+                # blocks of one column and of the others, then of one row and of the others
+                rows = [[] for _ in range(r)]
+                for j, k in ((0, 1), (1, c - 1)):
+                    block = kind(field, [list_[i * c + j + a] for i in range(r) for a in range(k)])
+                    made = ark_poly.fft_columns(field, block, *logs, offset)
+                    self.assertEqual(back(field, ark_poly.ifft_columns(field, made, *logs, offset)), back(field, block))
+                    ark_poly.fft_columns_in_place(field, block, *logs, offset)
+                    self.assertEqual(back(field, block), back(field, made))
+                    for i in range(r):
+                        rows[i] += back(field, made)[i * k : (i + 1) * k]
+                for i, k in ((0, 1), (1, r - 1)):
+                    block = kind(field, sum(rows[i : i + k], []))
+                    made = ark_poly.fft_rows(field, block, *logs, i, offset)
+                    self.assertEqual(back(field, ark_poly.ifft_rows(field, made, *logs, i, offset)), back(field, block))
+                    ark_poly.fft_rows_in_place(field, block, *logs, i, offset)
+                    self.assertEqual(back(field, block), back(field, made))
+                    wanted = [values[i + a + r * j] for a in range(k) for j in range(c)]
+                    self.assertEqual(back(field, made), wanted)
+                    ark_poly.ifft_rows_in_place(field, block, *logs, i, offset)
+                    ark_poly.fft_rows_in_place(field, block, *logs, i, offset)
+                    self.assertEqual(back(field, block), wanted)
+
+    def test_list(self):
+        self.check_parts(lambda field, items: items, lambda field, block: block)
+
+    def test_array(self):
+        as_array = lambda field, items: array.array("Q", spelled(field, items))
+        self.check_parts(as_array, lambda field, block: numbers(field, block.tolist()))
+
+    @unittest.skipIf(numpy is None, "no numpy")
+    def test_numpy(self):
+        def as_rows(field, items):
+            return numpy.array(spelled(field, items), dtype=numpy.uint64).reshape(-1, ark_poly.words(field))
+
+        self.check_parts(as_rows, lambda field, block: numbers(field, block.ravel().tolist()))
+
+    def test_refusals(self):
+        f = ark_poly.BABYBEAR
+        for error, of_columns in (
+            (ark_poly.NoField, (7, [1], 64, 0)),
+            (ark_poly.WrongLength, (f, [1, 2, 3], 1, 0)),
+            (ark_poly.WrongLength, (f, [], 64, 0)),
+            (ark_poly.WrongLength, (f, [], 63, 1)),
+            (ark_poly.WrongLength, (f, [], 2**32, 1)),
+            (ark_poly.WrongLength, (f, [1], -1, 1)),
+            (ark_poly.NotReduced, (f, [f], 0, 0)),
+            (ark_poly.NotReduced, (f, [1], 0, 0, f)),
+            (ark_poly.NoDomain, (f, [], 27, 1)),
+            (ark_poly.NoDomain, (f, [1], 0, 0, 0)),
+        ):
+            for call in ("fft_columns", "ifft_columns", "fft_columns_in_place", "ifft_columns_in_place"):
+                with self.subTest(call=call, given=of_columns), self.assertRaises(error):
+                    getattr(ark_poly, call)(*of_columns)
+        for error, of_rows in (
+            (ark_poly.NoField, (7, [1], 0, 64, -1)),
+            (ark_poly.WrongLength, (f, [1, 2, 3], 1, 1, 0)),
+            (ark_poly.WrongLength, (f, [1, 2], 1, 1, 2)),
+            (ark_poly.WrongLength, (f, [], 1, 1, 3)),
+            (ark_poly.WrongLength, (f, [1, 2], 1, 1, -1)),
+            (ark_poly.WrongLength, (f, [1, 2], 1, 1, 2**64)),
+            (ark_poly.WrongLength, (f, [], 0, 64, 0)),
+            (ark_poly.NotReduced, (f, [f], 0, 0, 0)),
+            (ark_poly.NoDomain, (f, [], 27, 1, 0)),
+            (ark_poly.NoDomain, (f, [1], 0, 0, 0, 0)),
+        ):
+            for call in ("fft_rows", "ifft_rows", "fft_rows_in_place", "ifft_rows_in_place"):
+                with self.subTest(call=call, given=of_rows), self.assertRaises(error):
+                    getattr(ark_poly, call)(*of_rows)
+
+
+class Threads(unittest.TestCase):
+    """The calls of `ark_poly.parallel`, at sizes for which threads are worth it, or are made to be."""
+
+    @unittest.skipIf(numpy is not None, "numpy is there")
+    def test_without_numpy(self):
+        with self.assertRaisesRegex(ImportError, "needs numpy"):
+            import ark_poly.parallel
+
+    def setUp(self):
+        if numpy is None and self._testMethodName != "test_without_numpy":
+            self.skipTest("no numpy")
+        self.rng = random.Random(5)
+
+    def drawn(self, field, count):
+        words = spelled(field, [self.rng.randrange(ark_poly.modulus(field)) for _ in range(count)])
+        return numpy.array(words, dtype=numpy.uint64).reshape(-1, ark_poly.words(field))
+
+    def check(self, found, wanted):
+        self.assertIs(type(found), type(wanted))
+        if isinstance(wanted, numpy.ndarray):
+            self.assertEqual((found.shape, found.dtype), (wanted.shape, wanted.dtype))
+            self.assertTrue(numpy.array_equal(found, wanted))
+        else:
+            self.assertEqual(found, wanted)
+
+    def test_transforms_and_products(self):
+        from ark_poly import parallel
+
+        for least in (parallel._LEAST_BYTES, 1):
+            with mock.patch.object(parallel, "_LEAST_BYTES", least), mock.patch.object(parallel, "_FEW", 1):
+                for field in FIELDS[2:]:
+                    for threads in (0, 1, 3):
+                        for count in (1 << 16 if field == ark_poly.KOALABEAR else 1 << 9, 1 << 4, 2):
+                            values = self.drawn(field, count)
+                            made = ark_poly.fft(field, values, 3)
+                            self.check(parallel.fft(field, values, 3, threads), made)
+                            self.check(parallel.ifft(field, made, 3, threads), values)
+                            left, right = values[: count // 2 + 1], values[: count // 3 + 1]
+                            self.check(parallel.multiply(field, left, right, threads), ark_poly.multiply(field, left, right))
+
+    def test_kinds(self):
+        from ark_poly import parallel
+
+        f = ark_poly.GOLDILOCKS
+        for count in (1 << 16, 1 << 4):
+            items = [self.rng.randrange(f) for _ in range(count)]
+            words = array.array("Q", items)
+            for kind in (items, tuple(items), words, memoryview(words).toreadonly(), numpy.array(items, dtype=numpy.uint64)):
+                self.check(parallel.fft(f, kind, threads=2), ark_poly.fft(f, kind))
+
+    def test_codes(self):
+        from ark_poly import parallel
+
+        for field in FIELDS[2:]:
+            messages = self.drawn(field, 3 * 50)
+            words = numpy.concatenate([ark_poly.code_encode(field, messages[i : i + 3], 8) for i in range(0, len(messages), 3)])
+            self.check(parallel.code_encode(field, messages[:3], 8), words[:8])
+            erased = [0, 1, 1, 0, 1, 0, 0, 1]
+            holed = words.copy()
+            holed.reshape(50, 8, -1)[:, [1, 2, 4, 7]] = 0
+            for least in (parallel._LEAST_BYTES, 1):
+                with mock.patch.object(parallel, "_LEAST_BYTES", least):
+                    for threads in (0, 1, 3):
+                        self.check(parallel.code_encode(field, messages, 8, 3, threads), words)
+                        self.check(parallel.code_restore(field, holed, 3, erased, threads), words)
+                        self.check(parallel.code_message(field, holed, 3, erased, threads), messages)
+        word = [1, None, 1, 1]
+        self.assertEqual(parallel.code_restore(ark_poly.BABYBEAR, word, 1), [1] * 4)
+        self.assertEqual(parallel.code_message(ark_poly.BABYBEAR, word, 1), [1])
+
+    def test_refusals(self):
+        from ark_poly import parallel
+
+        f = ark_poly.F65537
+        good, bad = numpy.ones(1 << 16, dtype=numpy.uint64), numpy.full(1 << 16, f, dtype=numpy.uint64)
+        words = numpy.ones(1 << 17, dtype=numpy.uint64)
+        words[-1] = 2
+        for error, call in (
+            (ark_poly.NoField, lambda: parallel.fft(7, good)),
+            (ark_poly.NotReduced, lambda: parallel.fft(f, bad)),
+            (ark_poly.NotReduced, lambda: parallel.ifft(f, bad)),
+            (ark_poly.NotReduced, lambda: parallel.multiply(f, good, bad)),
+            (ark_poly.NotReduced, lambda: parallel.fft(f, numpy.concatenate([good, bad]))),
+            (ark_poly.NoDomain, lambda: parallel.fft(f, good, 0)),
+            (ark_poly.NoDomain, lambda: parallel.fft(f, numpy.concatenate([good, good]))),
+            (ark_poly.NoDomain, lambda: parallel.fft(f, good[:-1])),
+            (ark_poly.WrongLength, lambda: parallel.code_encode(f, good, 8, 0)),
+            (ark_poly.WrongLength, lambda: parallel.code_encode(f, good, 8, 3)),
+            (ark_poly.WrongLength, lambda: parallel.code_restore(f, words, 5, [0] * 4)),
+            (ark_poly.WrongLength, lambda: parallel.code_message(f, words, 0, [0] * 4)),
+            (ark_poly.NoCodeword, lambda: parallel.code_restore(f, words, 1, [0] * 4)),
+            (ark_poly.TooFew, lambda: parallel.code_message(f, words, 2, [1, 1, 1, 0])),
+        ):
+            with self.subTest(error=error), self.assertRaises(error):
+                call()
+
+
+@unittest.skipIf(numpy is None or dask is None, "no numpy or no dask")
+class Chunks(unittest.TestCase):
+    """The calls of `ark_poly.dask`, on one thread; `cluster.py` has them on processes."""
+
+    def setUp(self):
+        self.rng = random.Random(6)
+        scheduler = dask.config.set(scheduler="synchronous")
+        scheduler.__enter__()
+        self.addCleanup(scheduler.__exit__, None, None, None)
+
+    def drawn(self, field, count):
+        words = spelled(field, [self.rng.randrange(ark_poly.modulus(field)) for _ in range(count)])
+        array_ = numpy.array(words, dtype=numpy.uint64)
+        return array_ if ark_poly.words(field) == 1 else array_.reshape(-1, 4)
+
+    def chunked(self, items, size):
+        return dask.array.from_array(items, chunks=(size, *items.shape[1:]))
+
+    def check(self, found, wanted):
+        self.assertEqual((found.shape, found.dtype), (wanted.shape, wanted.dtype))
+        computed = found.compute()
+        self.assertEqual((computed.shape, computed.dtype), (wanted.shape, wanted.dtype))
+        self.assertTrue(numpy.array_equal(computed, wanted))
+
+    def test_transforms_and_products(self):
+        from ark_poly import dask as ark_dask
+
+        for field, count, size in (
+            (ark_poly.F5, 4, 2),
+            (ark_poly.F65537, 128, 16),
+            (ark_poly.GOLDILOCKS, 64, 10),
+            (ark_poly.GOLDILOCKS, 2, 1),
+            (ark_poly.BLS12_381_FR, 128, 16),
+            (ark_poly.BN254_FR, 32, 32),
+            (ark_poly.BN254_FR, 1, 1),
+        ):
+            items = self.drawn(field, count)
+            values = ark_poly.fft(field, items, 3)
+            self.check(ark_dask.fft(self.chunked(items, size), field, 3), values)
+            self.check(ark_dask.ifft(self.chunked(values, size), field, 3), items)
+            if field != ark_poly.F5:
+                other = self.drawn(field, count // 3 + 1)
+                found = ark_dask.multiply(self.chunked(items, size), self.chunked(other, 3), field)
+                self.check(found, ark_poly.multiply(field, items, other))
+
+    def test_restore(self):
+        from ark_poly import dask as ark_dask
+
+        for field in (ark_poly.BABYBEAR, ark_poly.BN254_FR):
+            words = numpy.concatenate([ark_poly.code_encode(field, self.drawn(field, 3), 8) for _ in range(10)])
+            erased = [1, 0, 1, 1, 0, 0, 1, 1]
+            holed = words.copy()
+            holed.reshape(10, 8, -1)[:, [0, 2, 3, 6, 7]] = 1
+            self.check(ark_dask.restore(self.chunked(holed, 19), field, 3, erased), words)
+
+    def test_refusals(self):
+        from ark_poly import dask as ark_dask
+
+        f, ones = ark_poly.F65537, numpy.ones(64, dtype=numpy.uint64)
+        list_, word = self.chunked(ones, 8), self.chunked(numpy.arange(4, dtype=numpy.uint64), 4)
+        for error, call in (
+            (ark_poly.NoField, lambda: ark_dask.fft(list_, 7)),
+            (TypeError, lambda: ark_dask.fft(list_.astype(int), f)),
+            (ark_poly.WrongLength, lambda: ark_dask.fft(list_, ark_poly.BN254_FR)),
+            (ark_poly.NoDomain, lambda: ark_dask.fft(list_, ark_poly.F5)),
+            (ark_poly.NoDomain, lambda: ark_dask.fft(list_[:63], f)),
+            (ark_poly.NoDomain, lambda: ark_dask.ifft(list_, f, 0)),
+            (ark_poly.NoDomain, lambda: ark_dask.multiply(list_, list_, ark_poly.F433)),
+            (ark_poly.WrongLength, lambda: ark_dask.multiply(list_, list_[:0], f)),
+            (ark_poly.WrongLength, lambda: ark_dask.restore(list_, f, 2, [0] * 48)),
+            (ark_poly.NotReduced, lambda: ark_dask.fft(list_ * f, f).compute()),
+            (ark_poly.NotReduced, lambda: ark_dask.fft(list_, f, f).compute()),
+            (ark_poly.NoCodeword, lambda: ark_dask.restore(word, f, 1, [0] * 4).compute()),
+        ):
+            with self.subTest(error=error), self.assertRaises(error):
+                call()
 
 
 class Refusals(unittest.TestCase):
@@ -391,6 +663,10 @@ class Calls(unittest.TestCase):
 
     def test_examples_of_the_texts(self):
         self.assertEqual(doctest.testmod(ark_poly).failed, 0)
+        if numpy is not None:
+            from ark_poly import parallel
+
+            self.assertEqual(doctest.testmod(parallel).failed, 0)
 
     def test_typed(self):
         self.assertTrue(os.path.exists(os.path.join(os.path.dirname(ark_poly.__file__), "py.typed")))
