@@ -19,7 +19,8 @@ ghost use Rattle.ark_words.specs.Codes.{FitMessages, AreFound, message_size};
 ghost use Rattle.ark_c.specs.Names.{field_named};
 ghost use Rattle.ark_words.specs.Extensions.{FitExtended, IsExtended, FitFixed, AreFixed};
 ghost use Rattle.ark_words.specs.Extensions.{FitSparse, IsExtendedByEntries};
-ghost use Rattle.ark_words.specs.Parts.{FitColumns, FitRows, HaveParts, AreColumnsTransformed, AreRowsTransformed};
+ghost use Rattle.ark_words.specs.Parts.{FitColumns, FitRows, HaveParts};
+ghost use Rattle.ark_words.specs.Parts.{AreColumnsTransformed, AreRowsTransformed};
 ghost use Rattle.ark_words.specs.Parts.{AreColumnsTransformedBack, AreRowsTransformedBack};
 ghost use Rattle.ark_words.specs.Values.{FitPairs, AreProducts};
 ghost use Rattle.ark_words.specs.Weights.{FitWeights, ArePlaced, AreLagrange};
@@ -128,9 +129,10 @@ pub extern "C" fn ark_ifft(alloc: Global, field: u64, words: &mut [u64], offset:
     status(over_field!(field, ifft(alloc, words, offset)))
 }
 
-/// A transform in parts, first the columns: a list of `2^(log_rows + log_columns)` numbers is read as `2^log_rows`
-/// rows of `2^log_columns` numbers each. Each column of a block of any columns, as so many rows, becomes its values
-/// over the domain of `2^log_rows` elements whose offset is that of the whole to the power `2^log_columns`.
+/// A transform in parts, first the columns: a list of `2^(log_rows + log_columns)` numbers is read as
+/// `2^log_rows` rows of `2^log_columns` numbers each. Each column of a block of any columns, as so many
+/// rows, becomes its values over the domain of `2^log_rows` elements whose offset is that of the whole to
+/// the power `2^log_columns`.
 #[unsafe(no_mangle)]
 pub extern "C" fn ark_fft_columns(
     alloc: Global,
@@ -163,9 +165,10 @@ pub extern "C" fn ark_fft_columns(
     ))
 }
 
-/// Then the rows: each row of a block of any whole rows, of which the first is row `first` of all, becomes its values
-/// over the domain of `2^log_columns` elements whose offset is that element of the whole domain which has the row's
-/// number. Item `j` of row `i` is then item `i + 2^log_rows * j` of `ark_fft` of the whole list.
+/// Then the rows: each row of a block of any whole rows, of which the first is row `first` of all, becomes
+/// its values over the domain of `2^log_columns` elements whose offset is that element of the whole domain
+/// which has the row's number. Item `j` of row `i` is then item `i + 2^log_rows * j` of `ark_fft` of the
+/// whole list.
 #[unsafe(no_mangle)]
 pub extern "C" fn ark_fft_rows(
     alloc: Global,
@@ -233,7 +236,8 @@ pub extern "C" fn ark_ifft_rows(
     ))
 }
 
-/// Takes the columns of a block back, after the rows, which `ark_fft_columns` with the same numbers takes to these.
+/// Takes the columns of a block back, after the rows, which `ark_fft_columns` with the same numbers takes
+/// to these.
 #[unsafe(no_mangle)]
 pub extern "C" fn ark_ifft_columns(
     alloc: Global,
@@ -369,8 +373,8 @@ pub extern "C" fn ark_multiply(
     status(over_field!(field, multiply(alloc, left, right, product)))
 }
 
-/// Multiplies each number by the number at the same place of another list: where both hold values of polynomials at
-/// the same points, in whatever order, these are the values of the product.
+/// Multiplies each number by the number at the same place of another list: where both hold values of
+/// polynomials at the same points, in whatever order, these are the values of the product.
 #[unsafe(no_mangle)]
 pub extern "C" fn ark_multiply_values(
     alloc: Global,
@@ -447,8 +451,8 @@ pub extern "C" fn ark_multilinear_evaluate_sparse(
     ))
 }
 
-/// Binds the first variables to the `k` numbers of the point, and writes the table, of `2^(m - k)` numbers, of
-/// the polynomial in the other variables, of which the first is then variable 0.
+/// Binds the first variables to the `k` numbers of the point, and writes the table, of `2^(m - k)` numbers,
+/// of the polynomial in the other variables, of which the first is then variable 0.
 #[unsafe(no_mangle)]
 pub extern "C" fn ark_multilinear_fix(
     alloc: Global,
@@ -532,8 +536,9 @@ pub extern "C" fn ark_interpolate(
     status(over_field!(field, interpolate(alloc, points, values, coefficients)))
 }
 
-/// Writes the `n` weights by which the values at the `n` elements of the domain of exactly that size with this
-/// offset give the value at the point, for each polynomial below degree `n`. The point may be one of the domain.
+/// Writes the `n` weights by which the values at the `n` elements of the domain of exactly that size with
+/// this offset give the value at the point, for each polynomial below degree `n`. The point may be one of
+/// the domain.
 #[unsafe(no_mangle)]
 pub extern "C" fn ark_lagrange(
     alloc: Global,

@@ -1,5 +1,5 @@
 -- Transforms of elements whose multiples by one element have the numbers of words: these are the numbers' transforms.
-use Rattle.std.proofs.Common.{◌≡◌, ◌*◌, ◌%◌, ◌<◌, ℕ, Option, Some, None, IfSome, List, [], ◌∷◌, length, map, refl, sym, ap, ap₂, subst, ◌∙◌, mod-eq_of_lt, one-mul}
+use Rattle.std.proofs.Common.{◌≡◌, ◌*◌, ◌%◌, ◌<◌, ℕ, Option, Some, None, IfSome, List, [], ◌∷◌, map, refl, sym, ap, ap₂, subst, ◌∙◌, mod-eq_of_lt, one-mul}
 use Rattle.std.proofs.lemmas.List.{length-map}
 use Rattle.ark_math.specs.Field.{FieldOn}
 use Rattle.ark_math.specs.Module.{ModuleOn, IsItself, itself}

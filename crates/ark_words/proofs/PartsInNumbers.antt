@@ -1,8 +1,8 @@
 -- The parts of a domain over a field, and what is made of blocks of columns and rows, by the numbers of elements.
-use Rattle.std.proofs.Common.{◌≡◌, ◌≢◌, ℕ, zero, suc, ◌+◌, ◌*◌, ◌/◌, ◌%◌, ◌^◌, ◌<◌, ◌≤◌, Option, Some, None, IfSome, List, [], ◌∷◌, map, refl, sym, ap, ap₂, subst, ◌∙◌, mod-eq_of_lt, arith}
+use Rattle.std.proofs.Common.{◌≡◌, ℕ, zero, suc, ◌+◌, ◌*◌, ◌/◌, ◌%◌, ◌^◌, ◌<◌, ◌≤◌, Option, Some, None, IfSome, List, [], ◌∷◌, map, refl, sym, ap, subst, ◌∙◌, mod-eq_of_lt, arith}
 use Rattle.std.proofs.Math.Pow.{pow-lt}
 use Rattle.std.proofs.lemmas.Nat.{div-add-mod'}
-use Rattle.ark_math.specs.Field.{FieldOn, IsField, power}
+use Rattle.ark_math.specs.Field.{FieldOn, power}
 use Rattle.ark_math.specs.Module.{ModuleOn, IsItself, itself, item}
 use Rattle.ark_math.specs.Root.{Splits, IsSupported}
 use Rattle.ark_math.specs.Domain.{Domain, radix2, domain_of, element}
@@ -10,7 +10,7 @@ use Rattle.ark_math.specs.Transform.{transform, IsInverse}
 use Rattle.ark_math.proofs.Domains.Elements.{power_not_zero}
 use Rattle.ark_math.proofs.Domains.Sizes.{radix2_splits}
 use Rattle.ark_math.proofs.Lists.Tabulated.{tabulate-same}
-use Rattle.ark_math.proofs.Transforms.Carried.{map-tabulate, power-carried, carried}
+use Rattle.ark_math.proofs.Transforms.Carried.{map-tabulate, power-carried}
 use Rattle.ark_numbers.specs.Fields.{operations}
 use Rattle.ark_numbers.specs.Answers.{coset_of, AreValues, AreInterpolated}
 use Rattle.ark_numbers.proofs.Values.{NumberField, shown_field, field_laws, number_carries, domain_carried, IsOurs}

@@ -1,5 +1,5 @@
 -- The law of the parts, in numbers: columns and then rows are the transform, and rows and then columns its inverse.
-use Rattle.std.proofs.Common.{◌≡◌, ◌≢◌, ℕ, ◌+◌, ◌*◌, ◌/◌, ◌%◌, ◌^◌, ◌<◌, ◌≤◌, List, All, length, map, get_or, refl, sym, ap, ap₂, subst, ◌∙◌, mod-eq_of_lt, le_of_lt, pow-add, arith}
+use Rattle.std.proofs.Common.{◌≡◌, ◌≢◌, ℕ, ◌+◌, ◌*◌, ◌/◌, ◌%◌, ◌^◌, ◌<◌, ◌≤◌, List, All, length, map, refl, sym, ap, ap₂, subst, ◌∙◌, mod-eq_of_lt, le_of_lt, pow-add, arith}
 use Rattle.std.proofs.Math.Pow.{pow-lt}
 use Rattle.std.proofs.Math.Nat.{mod-lt, div-lt_iff_lt-mul}
 use Rattle.std.proofs.lemmas.List.{length-map, ext_get_or, get_or-map}

@@ -1,14 +1,14 @@
 -- Words are apart: where the words of two lists are restored or found, so are those of both lists together.
-use Rattle.std.proofs.Common.{◌≡◌, ℕ, ◌+◌, ◌-◌, ◌*◌, ◌/◌, ◌%◌, ◌<◌, ◌≤◌, List, [], ◌++◌, length, take, drop, get_or, slice_range, inl, inr, sym, ap, ap₂, subst, subst₂, ◌∙◌, ⊎_elim, arith, length-append}
+use Rattle.std.proofs.Common.{◌≡◌, ℕ, ◌+◌, ◌-◌, ◌*◌, ◌/◌, ◌%◌, ◌<◌, ◌≤◌, List, ◌++◌, length, take, drop, get_or, slice_range, sym, ap, ap₂, subst, subst₂, ◌∙◌, ⊎_elim, arith, length-append}
 use Rattle.std.proofs.lemmas.Bool.{cases_lt}
 use Rattle.std.proofs.lemmas.List.{drop_all, drop-drop, drop-append-le, take-append-le, ext_get_or, get_or_append_left, get_or-append-add}
 use Rattle.std.proofs.lemmas.Nat.{div-add-mod', div-mul-add, mod-mul-add}
 use Rattle.std.proofs.lemmas.Slice.{between_is}
 use Rattle.std.proofs.Math.Nat.{mod-lt}
 use Rattle.ark_math.specs.Words.{number_of_words}
-use Rattle.ark_math.proofs.Lists.Tabulated.{length-tabulate, get_or-tabulate}
-use Rattle.ark_words.specs.Numbers.{Spelled, number_at, numbers, AreWhole}
-use Rattle.ark_words.specs.Codes.{word_at, word_count, IsRestored, IsFound, AreRestored, AreFound}
+use Rattle.ark_math.proofs.Lists.Tabulated.{get_or-tabulate}
+use Rattle.ark_words.specs.Numbers.{number_at, numbers}
+use Rattle.ark_words.specs.Codes.{word_at}
 use Rattle.ark_words.proofs.WordLists.{number_fits, length-numbers}
 
 -- parts of n items each, one after another

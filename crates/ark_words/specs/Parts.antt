@@ -1,6 +1,6 @@
 -- Transforms in parts: a list of 2 ^ (a + b) numbers as 2 ^ a rows of 2 ^ b, each column transformed and then each row.
 use Rattle.std.specs.Prelude.{◌≡◌, ◌≢◌, ℕ, ◌+◌, ◌*◌, ◌/◌, ◌%◌, ◌<◌, ◌≤◌, ◌^◌, List, length}
-use Rattle.ark_math.specs.Field.{FieldOn, power}
+use Rattle.ark_math.specs.Field.{power}
 use Rattle.ark_math.specs.Module.{ModuleOn, itself}
 use Rattle.ark_math.specs.Domain.{Domain, element}
 use Rattle.ark_math.specs.Words.{number_of_words}

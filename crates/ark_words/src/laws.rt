@@ -8,8 +8,9 @@ ghost use Rattle.ark_words.specs.Parts.{AreColumns, AreRows, AreRowsBack, AreCol
 
 use crate::element::WordElement;
 
-/// A law: where each column of a list of numbers became its values, as `fft_columns` does, and then each row, as
-/// `fft_rows` does, wherever and in whatever order, item `j` of row `i` is value `i + 2^a * j` of the whole list.
+/// A law: where each column of a list of numbers became its values, as `fft_columns` does, and then each
+/// row, as `fft_rows` does, wherever and in whatever order, item `j` of row `i` is value `i + 2^a * j` of
+/// the whole list.
 pub fn parts_make_the_transform<F: WordElement>()
     ensures { (a b h : ℕ) (xs values : List ℕ) (columns rows : ℕ → List ℕ) → a + b < 64
         → a + b ≤ F.spelled.known.adicity.two → h < F.spelled.known.modulus → h ≢ 0
@@ -21,8 +22,8 @@ pub fn parts_make_the_transform<F: WordElement>()
     let _ = F::WIDTH;
 }
 
-/// A law: where the rows hold values in this order, and each was taken back, as `ifft_rows` does, and then each column,
-/// as `ifft_columns` does, the list of these columns has these values.
+/// A law: where the rows hold values in this order, and each was taken back, as `ifft_rows` does, and then
+/// each column, as `ifft_columns` does, the list of these columns has these values.
 pub fn parts_make_the_inverse<F: WordElement>()
     ensures { (a b h : ℕ) (values xs : List ℕ) (rows before : ℕ → List ℕ) → a + b < 64
         → a + b ≤ F.spelled.known.adicity.two → h < F.spelled.known.modulus → h ≢ 0
@@ -34,8 +35,8 @@ pub fn parts_make_the_inverse<F: WordElement>()
     let _ = F::WIDTH;
 }
 
-/// A law: words are apart. Where the words of two lists were restored, or their messages found, by a call each, so are
-/// those of both lists together: cuts make no difference.
+/// A law: words are apart. Where the words of two lists were restored, or their messages found, by a call
+/// each, so are those of both lists together: cuts make no difference.
 pub fn words_are_apart<F: WordElement>()
     ensures restored { (erased old more new made : List ℕ) (k : ℕ) → FitWords F.spelled old erased k
         → length new ≡ length old

@@ -1,6 +1,6 @@
 //! Transforms in parts, in place: a list of `2^(log_rows + log_columns)` numbers as `2^log_rows` rows of
-//! `2^log_columns` numbers each, its columns transformed and then its rows, in blocks of any size and in any order.
-//! Item `j` of row `i` is then item `i + 2^log_rows * j` of the list's transform.
+//! `2^log_columns` numbers each, its columns transformed and then its rows, in blocks of any size and in
+//! any order. Item `j` of row `i` is then item `i + 2^log_rows * j` of the list's transform.
 
 ghost use Rattle.std.specs.Prelude.{◌≡◌, ◌≢◌, ◌↔◌, ◌+◌, ◌*◌, ◌/◌, ◌%◌, ◌<◌, ◌≤◌, ◌^◌, map, length};
 ghost use Rattle.std.specs.Prelude.{OnOk, OnErr, IfOk, IfErr, IfSome, IsSome, IsTrue};
@@ -9,7 +9,8 @@ ghost use Rattle.ark_math.specs.Words.{number_of_words};
 ghost use Rattle.ark_fft.specs.Coset.{coset_domain};
 ghost use Rattle.ark_words.specs.Faults.{IsFault, IsOfDomains};
 ghost use Rattle.ark_words.specs.Numbers.{numbers, HaveReduced};
-ghost use Rattle.ark_words.specs.Parts.{FitColumns, FitRows, HaveParts, AreColumnsTransformed, AreRowsTransformed};
+ghost use Rattle.ark_words.specs.Parts.{FitColumns, FitRows, HaveParts};
+ghost use Rattle.ark_words.specs.Parts.{AreColumnsTransformed, AreRowsTransformed};
 ghost use Rattle.ark_words.specs.Parts.{AreColumnsTransformedBack, AreRowsTransformedBack};
 
 use crate::element::WordElement;
@@ -21,14 +22,14 @@ use ark_parts::Parts;
 use ark_traits::{FftField, Work};
 use std::alloc::Global;
 
-/// Transforms each column of a block of any columns: `words` are `2^log_rows` rows of as many numbers as there are
-/// columns. The domain of a column has `2^log_rows` elements, and as offset that of the whole to the power
-/// `2^log_columns`. The call takes memory for twice the block, and a column.
+/// Transforms each column of a block of any columns: `words` are `2^log_rows` rows of as many numbers as
+/// there are columns. The domain of a column has `2^log_rows` elements, and as offset that of the whole to
+/// the power `2^log_columns`. The call takes memory for twice the block, and a column.
 ///
-/// The errors are judged in this order: `Length` where the words aren't whole elements, or those of the offset not
-/// one, where the numbers are no multiple of `2^log_rows`, or where `log_rows + log_columns` is 64 or more;
-/// `NotReduced` where a number isn't below the modulus; `NoDomain` where no domain of the field has
-/// `2^(log_rows + log_columns)` elements, or the offset is zero; `Memory` where none of these holds.
+/// The errors are judged in this order: `Length` where the words aren't whole elements, or those of the
+/// offset not one, where the numbers are no multiple of `2^log_rows`, or where `log_rows + log_columns` is
+/// 64 or more; `NotReduced` where a number isn't below the modulus; `NoDomain` where no domain of the field
+/// has `2^(log_rows + log_columns)` elements, or the offset is zero; `Memory` where none of these holds.
 pub fn fft_columns<F: WordElement>(
     alloc: Global,
     words: &mut [u64],
@@ -61,12 +62,13 @@ pub fn fft_columns<F: WordElement>(
     Ok(())
 }
 
-/// Transforms each row of a block of any rows, of which the first is row `first` of all, after the columns: `words`
-/// are rows of `2^log_columns` numbers. The domain of a row has `2^log_columns` elements, and as offset that element
-/// of the whole which has the row's number: this makes the twiddles. The call takes memory for twice the block.
+/// Transforms each row of a block of any rows, of which the first is row `first` of all, after the columns:
+/// `words` are rows of `2^log_columns` numbers. The domain of a row has `2^log_columns` elements, and as
+/// offset that element of the whole which has the row's number: this makes the twiddles. The call takes
+/// memory for twice the block.
 ///
-/// The errors are those of `fft_columns`, in its order, but that `Length` is where the numbers are no multiple of
-/// `2^log_columns`, or a row would have the number `2^log_rows` or more.
+/// The errors are those of `fft_columns`, in its order, but that `Length` is where the numbers are no
+/// multiple of `2^log_columns`, or a row would have the number `2^log_rows` or more.
 pub fn fft_rows<F: WordElement>(
     alloc: Global,
     words: &mut [u64],
@@ -134,7 +136,8 @@ pub fn ifft_rows<F: WordElement>(
     Ok(())
 }
 
-/// Takes each column of a block back, after the rows, where `fft_columns` with the same numbers gives the block.
+/// Takes each column of a block back, after the rows, where `fft_columns` with the same numbers gives the
+/// block.
 ///
 /// The errors are those of `fft_columns`, in its order.
 pub fn ifft_columns<F: WordElement>(
@@ -272,8 +275,8 @@ fn judged<F: WordElement>(
     Ok((parts, scaled_elements(alloc, words)?))
 }
 
-// The parts of the domain of `2^(log_rows + log_columns)` elements with this offset, and `None` exactly where the
-// field has none or the offset is zero.
+// The parts of the domain of `2^(log_rows + log_columns)` elements with this offset, and `None` exactly
+// where the field has none or the offset is zero.
 fn parts_of<F: FftField>(log_rows: u32, log_columns: u32, offset: F) -> Option<Parts<F>>
     requires { log_rows + log_columns < 64 }
     ensures rows { IfSome result (λ p. p.column.size ≡ 2 ^ log_rows) }

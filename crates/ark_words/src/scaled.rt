@@ -9,8 +9,8 @@ use crate::error::WordsError;
 use crate::lists::refusal;
 use std::alloc::{AllocError, Global};
 
-/// The elements whose multiples by the unit have the numbers that the words spell. Memory is no matter where a
-/// number isn't below the modulus.
+/// The elements whose multiples by the unit have the numbers that the words spell. Memory is no matter
+/// where a number isn't below the modulus.
 pub fn scaled_elements<F: WordElement>(alloc: Global, words: &[u64]) -> Result<Vec<F>, WordsError>
     ensures numbers { IfOk result (λ items. map (λ x. F.numbering.number (F.field.times F.unit x)) items.items
         ≡ numbers F.WIDTH words.now) }

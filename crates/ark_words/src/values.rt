@@ -13,11 +13,12 @@ use ark_coeffs::dense::multiply_each;
 use ark_traits::Field;
 use std::alloc::Global;
 
-/// Multiplies each number by the number at the same place of another list: where both hold values of polynomials
-/// at the same points, in whatever order, these are the values of the product. It takes memory for both lists.
+/// Multiplies each number by the number at the same place of another list: where both hold values of
+/// polynomials at the same points, in whatever order, these are the values of the product. It takes memory
+/// for both lists.
 ///
-/// The errors are judged in this order: `Length` where the words aren't whole elements, or the others not as many;
-/// `NotReduced` where a number isn't below the modulus; `Memory` where none of these holds.
+/// The errors are judged in this order: `Length` where the words aren't whole elements, or the others not
+/// as many; `NotReduced` where a number isn't below the modulus; `Memory` where none of these holds.
 pub fn multiply_values<F: WordElement>(
     alloc: Global,
     values: &mut [u64],

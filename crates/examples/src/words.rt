@@ -1,4 +1,5 @@
-//! Calls over words, by a caller that knows no type of a field: values between given ones, and a transform in parts.
+//! Calls over words, by a caller that knows no type of a field: values between given ones, and a transform
+//! in parts.
 
 ghost use Rattle.std.specs.Prelude.{◌≡◌, ℕ, ◌*◌, ◌/◌, ◌^◌, List, length, OnOk, OnErr};
 ghost use Rattle.ark_math.specs.Words.{number_of_words};
@@ -7,8 +8,9 @@ ghost use Rattle.ark_words.specs.Interpolations.{AreInterpolating};
 ghost use Rattle.ark_words.specs.Numbers.{numbers, AreEvaluated};
 ghost use Rattle.ark_words.specs.Parts.{row_at, AreOrdered};
 
-use ark_words::{WordElement, WordsError, evaluate, interpolate};
-use ark_words::{fft_columns, fft_rows, parts_make_the_transform};
+use ark_words::{
+    WordElement, WordsError, evaluate, fft_columns, fft_rows, interpolate, parts_make_the_transform,
+};
 use std::alloc::Global;
 
 /// Writes the values at other points of the polynomial that has these values at these points, the only one of
@@ -33,8 +35,8 @@ pub fn values_between<F: WordElement>(
     evaluate::<F>(alloc, coefficients, others, found)
 }
 
-/// Replaces a list of exactly as many numbers as there are places by its values over the domain, by all columns and
-/// then all rows: number `j` of row `i` is value `i + 2^log_rows * j`.
+/// Replaces a list of exactly as many numbers as there are places by its values over the domain, by all
+/// columns and then all rows: number `j` of row `i` is value `i + 2^log_rows * j`.
 pub fn transformed_by_parts<F: WordElement>(
     alloc: Global,
     words: &mut [u64],

@@ -1,4 +1,4 @@
-use Rattle.std.proofs.Common.{◌≡◌, ◌≢◌, ◌+◌, ◌*◌, ◌<◌, ◌≤◌, ◌^◌, ℕ, List, All, sym, subst}
+use Rattle.std.proofs.Common.{◌≢◌, ◌+◌, ◌*◌, ◌<◌, ◌≤◌, ◌^◌, ℕ, List, All, sym, subst}
 use Rattle.ark_numbers.specs.Answers.{coset_of, AreValues}
 use Rattle.ark_numbers.proofs.Values.{number_field, shown_field}
 use Rattle.ark_words.specs.Numbers.{Spelled}

@@ -1,4 +1,4 @@
-use Rattle.std.proofs.Common.{◌≡◌, ℕ, ◌+◌, ◌*◌, ◌/◌, ◌%◌, ◌<◌, List, length, sym, ap, subst, ◌∙◌, arith}
+use Rattle.std.proofs.Common.{◌≡◌, ◌*◌, ◌/◌, ◌%◌, ◌<◌, length, sym, ap, subst, ◌∙◌, arith}
 use Rattle.ark_words.specs.Numbers.{Spelled}
 use Rattle.ark_words.specs.Codes.{IsRestored, IsFound, message_size, word_count}
 use Rattle.ark_words.proofs.WordsApart.{each_of_both}

@@ -1,10 +1,10 @@
-use Rattle.std.proofs.Common.{◌≡◌, ◌+◌, ◌*◌, ◌/◌, ◌%◌, ◌^◌, ◌≤◌, ℕ, length, map, ap, ap₂, sym, subst, ◌∙◌}
+use Rattle.std.proofs.Common.{◌≡◌, ◌+◌, ◌*◌, ◌/◌, ◌%◌, ◌^◌, ◌≤◌, length, map, ap, ap₂, sym, subst, ◌∙◌}
 use Rattle.ark_math.specs.Words.{number_of_words}
 use Rattle.ark_numbers.proofs.Values.{number_field}
 use Rattle.ark_words.specs.Numbers.{numbers, HaveReduced}
 use Rattle.ark_words.specs.Parts.{FitRows, HaveParts, AreRowsTransformed}
 use Rattle.ark_words.proofs.Multiples.{scaled}
-use Rattle.ark_words.proofs.PartsInNumbers.{in_multiples, row_told}
+use Rattle.ark_words.proofs.PartsInNumbers.{row_told}
 use Rattle.ark_words.proofs.WordLists.{length_read, whole_words}
 use Rattle.ark_words.proofs.parts.fft_rows.Goals as goal
 

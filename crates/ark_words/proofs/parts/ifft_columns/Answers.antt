@@ -1,4 +1,4 @@
-use Rattle.std.proofs.Common.{◌≡◌, ◌+◌, ◌*◌, ◌/◌, ◌%◌, ◌^◌, ◌≤◌, ℕ, length, map, ap, ap₂, sym, subst, subst₂, ◌∙◌}
+use Rattle.std.proofs.Common.{◌≡◌, ◌*◌, ◌/◌, ◌^◌, length, map, ap, ap₂, sym, subst, subst₂, ◌∙◌}
 use Rattle.ark_math.specs.Words.{number_of_words}
 use Rattle.ark_math.specs.Module.{itself}
 use Rattle.ark_numbers.specs.Fields.{operations}

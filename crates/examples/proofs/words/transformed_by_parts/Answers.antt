@@ -1,5 +1,5 @@
 use Rattle.std.proofs.Common.{◌≡◌, ℕ, ◌+◌, ◌*◌, ◌/◌, ◌^◌, ◌<◌, List, length, ap, ap₂, sym, subst, ◌∙◌, arith}
-use Rattle.std.proofs.Math.Nat.{mul-div_cancel, mul-div_cancel_left}
+use Rattle.std.proofs.Math.Nat.{mul-div_cancel, mul-div_cancel_left, one-le-pow}
 use Rattle.ark_math.specs.Module.{itself}
 use Rattle.ark_math.specs.Words.{number_of_words}
 use Rattle.ark_numbers.specs.Fields.{operations}
@@ -21,8 +21,8 @@ returns g c = λ values is.
     let made = c.fft_columns.new.words in
     let new = c.fft_rows.new.words in
     let taken = c.in_ok-fft_columns.ensures.taken in
-    let some_rows : 0 < 2 ^ a = grind arith in
-    let some_columns : 0 < 2 ^ b = grind arith in
+    let some_rows : 0 < 2 ^ a = one-le-pow a 2 (omega arith) in
+    let some_columns : 0 < 2 ^ b = one-le-pow b 2 (omega arith) in
     let count : length old / f.width / 2 ^ a ≡ 2 ^ b = ap (λ n. n / 2 ^ a) c.requires ∙ mul-div_cancel_left (2 ^ b) some_rows in
     let len : length made / f.width ≡ 2 ^ a * 2 ^ b = ap (λ n. n / f.width) c.fft_columns.auto.words ∙ c.requires in
     let count_made : length made / f.width / 2 ^ a ≡ 2 ^ b = ap (λ n. n / 2 ^ a) len ∙ mul-div_cancel_left (2 ^ b) some_rows in
