@@ -351,6 +351,16 @@ for name, p, words, g, sizes in FIELDS:
         for first, k in ((1, 2), (2, 1), (3, 0), (2**64 - 1, 1), (2**64 - 1, 0)):
             bad(call, LENGTH, [s([1, 2] * k), [1, 1, first], s([1])], [s([1, 2] * k)])
 
+    # values place by place
+    for values, others in (([p - 1, 0, 1, p - 1], [p - 1, p - 1, p - 1, 0]), (draw(9), draw(9)), ([], [])):
+        good("multiply_values", [s(values), s(others)], [s([x * y % p for x, y in zip(values, others)])])
+    bad("multiply_values", LENGTH, [s([1, 2]), s([1])], [s([1, 2])])
+    bad("multiply_values", LENGTH, [[], s([1])], [[]])
+    bad("multiply_values", NOT_REDUCED, [s([1, p]), s([1, 2])], [s([1, p])])
+    bad("multiply_values", NOT_REDUCED, [s([1, 2]), s([2**(64 * words) - 1, 1])], [s([1, 2])])
+    # (of two reasons the first one)
+    bad("multiply_values", LENGTH, [s([1, p]), s([1])], [s([1, p])])
+
     # lengths that are no multiple of four words
     if words == 4:
         five, four = [1, 0, 0, 0, 1], [1, 0, 0, 0]
@@ -363,6 +373,8 @@ for name, p, words, g, sizes in FIELDS:
         bad("multiply", LENGTH, [five, four], [unknown(2)])
         bad("multiply", LENGTH, [four, five], [unknown(2)])
         bad("multiply", LENGTH, [four, four], [[UNKNOWN] * 5])
+        bad("multiply_values", LENGTH, [five, five], [five])
+        bad("multiply_values", LENGTH, [four, five], [four])
         bad("divide", LENGTH, [five, four], [[UNKNOWN] * 5, unknown(1)])
         bad("divide", LENGTH, [four, five], [unknown(1), [UNKNOWN] * 5])
         bad("evaluate", LENGTH, [five, four], [unknown(1)])
@@ -386,6 +398,7 @@ for name in (0, 1, 4, 7, 434, 2013265920, 18446744069414584320, 2**64 - 1):
     for call in parts:
         row(call, name, NO_FIELD, [[1], shape(call, 64, 0), []], [[1]])
     row("multiply", name, NO_FIELD, [[1], [1]], [[UNKNOWN]])
+    row("multiply_values", name, NO_FIELD, [[1], []], [[1]])
     row("divide", name, NO_FIELD, [[1], [1]], [[UNKNOWN], [UNKNOWN]])
     row("evaluate", name, NO_FIELD, [[1], [1]], [[UNKNOWN]])
     row("interpolate", name, NO_FIELD, [[1], [1]], [[UNKNOWN]])

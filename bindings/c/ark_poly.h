@@ -116,6 +116,11 @@ ark_status ark_ifft_rows(uint64_t field, uint64_t *words, size_t words_len, uint
 ark_status ark_multiply(uint64_t field, const uint64_t *left, size_t left_len, const uint64_t *right, size_t right_len,
                         uint64_t *product, size_t product_len);
 
+/* Multiplies each element of `values` by the one at the same place of `others`. Where both are values of polynomials at the same
+ * points, in any order, as that in which ark_fft_rows leaves them, these are the values of the product.
+ * ARK_LENGTH where the lists differ in length. */
+ark_status ark_multiply_values(uint64_t field, uint64_t *values, size_t values_len, const uint64_t *others, size_t others_len);
+
 /* Quotient and remainder: dividend = quotient * divisor + remainder, where the remainder has a lower degree than the
  * divisor. Zeros fill what is left; zeros at the end of dividend and divisor don't matter.
  * ARK_LENGTH where the quotient isn't as long as the dividend or the remainder as the divisor, ARK_ZERO_DIVISOR where the

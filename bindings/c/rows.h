@@ -135,7 +135,7 @@ struct made {
 };
 
 static int is_in_place(const struct row *row) {
-    return strstr(row->call, "fft") != NULL || !strcmp(row->call, "code_restore");
+    return strstr(row->call, "fft") != NULL || !strcmp(row->call, "multiply_values") || !strcmp(row->call, "code_restore");
 }
 
 /* Whether the call is over pieces of a file, whose lists are of bytes. */
@@ -192,6 +192,7 @@ static ark_status call(const struct row *row, struct made *it) {
     if (!strcmp(name, "fft_rows")) return ark_fft_rows(f, OF(x), log_rows, log_columns, b.words[2], OF(c));
     if (!strcmp(name, "ifft_rows")) return ark_ifft_rows(f, OF(x), log_rows, log_columns, b.words[2], OF(c));
     if (!strcmp(name, "multiply")) return ark_multiply(f, OF(a), OF(b), OF(x));
+    if (!strcmp(name, "multiply_values")) return ark_multiply_values(f, OF(x), OF(b));
     if (!strcmp(name, "divide")) return ark_divide(f, OF(a), OF(b), OF(x), OF(y));
     if (!strcmp(name, "evaluate")) return ark_evaluate(f, OF(a), OF(b), OF(x));
     if (!strcmp(name, "interpolate")) return ark_interpolate(f, OF(a), OF(b), OF(x));

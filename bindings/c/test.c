@@ -171,6 +171,22 @@ static void test_product(uint64_t field, size_t n) {
     drop(times);
 }
 
+/* A product by its values, of factors of half as many coefficients. */
+static void test_values(uint64_t field, size_t n) {
+    size_t half = n / 2 * ark_words(field);
+    struct list offset = element(field, 3), a = drawn(field, n), b = drawn(field, n), product = list_of(a.len);
+    memset(a.words + half, 0, half * sizeof(uint64_t));
+    memset(b.words + half, 0, half * sizeof(uint64_t));
+    expect(ark_multiply(field, a.words, half, b.words, half, OF(product)) == ARK_OK, "multiply", field, n);
+    expect(ark_fft(field, OF(a), OF(offset)) == ARK_OK && ark_fft(field, OF(b), OF(offset)) == ARK_OK, "fft", field, n);
+    expect(ark_multiply_values(field, OF(a), OF(b)) == ARK_OK, "multiply values", field, n);
+    expect(ark_ifft(field, OF(a), OF(offset)) == ARK_OK && same(a, product), "a product by its values", field, n);
+    drop(offset);
+    drop(a);
+    drop(b);
+    drop(product);
+}
+
 /* Two variables bound one after the other, or at once. */
 static void test_table(uint64_t field, size_t n) {
     size_t words = ark_words(field);
@@ -266,6 +282,7 @@ int main(int count, char **words) {
     uint64_t f = ARK_BABYBEAR, value = 1, point = 2;
     expect(ark_evaluate(f, NULL, 0, &point, 1, &value, 1) == ARK_OK && value == 0, "no coefficients", f, 0);
     expect(ark_evaluate(f, &point, 1, NULL, 0, NULL, 0) == ARK_OK, "no points", f, 0);
+    expect(ark_multiply_values(f, NULL, 0, NULL, 0) == ARK_OK, "no values", f, 0);
     expect(ark_fft(f, NULL, 0, &point, 1) == ARK_NO_DOMAIN, "no items", f, 0);
     expect(ark_fft_columns(f, NULL, 0, 1, 1, &point, 1) == ARK_OK, "no columns", f, 0);
     expect(ark_ifft_rows(f, NULL, 0, 1, 1, 2, &point, 1) == ARK_OK, "no rows", f, 0);
@@ -276,6 +293,7 @@ int main(int count, char **words) {
         for (size_t n = 1; n <= greatest(fields[i]); n *= 2) {
             test_transform(fields[i], n);
             if (2 * n <= greatest(fields[i])) test_product(fields[i], n);
+            if (n >= 2) test_values(fields[i], n);
             if (n >= 4) test_table(fields[i], n);
             test_entries(fields[i], n);
             test_systematic(fields[i], n);

@@ -52,7 +52,7 @@ __all__ = [
     "evaluate", "fft", "fft_columns", "fft_columns_in_place", "fft_in_place", "fft_rows", "fft_rows_in_place", "ifft",
     "ifft_columns", "ifft_columns_in_place", "ifft_in_place", "ifft_rows", "ifft_rows_in_place", "interpolate", "join",
     "lagrange", "library_version", "modulus", "multilinear_evaluate", "multilinear_evaluate_sparse", "multilinear_fix",
-    "multiply", "split", "words",
+    "multiply", "multiply_values", "multiply_values_in_place", "split", "words",
 ]  # fmt: skip
 
 F5 = 5
@@ -224,6 +224,27 @@ def multiply(field: int, left: Elements, right: Elements) -> Any:
     if product.count:
         _check(_calls.ark_multiply(field, *left.pair, *right.pair, *product.pair))
     return product.answer()
+
+
+def multiply_values(field: int, values: Elements, others: Elements) -> Any:
+    """The products place by place. Where both lists are values of polynomials at the same points, in any order, as that in which
+    `fft_rows` leaves them, these are the values of the product. It raises `WrongLength` where the lists differ in length.
+
+    >>> multiply_values(F65537, [1, 2, 3], [4, 5, 6])
+    [4, 10, 18]
+    """
+    products = _Words.given(field, values).copy()
+    _check(_calls.ark_multiply_values(field, *products.pair, *_Words.given(field, others).pair))
+    return products.answer()
+
+
+def multiply_values_in_place(field: int, words: Any, others: Elements) -> None:
+    """`multiply_values` over writable words of 64 bits in one piece, or a `list`. The others may be the same list."""
+    if isinstance(words, list):
+        words[:] = multiply_values(field, words, others)
+    else:
+        values = _Words.written(field, words)
+        _check(_calls.ark_multiply_values(field, *values.pair, *_Words.given(field, others).apart_from(values).pair))
 
 
 def divide(field: int, dividend: Elements, divisor: Elements) -> Tuple[Any, Any]:
@@ -524,6 +545,12 @@ class _Words:
 
     def copy(self) -> _Words:
         return _Words(self.width, array.array("Q", memoryview(self.buffer).tobytes()), self._answer)
+
+    def apart_from(self, other: _Words) -> _Words:
+        """These words, or a copy where the other list has some of their memory."""
+        here, there = ctypes.addressof(self.pair[0]), ctypes.addressof(other.pair[0])
+        share = here < there + 8 * other.pair[1] and there < here + 8 * self.pair[1]
+        return self.copy() if share else self
 
     def room(self, count: int) -> _Words:
         """Room for so many elements of an answer."""

@@ -123,6 +123,7 @@ def _load() -> ctypes.CDLL:
         ("ifft_rows", [word, *words, *logs, word, *words], status),
         ("ifft_columns", [word, *words, *logs, *words], status),
         ("multiply", [word, *words * 3], status),
+        ("multiply_values", [word, *words * 2], status),
         ("divide", [word, *words * 4], status),
         ("evaluate", [word, *words * 3], status),
         ("interpolate", [word, *words * 3], status),

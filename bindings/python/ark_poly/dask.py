@@ -24,7 +24,6 @@ import numpy
 import ark_poly
 
 from . import NoDomain, WrongLength
-from .parallel import products
 
 __all__ = ["fft", "ifft", "multiply", "restore"]
 
@@ -140,15 +139,14 @@ def _rows(block: Any, call: str, field: int, logs: Tuple[int, int], size: int, o
     return _made(call + "_in_place", block, field, *logs, block_id[0] * size, offset)
 
 
-def _made(call: str, block: Any, field: int, *place: int) -> Any:
+def _made(call: str, block: Any, field: int, *given: Any) -> Any:
     made = numpy.array(block, order="C")
-    getattr(ark_poly, call)(field, made, *place)
+    getattr(ark_poly, call)(field, made, *given)
     return made
 
 
 def _products(left: Any, right: Any, field: int) -> Any:
-    width = left.shape[2]
-    return products(field, left.reshape(-1, width), right.reshape(-1, width)).reshape(left.shape)
+    return _made("multiply_values_in_place", left, field, right.reshape(-1))
 
 
 def _restored(words: Any, field: int, k: int, marks: bytes) -> Any:

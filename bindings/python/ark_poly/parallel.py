@@ -91,7 +91,7 @@ def multiply(field: int, left: Elements, right: Elements, threads: int = 0) -> A
         padded = numpy.zeros(grid.shape, dtype=numpy.uint64)
         padded.reshape(-1)[: factor.count * width] = _items(factor)
         factors.append(padded)
-    made = factors[0]
+    made, other = factors
 
     def columns(at: slice) -> None:
         for factor in factors:
@@ -100,7 +100,7 @@ def multiply(field: int, left: Elements, right: Elements, threads: int = 0) -> A
     def rows(at: slice) -> None:
         for factor in factors:
             grid.rows(ark_poly.fft_rows_in_place, factor, at)
-        made[at] = products(field, *(factor[at].reshape(-1, width) for factor in factors)).reshape(made[at].shape)
+        ark_poly.multiply_values_in_place(field, made[at], other[at].reshape(-1))
         grid.rows(ark_poly.ifft_rows_in_place, made, at)
 
     def back(at: slice) -> None:
@@ -178,19 +178,6 @@ def code_message(field: int, words: Elements, k: int, erased: Optional[Sequence[
     except ArkError:
         return ark_poly.code_message(field, given, k, erased)
     return _like(given, made)
-
-
-def products(field: int, left: Any, right: Any) -> Any:
-    """The products place by place of two arrays of the shape (2**m, words), by the calls that there are: with u = (a + b) / 2,
-    a * b is 2 * u**2 - a**2 / 2 - b**2 / 2, and such sums are values of multilinear polynomials."""
-    half = (ark_poly.modulus(field) + 1) // 2
-    width = left.shape[1]
-    terms = numpy.empty((len(left), 4, width), dtype=numpy.uint64)
-    terms[:, 2], terms[:, 3] = left, right
-    means = ark_poly.multilinear_fix(field, numpy.ascontiguousarray(terms[:, 2:]).reshape(-1, width), [half])
-    terms[:, 0] = terms[:, 1] = means
-    squares = ark_poly.evaluate(field, [0, 0, 1], terms.reshape(-1, width))
-    return ark_poly.multilinear_fix(field, squares, [half, -1 % ark_poly.modulus(field)])
 
 
 class _Grid:

@@ -82,7 +82,7 @@ def raw(call, field, given, left):
     function = getattr(library, "ark_" + call)
     if call in OF_PARTS:
         return function(field, *pair(lists[0]), *given[1], *pair(lists[2])), [lists[0].tolist()]
-    if call in ("fft", "ifft"):
+    if call in ("fft", "ifft", "multiply_values"):
         return function(field, *pair(lists[0]), *pair(lists[1])), [lists[0].tolist()]
     if call in ("code_restore", "code_message"):
         marks = array.array("B", given[1])
@@ -188,6 +188,14 @@ class Places(unittest.TestCase):
         self.assertEqual(back(place), v)
         ark_poly.ifft_in_place(ark_poly.GOLDILOCKS, place, 7)
         self.assertEqual(back(place), c)
+        others = words([5, 0, ark_poly.GOLDILOCKS - 1, 1])
+        ark_poly.multiply_values_in_place(ark_poly.GOLDILOCKS, place, others)
+        self.assertEqual(back(place), [5, 0, ark_poly.GOLDILOCKS - 3, 4])
+        ark_poly.multiply_values_in_place(ark_poly.GOLDILOCKS, place, place)
+        self.assertEqual(back(place), [25, 0, 9, 16])
+        with self.assertRaises(ark_poly.WrongLength):
+            ark_poly.multiply_values_in_place(ark_poly.GOLDILOCKS, place, others[:3])
+        self.assertEqual(back(place), [25, 0, 9, 16])
         word = words(ark_poly.code_encode(ark_poly.GOLDILOCKS, [5, 6], 4))
         whole = back(word)
         word[1] = word[2] = 0
@@ -214,6 +222,12 @@ class Places(unittest.TestCase):
         p = ark_poly.modulus(ark_poly.BLS12_381_FR)
         w = pow(7, (p - 1) // 4, p)
         self.assertEqual(numbers(ark_poly.BLS12_381_FR, rows.ravel().tolist()), [pow(w, i, p) for i in range(4)])
+        # lists that share words
+        some = numpy.array([2, 3, 5, 7], dtype=numpy.uint64)
+        ark_poly.multiply_values_in_place(ark_poly.BABYBEAR, some[:3], some[1:])
+        self.assertEqual(some.tolist(), [6, 15, 35, 7])
+        ark_poly.multiply_values_in_place(ark_poly.BABYBEAR, some[2:], some[:2])
+        self.assertEqual(some.tolist(), [6, 15, 210, 105])
         # another type, or not in one piece
         for other in (
             numpy.zeros(4, dtype=numpy.int64),
@@ -512,6 +526,7 @@ class Refusals(unittest.TestCase):
             (ark_poly.NoField, lambda: ark_poly.modulus(0)),
             (ark_poly.NoField, lambda: ark_poly.domain_size(2, 2**64)),
             (ark_poly.WrongLength, lambda: ark_poly.interpolate(f, [1, 2], [1])),
+            (ark_poly.WrongLength, lambda: ark_poly.multiply_values(f, [1, 2], [1])),
             (ark_poly.WrongLength, lambda: ark_poly.multilinear_evaluate(f, [1, 2, 3], [1])),
             (ark_poly.WrongLength, lambda: ark_poly.multilinear_fix(f, [1, 2], [1, 1])),
             (ark_poly.WrongLength, lambda: ark_poly.multilinear_evaluate_sparse(f, [1], [1, 2], [1])),
@@ -531,6 +546,7 @@ class Refusals(unittest.TestCase):
             (ark_poly.NotReduced, lambda: ark_poly.fft(ark_poly.BN254_FR, [ark_poly.modulus(ark_poly.BN254_FR)])),
             (ark_poly.NotReduced, lambda: ark_poly.fft(f, [1], f)),
             (ark_poly.NotReduced, lambda: ark_poly.evaluate(f, [1], -1)),
+            (ark_poly.NotReduced, lambda: ark_poly.multiply_values(f, [1], [f])),
             (ark_poly.NoDomain, lambda: ark_poly.fft(f, [1, 2, 3])),
             (ark_poly.NoDomain, lambda: ark_poly.fft(f, [])),
             (ark_poly.NoDomain, lambda: ark_poly.ifft(f, [1], 0)),
@@ -594,6 +610,8 @@ class Calls(unittest.TestCase):
             at = lambda c: sum(y * pow(x, i, p) for i, y in enumerate(c)) % p
             self.assertEqual(at(product), at(a) * at(b) % p)
             self.assertEqual(ark_poly.evaluate(field, a, x), at(a))
+            values = [ark_poly.fft(field, c + [0] * (32 - len(c)), 3) for c in (a, b)]
+            self.assertEqual(ark_poly.ifft(field, ark_poly.multiply_values(field, *values), 3), product + [0] * 6)
             quotient, remainder = ark_poly.divide(field, product, b)
             self.assertEqual((quotient, remainder), (a + [0] * 6, [0] * 7))
             weights = ark_poly.lagrange(field, 32, x, 3)

@@ -9,6 +9,13 @@ mod sys {
         pub fn ark_domain_size(field: u64, at_least: u64, size: *mut u64) -> u32;
         pub fn ark_fft(field: u64, words: *mut u64, len: usize, offset: *const u64, offset_len: usize) -> u32;
         pub fn ark_ifft(field: u64, words: *mut u64, len: usize, offset: *const u64, offset_len: usize) -> u32;
+        pub fn ark_multiply_values(
+            field: u64,
+            values: *mut u64,
+            values_len: usize,
+            others: *const u64,
+            others_len: usize,
+        ) -> u32;
         pub fn ark_code_restore(
             field: u64,
             words: *mut u64,
@@ -246,6 +253,12 @@ of_two! {
     lagrange = ark_lagrange
     multilinear_evaluate = ark_multilinear_evaluate
     multilinear_fix = ark_multilinear_fix
+}
+
+pub fn multiply_values(field: u64, values: &mut [u64], others: &[u64]) -> Result<(), Refusal> {
+    let (place, len) = (values.as_mut_ptr(), values.len());
+    // SAFETY: as above.
+    outcome(unsafe { sys::ark_multiply_values(field, place, len, others.as_ptr(), others.len()) })
 }
 
 pub fn multilinear_evaluate_sparse(

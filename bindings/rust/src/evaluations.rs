@@ -1,7 +1,8 @@
 //! Polynomials by their values over a domain.
 
+use crate::calls;
 use crate::domain::{EvaluationDomain, GeneralEvaluationDomain};
-use crate::field::FftField;
+use crate::field::{words, words_mut, FftField};
 use crate::polynomial::{DensePolynomial, DenseUVPolynomial};
 use std::ops::{Add, Index, Mul, Sub};
 
@@ -76,5 +77,17 @@ macro_rules! each {
 each! {
     Add add
     Sub sub
-    Mul mul
+}
+
+impl<'a, F: FftField, D: EvaluationDomain<F>> Mul<&'a Evaluations<F, D>> for &Evaluations<F, D> {
+    type Output = Evaluations<F, D>;
+
+    /// Value by value: the values of the product of the polynomials, by a call of the library. Panics where the domains differ.
+    fn mul(self, other: &'a Evaluations<F, D>) -> Evaluations<F, D> {
+        assert_eq!(self.domain, other.domain, "domains differ");
+        let len = self.evals.len().min(other.evals.len());
+        let mut evals = self.evals[..len].to_vec();
+        calls::multiply_values(F::NAME, words_mut(&mut evals), words(&other.evals[..len])).expect("as many elements");
+        Evaluations::from_vec_and_domain(evals, self.domain)
+    }
 }

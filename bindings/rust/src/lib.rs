@@ -14,10 +14,10 @@
 //! # What is proved
 //!
 //! The calls of the library: transforms and their inverses, Lagrange's weights, products, quotients, values and interpolation
-//! of polynomials, values and bound variables of multilinear extensions, all of codes and of pieces, and the inverse of an
-//! element. Each takes a list of elements where it stands, without a copy. Not proved is what this crate adds: sums, products and powers of
-//! single elements, sums of lists, how threads share a list, and that the lists of the library are these types; tests compare them
-//! with the library.
+//! of polynomials, products of their [`Evaluations`], values and bound variables of multilinear extensions, all of codes and of
+//! pieces, and the inverse of an element. Each takes a list of elements where it stands, without a copy. Not proved is what this
+//! crate adds: sums, products and powers of single elements, sums of lists, how threads share a list, and that the lists of the
+//! library are these types; tests compare them with the library.
 //!
 //! # Threads
 //!

@@ -74,7 +74,8 @@ pub fn ifft_in_place<F: FftField, D: EvaluationDomain<F>>(domain: D, evals: &mut
     }
 }
 
-/// The product of two polynomials by several threads. Panics as their product by `*` does.
+/// The product of two polynomials by several threads. Panics as their product by `*` does. Between the transforms, which are the
+/// library's, values are multiplied where they stand, by this crate's own product of elements.
 ///
 /// ```
 /// use ark_poly_proved::{parallel, DensePolynomial, DenseUVPolynomial, Field, KoalaBear};

@@ -64,9 +64,13 @@ fn answer(row: &Row) -> (u32, Vec<Vec<u64>>) {
     let shape = |numbers: &[u64]| [numbers[0] as u32, numbers[1] as u32];
     let outcome = match row.call.as_str() {
         "domain_size" => calls::domain_size(field, given[0][0]).map(|size| left[0][0] = size),
-        "fft" | "ifft" => {
+        "fft" | "ifft" | "multiply_values" => {
             left[0] = given[0].clone();
-            let call = if row.call == "fft" { calls::fft } else { calls::ifft };
+            let call = match row.call.as_str() {
+                "fft" => calls::fft,
+                "ifft" => calls::ifft,
+                _ => calls::multiply_values,
+            };
             call(field, &mut left[0], &given[1])
         }
         "fft_columns" | "ifft_columns" => {
@@ -378,7 +382,13 @@ mod generic {
         let b = DensePolynomial::<F>::from_coefficients_vec(drawn(15));
         let (at_a, at_b) = (a.evaluate_over_domain_by_ref(domain), b.clone().evaluate_over_domain(domain));
         assert_eq!(at_a[3], a.evaluate(&domain.element(3)));
-        assert_eq!((&at_a * &at_b).interpolate(), &a * &b);
+        let product = &at_a * &at_b;
+        (0..32).for_each(|i| assert_eq!(product[i], at_a[i] * at_b[i]));
+        assert_eq!(product.interpolate(), &a * &b);
+        // as many as the shorter list has
+        let fewer = Evaluations::from_vec_and_domain(at_b.evals[..5].to_vec(), domain);
+        assert_eq!((&at_a * &fewer).evals, (&at_a * &at_b).evals[..5]);
+        assert_eq!((&fewer * &at_a).evals, (&at_a * &at_b).evals[..5]);
         assert_eq!((&at_a + &at_b).interpolate_by_ref(), &a + &b);
         assert_eq!((&at_a - &at_b).interpolate(), &a - &b);
         assert_eq!(at_a.domain(), domain);
