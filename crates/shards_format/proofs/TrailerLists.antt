@@ -7,7 +7,7 @@ use Rattle.std.proofs.lemmas.List.{length-append, take_at, drop_at}
 use Rattle.std.proofs.lemmas.Nat.{from_le_bytes-to_le_bytes_8}
 use Rattle.sha2.specs.Sha256.{sha256}
 use Rattle.sha2.proofs.Facts256.{length-sha256}
-use Rattle.shards_format.specs.Files.{HasCollision}
+use Rattle.shards_format.specs.Files.{Collide}
 use Rattle.shards_format.specs.Trailers.{listing, set_name, trailer_bytes}
 
 -- ---- numbers of eight bytes
@@ -45,13 +45,14 @@ by_test xs ys false e = inr (λ same. let yes = (pointwise_decides Decides-eqb x
 same_or_not : (xs ys : List ℕ) → (xs ≡ ys) ⊎ (xs ≡ ys → ⊥)
 same_or_not xs ys = by_test xs ys (pointwise eqb xs ys) refl
 
-pub same_text : (xs ys : List ℕ) → sha256 xs ≡ sha256 ys → (xs ≡ ys) ⊎ HasCollision
+pub same_text : (xs ys : List ℕ) → sha256 xs ≡ sha256 ys → (xs ≡ ys) ⊎ Collide xs ys
 same_text xs ys same = elim (same_or_not xs ys) [
   | inl one ↦ inl one
-  | inr differ ↦ inr (record { left = xs; right = ys; differ = differ; same = same })
+  | inr differ ↦ inr (record { differ = differ; same = same })
 ]
 
-pub one_set : (digests others : List ℕ) (len other : ℕ) → len < 2 ^ 62 → other < 2 ^ 62 → set_name digests len ≡ set_name others other → ((digests ≡ others) × (len ≡ other)) ⊎ HasCollision
+pub one_set : (digests others : List ℕ) (len other : ℕ) → len < 2 ^ 62 → other < 2 ^ 62 → set_name digests len ≡ set_name others other
+    → ((digests ≡ others) × (len ≡ other)) ⊎ Collide (listing digests len) (listing others other)
 one_set digests others len other few less same = elim (same_text (listing digests len) (listing others other) same) [
   | inl one ↦ inl (one_listing digests others len other few less one)
   | inr collision ↦ inr collision

@@ -32,9 +32,13 @@ pub record HaveParts (number : Numbering) (k n : ℕ) (bytes : List ℕ) (i b : 
 abbrev pub AreApart : List ℕ → Type 0
 AreApart xs = (a b : ℕ) → a < b → b < length xs → get_or xs a 0 ≢ get_or xs b 0
 
--- two texts have one digest
-pub record HasCollision : Type 0 where
-  pub left : List ℕ
-  pub right : List ℕ
+-- two texts differ and have one digest
+pub record Collide (left right : List ℕ) : Type 0 where
   pub differ : left ≢ right
   pub same : sha256 left ≡ sha256 right
+
+-- a text collides with that of piece i of a file with a label
+pub record CollidesWithPiece (number : Numbering) (k n : ℕ) (label bytes : List ℕ) (i : ℕ) (text : List ℕ) : Type 0 where
+  pub body : List ℕ
+  pub body_is : IsBody number k n bytes i body
+  pub collide : Collide text (head_bytes k n i label ++ body)

@@ -2,7 +2,7 @@
 
 ghost use Rattle.std.specs.Prelude.{◌≡◌, ◌⊎◌, ℕ, true, false, List, ◌+◌, ◌*◌, ◌<◌, ◌≤◌, ◌^◌, ◌++◌, length, IfOk, IfSome, IsNone};
 ghost use Rattle.std.specs.Int.{w64, to_le_bytes};
-ghost use Rattle.shards_format.specs.Files.{HasCollision};
+ghost use Rattle.shards_format.specs.Files.{Collide};
 ghost use Rattle.shards_format.specs.Pieces.{chunk};
 ghost use Rattle.shards_format.specs.Trailers.{listing, set_name, trailer_bytes};
 
@@ -79,8 +79,10 @@ impl Trailer {
 
     /// Whether the other one is of the same set, by the set's name.
     pub fn is_of_set(&self, other: &Trailer) -> bool
+        // They have the same digests and length, or else their listings differ and have one digest.
         ensures same { result ≡ true → ((self.now.digests.items ≡ other.now.digests.items)
-            × (self.now.len ≡ other.now.len)) ⊎ HasCollision }
+            × (self.now.len ≡ other.now.len))
+            ⊎ Collide (listing self.now.digests.items self.now.len) (listing other.now.digests.items other.now.len) }
         ensures others { result ≡ false → self.now.digests.items ≡ other.now.digests.items
             → self.now.len ≡ other.now.len → ⊥ }
     {
