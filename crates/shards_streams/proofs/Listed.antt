@@ -6,15 +6,16 @@ use Rattle.std.proofs.lemmas.Bool.{cases_lt}
 use Rattle.std.proofs.lemmas.List.{take_at}
 use Rattle.sha2.specs.Sha256.{sha256}
 use Rattle.ark_bytes.specs.declared.source.Source.{Ghosts}
+use Rattle.ark_bytes.specs.Reading.{Takes, source_state}
 use Rattle.shards_format.specs.Stripes.{Numbering}
 use Rattle.shards_format.specs.Headers.{head_bytes}
 use Rattle.shards_format.specs.Pieces.{IsBody, body_size, chunk}
-use Rattle.shards_format.specs.Files.{AreDigests, HasCollision}
+use Rattle.shards_format.specs.Files.{AreDigests}
 use Rattle.shards_format.proofs.HeaderLists.{one_body}
 use Rattle.shards_format.proofs.TrailerLists.{same_text}
 use Rattle.shards_streams.specs.declared.reader.PieceReader.{PieceReader}
-use Rattle.shards_streams.specs.Readers.{HasRead, reader_state}
-use Rattle.shards_streams.specs.Joining.{GaveBody, HasBody, HasJoined, HasRestored, HaveBodies, HaveHeads}
+use Rattle.shards_streams.specs.Readers.{HasRead, piece_source, reader_state}
+use Rattle.shards_streams.specs.Joining.{GaveBody, GaveCollision, HasBody, HasJoined, HasRestored, HaveBodies, HaveHeads}
 use Rattle.shards_streams.proofs.PartsRead.{some_item}
 use Rattle.shards_streams.proofs.Taken.{known_after}
 
@@ -83,24 +84,38 @@ module _ {R : Type 0} (source : Ghosts R) (number : Numbering) (k n : ℕ) (plac
     file = restored.file;
   }
 
-  module _ (joined : HasJoined source number k n places digests len old s t) (some : 0 < k) (count : length old ≡ k) (below : (a : ℕ) → a < length places → get_or places a 0 < n) (places_len : length places ≡ k) where
-    -- the body that was given is that of the file's piece
-    own_body : (label bytes : List ℕ) → AreDigests number k n label bytes digests → length label < 65536 → HaveHeads k n places old → (a : ℕ) (l : a < k)
-        → IsBody number k n bytes (get_or places a 0) (joined.each a l).body ⊎ HasCollision
-    own_body label bytes D short heads a l =
+  module _ (restored : HasRestored source number k n places len old new s t) (some : 0 < k) (count : length old ≡ k) (below : (a : ℕ) → a < length places → get_or places a 0 < n) (places_len : length places ≡ k)
+      (listed : (a : ℕ) (d : PieceReader R) (text : List ℕ) → a < length new → HasRead (get_or new a d) text → chunk 32 (get_or places a 0) digests ≡ sha256 text) (all : length new ≡ k) (compared : List (PieceReader R))
+      (kept : (a : ℕ) (d : PieceReader R) → a < length new → piece_source (get_or compared a d) ≡ piece_source (get_or new a d)) where
+    -- the body that was given is that of the file's piece, or collides with it
+    own_body : (label bytes : List ℕ) → AreDigests number k n label bytes digests → length label < 65536 → length bytes ≡ len → (heads : HaveHeads k n places old) → (a : ℕ) (l : a < k)
+        → IsBody number k n bytes (get_or places a 0) (restored.each a l).body ⊎ GaveCollision source number k n label bytes places old compared heads
+    own_body label bytes D short size heads a l =
         let place = get_or places a 0 in
         let d = some_item old (subst (λ m. 0 < m) (sym count) some) in
         let head = heads a d l in
-        let gave = joined.each a l in
-        let listed = D.each place (below a (subst (λ m. a < m) (sym places_len) l)) in
-        elim (same_text (head_bytes k n place label ++ listed.body) (head_bytes k n place head.0 ++ gave.body) (sym listed.digest_is ∙ gave.listed d (head_bytes k n place head.0) head.2)) [
-          | inl same ↦ inl (subst (IsBody number k n bytes place) (one_body k n place label head.0 listed.body gave.body short head.1 same) listed.body_is)
-          | inr collision ↦ inr collision
+        let text = head_bytes k n place head.0 in
+        let gave = restored.each a l in
+        let own = D.each place (below a (subst (λ m. a < m) (sym places_len) l)) in
+        let within : a < length new = subst (λ m. a < m) (sym all) l in
+        let digest = listed a d (text ++ gave.body) within ((gave.gave d).hashed text head.2) in
+        elim (same_text (text ++ gave.body) (head_bytes k n place label ++ own.body) (sym digest ∙ own.digest_is)) [
+          | inl same ↦ inl (subst (IsBody number k n bytes place) (sym (one_body k n place head.0 label gave.body own.body head.1 short same)) own.body_is)
+          | inr collide ↦ inr (record {
+            a = a;
+            d = d;
+            inside = l;
+            body = gave.body;
+            len_is = gave.len_is ∙ ap (body_size k place) (sym size);
+            takes = subst (λ (r : R). Takes (reader_state source (get_or old a d)) (source_state source.remaining source.failures r) gave.body) (sym (kept a d within)) (gave.gave d).takes;
+            collides = record { body = own.body; body_is = own.body_is; collide = collide };
+          })
         ]
 
-    pub file_or_collision : (label bytes : List ℕ) → ((i : ℕ) → get_or bytes i 0 < 256) → AreDigests number k n label bytes digests → length label < 65536 → length bytes ≡ len → HaveHeads k n places old
-        → Appends s t bytes ⊎ HasCollision
-    file_or_collision label bytes small D short size heads = elim (all_or_else k (λ a l. IsBody number k n bytes (get_or places a 0) (joined.each a l).body) HasCollision (own_body label bytes D short heads)) [
-      | inl bodies ↦ inl (subst (Appends s t) (joined.file bytes small size bodies) joined.appends)
-      | inr collision ↦ inr collision
-    ]
+    pub file_or_collision : (label bytes : List ℕ) → ((i : ℕ) → get_or bytes i 0 < 256) → AreDigests number k n label bytes digests → length label < 65536 → length bytes ≡ len → (heads : HaveHeads k n places old)
+        → Appends s t bytes ⊎ GaveCollision source number k n label bytes places old compared heads
+    file_or_collision label bytes small D short size heads =
+        elim (all_or_else k (λ a l. IsBody number k n bytes (get_or places a 0) (restored.each a l).body) (GaveCollision source number k n label bytes places old compared heads) (own_body label bytes D short size heads)) [
+          | inl bodies ↦ inl (subst (Appends s t) (restored.file bytes small size bodies) restored.appends)
+          | inr collision ↦ inr collision
+        ]

@@ -8,8 +8,8 @@ use Rattle.ark_bytes.specs.declared.sink.Sink.{Ghosts as SinkGhosts}
 use Rattle.shards_format.specs.Stripes.{Numbering}
 use Rattle.shards_format.specs.Headers.{head_bytes}
 use Rattle.shards_format.specs.Trailers.{trailer_bytes}
-use Rattle.shards_format.specs.Pieces.{IsBody, chunk}
-use Rattle.shards_format.specs.Files.{AreDigests, HasCollision, IsListed}
+use Rattle.shards_format.specs.Pieces.{IsBody, body_size, chunk}
+use Rattle.shards_format.specs.Files.{AreDigests, IsListed}
 use Rattle.shards_format.proofs.OneBody.{same_body}
 use Rattle.shards_format.proofs.TrailerLists.{same_text}
 use Rattle.shards_streams.specs.declared.reader.PieceReader.{PieceReader}
@@ -18,14 +18,14 @@ use Rattle.shards_streams.specs.Readers.{HasRead}
 use Rattle.shards_streams.specs.Writers.{piece_sink, HasHashed, Took}
 use Rattle.shards_streams.specs.Streams.{TookPiece}
 use Rattle.shards_streams.specs.Joining.{HaveBodies}
-use Rattle.shards_streams.specs.Repairing.{HasRemade, HaveFilePieces, TookListed, TookSized}
+use Rattle.shards_streams.specs.Repairing.{HasRemade, HaveFilePieces, TookCollision, TookListed, TookSized}
 use Rattle.shards_streams.proofs.Listed.{gave_file}
 use Rattle.shards_streams.proofs.PartsRead.{some_item}
 use Rattle.shards_streams.proofs.Writers.{took_both}
 
--- a piece with its digest of a file's is the file's piece, or two texts have one digest
+-- a piece with its digest of a file's is the file's piece, or collides with it
 pub piece_or_collision : (number : Numbering) (k n : ℕ) (label other bytes digests : List ℕ) (len place : ℕ) (s t : Option (List ℕ)) → TookListed k n label digests len place s t
-    → AreDigests number k n other bytes digests → length bytes ≡ len → place < n → TookPiece number k n other bytes digests place s t ⊎ HasCollision
+    → AreDigests number k n other bytes digests → length bytes ≡ len → place < n → TookPiece number k n other bytes digests place s t ⊎ TookCollision number k n label other bytes digests place s t
 piece_or_collision number k n label other bytes digests len place s t took D size below =
     let own = D.each place below in
     elim (same_text (head_bytes k n place label ++ took.body) (head_bytes k n place other ++ own.body) (sym took.listed ∙ own.digest_is)) [
@@ -34,7 +34,15 @@ piece_or_collision number k n label other bytes digests len place s t took D siz
         is = record { listed = own; is = refl };
         appends = subst (Appends s t) (ap₂ (λ (x : List ℕ) m. x ++ trailer_bytes digests m) same (sym size)) took.appends;
       })
-      | inr collision ↦ inr collision
+      | inr collide ↦ inr (record {
+        took = record {
+          body = took.body;
+          len_is = took.len_is ∙ ap (body_size k place) (sym size);
+          listed = took.listed;
+          appends = subst (λ m. Appends s t ((head_bytes k n place label ++ took.body) ++ trailer_bytes digests m)) (sym size) took.appends;
+        };
+        collides = record { body = own.body; body_is = own.body_is; collide = collide };
+      })
     ]
 
 -- the body of a file's piece has the digest that is listed

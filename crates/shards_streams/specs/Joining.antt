@@ -3,10 +3,12 @@ use Rattle.std.specs.Prelude.{◌≡◌, ℕ, ◌<◌, ◌+◌, ◌*◌, List, �
 use Rattle.std.specs.Io.KnownBytes.{Appends}
 use Rattle.sha2.specs.Sha256.{sha256}
 use Rattle.ark_bytes.specs.declared.source.Source.{Ghosts}
+use Rattle.ark_bytes.specs.Reading.{Takes}
 use Rattle.shards_format.specs.Stripes.{Numbering}
 use Rattle.shards_format.specs.Headers.{head_bytes}
 use Rattle.shards_format.specs.Parts.{number_in}
 use Rattle.shards_format.specs.Pieces.{IsBody, body_size, chunk, mark_size}
+use Rattle.shards_format.specs.Files.{CollidesWithPiece}
 use Rattle.shards_streams.specs.declared.reader.PieceReader.{PieceReader}
 use Rattle.shards_streams.specs.Readers.{Gave, HasRead, reader_state}
 
@@ -39,6 +41,16 @@ module _ {R : Type 0} (source : Ghosts R) where
     pub body : List ℕ
     pub len_is : length body ≡ body_size k place len
     pub gave : (d : PieceReader R) → Gave source (get_or old a d) (get_or new a d) body
+
+  -- a reader gave a body that, behind the header and the label that it had read, collides with the file's piece at its place
+  pub record GaveCollision (number : Numbering) (k n : ℕ) (label bytes places : List ℕ) (old new : List (PieceReader R)) (heads : HaveHeads k n places old) : Type 0 where
+    pub a : ℕ
+    pub d : PieceReader R
+    pub inside : a < k
+    pub body : List ℕ
+    pub len_is : length body ≡ body_size k (get_or places a 0) (length bytes)
+    pub takes : Takes (reader_state source (get_or old a d)) (reader_state source (get_or new a d)) body
+    pub collides : CollidesWithPiece number k n label bytes (get_or places a 0) (head_bytes k n (get_or places a 0) (heads a d inside).0 ++ body)
 
   -- each reader gave a body; where these are the bodies of a file's pieces, the sink took this file
   pub record HasRestored (number : Numbering) (k n : ℕ) (places : List ℕ) (len : ℕ) (old new : List (PieceReader R)) (before after : Option (List ℕ)) : Type 0 where

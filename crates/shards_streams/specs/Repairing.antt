@@ -8,7 +8,7 @@ use Rattle.shards_format.specs.Stripes.{Numbering}
 use Rattle.shards_format.specs.Headers.{head_bytes}
 use Rattle.shards_format.specs.Trailers.{trailer_bytes}
 use Rattle.shards_format.specs.Pieces.{IsBody, body_size, chunk}
-use Rattle.shards_format.specs.Files.{AreDigests}
+use Rattle.shards_format.specs.Files.{AreDigests, CollidesWithPiece}
 use Rattle.shards_streams.specs.declared.error.StreamError.{StreamError}
 use Rattle.shards_streams.specs.declared.error.StreamError.TheVariants.{Damaged, Forged}
 use Rattle.shards_streams.specs.declared.reader.PieceReader.{PieceReader}
@@ -23,6 +23,11 @@ pub record TookListed (k n : ℕ) (label digests : List ℕ) (len place : ℕ) (
   pub len_is : length body ≡ body_size k place len
   pub listed : chunk 32 place digests ≡ sha256 (head_bytes k n place label ++ body)
   pub appends : Appends old new ((head_bytes k n place label ++ body) ++ trailer_bytes digests len)
+
+-- a sink took a piece by its digest, behind a label of its own, that collides with the file's piece at this place
+pub record TookCollision (number : Numbering) (k n : ℕ) (own label bytes digests : List ℕ) (place : ℕ) (old new : Option (List ℕ)) : Type 0 where
+  pub took : TookListed k n own digests (length bytes) place old new
+  pub collides : CollidesWithPiece number k n label bytes place (head_bytes k n place own ++ took.body)
 
 -- the trailer has the digests of a file's pieces with this label, and each reader has read the head of its piece and has the body left
 pub record HaveFilePieces {R : Type 0} (source : Ghosts R) (number : Numbering) (k n : ℕ) (places label digests : List ℕ) (len : ℕ) (readers : List (PieceReader R)) : Type 0 where

@@ -5,12 +5,12 @@ ghost use Rattle.std.specs.Io.KnownBytes.{Appends};
 ghost use Rattle.sha2.specs.Sha256.{sha256};
 ghost use Rattle.ark_bytes.specs.Transfer.{AppendsBeginning};
 ghost use Rattle.ark_bytes.specs.Reading.{TakesFewer};
-ghost use Rattle.shards_format.specs.Files.{AreApart, AreDigests, HasCollision};
+ghost use Rattle.shards_format.specs.Files.{AreApart, AreDigests};
 ghost use Rattle.shards_format.specs.Parts.{number_in};
 ghost use Rattle.shards_format.specs.Pieces.{body_size, chunk, mark_size};
 ghost use Rattle.shards_streams.specs.declared.reader.PieceReader.{PieceReader};
-ghost use Rattle.shards_streams.specs.Readers.{HasRead, reader_state};
-ghost use Rattle.shards_streams.specs.Joining.{GavePart, HasJoined, HasRestored, HaveBodies, HaveHeads};
+ghost use Rattle.shards_streams.specs.Readers.{HasRead, piece_source, reader_state};
+ghost use Rattle.shards_streams.specs.Joining.{GaveCollision, GavePart, HasJoined, HasRestored, HaveBodies, HaveHeads};
 
 use crate::error::StreamError;
 use crate::reader::PieceReader;
@@ -57,12 +57,15 @@ pub fn join_into<C: StripeCode, R: Source + Drop, W: Sink>(
         → HaveBodies R.Source C.number (C.k_of code.now) (C.n_of code.now) bytes chosen.now.places.now readers.old
         → Appends (W.contents sink.old) (W.contents sink.new) bytes) }
 
-    // The pieces of a file give this file, whatever the sources have, or else two texts have one digest.
+    // Where the trailer is that of a file's pieces, they give this file, whatever the sources have, or else what some
+    // reader had read and gave differs from the file's piece at its place, but has its digest.
     ensures file { OnOk result ((label bytes : List ℕ) → ((i : ℕ) → get_or bytes i 0 < 256)
         → AreDigests C.number (C.k_of code.now) (C.n_of code.now) label bytes chosen.now.trailer.now.digests.items
         → length label < 65536 → length bytes ≡ chosen.now.trailer.now.len
-        → HaveHeads (C.k_of code.now) (C.n_of code.now) chosen.now.places.now readers.old
-        → Appends (W.contents sink.old) (W.contents sink.new) bytes ⊎ HasCollision) }
+        → (heads : HaveHeads (C.k_of code.now) (C.n_of code.now) chosen.now.places.now readers.old)
+        → Appends (W.contents sink.old) (W.contents sink.new) bytes
+        ⊎ GaveCollision R.Source C.number (C.k_of code.now) (C.n_of code.now) label bytes chosen.now.places.now
+        readers.old readers.new heads) }
     ensures beginning { OnErr result ((bytes : List ℕ) → ((i : ℕ) → get_or bytes i 0 < 256)
         → length bytes ≡ chosen.now.trailer.now.len
         → HaveBodies R.Source C.number (C.k_of code.now) (C.n_of code.now) bytes chosen.now.places.now readers.old
@@ -147,6 +150,8 @@ pub(crate) fn check_digests<R: Source + Drop>(
     readers: &mut [PieceReader<R>],
 ) -> Result<(), StreamError>
     requires { length readers.old ≡ length chosen.now.places.now }
+    ensures kept { (a : ℕ) (d : PieceReader R) → a < length readers.old
+        → piece_source (get_or readers.new a d) ≡ piece_source (get_or readers.old a d) }
     ensures listed { OnOk result ((a : ℕ) (d : PieceReader R) (text : List ℕ) → a < length readers.old
         → HasRead (get_or readers.old a d) text
         → chunk 32 (get_or chosen.now.places.now a 0) chosen.now.trailer.now.digests.items ≡ sha256 text) }

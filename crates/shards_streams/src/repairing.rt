@@ -3,7 +3,7 @@
 ghost use Rattle.std.specs.Prelude.{◌≡◌, ◌≢◌, ◌⊎◌, ℕ, ◌<◌, ◌≤◌, List, [], ◌++◌, length, get_or, map, Some, Err, IfOk, IfErr, OnOk, OnErr, IsOkUnless};
 ghost use Rattle.std.specs.Io.KnownBytes.{Appends};
 ghost use Rattle.sha2.specs.Sha256.{sha256};
-ghost use Rattle.shards_format.specs.Files.{AreDigests, HasCollision, IsListed};
+ghost use Rattle.shards_format.specs.Files.{AreDigests, IsListed};
 ghost use Rattle.shards_format.specs.Headers.{head_bytes};
 ghost use Rattle.shards_format.specs.Trailers.{trailer_bytes};
 ghost use Rattle.shards_format.specs.Pieces.{body_size, chunk};
@@ -13,7 +13,7 @@ ghost use Rattle.shards_streams.specs.Readers.{HasRead, reader_state};
 ghost use Rattle.shards_streams.specs.Writers.{piece_sink, HasHashed, Took};
 ghost use Rattle.shards_streams.specs.Streams.{TookPiece};
 ghost use Rattle.shards_streams.specs.Joining.{HaveBodies};
-ghost use Rattle.shards_streams.specs.Repairing.{HasRemade, HaveFilePieces, TellsNoDamage, TookListed};
+ghost use Rattle.shards_streams.specs.Repairing.{HasRemade, HaveFilePieces, TellsNoDamage, TookCollision, TookListed};
 
 use crate::error::StreamError;
 use crate::joining::{ChosenPieces, check_digests, take_parts};
@@ -66,14 +66,17 @@ pub fn repair_into<C: StripeCode, R: Source + Drop, W: Sink + Drop>(
         lost.now.chosen.trailer.now.digests.items lost.now.chosen.trailer.now.len (get_or lost.now.places.now b 0)
         (W.contents (piece_sink (get_or writers.old b d))) (W.contents (piece_sink (get_or writers.new b d)))) }
 
-    // Where the trailer is that of a file's pieces, they are made anew, or else two texts have one digest.
+    // Where the trailer is that of a file's pieces, they are made anew, or else what a sink took differs from the
+    // file's piece at its place, but has its digest.
     ensures pieces { OnOk result ((label bytes : List ℕ)
         → AreDigests C.number (C.k_of code.now) (C.n_of code.now) label bytes lost.now.chosen.trailer.now.digests.items
         → length bytes ≡ lost.now.chosen.trailer.now.len → (b : ℕ) (d : PieceWriter W) → b < length lost.now.places.now
         → TookPiece C.number (C.k_of code.now) (C.n_of code.now) label bytes
         lost.now.chosen.trailer.now.digests.items (get_or lost.now.places.now b 0)
         (W.contents (piece_sink (get_or writers.old b d))) (W.contents (piece_sink (get_or writers.new b d)))
-        ⊎ HasCollision) }
+        ⊎ TookCollision C.number (C.k_of code.now) (C.n_of code.now) lost.now.label.now label bytes
+        lost.now.chosen.trailer.now.digests.items (get_or lost.now.places.now b 0)
+        (W.contents (piece_sink (get_or writers.old b d))) (W.contents (piece_sink (get_or writers.new b d)))) }
 
     // The pieces of a file are never refused for what they are.
     ensures whole { IfErr result (λ e. HaveFilePieces R.Source C.number (C.k_of code.now) (C.n_of code.now)

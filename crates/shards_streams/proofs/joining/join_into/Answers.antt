@@ -4,10 +4,10 @@ use Rattle.sha2.specs.Sha256.{sha256}
 use Rattle.ark_bytes.specs.Transfer.{AppendsBeginning}
 use Rattle.ark_bytes.proofs.Transfer.{AppendsBeginning-all}
 use Rattle.shards_format.specs.Pieces.{chunk}
-use Rattle.shards_format.specs.Files.{AreDigests, HasCollision}
+use Rattle.shards_format.specs.Files.{AreDigests}
 use Rattle.shards_streams.specs.declared.reader.PieceReader.{PieceReader}
 use Rattle.shards_streams.specs.Readers.{HasRead}
-use Rattle.shards_streams.specs.Joining.{HasJoined, HaveBodies, HaveHeads}
+use Rattle.shards_streams.specs.Joining.{GaveCollision, HasJoined, HaveBodies, HaveHeads}
 use Rattle.shards_streams.proofs.Results.{err_any, ok_any, ok_map}
 use Rattle.shards_streams.proofs.Listed.{all_compared, file_or_collision, gave_own, restored_file}
 use Rattle.shards_streams.proofs.joining.join_into.Goals as goal
@@ -41,9 +41,9 @@ returns-clause-file g c =
     let Listed : Type 0 = (a : ℕ) (d : PieceReader g.row.R.Denot) (text : List ℕ) → a < length c.join_bodies.new.readers → HasRead (get_or c.join_bodies.new.readers a d) text → chunk 32 (get_or places a 0) digests ≡ sha256 text in
     let kept : length c.join_bodies.new.readers ≡ k = c.in_ok-join_bodies.ensures.kept ∙ c.requires.readers in
     let File : Type 0 = (label bytes : List ℕ) → ((i : ℕ) → get_or bytes i 0 < 256) → AreDigests code.number k n label bytes digests → length label < 65536 → length bytes ≡ len
-    → HaveHeads k n places c.args.readers.now → Appends s t bytes ⊎ HasCollision in
+    → (heads : HaveHeads k n places c.args.readers.now) → Appends s t bytes ⊎ GaveCollision g.R.Source code.number k n label bytes places c.args.readers.now c.check_digests.new.readers heads in
     let file : Listed → File = λ listed. file_or_collision g.R.Source code.number k n places digests len c.args.readers.now c.join_bodies.new.readers (g.W.Sink.contents c.args.sink.now) (g.W.Sink.contents c.join_bodies.new.sink)
-    (all_compared g.R.Source code.number k n places digests len c.args.readers.now c.join_bodies.new.readers (g.W.Sink.contents c.args.sink.now) (g.W.Sink.contents c.join_bodies.new.sink) c.in_ok-join_bodies.ensures.restored c.requires.readers listed kept) c.in_ok-join_bodies.ensures.some c.requires.readers c.requires.below c.requires.places in
+    c.in_ok-join_bodies.ensures.restored c.in_ok-join_bodies.ensures.some c.requires.readers c.requires.below c.requires.places listed kept c.check_digests.new.readers c.check_digests.ensures.kept in
     ok_map c.check_digests.result Listed File file c.check_digests.ensures.listed
 
 pub returns-clause-beginning : goal.returns-clause-beginning

@@ -1,11 +1,11 @@
 use Rattle.std.proofs.Common.{◌≡◌, ◌⊎◌, ℕ, ◌<◌, List, ◌++◌, arith, rules, length, get_or, sym, subst, ap, ◌∙◌, Err}
 use Rattle.std.specs.Io.KnownBytes.{Appends}
 use Rattle.shards_format.specs.Trailers.{trailer_bytes}
-use Rattle.shards_format.specs.Files.{AreDigests, HasCollision}
+use Rattle.shards_format.specs.Files.{AreDigests}
 use Rattle.shards_streams.specs.declared.writer.PieceWriter.{PieceWriter}
 use Rattle.shards_streams.specs.Writers.{piece_sink}
 use Rattle.shards_streams.specs.Streams.{TookPiece}
-use Rattle.shards_streams.specs.Repairing.{HaveFilePieces, TellsNoDamage, TookListed}
+use Rattle.shards_streams.specs.Repairing.{HaveFilePieces, TellsNoDamage, TookCollision, TookListed}
 use Rattle.shards_streams.proofs.Results.{if_err, ok_map}
 use Rattle.shards_streams.proofs.PartsRead.{some_item}
 use Rattle.shards_streams.proofs.Listed.{gave_own}
@@ -102,7 +102,8 @@ returns-clause-pieces g c =
     let held : PieceWriter g.row.W.Denot → _ = λ w. g.W.Sink.contents (piece_sink w) in
     let Listed : Type 0 = (b : ℕ) (d : PieceWriter g.row.W.Denot) → b < length lost → TookListed k n label digests len (get_or lost b 0) (held (get_or old b d)) (held (get_or new b d)) in
     let Pieces : Type 0 = (other bytes : List ℕ) → AreDigests code.number k n other bytes digests → length bytes ≡ len → (b : ℕ) (d : PieceWriter g.row.W.Denot) → b < length lost
-    → TookPiece code.number k n other bytes digests (get_or lost b 0) (held (get_or old b d)) (held (get_or new b d)) ⊎ HasCollision in
+    → TookPiece code.number k n other bytes digests (get_or lost b 0) (held (get_or old b d)) (held (get_or new b d))
+    ⊎ TookCollision code.number k n label other bytes digests (get_or lost b 0) (held (get_or old b d)) (held (get_or new b d)) in
     let pieces : Listed → Pieces = λ listed other bytes D size b d l.
     piece_or_collision code.number k n label other bytes digests len (get_or lost b 0) (held (get_or old b d)) (held (get_or new b d)) (listed b d l) D size (c.requires.lost b l) in
     ok_map c.put_trailers.result Listed Pieces pieces (returns-clause-repaired g c)
