@@ -209,7 +209,8 @@ ark_status ark_split(uint64_t k, uint64_t n, const uint8_t *label, size_t label_
 ark_status ark_file_size(uint64_t n, const uint8_t *pieces, size_t pieces_len, uint64_t *len);
 
 /* Writes the file of k or more of its pieces, which are whole, in any order. The first k are read, and the last one's trailer.
- * If this trailer is the file's, whatever else the list has, what is written is the file, or else two texts have one SHA-256.
+ * If this trailer is the file's, whatever else the list has, what is written is the file, or else one of the k pieces differs
+ * from the file's piece at its place and has its SHA-256.
  * ARK_LENGTH where k is none of 1 .. n, n is above 65536, or the file has another length by this trailer, ARK_NOT_PIECES where
  * the list doesn't begin with k pieces of this k and n that differ, or doesn't end with a trailer, ARK_DAMAGED where one of the
  * first k has not its digest of the trailer. */

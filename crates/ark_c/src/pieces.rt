@@ -1,9 +1,8 @@
 //! Files in pieces. The code is `FileCode`: any `k` of `n` pieces give a file back, for `0 < k ≤ n ≤ 2^16`.
 
 ghost use Rattle.std.specs.Prelude.{◌≡◌, ◌≢◌, ◌↔◌, ◌⊎◌, ℕ, ◌<◌, ◌≤◌, List, length, Err, IfOk, IfErr, OnOk, OnErr};
-ghost use Rattle.shards_format.specs.Files.{HasCollision};
 ghost use Rattle.shards_buffers.specs.Sizes.{FitPieces, FitRun, piece_size};
-ghost use Rattle.shards_buffers.specs.Runs.{AreAllPieces, AreEnough, EndAsPieces, HasDamage, HasTrailer};
+ghost use Rattle.shards_buffers.specs.Runs.{AreAllPieces, AreEnough, EndAsPieces, HasCollision, HasDamage, HasTrailer};
 ghost use Rattle.ark_c.specs.Pieces.{HasFileCode};
 
 use crate::status::piece_status;
@@ -83,10 +82,12 @@ pub extern "C" fn ark_join(alloc: Global, k: u64, n: u64, pieces: &[u8], file: &
     // Pieces of a file give this file.
     ensures file { result ≡ 0 → (label bytes : List ℕ)
         → AreEnough ⟦<FileCode as StripeCode>⟧.number k n label bytes pieces.now → file.new ≡ bytes }
-    // Whatever stands before the trailer of a file's pieces, it gives this file, or two texts have one digest.
+    // Whatever stands before the trailer of a file's pieces, it gives this file, or else a piece there differs from
+    // the file's piece at its place, but has its digest.
     ensures trusted { result ≡ 0 → (label bytes : List ℕ)
         → EndAsPieces ⟦<FileCode as StripeCode>⟧.number k n label bytes pieces.now
-        → (file.new ≡ bytes) ⊎ HasCollision }
+        → (file.new ≡ bytes)
+        ⊎ HasCollision ⟦<FileCode as StripeCode>⟧.number k n label bytes pieces.now }
     ensures kept { result ≢ 0 → file.new ≡ file.old }
     ensures taken { result ≡ 0 → HasFileCode k n }
     // Pieces of a file are never refused, but for memory, where there is room for as many bytes as it has.
@@ -163,7 +164,8 @@ fn join_by<C: StripeCode>(
     ensures file { OnOk result ((label bytes : List ℕ)
         → AreEnough C.number k n label bytes pieces.now → file.new ≡ bytes) }
     ensures trusted { OnOk result ((label bytes : List ℕ)
-        → EndAsPieces C.number k n label bytes pieces.now → (file.new ≡ bytes) ⊎ HasCollision) }
+        → EndAsPieces C.number k n label bytes pieces.now
+        → (file.new ≡ bytes) ⊎ HasCollision C.number k n label bytes pieces.now) }
     ensures kept { OnErr result (file.new ≡ file.old) }
     ensures refused { IfErr result (λ e. (label bytes : List ℕ) → C.has k n
         → AreEnough C.number k n label bytes pieces.now

@@ -1,8 +1,8 @@
 //! Bytes in pieces, of which as many as are needed give them back.
 
 ghost use Rattle.std.specs.Prelude.{◌≡◌, ◌⊎◌, ℕ, ◌<◌, ◌^◌, List, length, get_or, IfOk, IfErr};
-ghost use Rattle.shards_format.specs.Files.{AreApart, AreDigests, HasCollision};
-ghost use Rattle.shards_streams.specs.Joining.{HaveHeads};
+ghost use Rattle.shards_format.specs.Files.{AreApart, AreDigests};
+ghost use Rattle.shards_streams.specs.Joining.{GaveCollision, HaveHeads};
 
 use ark_bytes::{IoSink, Source};
 use shards_format::StripeCode;
@@ -38,8 +38,8 @@ fn last_places<C: StripeCode>(alloc: Global, code: &C) -> Result<Vec<usize>, All
     Ok(places)
 }
 
-/// What pieces give that come from anywhere: where they end with the trailer of a file's pieces this file, unless two texts
-/// have one digest.
+/// What pieces give that come from anywhere: where they end with the trailer of a file's pieces this file, unless one of them
+/// differs from the file's piece at its place, but has its digest.
 pub fn joined<C: StripeCode, R: Source + Drop>(
     alloc: Global,
     code: &C,
@@ -52,8 +52,9 @@ pub fn joined<C: StripeCode, R: Source + Drop>(
     ensures file { IfOk result (λ given. (label bytes : List ℕ) → ((i : ℕ) → get_or bytes i 0 < 256)
         → AreDigests C.number (C.k_of code.now) (C.n_of code.now) label bytes chosen.now.trailer.now.digests.items
         → length label < 65536 → length bytes ≡ chosen.now.trailer.now.len
-        → HaveHeads (C.k_of code.now) (C.n_of code.now) chosen.now.places.now readers.old
-        → (given.items ≡ bytes) ⊎ HasCollision) }
+        → (heads : HaveHeads (C.k_of code.now) (C.n_of code.now) chosen.now.places.now readers.old)
+        → (given.items ≡ bytes) ⊎ GaveCollision R.Source C.number (C.k_of code.now) (C.n_of code.now) label bytes
+        chosen.now.places.now readers.old readers.new heads) }
 {
     let mut sink = IoSink::new(Vec::new(alloc));
     join_into(alloc, code, chosen, readers, &mut sink)?;

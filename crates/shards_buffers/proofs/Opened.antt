@@ -1,15 +1,16 @@
 -- Pieces that bytes begin with, and their readers.
-use Rattle.std.proofs.Common.{◌≡◌, ◌≢◌, ℕ, zero, suc, ◌+◌, ◌-◌, ◌*◌, ◌<◌, ◌≤◌, List, [], ◌∷◌, ◌++◌, length, take, drop, get_or, arith, refl, sym, subst, ◌∙◌, ap, append-nil, append_assoc, length-append, length-take-le, take-append-drop, below_more, Bor}
+use Rattle.std.proofs.Common.{◌≡◌, ◌≢◌, ℕ, zero, suc, ◌+◌, ◌-◌, ◌*◌, ◌<◌, ◌≤◌, List, [], ◌∷◌, ◌++◌, length, take, drop, get_or, arith, refl, sym, subst, ◌∙◌, ap, ap₂, append-nil, append_assoc, length-append, length-take-le, take-append-drop, below_more, Bor}
 use Rattle.std.proofs.lemmas.Grind.{flat_map-append}
 use Rattle.std.proofs.lemmas.List.{drop_all, drop_more, get_or_append_left, get_or_push, length_push, take_at}
 use Rattle.sha2.specs.Sha256.{sha256}
+use Rattle.shards_format.specs.Stripes.{Numbering}
 use Rattle.shards_format.specs.Headers.{header_bytes, head_bytes}
 use Rattle.shards_format.specs.Pieces.{body_size, chunk}
-use Rattle.shards_format.specs.Files.{AreApart}
+use Rattle.shards_format.specs.Files.{AreApart, CollidesWithPiece}
 use Rattle.shards_streams.specs.declared.reader.PieceReader.{PieceReader}
 use Rattle.shards_streams.specs.Readers.{HasRead, piece_source}
 use Rattle.shards_streams.proofs.PartsRead.{some_item}
-use Rattle.shards_buffers.specs.Runs.{AreSized, HasDamage, concat, without_trailer}
+use Rattle.shards_buffers.specs.Runs.{AreSized, HasCollision, HasDamage, concat, without_trailer}
 use Rattle.shards_buffers.specs.Opened.{HasOpened, HaveOpened}
 use Rattle.shards_buffers.proofs.LastBytes.{front_of}
 use Rattle.shards_buffers.proofs.Sized.{header_len, one_label, one_piece, one_place}
@@ -30,13 +31,21 @@ pub record HasText (k n len i : ℕ) (piece : List ℕ) (reader : Reader) : Type
   pub len_is : length body ≡ body_size k i len
   pub text : without_trailer n piece ≡ head ++ body
 
--- what was read of it is its header and a label
-pub record HasHead (k n i : ℕ) (reader : Reader) : Type 0 where
+-- what was read of it is its header and a label, behind which its body is left
+pub record HasHead (k n len i : ℕ) (piece : List ℕ) (reader : Reader) : Type 0 where
   pub label : List ℕ
   pub short : length label < 65536
   pub read : HasRead reader (head_bytes k n i label)
+  pub text : (body rest : List ℕ) → (piece_source reader).now ≡ body ++ rest → length body ≡ body_size k i len → without_trailer n piece ≡ head_bytes k n i label ++ body
 
 module _ (k n len i : ℕ) (piece : List ℕ) (reader : Reader) (o : HasOpened k n len i piece reader) where
+  text_is : (head body rest : List ℕ) → o.passed.head ≡ head → (piece_source reader).now ≡ body ++ rest → length body ≡ body_size k i len → without_trailer n piece ≡ head ++ body
+  text_is head body rest same parts size =
+      let all = length piece - (32 * n + 40) in
+      let is : piece ≡ (head ++ body) ++ rest = o.passed.is ∙ ap₂ (λ (x y : List ℕ). x ++ y) same parts ∙ sym (append_assoc head body rest) in
+      let whole : length (head ++ body) ≡ all = omega (arith, length-append head body, ap length same, o.passed.len, size, o.sized.size) in
+      ap (take all) is ∙ take_at (head ++ body) rest all whole
+
   pub has_text : HasText k n len i piece reader
   has_text =
       let head = o.passed.head in
@@ -46,8 +55,6 @@ module _ (k n len i : ℕ) (piece : List ℕ) (reader : Reader) (o : HasOpened k
       let parts : body ++ rest ≡ left = take-append-drop (body_size k i len) left in
       let room : length head + length left ≡ length piece = sym (ap length o.passed.is ∙ length-append head left) in
       let size : length body ≡ body_size k i len = length-take-le (body_size k i len) left (omega (arith, room, o.passed.len, o.sized.size)) in
-      let all = length piece - (32 * n + 40) in
-      let whole : length (head ++ body) ≡ all = omega (arith, length-append head body, o.passed.len, size, o.sized.size) in
       record {
         head = head;
         body = body;
@@ -55,10 +62,10 @@ module _ (k n len i : ℕ) (piece : List ℕ) (reader : Reader) (o : HasOpened k
         read = o.passed.read;
         is = sym parts;
         len_is = size;
-        text = ap (take all) (o.passed.is ∙ ap (λ xs. head ++ xs) (sym parts) ∙ sym (append_assoc head body rest)) ∙ take_at (head ++ body) rest all whole;
+        text = text_is head body rest refl (sym parts) size;
       }
 
-  pub has_head : HasHead k n i reader
+  pub has_head : HasHead k n len i piece reader
   has_head =
       let head = o.passed.head in
       let header = header_bytes k n i o.label_len in
@@ -67,10 +74,12 @@ module _ (k n len i : ℕ) (piece : List ℕ) (reader : Reader) (o : HasOpened k
       front_of header head (piece_source reader).now o.sized.behind (omega (arith, o.passed.len, header_len k n i o.label_len)) (sym o.passed.is ∙ o.sized.is) in
       let len : o.label_len ≡ length label =
       omega (arith, ap length is, length-append header label, header_len k n i o.label_len, o.passed.len) in
+      let own : head ≡ head_bytes k n i label = is ∙ ap (λ l. header_bytes k n i l ++ label) len in
       record {
         label = label;
         short = omega (arith, len, o.sized.short);
-        read = subst (λ (xs : List ℕ). HasRead reader xs) (is ∙ ap (λ l. header_bytes k n i l ++ label) len) o.passed.read;
+        read = subst (λ (xs : List ℕ). HasRead reader xs) own o.passed.read;
+        text = λ body rest parts size. text_is (head_bytes k n i label) body rest own parts size;
       }
 
 same_opened : (k n len i j : ℕ) (p q : List ℕ) (r s : Reader) → i ≡ j → p ≡ q → r ≡ s → HasOpened k n len i p r → HasOpened k n len j q s
@@ -196,3 +205,14 @@ module _ (k n len m : ℕ) (run left places : List ℕ) (readers : List Reader) 
         let place_a = (same_at a (some_reader a first) first (subst (λ x. a < x) all first)).place in
         let place_b = (same_at b (some_reader b last) last (subst (λ x. b < x) all last)).place in
         s.apart a b l (omega (arith, last, all, s.enough)) (sym place_a ∙ same ∙ place_b)
+
+-- of k that are opened, at places that differ, one collides with a file's piece
+pub collided : (number : Numbering) (k n : ℕ) (label bytes run left places : List ℕ) (readers : List Reader) (o : HaveOpened k n (length bytes) k run left places readers) → AreApart places → (a : ℕ) → a < k
+    → CollidesWithPiece number k n label bytes (get_or places a 0) (without_trailer n (get_or o.pieces a [])) → HasCollision number k n label bytes run
+unfolding sized
+collided number k n label bytes run left places readers o apart a h collides = record {
+  sized = sized k n (length bytes) k run left places readers o refl apart;
+  a = a;
+  inside = h;
+  collides = collides;
+}

@@ -5,7 +5,7 @@ use Rattle.shards_format.specs.Stripes.{Numbering}
 use Rattle.shards_format.specs.Headers.{header_bytes}
 use Rattle.shards_format.specs.Trailers.{trailer_bytes}
 use Rattle.shards_format.specs.Pieces.{chunk}
-use Rattle.shards_format.specs.Files.{AreApart, AreDigests, IsPiece}
+use Rattle.shards_format.specs.Files.{AreApart, AreDigests, CollidesWithPiece, IsPiece}
 use Rattle.shards_streams.specs.declared.writer.PieceWriter.{PieceWriter}
 use Rattle.shards_streams.specs.declared.laws.ListSink.{ListSink}
 use Rattle.shards_streams.specs.Writers.{piece_sink}
@@ -92,3 +92,10 @@ pub record HasDamage (k n len : ℕ) (digests run : List ℕ) : Type 0 where
   pub a : ℕ
   pub inside : a < k
   pub differs : chunk 32 (get_or sized.places a 0) digests ≢ sha256 (without_trailer n (get_or sized.pieces a []))
+
+-- bytes begin with k such pieces, of which one collides with the file's piece at its place
+pub record HasCollision (number : Numbering) (k n : ℕ) (label bytes run : List ℕ) : Type 0 where
+  pub sized : AreSized k n (length bytes) run
+  pub a : ℕ
+  pub inside : a < k
+  pub collides : CollidesWithPiece number k n label bytes (get_or sized.places a 0) (without_trailer n (get_or sized.pieces a []))

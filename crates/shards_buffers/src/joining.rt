@@ -1,8 +1,8 @@
 //! Joining pieces.
 
 ghost use Rattle.std.specs.Prelude.{◌≡◌, ◌≢◌, ◌⊎◌, ℕ, List, length, Err, IfOk, IfErr, OnOk, OnErr};
-ghost use Rattle.shards_format.specs.Files.{AreDigests, HasCollision};
-ghost use Rattle.shards_buffers.specs.Runs.{AreEnough, EndAsPieces, HasDamage, HasTrailer, IsFile};
+ghost use Rattle.shards_format.specs.Files.{AreDigests};
+ghost use Rattle.shards_buffers.specs.Runs.{AreEnough, EndAsPieces, HasCollision, HasDamage, HasTrailer, IsFile};
 
 use crate::ends::last_trailer;
 use crate::error::BufferError;
@@ -30,10 +30,11 @@ pub fn join<C: StripeCode>(
     ensures refused { IfErr result (λ e. (label file : List ℕ)
         → AreEnough C.number (C.k_of code.now) (C.n_of code.now) label file pieces.now
         → (e ≡ BufferError.Memory) ⊎ ((e ≡ BufferError.Length) × (length file ≢ length bytes.old))) }
-    // Whatever stands before the trailer of a file's pieces, it gives this file, or two texts have one digest.
+    // Whatever stands before the trailer of a file's pieces, it gives this file, or else a piece there differs from
+    // the file's piece at its place, but has its digest.
     ensures trusted { OnOk result ((label file : List ℕ)
         → EndAsPieces C.number (C.k_of code.now) (C.n_of code.now) label file pieces.now
-        → (bytes.new ≡ file) ⊎ HasCollision) }
+        → (bytes.new ≡ file) ⊎ HasCollision C.number (C.k_of code.now) (C.n_of code.now) label file pieces.now) }
     ensures kept { OnErr result (bytes.new ≡ bytes.old) }
     ensures length { result ≡ Err BufferError.Length → (digests : List ℕ) × (len : ℕ)
         × HasTrailer (C.n_of code.now) digests len pieces.now × (len ≢ length bytes.old) }
@@ -64,7 +65,8 @@ fn joined<C: StripeCode>(
         → length file ≡ trailer.now.len → joined.items ≡ file) }
     ensures trusted { IfOk result (λ joined. (label file : List ℕ) → IsFile label file
         → AreDigests C.number (C.k_of code.now) (C.n_of code.now) label file trailer.now.digests.items
-        → length file ≡ trailer.now.len → (joined.items ≡ file) ⊎ HasCollision) }
+        → length file ≡ trailer.now.len → (joined.items ≡ file)
+        ⊎ HasCollision C.number (C.k_of code.now) (C.n_of code.now) label file pieces.now) }
     ensures refused { IfErr result (λ e. (label file : List ℕ)
         (p : AreEnough C.number (C.k_of code.now) (C.n_of code.now) label file pieces.now)
         → p.digests ≡ trailer.now.digests.items → length file ≡ trailer.now.len → e ≡ BufferError.Memory) }

@@ -1,9 +1,8 @@
 use Rattle.std.proofs.Common.{◌≡◌, ◌≢◌, ◌⊎◌, ℕ, List, length, OnOk, IfErr, subst₂}
-use Rattle.shards_format.specs.Files.{HasCollision}
 use Rattle.shards_streams.proofs.Results.{if_err_map}
 use Rattle.shards_buffers.specs.declared.error.BufferError.{BufferError}
 use Rattle.shards_buffers.specs.declared.error.BufferError.TheVariants.{Length, Memory}
-use Rattle.shards_buffers.specs.Runs.{AreEnough, EndAsPieces}
+use Rattle.shards_buffers.specs.Runs.{AreEnough, EndAsPieces, HasCollision}
 use Rattle.ark_c.proofs.pieces.join_by.Goals as goal
 
 pub returns-clause-file : goal.returns-clause-file
@@ -13,7 +12,7 @@ returns-clause-file g c =
 
 pub returns-clause-trusted : goal.returns-clause-trusted
 returns-clause-trusted g c =
-    subst₂ (λ k n. OnOk c.join.result ((label bytes : List ℕ) → EndAsPieces g.C.StripeCode.number k n label bytes c.args.pieces.now → (c.join.new.bytes ≡ bytes) ⊎ HasCollision))
+    subst₂ (λ k n. OnOk c.join.result ((label bytes : List ℕ) → EndAsPieces g.C.StripeCode.number k n label bytes c.args.pieces.now → (c.join.new.bytes ≡ bytes) ⊎ HasCollision g.C.StripeCode.number k n label bytes c.args.pieces.now))
     c.in_ok-code.ensures.k c.in_ok-code.ensures.n c.join.ensures.trusted
 
 pub returns-clause-refused : goal.returns-clause-refused

@@ -1,14 +1,15 @@
 use Rattle.std.proofs.Common.{rules, ◌≡◌, ◌⊎◌, ℕ, ◌<◌, List, ◌++◌, length, get_or, Result, Some, Err, sym, ap, ◌∙◌, subst, subst₂, arith, inl, inr, refl, []}
 use Rattle.sha2.specs.Sha256.{sha256}
 use Rattle.shards_format.specs.Pieces.{body_size, chunk}
-use Rattle.shards_format.specs.Files.{AreApart}
+use Rattle.shards_format.specs.Files.{AreApart, CollidesWithPiece}
+use Rattle.shards_streams.specs.Joining.{HaveHeads}
 use Rattle.shards_streams.proofs.PartsRead.{some_item}
 use Rattle.shards_streams.proofs.Results.{if_err_map}
 use Rattle.shards_buffers.specs.declared.error.BufferError.{BufferError}
 use Rattle.shards_buffers.specs.declared.error.BufferError.TheVariants.{Memory, NotPieces}
 use Rattle.shards_buffers.specs.Runs.{AreSized}
 use Rattle.shards_buffers.specs.Opened.{HaveOpened}
-use Rattle.shards_buffers.proofs.Opened.{Reader, below, damaged, has_head, has_text}
+use Rattle.shards_buffers.proofs.Opened.{Reader, below, collided, damaged, has_head, has_text}
 use Rattle.shards_buffers.proofs.Rejoined.{first_sized, have_bodies, have_digests}
 use Rattle.shards_buffers.proofs.joining.joined.Goals as goal
 
@@ -68,19 +69,27 @@ returns-in-Ok-clause-trusted g c = λ label file is listed size.
     let code = g.C.StripeCode in
     let k = code.k_of c.args.code.now in
     let n = code.n_of c.args.code.now in
-    let len = c.args.trailer.now.len in
     let run = c.args.pieces.now in
     let o = c.in_ok-places.ensures.opened in
     let places = c.deref.result.now in
     let readers = c.as_mut_slice.result.now in
-    let opened : HaveOpened k n len k run o.0 places readers =
-    subst₂ (λ (ps : List ℕ) (rs : List Reader). HaveOpened k n len k run o.0 ps rs) (sym c.deref.ensures.value) (sym c.as_mut_slice.ensures.value) o.1 in
-    let gives = c.in-Ok.ensures.file label file is.small listed is.short size (λ a d h.
-    let head = has_head k n len (get_or places a 0) (get_or opened.pieces a []) (get_or readers a d) (opened.each a d h) in
-    (head.label, head.short, head.read)) in
-    elim gives [
+    let mine : HaveOpened k n c.args.trailer.now.len k run o.0 places readers =
+    subst₂ (λ (ps : List ℕ) (rs : List Reader). HaveOpened k n c.args.trailer.now.len k run o.0 ps rs) (sym c.deref.ensures.value) (sym c.as_mut_slice.ensures.value) o.1 in
+    let opened : HaveOpened k n (length file) k run o.0 places readers = subst (λ l. HaveOpened k n l k run o.0 places readers) (sym size) mine in
+    let apart : AreApart places = subst (λ (xs : List ℕ). AreApart xs) (sym c.deref.ensures.value) c.in_ok-places.ensures.apart in
+    let heads : HaveHeads k n places readers = λ a d h.
+    let head = has_head k n (length file) (get_or places a 0) (get_or opened.pieces a []) (get_or readers a d) (opened.each a d h) in
+    (head.label, head.short, head.read) in
+    elim (c.in-Ok.ensures.file label file is.small listed is.short size heads) [
       | inl appends ↦ inl (appends ∙ ap (λ (xs : List ℕ). xs ++ file) c.new-sink.ensures)
-      | inr collision ↦ inr collision
+      | inr collision ↦
+          let a = collision.a in
+          let d = collision.d in
+          let place = get_or places a 0 in
+          let head = has_head k n (length file) place (get_or opened.pieces a []) (get_or readers a d) (opened.each a d collision.inside) in
+          let text = head.text collision.body _ collision.takes.consumes collision.len_is in
+          inr (collided code.number k n label file run o.0 places readers opened apart a collision.inside
+          (subst (λ (xs : List ℕ). CollidesWithPiece code.number k n label file place xs) (sym text) collision.collides))
     ]
 
 pub returns-clause-refused : goal.returns-clause-refused
