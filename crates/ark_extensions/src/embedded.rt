@@ -29,6 +29,36 @@ pub trait ExtensionOf<F: Field>: Field {
     ghost embeds: { IsFieldEmbedding F.field Self.field within };
 }
 
+/// A field lies in itself.
+impl<F: Field> ExtensionOf<F> for F {
+    ghost use Rattle.std.proofs.Common.{refl};
+
+    ghost within = { λ x. x };
+
+    #[inline(always)]
+    fn embed(value: F) -> Self {
+        value
+    }
+
+    fn as_base(&self) -> Option<F> {
+        Some(*self)
+    }
+
+    #[inline(always)]
+    fn mul_by_base(self, factor: F) -> Self {
+        factor * self
+    }
+
+    ghost embeds = { record {
+      one_to_one = λ a b e. e;
+      zero_kept = refl;
+      one_kept = refl;
+      plus_kept = λ a b. refl;
+      times_kept = λ a b. refl;
+      negated_kept = λ a. refl;
+    } };
+}
+
 /// The value at a point of the greater field, by Horner's method in steps of four coefficients: a step takes
 /// one product of two elements of the greater field, and three by elements of `F`.
 pub fn evaluate<F: Field, E: ExtensionOf<F>>(coeffs: &[F], point: E) -> E
