@@ -37,6 +37,7 @@ mod sum_check;
 mod sum_check_whole;
 mod there_and_back;
 mod transcript;
+mod word_sums;
 mod words;
 
 use ark_base::{
@@ -75,6 +76,7 @@ use std::fs::{self, File, Files};
 use std::io::{Print, Write};
 use sum_check::{first_round, last_value, next_claim};
 use there_and_back::there_and_back;
+use word_sums::print_word_sums;
 use words::{transformed_by_parts, values_between};
 
 fn main(rt: HostRuntime) -> anyhow::Result<()> {
@@ -132,6 +134,7 @@ fn main(rt: HostRuntime) -> anyhow::Result<()> {
     let mut numbers = [1, 2, 3, 4, 5, 6, 7, 8];
     transformed_by_parts::<BabyBear>(alloc, &mut numbers, 1, 2, &[1])?;
     println!(rt; "two rows of a transform over words: {numbers:?}")?;
+    print_word_sums(&rt, alloc)?;
     print_kept::<FileCode, _>(&rt, alloc)
 }
 

@@ -1,0 +1,31 @@
+use Rattle.std.proofs.Common.{◌≡◌, ◌*◌, ◌^◌, ◌<◌, ◌≤◌, All, inl, inr, arith, ap, sym, subst, ◌∙◌}
+use Rattle.std.specs.List.{AllByRecursion}
+use Rattle.ark_math.proofs.Outcomes.Tests.{decided}
+use Rattle.ark_numbers.specs.Fields.{operations}
+use Rattle.ark_numbers.proofs.Values.{number_field}
+use Rattle.ark_sum_check.specs.Cube.{cube_sum, longest}
+use Rattle.ark_words.specs.Numbers.{numbers}
+use Rattle.ark_word_sums.specs.Sums.{sum_by}
+use Rattle.ark_word_sums.proofs.SoundInNumbers.{in_part, sound_in_numbers}
+use Rattle.ark_word_sums.proofs.laws.true_or_unlucky.Goals as goal
+
+pub returns : goal.returns
+returns g c label statement bytes tables addends m d n ps rounds last small is reduced coefficients p =
+    let F = g.F.PrimeNumbers in
+    let laws = g.met.F.PrimeNumbers in
+    let S = number_field F.numbering F.prime laws.field_law laws.generator_law laws.root_law g.met.F.FftField.roots_law in
+    let L = g.F.Challenge.Field.field in
+    let f = g.F.WordElement.spelled in
+    let law = g.met.F.WordElement.spelled_law in
+    let modulus : f.known.modulus ≡ F.modulus = ap (λ s. s.known.modulus) law in
+    let below : n < F.modulus = subst (λ p. n < p) modulus small in
+    let read : All (λ x. x < F.modulus) (numbers f.width tables) = subst (λ p. All (λ x. x < p) (numbers f.width tables)) modulus reduced in
+    let few : longest ps ≤ d = omega (arith, is.fits.1) in
+    elim (sound_in_numbers S L g.F.Challenge.ExtensionOf.within g.met.F.Challenge.ExtensionOf.embeds g.met.F.Challenge.Field.field_laws
+    (λ a b. decided _ (g.met.F.Challenge.Field.equality_law a b)) d m n (sum_by f m tables ps) rounds last below
+    (λ i b. in_part (λ x. x < F.modulus) (numbers f.width tables) (i * 2 ^ m) (2 ^ m) 0 b read (omega (arith, below)))
+    (subst (λ p. AllByRecursion (λ a. a.coefficient < p) ps) modulus coefficients)
+    few p.count p.accepted) [
+      | inl true_sum ↦ inl (true_sum ∙ ap (λ k. cube_sum (operations k) m (sum_by f m tables ps)) (sym (ap (λ s. s.known) law)))
+      | inr other ↦ inr other
+    ]
