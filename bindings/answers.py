@@ -4,7 +4,8 @@
 A line is a call, its field, its status, the lists that it is given and, after `>`, those that it leaves, all in hexadecimal
 words. What a call changes in place stands in both. Where the status isn't 0, the lists after `>` are those that must still
 be there: `-` is a word of which only that is known. The calls over pieces of files have bytes in place of words, but in the list
-of numbers that they are given first.
+of numbers that they are given first. The calls over sums are given the number of variables and the degree first; label, statement
+and proof are bytes.
 """
 import hashlib
 import random
@@ -28,6 +29,7 @@ BEYOND = {5: 5, 433: 433, 65537: 2**16 + 1, 2013265921: 2**27 + 1, 2130706433: 2
           254: 2**28 + 1, 12381: 2**32 + 1}
 
 OK, NO_FIELD, LENGTH, NOT_REDUCED, NO_DOMAIN, ZERO_DIVISOR, EQUAL_POINTS, TOO_FEW, NO_CODEWORD, NOT_PIECES, DAMAGED = 0, 2, 3, 4, 5, 6, 7, 8, 9, 10, 11
+ADDENDS, REFUSED = 12, 13
 UNKNOWN = "-"
 
 rows = []
@@ -512,6 +514,315 @@ for k, n in ((0, 1), (2, 1), (0, 0), (1, 65537), (2**64 - 1, 2**64 - 1)):
 of_pieces("file_size", LENGTH, [[65537], b""], [unknown(1)])
 of_pieces("file_size", LENGTH, [[2**64 - 1], b""], [unknown(1)])
 of_pieces("file_size", NOT_PIECES, [[65536], b""], [unknown(1)])
+
+
+# ---- sums over the cube, and proofs of them in bytes
+
+
+class Challenges:
+    """The field of the challenges of sums over a field of p elements: a root y of y^k = w, k the number of these powers of y.
+    An element is the list of their coefficients. In bytes each coefficient has so many."""
+
+    def __init__(self, p, words, size, powers=(0,), w=0):
+        self.p, self.words, self.size, self.powers, self.w = p, words, size, powers, w
+        self.degree = len(powers)
+
+    def of(self, number):
+        return [number % self.p] + [0] * (self.degree - 1)
+
+    def plus(self, a, b):
+        return [(x + y) % self.p for x, y in zip(a, b)]
+
+    def times(self, a, b):
+        made = [0] * self.degree
+        for i, x in zip(self.powers, a):
+            for j, y in zip(self.powers, b):
+                place = self.powers.index((i + j) % self.degree)
+                made[place] = (made[place] + x * y * (self.w if i + j >= self.degree else 1)) % self.p
+        return made
+
+    def spelled(self, x):
+        return b"".join(c.to_bytes(self.size, "little") for c in x)
+
+    def read(self, text):
+        """The element that the bytes spell, if any."""
+        x = [int.from_bytes(text[i : i + self.size], "little") for i in range(0, len(text), self.size)]
+        return x if len(text) == self.degree * self.size and max(x) < self.p else None
+
+
+SUMS = {
+    2013265921: Challenges(2013265921, 1, 4, (0, 2, 1, 3), 11),
+    2130706433: Challenges(2130706433, 1, 4, (0, 2, 1, 3), 3),
+    18446744069414584321: Challenges(18446744069414584321, 1, 8, (0, 1), 7),
+    254: Challenges(BN254, 4, 32),
+    12381: Challenges(BLS12_381, 4, 32),
+}
+
+
+def counted(text):
+    return len(text).to_bytes(8, "little") + text
+
+
+class Transcript:
+    """What was said, as bytes: each call begins with one that tells which it is."""
+
+    def __init__(self, label):
+        self.said = b"\0" + counted(label)
+
+    def absorb(self, label, text):
+        self.said += b"\1" + counted(label) + counted(text)
+
+    def ask(self, label, size):
+        self.said += b"\2" + counted(label) + size.to_bytes(8, "little")
+        blocks = (hashlib.sha256(self.said + i.to_bytes(8, "little")).digest() for i in range(-(-size // 32)))
+        return b"".join(blocks)[:size]
+
+    def challenge(self, f):
+        for _ in range(4096):
+            x = f.read(self.ask(b"challenge", f.degree * f.size))
+            if x is not None:
+                return x
+        return f.of(int.from_bytes(self.ask(b"challenge", 8), "little"))
+
+
+def begun(f, label, statement, m, d, total):
+    """The transcript before the first round of a claim on a sum."""
+    transcript = Transcript(label)
+    transcript.absorb(b"statement", statement)
+    transcript.absorb(b"variables", m.to_bytes(8, "little"))
+    transcript.absorb(b"degree", d.to_bytes(8, "little"))
+    transcript.absorb(b"sum", f.spelled(f.of(total)))
+    return transcript
+
+
+def answered(f, transcript, values):
+    """The challenge after a round."""
+    for x in values:
+        transcript.absorb(b"value", f.spelled(x))
+    return transcript.challenge(f)
+
+
+def between(f, values, x):
+    """The value at x of the polynomial with these values at 0, 1, .., d."""
+    y = f.of(0)
+    for i, v in enumerate(values):
+        weight = f.of(1)
+        for j in range(len(values)):
+            if j != i:
+                weight = f.times(f.times(weight, f.plus(x, f.of(-j))), f.of(pow(i - j, -1, f.p)))
+        y = f.plus(y, f.times(v, weight))
+    return y
+
+
+def first_bound(f, table, x):
+    """The table in the other variables."""
+    return [f.plus(a, f.times(x, f.plus(b, f.times(f.of(-1), a)))) for a, b in zip(table[::2], table[1::2])]
+
+
+def over_corners(f, m, tables, addends):
+    """The sum over all corners of m variables."""
+    total = f.of(0)
+    for corner in range(1 << m):
+        for coefficient, factors in addends:
+            product = f.of(coefficient)
+            for i in factors:
+                product = f.times(product, tables[i][corner])
+            total = f.plus(total, product)
+    return total
+
+
+def within(f, tables):
+    return [[f.of(x) for x in table] for table in tables]
+
+
+def proof_size(f, m, d):
+    return 8 + m * (8 + (d + 1) * f.degree * f.size)
+
+
+def proved(f, label, statement, m, d, tables, addends):
+    """The sum, and its proof."""
+    tables = within(f, tables)
+    total = over_corners(f, m, tables, addends)[0]
+    transcript = begun(f, label, statement, m, d, total)
+    proof = m.to_bytes(8, "little")
+    for left in reversed(range(m)):
+        at = lambda x: [first_bound(f, table, x) for table in tables]
+        values = [over_corners(f, left, at(f.of(i)), addends) for i in range(d + 1)]
+        proof += len(values).to_bytes(8, "little") + b"".join(map(f.spelled, values))
+        tables = at(answered(f, transcript, values))
+    assert len(proof) == proof_size(f, m, d)
+    return total, proof
+
+
+def verified(f, label, statement, m, d, total, proof):
+    """The point, and the value there that is left to check; `None` where the bytes are no proof."""
+    rest = proof
+
+    def taken(count):
+        nonlocal rest
+        head, rest = rest[:count], rest[count:]
+        return head
+
+    transcript, claim, point = begun(f, label, statement, m, d, total), f.of(total), []
+    if int.from_bytes(taken(8), "little") != m:
+        return None
+    for _ in range(m):
+        if int.from_bytes(taken(8), "little") != d + 1:
+            return None
+        values = [f.read(taken(f.degree * f.size)) for _ in range(d + 1)]
+        if None in values or f.plus(values[0], values[1]) != claim:
+            return None
+        point.append(answered(f, transcript, values))
+        claim = between(f, values, point[-1])
+    return None if rest else (point, claim)
+
+
+def sum_value(f, tables, addends, point):
+    tables = within(f, tables)
+    for x in point:
+        tables = [first_bound(f, table, x) for table in tables]
+    return over_corners(f, 0, tables, addends)
+
+
+def in_words(f, addends):
+    return [word for c, factors in addends for word in spread([c], f.words) + [len(factors), *factors]]
+
+
+def flat(lists):
+    return [x for items in lists for x in items]
+
+
+rng = random.Random(13)
+LABEL, STATEMENT = b"answers", b"tables"
+
+
+def sums(name, m, tables, addends, label=LABEL, statement=STATEMENT):
+    """The rows of a sum that is proved, verified and found true; its degree, number and proof."""
+    f = SUMS[name]
+    s = lambda elements: spread(elements, f.words)
+    d = max([1, *(len(factors) for _, factors in addends)])
+    given = [s(flat(tables)), in_words(f, addends)]
+    total, proof = proved(f, label, statement, m, d, tables, addends)
+    point, last = verified(f, label, statement, m, d, total, proof)
+    assert last == sum_value(f, tables, addends, point)
+    row("sum_prove", name, OK, [[m, d], label, statement, *given], [proof, s([total])])
+    row("sum_verify", name, OK, [[m, d], label, statement, s([total]), proof], [s(flat(point)), s(last)])
+    row("sum_value", name, OK, [[m, d], *given, s(flat(point))], [s(last)])
+    return d, total, proof
+
+
+for name, f in SUMS.items():
+    p, width = f.p, f.degree * f.words
+    s = lambda elements: spread(elements, f.words)
+    unknown = lambda n: [UNKNOWN] * n
+    draw = lambda n: [rng.choice((0, 1, p - 1, rng.randrange(p), rng.randrange(p), rng.randrange(p))) for _ in range(n)]
+    tables, addends = [draw(4), draw(4), draw(4)], [(1, [0, 1]), (p - 3, [2])]
+    d, total, proof = sums(name, 2, tables, addends)
+
+    row("sum_proof_size", name, OK, [[2, d]], [[len(proof)]])
+
+    def refused(label, statement, claim, bytes_):
+        assert verified(f, label, statement, 2, d, claim, bytes_) is None
+        row("sum_verify", name, REFUSED, [[2, d], label, statement, s([claim]), bytes_], [unknown(2 * width), unknown(width)])
+
+    def changed(place, byte):
+        return proof[:place] + bytes([byte]) + proof[place + 1 :]
+
+    # (a round's values beyond 0 and 1 count in the claim after it, which at the end is what is left to check)
+    at, end = 16 + 2 * f.degree * f.size, len(proof) - f.size
+    other = changed(end, proof[end] ^ 1)
+    again, last = verified(f, LABEL, STATEMENT, 2, d, total, other)
+    assert last != sum_value(f, tables, addends, again)
+    row("sum_verify", name, OK, [[2, d], LABEL, STATEMENT, s([total]), other], [s(flat(again)), s(last)])
+    refused(LABEL, STATEMENT, total, changed(at, proof[at] ^ 1))
+    refused(LABEL, STATEMENT, (total + 1) % p, proof)
+    refused(LABEL, b"others", total, proof)
+    refused(b"", STATEMENT, total, proof)
+    # an element that isn't reduced, and other lengths
+    refused(LABEL, STATEMENT, total, proof[:end] + b"\xff" * f.size)
+    for place, byte in ((0, 1), (8, 2), (15, 1)):
+        refused(LABEL, STATEMENT, total, changed(place, byte))
+
+# of no variable, of no factor, of one table as a factor many times, of no addend and no table, of tables that no addend has
+sums(18446744069414584321, 0, [[5], [7]], [(3, [0, 1]), (2, [])])
+sums(12381, 0, [], [], b"", b"")
+sums(12381, 2, [[1, 2, 3, 4]], [(BLS12_381 - 1, []), (7, [])])
+sums(2013265921, 1, [[2013265920, 3], [1, 2]], [(1, [0, 0, 0]), (0, [1, 0, 1]), (5, [])])
+sums(254, 3, [list(range(8))], [(1, [0])], bytes(range(40)), bytes(100))
+sums(2130706433, 1, [], [])
+sums(2130706433, 4, [rng.sample(range(2130706433), 16) for _ in range(3)], [(1, [0, 2]), (2130706432, [2])])
+
+# whatever can be wrong, in the order in which it is judged
+name, f = 12381, SUMS[12381]
+s = lambda elements: spread(elements, f.words)
+tables, addends = s([1, 2, 3, 4, 5, 6, 7, 8]), in_words(f, [(1, [0, 1]), (f.p - 1, [1])])
+wrong, point = s([1, 2, 3, 4, 5, 6, 7, f.p]), s([1, 2])
+size, one, no_number = proof_size(f, 2, 2), s([1]), s([f.p])
+of_no_table, too_large = in_words(f, [(1, [0, 2])]), in_words(f, [(1, [0, 1]), (f.p, [])])
+
+
+def of_shape(status, m, d):
+    row("sum_proof_size", name, status, [[m, d]], [unknown(1) if status else [proof_size(f, m, d)]])
+
+
+def of_tables(status, m, d, tables=tables, addends=addends, proof_len=size, sum_len=4):
+    row("sum_prove", name, status, [[m, d], LABEL, STATEMENT, tables, addends], [unknown(proof_len), unknown(sum_len)])
+
+
+def of_claim(status, m, d, claim=one, proof_len=size, point_len=8, value_len=4):
+    row("sum_verify", name, status, [[m, d], LABEL, STATEMENT, claim, bytes(proof_len)], [unknown(point_len), unknown(value_len)])
+
+
+def of_point(status, m, d, tables=tables, addends=addends, point=point, value_len=4):
+    row("sum_value", name, status, [[m, d], tables, addends, point], [unknown(value_len)])
+
+
+of_shape(OK, 0, 1)
+of_shape(OK, 63, 65535)
+for m, d in ((64, 2), (2, 0), (2, 65536), (2**32 - 1, 2**32 - 1)):
+    for call in (of_shape, of_tables, of_claim, of_point):
+        call(LENGTH, m, d)
+for call in (of_tables, of_point):
+    call(LENGTH, 2, 2, tables + one)
+    call(LENGTH, 2, 2, tables[:-1], of_no_table)
+    call(ADDENDS, 2, 2, wrong, of_no_table)
+    call(ADDENDS, 2, 2, tables, in_words(f, []))
+    call(NOT_REDUCED, 2, 2, wrong)
+    call(NOT_REDUCED, 2, 2, tables, too_large)
+of_tables(LENGTH, 2, 2, wrong, of_no_table, size - 1)
+of_tables(LENGTH, 2, 2, proof_len=size + 1)
+of_tables(LENGTH, 2, 2, sum_len=0)
+of_tables(LENGTH, 2, 2, sum_len=5)
+for given in (
+    in_words(f, [(1, [0, 2**64 - 1])]),
+    addends[:-1],
+    addends + [0],
+    addends + one + [2**64 - 1],
+    addends + one + [1, 0, 0],
+    in_words(f, [(1, [0])]),
+    in_words(f, [(1, [0, 0, 1])]),
+    in_words(f, [(f.p, [2, 1])]),
+):
+    of_tables(ADDENDS, 2, 2, tables, given)
+of_claim(LENGTH, 1, 2)
+of_claim(LENGTH, 2, 2, one + one)
+of_claim(LENGTH, 2, 2, [])
+of_claim(LENGTH, 2, 2, no_number, size + 1)
+of_claim(LENGTH, 2, 2, no_number, size - 1)
+of_claim(LENGTH, 2, 2, point_len=7)
+of_claim(LENGTH, 2, 2, value_len=8)
+of_claim(NOT_REDUCED, 2, 2, no_number)
+of_claim(REFUSED, 2, 2)
+of_point(LENGTH, 2, 2, point=point + one)
+of_point(LENGTH, 2, 2, wrong, of_no_table, point[:-1])
+of_point(LENGTH, 2, 2, value_len=3)
+of_point(ADDENDS, 2, 2, tables, of_no_table, s([f.p, 0]))
+of_point(NOT_REDUCED, 2, 2, point=s([0, f.p]))
+for name in (5, 433, 65537, 2**64 - 1):
+    row("sum_proof_size", name, NO_FIELD, [[64, 0]], [unknown(1)])
+row("sum_prove", 65537, NO_FIELD, [[64, 0], b"", b"", [1], [1]], [unknown(1), unknown(1)])
+row("sum_verify", 65537, NO_FIELD, [[64, 0], b"", b"", [2**64 - 1], b"a"], [unknown(1), unknown(1)])
+row("sum_value", 65537, NO_FIELD, [[64, 0], [1], [1], [1]], [unknown(1)])
 
 if __name__ == "__main__":
     print("\n".join(rows))

@@ -1,4 +1,4 @@
-/* Polynomials, transforms, multilinear extensions and Reed-Solomon codes over prime fields, and files in pieces.
+/* Polynomials, transforms, multilinear extensions, sum-checks and Reed-Solomon codes over prime fields, and files in pieces.
  * SPDX-License-Identifier: MIT OR Apache-2.0
  *
  * Each call is proved to do what is said of it here, for callers that keep to these rules:
@@ -17,10 +17,10 @@
  * n * ark_words(field) of them.
  *
  * Statuses. Whatever can be wrong is judged in the order of the enum below: first whether there is such a field, then
- * lengths, then whether each number is below p, and so on. ARK_MEMORY alone has no condition: it comes where memory was
- * refused. A call that answers anything but ARK_OK has written nothing. ARK_MEMORY may come from every call, and from every
- * call over a field ARK_NO_FIELD and, where there are lists of elements, ARK_LENGTH for a part of an element and
- * ARK_NOT_REDUCED; each names the others.
+ * lengths, then whether each number is below p, and so on; ARK_ADDENDS alone comes right behind lengths. ARK_MEMORY has no
+ * condition: it comes where memory was refused. A call that answers anything but ARK_OK has written nothing. ARK_MEMORY may
+ * come from every call, and from every call over a field ARK_NO_FIELD and, where there are lists of elements, ARK_LENGTH for
+ * a part of an element and ARK_NOT_REDUCED; each names the others.
  *
  * Domains. The domain of n elements is offset * w^i for i = 0 .. n - 1, where w = g^((p - 1) / n) and g is the field's
  * generator below. There is one for each power of two up to the field's greatest; the field of 433 elements has those of
@@ -69,7 +69,9 @@ enum {
     ARK_TOO_FEW = 8,      /* a codeword has too few places left */
     ARK_NO_CODEWORD = 9,  /* no codeword has what is left of a word */
     ARK_NOT_PIECES = 10,  /* the bytes are not as many pieces as give a file back */
-    ARK_DAMAGED = 11      /* a piece has not the digest that is listed for it */
+    ARK_DAMAGED = 11,     /* a piece has not the digest that is listed for it */
+    ARK_ADDENDS = 12,     /* the words are no products of these tables, or not of this degree */
+    ARK_REFUSED = 13      /* the bytes are no proof of the sum */
 };
 
 /* The version of the library, as ARK_VERSION has that of the declarations. */
@@ -164,6 +166,54 @@ ark_status ark_multilinear_evaluate_sparse(uint64_t field, const uint64_t *indic
  * ARK_LENGTH where the table hasn't 2^m elements for an m at or above k, or the result hasn't 2^(m - k). */
 ark_status ark_multilinear_fix(uint64_t field, const uint64_t *table, size_t table_len, const uint64_t *point, size_t point_len,
                                uint64_t *result, size_t result_len);
+
+/* Sum-checks: that a sum of products of tables, over all corners, is this number, by a proof in bytes that a verifier takes
+ * without an answer. Each challenge is drawn by SHA-256 from what was said before it (Fiat-Shamir).
+ *
+ * A sum is over m variables, 0 <= m <= 63. `tables` are tables of 2^m elements as above, one after another. `addends` are their
+ * products, one after another: of each its coefficient, which is one element, then in one word the number of its factors, and a
+ * word for each factor, the place of its table, the first one being 0. A table may be a factor several times, and an addend
+ * without factors is its coefficient. The degree d, 0 < d < 65536, is the number of factors of the longest addend, and 1 where
+ * none has any.
+ *
+ * A challenge is an element of a field of 2^123 elements or more, which the sum's field lies in: with a y such that y^4 = 11 over
+ * ARK_BABYBEAR, y^4 = 3 over ARK_KOALABEAR, y^2 = 7 over ARK_GOLDILOCKS. ARK_BN254_FR and ARK_BLS12_381_FR have their own
+ * elements as challenges, and other fields have none: for these calls they are ARK_NO_FIELD. An element is its coefficients, each
+ * an element of the sum's field: those of 1, y^2, y and y^3, or of 1 and y.
+ *
+ * How many words a challenge has, and 0 where the field has none. */
+size_t ark_challenge_words(uint64_t field);
+
+/* Writes how many bytes a proof has.
+ * ARK_LENGTH where m is above 63 or the degree none of 1 .. 65535. */
+ark_status ark_sum_proof_size(uint64_t field, uint32_t num_vars, uint32_t degree, uint64_t *size);
+
+/* Writes the sum, one element, and a proof of it, which ark_sum_verify accepts with the same label, statement, m and degree. The
+ * label names the protocol. The statement must FIX TABLES AND ADDENDS, as their own bytes or a commitment to them do: otherwise a
+ * prover may choose tables after it sees the challenges.
+ * ARK_LENGTH where m is above 63, the degree none of 1 .. 65535, `tables` no whole tables, the proof has another size, or the sum
+ * isn't one element, ARK_ADDENDS where the addends have another degree, are no products, or name a table that isn't there. */
+ark_status ark_sum_prove(uint64_t field, const uint8_t *label, size_t label_len, const uint8_t *statement, size_t statement_len,
+                         uint32_t num_vars, uint32_t degree, const uint64_t *tables, size_t tables_len, const uint64_t *addends,
+                         size_t addends_len, uint8_t *proof, size_t proof_len, uint64_t *sum, size_t sum_len);
+
+/* Whether the bytes are a proof of this sum. If so it writes what is left to check: a point of m challenges, and the value that
+ * the sum of products of the tables' multilinear polynomials must have there. If it has, the sum is true, or one of the m
+ * challenges is one of d unlucky ones. A prover gets its point by this call too.
+ * ARK_LENGTH where m is above 63, the degree none of 1 .. 65535, the sum isn't one element, the proof has another size, the point
+ * isn't m challenges or the value one, ARK_REFUSED where the bytes are no proof. A proof from others is refused by ARK_LENGTH as
+ * well. */
+ark_status ark_sum_verify(uint64_t field, const uint8_t *label, size_t label_len, const uint8_t *statement, size_t statement_len,
+                          uint32_t num_vars, uint32_t degree, const uint64_t *sum, size_t sum_len, const uint8_t *proof,
+                          size_t proof_len, uint64_t *point, size_t point_len, uint64_t *value, size_t value_len);
+
+/* Writes the value of the sum of products at a point of m challenges: the one that ark_sum_verify leaves to check. Of one table,
+ * with one addend of coefficient 1 and this factor alone, it is the table's own value there.
+ * ARK_LENGTH where m is above 63, the degree none of 1 .. 65535, `tables` no whole tables, the point isn't m challenges or the
+ * value one, ARK_ADDENDS as above. */
+ark_status ark_sum_value(uint64_t field, uint32_t num_vars, uint32_t degree, const uint64_t *tables, size_t tables_len,
+                         const uint64_t *addends, size_t addends_len, const uint64_t *point, size_t point_len, uint64_t *value,
+                         size_t value_len);
 
 /* Reed-Solomon codes. The codeword of a message of k elements, 1 <= k <= n, has n: the values of the polynomial with these
  * coefficients at the domain of n elements, with offset 1. Any k places of it tell the rest.

@@ -8,7 +8,7 @@
 #include <stdlib.h>
 #include <string.h>
 
-enum { MOST_LISTS = 3, GUARD = 2 };
+enum { MOST_LISTS = 5, GUARD = 2 };
 #define GUARD_WORD UINT64_C(0x5ca1ab1edeadbeef)
 #define OLD_WORD UINT64_C(0xfeedfacecafef00d)
 
@@ -143,6 +143,11 @@ static int is_of_pieces(const struct row *row) {
     return !strcmp(row->call, "split") || !strcmp(row->call, "join") || !strcmp(row->call, "file_size");
 }
 
+/* Whether it is over sums. */
+static int is_of_sums(const struct row *row) {
+    return !strncmp(row->call, "sum_", 4);
+}
+
 static uint8_t *bytes_of(struct list it) {
     uint8_t *bytes = (uint8_t *)reserve(it.len + 1);
     for (size_t i = 0; i < it.len; i++) bytes[i] = (uint8_t)it.words[i];
@@ -155,9 +160,9 @@ static struct made make(const struct row *row) {
     for (size_t i = 0; i < row->given_count; i++) it.given[i] = copy_of(row->given[i]);
     for (size_t i = 0; i < row->left_count; i++)
         it.left[i] = i == 0 && is_in_place(row) ? copy_of(row->given[0]) : list_of(row->left[i].len);
-    if (!strncmp(row->call, "code_", 5) || is_of_pieces(row))
+    if (!strncmp(row->call, "code_", 5) || is_of_pieces(row) || is_of_sums(row))
         for (size_t i = 0; i < row->given_count; i++) it.bytes[i] = bytes_of(it.given[i]);
-    if (is_of_pieces(row)) it.written = bytes_of(it.left[0]);
+    if (is_of_pieces(row) || is_of_sums(row)) it.written = bytes_of(it.left[0]);
     return it;
 }
 
@@ -181,9 +186,11 @@ static ark_status wrote(ark_status status, struct list into, const uint8_t *writ
 static ark_status call(const struct row *row, struct made *it) {
     const char *name = row->call;
     uint64_t f = row->field;
-    struct list a = it->given[0], b = it->given[1], c = it->given[2], x = it->left[0], y = it->left[1];
-    const uint8_t *second = it->bytes[1], *third = it->bytes[2];
+    struct list a = it->given[0], b = it->given[1], c = it->given[2], d = it->given[3], e = it->given[4];
+    struct list x = it->left[0], y = it->left[1];
+    const uint8_t *second = it->bytes[1], *third = it->bytes[2], *fifth = it->bytes[4];
     uint32_t log_rows = b.len > 1 ? (uint32_t)b.words[0] : 0, log_columns = b.len > 1 ? (uint32_t)b.words[1] : 0;
+    uint32_t num_vars = a.len > 1 ? (uint32_t)a.words[0] : 0, degree = a.len > 1 ? (uint32_t)a.words[1] : 0;
     if (!strcmp(name, "domain_size")) return ark_domain_size(f, a.words[0], x.words);
     if (!strcmp(name, "fft")) return ark_fft(f, OF(x), OF(b));
     if (!strcmp(name, "ifft")) return ark_ifft(f, OF(x), OF(b));
@@ -211,6 +218,13 @@ static ark_status call(const struct row *row, struct made *it) {
     if (!strcmp(name, "join"))
         return wrote(ark_join(a.words[0], a.words[1], second, b.len, it->written, x.len), x, it->written);
     if (!strcmp(name, "file_size")) return ark_file_size(a.words[0], second, b.len, x.words);
+    if (!strcmp(name, "sum_proof_size")) return ark_sum_proof_size(f, num_vars, degree, x.words);
+    if (!strcmp(name, "sum_prove"))
+        return wrote(ark_sum_prove(f, second, b.len, third, c.len, num_vars, degree, OF(d), OF(e), it->written, x.len, OF(y)), x,
+                     it->written);
+    if (!strcmp(name, "sum_verify"))
+        return ark_sum_verify(f, second, b.len, third, c.len, num_vars, degree, OF(d), fifth, e.len, OF(x), OF(y));
+    if (!strcmp(name, "sum_value")) return ark_sum_value(f, num_vars, degree, OF(b), OF(c), OF(d), OF(x));
     printf("no call: %s\n", name);
     exit(2);
 }

@@ -10,7 +10,7 @@ static void expect(int holds, const char *what, uint64_t field, size_t n) {
 }
 
 static void test_rows(const char *path) {
-    unsigned long seen[ARK_DAMAGED + 1] = {0};
+    unsigned long seen[ARK_REFUSED + 1] = {0};
     size_t count;
     struct row *rows = read_rows(path, &count);
     for (size_t i = 0; i < count; i++) {
@@ -20,10 +20,10 @@ static void test_rows(const char *path) {
             failures++;
             printf("failed: line %zu, %s over %" PRIu64 ", status %" PRIu32 "\n", i + 1, rows[i].call, rows[i].field, status);
         }
-        if (status <= ARK_DAMAGED) seen[status]++;
+        if (status <= ARK_REFUSED) seen[status]++;
         drop_made(&rows[i], &it);
     }
-    for (ark_status status = ARK_OK; status <= ARK_DAMAGED; status++)
+    for (ark_status status = ARK_OK; status <= ARK_REFUSED; status++)
         expect(status == ARK_MEMORY || seen[status] > 0, "a status that no row has", 0, status);
     printf("%zu rows\n", count);
     drop_rows(rows, count);
@@ -224,6 +224,50 @@ static void test_entries(uint64_t field, size_t n) {
     drop(found);
 }
 
+/* The sum of the product of two tables: the middle coefficient of a product of polynomials. Its proof is reduced to the true
+ * value, and refused of another sum, of another statement and where a byte is changed. */
+static void test_sum(uint64_t field, uint32_t num_vars) {
+    const uint8_t said[] = {'t', 'a', 'b', 'l', 'e', 's'};
+    size_t words = ark_words(field), width = ark_challenge_words(field), n = (size_t)1 << num_vars, last = (n - 1) * words;
+    uint64_t size = 0;
+    expect(ark_sum_proof_size(field, num_vars, 2, &size) == ARK_OK, "proof size", field, num_vars);
+    struct list tables = drawn(field, 2 * n), addend = list_of(words + 3), sum = element(field, 0), reversed = list_of(n * words),
+                product = list_of((2 * n - 1) * words), point = list_of(num_vars * width), value = list_of(width),
+                own = list_of(width);
+    uint8_t *proof = (uint8_t *)reserve((size_t)size);
+    for (size_t i = 0; i < words; i++) addend.words[i] = i == 0;
+    for (size_t i = 0; i < 3; i++) addend.words[words + i] = i == 0 ? 2 : i - 1;
+    for (size_t i = 0; i < n; i++)
+        memcpy(reversed.words + last - i * words, tables.words + (n + i) * words, words * sizeof(uint64_t));
+    expect(ark_multiply(field, tables.words, n * words, OF(reversed), OF(product)) == ARK_OK, "multiply", field, n);
+    expect(ark_sum_prove(field, said, 1, said, sizeof said, num_vars, 2, OF(tables), OF(addend), proof, (size_t)size, OF(sum))
+               == ARK_OK,
+           "prove", field, num_vars);
+    expect(!memcmp(sum.words, product.words + last, words * sizeof(uint64_t)), "the sum", field, num_vars);
+#define VERIFIED(statement_len) \
+    ark_sum_verify(field, said, 1, said, statement_len, num_vars, 2, OF(sum), proof, (size_t)size, OF(point), OF(value))
+    proof[num_vars ? 16 : 0] ^= 1; /* (the first round's first value) */
+    expect(VERIFIED(sizeof said) == ARK_REFUSED, "a byte changed", field, num_vars);
+    proof[num_vars ? 16 : 0] ^= 1;
+    sum.words[0] ^= 1;
+    expect(VERIFIED(sizeof said) == ARK_REFUSED || num_vars == 0, "another sum", field, num_vars);
+    sum.words[0] ^= 1;
+    expect(VERIFIED(1) == ARK_REFUSED || num_vars < 2, "another statement", field, num_vars);
+    expect(VERIFIED(sizeof said) == ARK_OK, "verify", field, num_vars);
+#undef VERIFIED
+    expect(ark_sum_value(field, num_vars, 2, OF(tables), OF(addend), OF(point), OF(own)) == ARK_OK, "value", field, num_vars);
+    expect(same(own, value), "the true value", field, num_vars);
+    drop(tables);
+    drop(addend);
+    drop(sum);
+    drop(reversed);
+    drop(product);
+    drop(point);
+    drop(value);
+    drop(own);
+    free(proof);
+}
+
 /* A codeword begins with its message, and comes back where as much of the message is lost as can be. */
 static void test_systematic(uint64_t field, size_t n) {
     size_t words = ark_words(field), k = (n + 1) / 2;
@@ -278,6 +322,10 @@ int main(int count, char **words) {
     expect(ARK_VERSION == 0x000500, "version of the header", 0, ARK_VERSION);
     for (size_t i = 0; i < FIELDS; i++) expect(ark_words(fields[i]) == (i < 6 ? 1 : 4), "words", fields[i], i);
     expect(ark_words(7) == 0 && ark_words(0) == 0, "words of no field", 7, 0);
+    static const size_t challenge_words[] = {0, 0, 0, 4, 4, 2, 4, 4};
+    for (size_t i = 0; i < FIELDS; i++)
+        expect(ark_challenge_words(fields[i]) == challenge_words[i], "words of a challenge", fields[i], i);
+    expect(ark_challenge_words(7) == 0 && ark_challenge_words(0) == 0, "challenges of no field", 7, 0);
     /* lists of no items may be NULL */
     uint64_t f = ARK_BABYBEAR, value = 1, point = 2;
     expect(ark_evaluate(f, NULL, 0, &point, 1, &value, 1) == ARK_OK && value == 0, "no coefficients", f, 0);
@@ -286,6 +334,10 @@ int main(int count, char **words) {
     expect(ark_fft(f, NULL, 0, &point, 1) == ARK_NO_DOMAIN, "no items", f, 0);
     expect(ark_fft_columns(f, NULL, 0, 1, 1, &point, 1) == ARK_OK, "no columns", f, 0);
     expect(ark_ifft_rows(f, NULL, 0, 1, 1, 2, &point, 1) == ARK_OK, "no rows", f, 0);
+    uint8_t proof[8];
+    value = 1;
+    expect(ark_sum_prove(f, NULL, 0, NULL, 0, 0, 1, NULL, 0, NULL, 0, proof, sizeof proof, &value, 1) == ARK_OK && value == 0,
+           "no tables, no addends", f, 0);
     test_rows(words[1]);
     for (size_t i = 0; i < FIELDS; i++)
         for (uint32_t log = 0; (size_t)1 << log <= greatest(fields[i]); log++) test_parts(fields[i], log);
@@ -298,6 +350,8 @@ int main(int count, char **words) {
             test_entries(fields[i], n);
             test_systematic(fields[i], n);
         }
+    for (size_t i = 0; i < FIELDS; i++)
+        for (uint32_t m = 0; m <= 7 && ark_challenge_words(fields[i]); m++) test_sum(fields[i], m);
     for (size_t len = 0; len < 20000; len = 3 * len + 1) {
         test_pieces(1, 1, len);
         test_pieces(1, 3, len);
