@@ -199,7 +199,7 @@ ark_status ark_sum_prove(uint64_t field, const uint8_t *label, size_t label_len,
 
 /* Whether the bytes are a proof of this sum. If so it writes what is left to check: a point of m challenges, and the value that
  * the sum of products of the tables' multilinear polynomials must have there. If it has, the sum is true, or one of the m
- * challenges is one of d unlucky ones. A prover gets its point by this call too.
+ * challenges is unlucky: one of d at most of its field. A prover gets its point by this call too.
  * ARK_LENGTH where m is above 63, the degree none of 1 .. 65535, the sum isn't one element, the proof has another size, the point
  * isn't m challenges or the value one, ARK_REFUSED where the bytes are no proof. A proof from others is refused by ARK_LENGTH as
  * well. */

@@ -1,5 +1,5 @@
-"""Polynomials, transforms, multilinear extensions and Reed-Solomon codes over prime fields, and files in pieces, by a library
-that is proved.
+"""Polynomials, transforms, multilinear extensions, sum-checks and Reed-Solomon codes over prime fields, and files in pieces, by a
+library that is proved.
 
 >>> fft(F65537, [1, 2, 3, 4])[0]
 10
@@ -23,7 +23,7 @@ import array
 import ctypes
 import operator
 import sys
-from typing import Any, Callable, Iterable, List, Optional, Sequence, Tuple, Union, overload
+from typing import Any, Callable, Iterable, List, Optional, Sequence, Tuple, Type, Union, overload
 
 from ._library import (
     ArkError,
@@ -35,7 +35,9 @@ from ._library import (
     NotPieces,
     NotReduced,
     OutOfMemory,
+    Refused,
     TooFew,
+    WrongAddends,
     WrongLength,
     ZeroDivisor,
     check as _check,
@@ -47,12 +49,13 @@ __version__ = "0.5.0+proved.1"
 __all__ = [
     "BABYBEAR", "BLS12_381_FR", "BN254_FR", "F433", "F5", "F65537", "GOLDILOCKS", "KOALABEAR",
     "ArkError", "Damaged", "EqualPoints", "NoCodeword", "NoDomain", "NoField", "NotPieces", "NotReduced", "OutOfMemory",
-    "TooFew", "WrongLength", "ZeroDivisor",
-    "code_encode", "code_encode_systematic", "code_message", "code_restore", "code_restore_in_place", "divide", "domain_size",
-    "evaluate", "fft", "fft_columns", "fft_columns_in_place", "fft_in_place", "fft_rows", "fft_rows_in_place", "ifft",
-    "ifft_columns", "ifft_columns_in_place", "ifft_in_place", "ifft_rows", "ifft_rows_in_place", "interpolate", "join",
-    "lagrange", "library_version", "modulus", "multilinear_evaluate", "multilinear_evaluate_sparse", "multilinear_fix",
-    "multiply", "multiply_values", "multiply_values_in_place", "split", "words",
+    "Refused", "TooFew", "WrongAddends", "WrongLength", "ZeroDivisor",
+    "challenge_degree", "code_encode", "code_encode_systematic", "code_message", "code_restore", "code_restore_in_place",
+    "divide", "domain_size", "evaluate", "fft", "fft_columns", "fft_columns_in_place", "fft_in_place", "fft_rows",
+    "fft_rows_in_place", "ifft", "ifft_columns", "ifft_columns_in_place", "ifft_in_place", "ifft_rows", "ifft_rows_in_place",
+    "interpolate", "join", "lagrange", "library_version", "modulus", "multilinear_evaluate", "multilinear_evaluate_sparse",
+    "multilinear_fix", "multiply", "multiply_values", "multiply_values_in_place", "split", "sum_check_proof_size",
+    "sum_check_prove", "sum_check_value", "sum_check_verify", "words",
 ]  # fmt: skip
 
 F5 = 5
@@ -71,6 +74,10 @@ _OF_FOUR_WORDS = {
 
 # What stands for a list of elements: a sequence of numbers, or words in one piece.
 Elements = Any
+# A product of tables: its coefficient, and the places of its factors' tables.
+Addend = Tuple[int, Iterable[int]]
+# An element of the field of the challenges: its coefficients.
+Challenge = Tuple[int, ...]
 
 
 def library_version() -> Tuple[int, int, int]:
@@ -319,6 +326,114 @@ def multilinear_fix(field: int, table: Elements, point: Elements) -> Any:
     return result.answer()
 
 
+# ---- sum-checks
+
+
+def challenge_degree(field: int) -> int:
+    """How many coefficients a challenge has, an element of a field of 2**123 or more that this one lies in. They are those of 1,
+    y^2, y and y^3 where y^4 is 11, for BABYBEAR, or 3, for KOALABEAR, and those of 1 and y where y^2 is 7, for GOLDILOCKS. BN254_FR
+    and BLS12_381_FR have their own elements as challenges; the other fields have none, and it raises `NoField`."""
+    width = _calls.ark_challenge_words(_name(field))
+    if not width:
+        raise NoField(f"no challenges over the field {field}")
+    return width // words(field)
+
+
+def sum_check_proof_size(field: int, num_vars: int, degree: int) -> int:
+    """How many bytes a proof has. It raises `WrongLength` where there are more than 63 variables, or the degree is none of 1 to
+    65535, and so do the next calls."""
+    size = ctypes.c_uint64()
+    _check(_calls.ark_sum_proof_size(_name(field), *_shape(num_vars, degree), ctypes.byref(size)))
+    return size.value
+
+
+def sum_check_prove(
+    field: int, label: Any, statement: Any, num_vars: int, degree: int, tables: Elements, addends: Iterable[Addend]
+) -> Tuple[int, bytes]:
+    """The sum over all corners of products of tables, and a proof of it, which needs no answers.
+
+    The tables have 2**num_vars elements each, as that of `multilinear_evaluate`, and stand one after another. An addend is its
+    coefficient and the places of its factors' tables, the first of which is 0; a table may be a factor several times, and an
+    addend may have none. The degree is the number of factors of the longest addend, and 1 where none has any.
+
+    The label, bytes, names the protocol. **The statement, bytes too, must fix tables and addends**, as their own bytes or a
+    commitment to them do: otherwise a prover may choose tables after it sees the challenges.
+
+    >>> tables, addends = [1, 2, 3, 4, 5, 6, 7, 8], [(1, [0, 1]), (3, [1])]
+    >>> total, proof = sum_check_prove(BABYBEAR, b"my protocol", b"these tables", 2, 2, tables, addends)
+    >>> total
+    148
+    >>> point, value = sum_check_verify(BABYBEAR, b"my protocol", b"these tables", 2, 2, total, proof)
+    >>> sum_check_value(BABYBEAR, 2, 2, tables, addends, point) == value
+    True
+    """
+    size = sum_check_proof_size(field, num_vars, degree)
+    shape, said, proof = _shape(num_vars, degree), _said(label, statement), bytearray(size)
+    values, products, total = _Words.given(field, tables), _addends(field, addends), _Words.given(field, [0])
+    room = (ctypes.c_char * size).from_buffer(proof)
+    _check(_calls.ark_sum_prove(field, *said, *shape, *values.pair, *products.pair, room, size, *total.pair))
+    return total.numbers()[0], bytes(proof)
+
+
+def sum_check_verify(
+    field: int, label: Any, statement: Any, num_vars: int, degree: int, total: int, proof: Any
+) -> Tuple[List[Challenge], Challenge]:
+    """What is left to check of a proof of this sum: a point, and the value there of the sum of products, which `sum_check_value`
+    finds. If it is that, the sum is true, or one of the point's challenges is unlucky: one of at most as many as the degree.
+
+    It raises `Refused` where the bytes are no proof, and `WrongLength` where they aren't as many as a proof has.
+    """
+    sum_check_proof_size(field, num_vars, degree)
+    shape, coefficients = _shape(num_vars, degree), challenge_degree(field)
+    claim, said, proof = _Words.given(field, [total]), _said(label, statement), _bytes(proof)
+    point, value = claim.room(shape[0] * coefficients), claim.room(coefficients)
+    _check(_calls.ark_sum_verify(field, *said, *shape, *claim.pair, proof, len(proof), *point.pair, *value.pair))
+    return _challenges(field, point), _challenges(field, value)[0]
+
+
+def sum_check_value(
+    field: int, num_vars: int, degree: int, tables: Elements, addends: Iterable[Addend], point: Iterable[Challenge]
+) -> Challenge:
+    """The value of such a sum of products at a point of `num_vars` challenges. Of one table and the addend `(1, [0])` it is the
+    value of the table's multilinear polynomial."""
+    sum_check_proof_size(field, num_vars, degree)
+    shape, coefficients, challenges = _shape(num_vars, degree), challenge_degree(field), list(map(tuple, point))
+    if any(len(challenge) != coefficients for challenge in challenges):
+        raise WrongLength(WrongLength.__doc__)
+    values, products = _Words.given(field, tables), _addends(field, addends)
+    at = _Words.given(field, [number for challenge in challenges for number in challenge])
+    value = at.room(coefficients)
+    _check(_calls.ark_sum_value(field, *shape, *values.pair, *products.pair, *at.pair, *value.pair))
+    return _challenges(field, value)[0]
+
+
+def _shape(num_vars: int, degree: int) -> Tuple[int, int]:
+    """The numbers of variables and of factors. What 32 bits don't hold the library refuses as the greatest that they do."""
+    most = (1 << 32) - 1
+    num_vars, degree = operator.index(num_vars), operator.index(degree)
+    return num_vars if 0 <= num_vars < most else most, degree if 0 <= degree < most else most
+
+
+def _said(label: Any, statement: Any) -> Tuple[bytes, int, bytes, int]:
+    label, statement = _bytes(label), _bytes(statement)
+    return label, len(label), statement, len(statement)
+
+
+def _addends(field: int, addends: Iterable[Addend]) -> _Words:
+    """The words of addends: of each its coefficient, the number of its factors, and their places."""
+    spelled = array.array("Q")
+    for coefficient, factors in addends:
+        places = list(factors)
+        spelled += _Words.given(field, [coefficient]).buffer
+        spelled += _indices([len(places), *places], WrongAddends).buffer
+    return _Words.of_width(1, spelled)
+
+
+def _challenges(field: int, found: _Words) -> List[Challenge]:
+    numbers, coefficients = found.numbers(), challenge_degree(field)
+    return [tuple(numbers[i : i + coefficients]) for i in range(0, len(numbers), coefficients)]
+
+
 # ---- Reed-Solomon codes
 
 
@@ -455,13 +570,13 @@ def _count(number: int) -> int:
     return number
 
 
-def _indices(indices: Elements) -> _Words:
+def _indices(indices: Elements, error: Type[ArkError] = WrongLength) -> _Words:
     """The words of indices, one each."""
     try:
         return _Words.of_width(1, indices)
     except NotReduced:
         # No table has such an index.
-        raise WrongLength(WrongLength.__doc__) from None
+        raise error(error.__doc__) from None
 
 
 def _is_number(it: Any) -> bool:

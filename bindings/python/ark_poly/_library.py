@@ -78,6 +78,18 @@ class Damaged(ArkError, ValueError):
     status = 11
 
 
+class WrongAddends(ArkError, ValueError):
+    """The addends are no products of these tables, or the longest hasn't as many factors as the degree."""
+
+    status = 12
+
+
+class Refused(ArkError, ValueError):
+    """The bytes are no proof of the sum."""
+
+    status = 13
+
+
 _ERRORS: Dict[int, Type[ArkError]] = {
     error.status: error
     for error in (
@@ -92,6 +104,8 @@ _ERRORS: Dict[int, Type[ArkError]] = {
         NoCodeword,
         NotPieces,
         Damaged,
+        WrongAddends,
+        Refused,
     )
 }
 
@@ -111,17 +125,17 @@ def _load() -> ctypes.CDLL:
         raise ImportError(f"no library: ARK_POLY_SO names libark_poly.so, or it stands beside {__file__} ({error})") from None
     word, size, status = ctypes.c_uint64, ctypes.c_size_t, ctypes.c_uint32
     words = [ctypes.c_void_p, size]
-    logs = [ctypes.c_uint32] * 2
+    shape = [ctypes.c_uint32] * 2
     for name, arguments, result in (
         ("version", [], ctypes.c_uint32),
         ("words", [word], size),
         ("domain_size", [word, word, ctypes.POINTER(word)], status),
         ("fft", [word, *words * 2], status),
         ("ifft", [word, *words * 2], status),
-        ("fft_columns", [word, *words, *logs, *words], status),
-        ("fft_rows", [word, *words, *logs, word, *words], status),
-        ("ifft_rows", [word, *words, *logs, word, *words], status),
-        ("ifft_columns", [word, *words, *logs, *words], status),
+        ("fft_columns", [word, *words, *shape, *words], status),
+        ("fft_rows", [word, *words, *shape, word, *words], status),
+        ("ifft_rows", [word, *words, *shape, word, *words], status),
+        ("ifft_columns", [word, *words, *shape, *words], status),
         ("multiply", [word, *words * 3], status),
         ("multiply_values", [word, *words * 2], status),
         ("divide", [word, *words * 4], status),
@@ -131,6 +145,11 @@ def _load() -> ctypes.CDLL:
         ("multilinear_evaluate", [word, *words * 3], status),
         ("multilinear_evaluate_sparse", [word, *words * 4], status),
         ("multilinear_fix", [word, *words * 3], status),
+        ("challenge_words", [word], size),
+        ("sum_proof_size", [word, *shape, ctypes.POINTER(word)], status),
+        ("sum_prove", [word, *words * 2, *shape, *words * 4], status),
+        ("sum_verify", [word, *words * 2, *shape, *words * 4], status),
+        ("sum_value", [word, *shape, *words * 4], status),
         ("code_encode", [word, *words * 2], status),
         ("code_encode_systematic", [word, *words * 2], status),
         ("code_restore", [word, *words * 2, word], status),

@@ -46,6 +46,7 @@ def rows():
 ROWS = list(rows())
 OF_PARTS = ("fft_columns", "fft_rows", "ifft_rows", "ifft_columns")
 OF_PIECES = ("piece_size", "split", "file_size", "join")
+OF_SUMS = ("sum_proof_size", "sum_prove", "sum_verify", "sum_value")
 
 
 def numbers(field, words):
@@ -69,10 +70,29 @@ def raw_pieces(call, given, left):
     return status, [[OLD if status and byte == OLD & 255 else byte for byte in made]]
 
 
+def raw_sums(call, field, given, left):
+    """The same of a call over sums, whose label, statement and proof are bytes."""
+    function = getattr(library, "ark_" + call)
+    if call == "sum_proof_size":
+        size = ctypes.c_uint64(OLD)
+        return function(field, *given[0], ctypes.byref(size)), [[size.value]]
+    said = [it for words in given[1:3] for it in (bytes(words), len(words))] if call != "sum_value" else []
+    lists = given[3:] if said else given[1:]
+    kinds = {"sum_prove": ("QQ", "BQ"), "sum_verify": ("QB", "QQ"), "sum_value": ("QQQ", "Q")}[call]
+    lists = [array.array(kind, words) for kind, words in zip(kinds[0], lists)]
+    made = [array.array(kind, [OLD & 255 if kind == "B" else OLD] * len(words)) for kind, words in zip(kinds[1], left)]
+    pairs = [it for words in (*lists, *made) for it in words.buffer_info()]
+    status = function(field, *said, *given[0], *pairs)
+    old = lambda words: words.typecode == "B" and status
+    return status, [[OLD if old(words) and word == OLD & 255 else word for word in words] for words in made]
+
+
 def raw(call, field, given, left):
     """The library's own call over these lists, with what it leaves."""
     if call in OF_PIECES:
         return raw_pieces(call, given, left)
+    if call in OF_SUMS:
+        return raw_sums(call, field, given, left)
     lists = [array.array("Q", words) for words in given]
     if call == "domain_size":
         size = ctypes.c_uint64(OLD)
@@ -130,7 +150,7 @@ class Answers(unittest.TestCase):
 
     def check_kind(self, kind, back):
         for call, field, status, given, left in ROWS:
-            if status or call == "domain_size" or call in OF_PIECES:
+            if status or call == "domain_size" or call in OF_PIECES or call in OF_SUMS:
                 continue
             # (the package's products have no zeros behind)
             if call == "multiply" and len(left[0]) != len(given[0]) + len(given[1]) - ark_poly.words(field):
@@ -516,6 +536,139 @@ class Chunks(unittest.TestCase):
                 call()
 
 
+class Sums(unittest.TestCase):
+    """Sums over the cube, their proofs, and their values at points."""
+
+    def check_kind(self, kind):
+        for call, field, status, given, left in ROWS:
+            if status not in (0, 13) or call not in OF_SUMS:
+                continue
+            shape, said = given[0], [bytes(words) for words in given[1:3]]
+            with self.subTest(call=call, field=field, given=given):
+                if call == "sum_proof_size":
+                    self.assertEqual(ark_poly.sum_check_proof_size(field, *shape), left[0][0])
+                elif call == "sum_prove":
+                    found = ark_poly.sum_check_prove(field, *said, *shape, kind(field, given[3]), addends_of(field, given[4]))
+                    self.assertEqual(found, (numbers(field, left[1])[0], bytes(left[0])))
+                elif call == "sum_value":
+                    tables, addends, point = kind(field, given[1]), addends_of(field, given[2]), challenges(field, given[3])
+                    found = ark_poly.sum_check_value(field, *shape, tables, addends, point)
+                    self.assertEqual([found], challenges(field, left[0]))
+                else:
+                    verify = lambda: ark_poly.sum_check_verify(
+                        field, *said, *shape, numbers(field, given[3])[0], bytes(given[4])
+                    )
+                    if status:
+                        self.assertRaises(ark_poly.Refused, verify)
+                    else:
+                        self.assertEqual(verify(), (challenges(field, left[0]), challenges(field, left[1])[0]))
+
+    def test_lists(self):
+        self.check_kind(numbers)
+
+    def test_arrays(self):
+        self.check_kind(lambda field, words: array.array("Q", words))
+        self.check_kind(lambda field, words: memoryview(array.array("Q", words)).toreadonly())
+
+    @unittest.skipIf(numpy is None, "no numpy")
+    def test_numpy(self):
+        self.check_kind(lambda field, words: numpy.array(words, dtype=numpy.uint64).reshape(-1, ark_poly.words(field)))
+        point = numpy.ones((2, 4), dtype=numpy.uint64)
+        self.assertEqual(
+            ark_poly.sum_check_value(ark_poly.KOALABEAR, 2, 1, [1, 2, 3, 4], [(numpy.int64(2), numpy.array([0]))], point),
+            ark_poly.sum_check_value(ark_poly.KOALABEAR, 2, 1, [1, 2, 3, 4], [(2, [0])], [(1, 1, 1, 1)] * 2),
+        )
+
+    def test_sums(self):
+        rng = random.Random(8)
+        for field in FIELDS[3:]:
+            p = ark_poly.modulus(field)
+            for m in range(6):
+                tables = [[rng.randrange(p) for _ in range(1 << m)] for _ in range(3)]
+                c, lists = rng.randrange(p), sum(tables, [])
+                addends = [(1, [0, 1, 1]), (c, [2]), (p - 1, [])]
+                drawn = ((coefficient, iter(places)) for coefficient, places in addends)
+                total, proof = ark_poly.sum_check_prove(field, b"test", bytearray(b"sum"), m, 3, lists, drawn)
+                self.assertEqual(total, sum(x * y * y + c * z - 1 for x, y, z in zip(*tables)) % p)
+                self.assertEqual(len(proof), ark_poly.sum_check_proof_size(field, m, 3))
+                point, value = ark_poly.sum_check_verify(field, b"test", memoryview(b"sum"), m, 3, total, bytearray(proof))
+                self.assertEqual((len(point), len(value)), (m, ark_poly.challenge_degree(field)))
+                self.assertEqual(ark_poly.sum_check_value(field, m, 3, lists, addends, point), value)
+                if ark_poly.challenge_degree(field) == 1:
+                    x, y, z = (ark_poly.multilinear_evaluate(field, table, [x for x, in point]) for table in tables)
+                    self.assertEqual(value[0], (x * y * y + c * z - 1) % p)
+                if m:
+                    with self.assertRaises(ark_poly.Refused):
+                        ark_poly.sum_check_verify(field, b"test", b"sum", m, 3, (total + 1) % p, proof)
+
+    def test_other_types(self):
+        f = ark_poly.BABYBEAR
+        for label in ("text", 1, None, [1]):
+            with self.assertRaises(TypeError):
+                ark_poly.sum_check_prove(f, label, b"", 0, 1, [], [])
+            with self.assertRaises(TypeError):
+                ark_poly.sum_check_verify(f, b"", label, 0, 1, 0, bytes(8))
+            with self.assertRaises(TypeError):
+                ark_poly.sum_check_verify(f, b"", b"", 0, 1, 0, label)
+        for addends in (1, [1], [(1, 1)], [(1.0, [])], [(1, [0.0])], [(1, "0")]):
+            with self.assertRaises(TypeError):
+                ark_poly.sum_check_prove(f, b"", b"", 0, 1, [1], addends)
+
+
+def addends_of(field, words):
+    """The addends that words spell."""
+    width, addends = ark_poly.words(field), []
+    while words:
+        end = width + 1 + words[width]
+        addends.append((numbers(field, words[:width])[0], words[width + 1 : end]))
+        words = words[end:]
+    return addends
+
+
+def challenges(field, words):
+    items, degree = numbers(field, words), ark_poly.challenge_degree(field)
+    return [tuple(items[i : i + degree]) for i in range(0, len(items), degree)]
+
+
+def of_sums():
+    """What calls over sums refuse, and how."""
+    f, tables, addends, point = ark_poly.BABYBEAR, [1, 2, 3, 4], [(1, [0, 1])], [(1, 2, 3, 4)]
+    size = ark_poly.sum_check_proof_size(f, 1, 2)
+    prove = lambda field=f, m=1, d=2, tables=tables, addends=addends: ark_poly.sum_check_prove(
+        field, b"", b"", m, d, tables, addends
+    )
+    verify = lambda field=f, m=1, d=2, total=1, proof=bytes(size): ark_poly.sum_check_verify(
+        field, b"", b"", m, d, total, proof
+    )
+    value = lambda field=f, m=1, d=2, tables=tables, addends=addends, point=point: ark_poly.sum_check_value(
+        field, m, d, tables, addends, point
+    )
+    for field in (7, 2**64 + f, -1, ark_poly.F5, ark_poly.F433, ark_poly.F65537):
+        yield ark_poly.NoField, lambda field=field: ark_poly.challenge_degree(field)
+        yield ark_poly.NoField, lambda field=field: ark_poly.sum_check_proof_size(field, 64, 0)
+        for call in (prove, verify, value):
+            yield ark_poly.NoField, lambda call=call, field=field: call(field)
+    for m, d in ((64, 2), (-1, 2), (2**32 + 1, 2), (1, 0), (1, -2), (1, 65536), (1, 2**32 + 2)):
+        yield ark_poly.WrongLength, lambda m=m, d=d: ark_poly.sum_check_proof_size(f, m, d)
+        for call in (prove, verify, value):
+            yield ark_poly.WrongLength, lambda call=call, m=m, d=d: call(m=m, d=d)
+    for call in (prove, value):
+        yield ark_poly.WrongLength, lambda call=call: call(tables=[1, 2, 3])
+        for wrong in ([(1, [0, 2])], [(1, [0, -1])], [(1, [0, 2**64])], [(1, [0])], [(1, [0, 0, 0])], []):
+            yield ark_poly.WrongAddends, lambda call=call, wrong=wrong: call(addends=wrong)
+        for number in (f, -1, 2**64):
+            yield ark_poly.NotReduced, lambda call=call, number=number: call(tables=[1, 2, 3, number])
+            yield ark_poly.NotReduced, lambda call=call, number=number: call(addends=[(number, [0, 1])])
+    for number in (f, -1, 2**64):
+        yield ark_poly.NotReduced, lambda number=number: verify(total=number)
+        yield ark_poly.NotReduced, lambda number=number: value(point=[(1, 2, 3, number)])
+    for wrong in ([], point * 2, [(1, 2, 3)], [(1,)] * 4, [(1, 2), (3, 4, 5, 6, 7, 8)]):
+        yield ark_poly.WrongLength, lambda wrong=wrong: value(point=wrong)
+    yield ark_poly.WrongLength, lambda: verify(proof=bytes(size - 1))
+    yield ark_poly.WrongLength, lambda: verify(proof=bytes(size + 1))
+    yield ark_poly.Refused, verify
+
+
 class Refusals(unittest.TestCase):
     def test_each(self):
         f = ark_poly.BABYBEAR
@@ -561,6 +714,7 @@ class Refusals(unittest.TestCase):
             (ark_poly.TooFew, lambda: ark_poly.code_message(f, [1, None, None, None], 2)),
             (ark_poly.NoCodeword, lambda: ark_poly.code_restore(f, [1, 2, 3, None], 1)),
             (ark_poly.NoCodeword, lambda: ark_poly.code_message(f, [1, 2, 3, None], 1)),
+            *of_sums(),
             (ark_poly.WrongLength, lambda: ark_poly.split(0, 1, b"")),
             (ark_poly.WrongLength, lambda: ark_poly.split(2, 1, b"")),
             (ark_poly.WrongLength, lambda: ark_poly.split(0, 0, b"")),
@@ -597,6 +751,7 @@ class Calls(unittest.TestCase):
     def test_facts(self):
         self.assertEqual(ark_poly.library_version(), (0, 5, 0))
         self.assertEqual([ark_poly.words(field) for field in FIELDS], [1] * 6 + [4] * 2)
+        self.assertEqual([ark_poly.challenge_degree(field) for field in FIELDS[3:]], [4, 4, 2, 1, 1])
         self.assertEqual(ark_poly.domain_size(ark_poly.F433, 17), 18)
         self.assertEqual(ark_poly.domain_size(ark_poly.F433, 0), 1)
 

@@ -6,6 +6,8 @@ use std::alloc::{handle_alloc_error, Layout};
 mod sys {
     extern "C" {
         pub fn ark_version() -> u32;
+        #[cfg(test)]
+        pub fn ark_challenge_words(field: u64) -> usize;
         pub fn ark_domain_size(field: u64, at_least: u64, size: *mut u64) -> u32;
         pub fn ark_fft(field: u64, words: *mut u64, len: usize, offset: *const u64, offset_len: usize) -> u32;
         pub fn ark_ifft(field: u64, words: *mut u64, len: usize, offset: *const u64, offset_len: usize) -> u32;
@@ -68,6 +70,54 @@ mod sys {
             quotient_len: usize,
             remainder: *mut u64,
             remainder_len: usize,
+        ) -> u32;
+        pub fn ark_sum_proof_size(field: u64, num_vars: u32, degree: u32, size: *mut u64) -> u32;
+        pub fn ark_sum_prove(
+            field: u64,
+            label: *const u8,
+            label_len: usize,
+            statement: *const u8,
+            statement_len: usize,
+            num_vars: u32,
+            degree: u32,
+            tables: *const u64,
+            tables_len: usize,
+            addends: *const u64,
+            addends_len: usize,
+            proof: *mut u8,
+            proof_len: usize,
+            sum: *mut u64,
+            sum_len: usize,
+        ) -> u32;
+        pub fn ark_sum_verify(
+            field: u64,
+            label: *const u8,
+            label_len: usize,
+            statement: *const u8,
+            statement_len: usize,
+            num_vars: u32,
+            degree: u32,
+            sum: *const u64,
+            sum_len: usize,
+            proof: *const u8,
+            proof_len: usize,
+            point: *mut u64,
+            point_len: usize,
+            value: *mut u64,
+            value_len: usize,
+        ) -> u32;
+        pub fn ark_sum_value(
+            field: u64,
+            num_vars: u32,
+            degree: u32,
+            tables: *const u64,
+            tables_len: usize,
+            addends: *const u64,
+            addends_len: usize,
+            point: *const u64,
+            point_len: usize,
+            value: *mut u64,
+            value_len: usize,
         ) -> u32;
         pub fn ark_piece_size(k: u64, n: u64, number: u64, label_len: u64, len: u64, size: *mut u64) -> u32;
         pub fn ark_split(
@@ -156,6 +206,8 @@ pub enum Refusal {
     NoCodeword,
     NotPieces,
     Damaged,
+    Addends,
+    Refused,
     Other(u32),
 }
 
@@ -174,6 +226,8 @@ fn outcome(status: u32) -> Result<(), Refusal> {
         9 => Refusal::NoCodeword,
         10 => Refusal::NotPieces,
         11 => Refusal::Damaged,
+        12 => Refusal::Addends,
+        13 => Refusal::Refused,
         other => Refusal::Other(other),
     })
 }
@@ -181,6 +235,13 @@ fn outcome(status: u32) -> Result<(), Refusal> {
 pub fn version() -> u32 {
     // SAFETY: the call has no condition.
     unsafe { sys::ark_version() }
+}
+
+/// The types have it, and tests compare.
+#[cfg(test)]
+pub fn challenge_words(field: u64) -> usize {
+    // SAFETY: the call has no condition.
+    unsafe { sys::ark_challenge_words(field) }
 }
 
 pub fn domain_size(field: u64, at_least: u64) -> Result<u64, Refusal> {
@@ -330,6 +391,105 @@ pub fn code_message(field: u64, words: &[u64], erased: &[bool], messages: &mut [
     // SAFETY: as in `code_restore`.
     outcome(unsafe {
         sys::ark_code_message(field, words.as_ptr(), words.len(), marks, places, messages.as_mut_ptr(), messages.len())
+    })
+}
+
+/// How many variables a sum has, and of which degree it is.
+pub type SumShape = [u32; 2];
+
+pub fn sum_proof_size(field: u64, [num_vars, degree]: SumShape) -> Result<u64, Refusal> {
+    let mut size = 0;
+    // SAFETY: the place is a word of this function's own.
+    outcome(unsafe { sys::ark_sum_proof_size(field, num_vars, degree, &mut size) })?;
+    Ok(size)
+}
+
+/// Of what is said, label and statement.
+pub fn sum_prove(
+    field: u64,
+    [label, statement]: [&[u8]; 2],
+    [num_vars, degree]: SumShape,
+    tables: &[u64],
+    addends: &[u64],
+    proof: &mut [u8],
+    sum: &mut [u64],
+) -> Result<(), Refusal> {
+    // SAFETY: as above.
+    outcome(unsafe {
+        sys::ark_sum_prove(
+            field,
+            label.as_ptr(),
+            label.len(),
+            statement.as_ptr(),
+            statement.len(),
+            num_vars,
+            degree,
+            tables.as_ptr(),
+            tables.len(),
+            addends.as_ptr(),
+            addends.len(),
+            proof.as_mut_ptr(),
+            proof.len(),
+            sum.as_mut_ptr(),
+            sum.len(),
+        )
+    })
+}
+
+pub fn sum_verify(
+    field: u64,
+    [label, statement]: [&[u8]; 2],
+    [num_vars, degree]: SumShape,
+    sum: &[u64],
+    proof: &[u8],
+    point: &mut [u64],
+    value: &mut [u64],
+) -> Result<(), Refusal> {
+    // SAFETY: as above.
+    outcome(unsafe {
+        sys::ark_sum_verify(
+            field,
+            label.as_ptr(),
+            label.len(),
+            statement.as_ptr(),
+            statement.len(),
+            num_vars,
+            degree,
+            sum.as_ptr(),
+            sum.len(),
+            proof.as_ptr(),
+            proof.len(),
+            point.as_mut_ptr(),
+            point.len(),
+            value.as_mut_ptr(),
+            value.len(),
+        )
+    })
+}
+
+pub fn sum_value(
+    field: u64,
+    [num_vars, degree]: SumShape,
+    tables: &[u64],
+    addends: &[u64],
+    point: &[u64],
+    value: &mut [u64],
+) -> Result<(), Refusal> {
+    // SAFETY: as above.
+    outcome(unsafe {
+        sys::ark_sum_value(
+            field,
+            num_vars,
+            degree,
+            tables.as_ptr(),
+            tables.len(),
+            addends.as_ptr(),
+            addends.len(),
+            point.as_ptr(),
+            point.len(),
+            value.as_mut_ptr(),
+            value.len(),
+        )
     })
 }
 

@@ -1,5 +1,5 @@
-//! Polynomials, transforms, multilinear extensions and Reed-Solomon codes over prime fields, in ark-poly's own names, and files
-//! in pieces.
+//! Polynomials, transforms, multilinear extensions and Reed-Solomon codes over prime fields, in ark-poly's own names, sum-checks,
+//! and files in pieces.
 //!
 //! ```
 //! use ark_poly_proved::{BabyBear, EvaluationDomain, Radix2EvaluationDomain};
@@ -14,8 +14,8 @@
 //! # What is proved
 //!
 //! The calls of the library: transforms and their inverses, Lagrange's weights, products, quotients, values and interpolation
-//! of polynomials, products of their [`Evaluations`], values and bound variables of multilinear extensions, all of codes and of
-//! pieces, and the inverse of an element. Each takes a list of elements where it stands, without a copy. Not proved is what this
+//! of polynomials, products of their [`Evaluations`], values and bound variables of multilinear extensions, sums over the cube with
+//! their proofs, all of codes and of pieces, and the inverse of an element. Each takes a list of elements where it stands, without a copy. Not proved is what this
 //! crate adds: sums, products and powers of single elements, sums of lists, how threads share a list, and that the lists of the
 //! library are these types; tests compare them with the library.
 //!
@@ -30,7 +30,7 @@
 //! - There is no generic module over the field, no sparse form but that of multilinear polynomials, which has their values
 //!   alone, and no other polynomial in several variables.
 //! - Where memory is refused the program ends as it does where a `Vec` can't grow.
-//! - [`Code`], [`pieces`] and [`parallel`] are beyond ark-poly.
+//! - [`Code`], [`sum_check`], [`pieces`] and [`parallel`] are beyond ark-poly.
 
 #![warn(missing_docs)]
 #![deny(unsafe_op_in_unsafe_fn)]
@@ -45,6 +45,7 @@ mod multilinear;
 pub mod parallel;
 pub mod pieces;
 mod polynomial;
+pub mod sum_check;
 #[cfg(test)]
 mod tests;
 

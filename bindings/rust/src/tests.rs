@@ -1,7 +1,9 @@
 //! The rows of `answers.txt`, which are the library's own answers, and what this crate adds beside them.
 
 use crate::calls::{self, Refusal};
+use crate::field::Element;
 use crate::pieces::{FileCode, PieceError};
+use crate::sum_check::{self, Addend, SumCheckError, SumField};
 use crate::*;
 use std::fs;
 
@@ -51,8 +53,16 @@ fn status(outcome: Result<(), Refusal>) -> u32 {
         Err(Refusal::NoCodeword) => 9,
         Err(Refusal::NotPieces) => 10,
         Err(Refusal::Damaged) => 11,
+        Err(Refusal::Addends) => 12,
+        Err(Refusal::Refused) => 13,
         Err(Refusal::Other(other)) => other,
     }
+}
+
+/// Bytes that a call wrote, and the old words for those that it left.
+fn as_words(made: &[u8], outcome: &Result<(), Refusal>) -> Vec<u64> {
+    let old = |byte: u8| outcome.is_err() && byte == OLD as u8;
+    made.iter().map(|byte| if old(*byte) { OLD } else { u64::from(*byte) }).collect()
 }
 
 /// What a row's call leaves, with its status.
@@ -97,6 +107,20 @@ fn answer(row: &Row) -> (u32, Vec<Vec<u64>>) {
             calls::code_restore(field, &mut left[0], &erased(1), given[2][0])
         }
         "code_message" => calls::code_message(field, &given[0], &erased(1), &mut left[0]),
+        "sum_proof_size" => calls::sum_proof_size(field, shape(&given[0])).map(|size| left[0][0] = size),
+        "sum_prove" => {
+            let said = [&bytes(1)[..], &bytes(2)];
+            let mut made = vec![OLD as u8; left[0].len()];
+            let outcome =
+                calls::sum_prove(field, said, shape(&given[0]), &given[3], &given[4], &mut made, &mut left[1]);
+            left[0] = as_words(&made, &outcome);
+            outcome
+        }
+        "sum_verify" => {
+            let (said, proof, (point, value)) = ([&bytes(1)[..], &bytes(2)], bytes(4), left.split_at_mut(1));
+            calls::sum_verify(field, said, shape(&given[0]), &given[3], &proof, &mut point[0], &mut value[0])
+        }
+        "sum_value" => calls::sum_value(field, shape(&given[0]), &given[1], &given[2], &given[3], &mut left[0]),
         "piece_size" => calls::piece_size(given[0].clone().try_into().unwrap()).map(|size| left[0][0] = size),
         "file_size" => calls::file_size(given[0][0], &bytes(1)).map(|size| left[0][0] = size),
         "split" | "join" => {
@@ -106,8 +130,7 @@ fn answer(row: &Row) -> (u32, Vec<Vec<u64>>) {
                 "split" => calls::split(k, n, &bytes(1), &bytes(2), &mut made),
                 _ => calls::join(k, n, &bytes(1), &mut made),
             };
-            let old = |byte: u8| outcome.is_err() && byte == OLD as u8;
-            left[0] = made.into_iter().map(|byte| if old(byte) { OLD } else { byte.into() }).collect();
+            left[0] = as_words(&made, &outcome);
             outcome
         }
         call => {
@@ -171,6 +194,93 @@ fn files_in_pieces() {
     assert_eq!(FileCode::new(1, 65537), None);
 }
 
+/// The rows by their types, and what is refused.
+fn sums<F: SumField>() {
+    assert_eq!(calls::challenge_words(F::NAME), F::Challenge::default().as_ref().len() * F::WORDS);
+    let elements =
+        |words: &[u64]| words.chunks(F::WORDS).map(|words| F::from_words(words).unwrap()).collect::<Vec<F>>();
+    let challenges = |words: &[u64]| sum_check::challenges(&elements(words));
+    let addends = |mut words: &[u64]| {
+        let mut addends = Vec::new();
+        while !words.is_empty() {
+            let (coefficient, factors) = (elements(&words[..F::WORDS])[0], words[F::WORDS] as usize);
+            let (listed, rest) = words[F::WORDS + 1..].split_at(factors);
+            addends.push(Addend::new(coefficient, listed.iter().map(|place| *place as usize).collect::<Vec<_>>()));
+            words = rest;
+        }
+        addends
+    };
+    let bytes = |words: &[u64]| words.iter().map(|byte| *byte as u8).collect::<Vec<u8>>();
+    for Row { call, given, left, status, .. } in rows().into_iter().filter(|row| row.field == F::NAME) {
+        let (m, d) = (given[0].first().map_or(0, |m| *m as usize), given[0].get(1).map_or(0, |d| *d as usize));
+        match (call.as_str(), status) {
+            ("sum_proof_size", 0) => assert_eq!(sum_check::proof_size::<F>(m, d), Ok(left[0][0] as usize)),
+            ("sum_proof_size", _) => assert_eq!(sum_check::proof_size::<F>(m, d), Err(SumCheckError::WrongLength)),
+            ("sum_prove", 0) => {
+                let (tables, addends) = (elements(&given[3]), addends(&given[4]));
+                let made = sum_check::prove(&bytes(&given[1]), &bytes(&given[2]), m, d, &tables, &addends);
+                assert_eq!(made, Ok((elements(&left[1])[0], bytes(&left[0]))));
+            }
+            ("sum_verify", 0 | 13) => {
+                let (sum, proof) = (elements(&given[3])[0], bytes(&given[4]));
+                let verdict = sum_check::verify(&bytes(&given[1]), &bytes(&given[2]), m, d, sum, &proof);
+                match status {
+                    0 => assert_eq!(verdict, Ok((challenges(&left[0]), challenges(&left[1])[0]))),
+                    _ => assert_eq!(verdict, Err(SumCheckError::Refused)),
+                }
+            }
+            ("sum_value", 0) => {
+                let (tables, addends, point) = (elements(&given[1]), addends(&given[2]), challenges(&given[3]));
+                assert_eq!(sum_check::value_at(m, d, &tables, &addends, &point), Ok(challenges(&left[0])[0]));
+            }
+            _ => {}
+        }
+    }
+    // a product of two tables, longer ones too
+    for m in 0..8 {
+        let (tables, addend) = (drawn::<F>(2 << m), [Addend::new(-F::ONE, [1, 0])]);
+        let (sum, proof) = sum_check::prove(b"test", b"drawn", m, 2, &tables, &addend).unwrap();
+        assert_eq!(sum, -(0..1 << m).map(|i| tables[i] * tables[(1 << m) + i]).sum::<F>());
+        assert_eq!(sum_check::proof_size::<F>(m, 2), Ok(proof.len()));
+        let (point, value) = sum_check::verify(b"test", b"drawn", m, 2, sum, &proof).unwrap();
+        assert_eq!(sum_check::value_at(m, 2, &tables, &addend, &point), Ok(value));
+        let (length, wrong) = (SumCheckError::WrongLength, SumCheckError::WrongAddends);
+        if m > 0 {
+            let refused = Err(SumCheckError::Refused);
+            assert_eq!(sum_check::verify(b"test", b"drawn", m, 2, sum + F::ONE, &proof), refused);
+            assert_eq!(sum_check::prove(b"test", b"drawn", m, 2, &tables[1..], &addend), Err(length));
+            assert_eq!(sum_check::value_at(m, 2, &tables, &addend, &point[1..]), Err(length));
+        }
+        assert_eq!(sum_check::verify(b"test", b"drawn", m, 2, sum, &proof[1..]), Err(length));
+        assert_eq!(sum_check::prove(b"test", b"drawn", m, 2, &tables[..1 << m], &addend), Err(wrong));
+        assert_eq!(sum_check::prove(b"test", b"drawn", m, 3, &tables, &addend), Err(wrong));
+        assert_eq!(sum_check::value_at(m, 1, &tables, &addend, &point), Err(wrong));
+        for (m, d) in [(64, 2), (usize::MAX, 2), (m, 0), (m, 65536), (m, 1 << 32 | 2)] {
+            assert_eq!(sum_check::proof_size::<F>(m, d), Err(length));
+            assert_eq!(sum_check::prove(b"test", b"drawn", m, d, &tables, &addend), Err(length));
+            assert_eq!(sum_check::verify(b"test", b"drawn", m, d, sum, &proof), Err(length));
+            assert_eq!(sum_check::value_at(m, d, &tables, &addend, &point), Err(length));
+        }
+    }
+}
+
+#[test]
+fn sums_over_the_cube() {
+    sums::<BabyBear>();
+    sums::<KoalaBear>();
+    sums::<Goldilocks>();
+    sums::<Bls12_381Fr>();
+    sums::<Bn254Fr>();
+    assert_eq!(calls::challenge_words(F65537::NAME), 0);
+    // of a field that has the challenges itself, the extension's value
+    let table = drawn::<Bn254Fr>(16);
+    let addend = [Addend::new(Bn254Fr::ONE, [0])];
+    let (sum, proof) = sum_check::prove(b"test", b"drawn", 4, 1, &table, &addend).unwrap();
+    let (point, [value]) = sum_check::verify(b"test", b"drawn", 4, 1, sum, &proof).unwrap();
+    let extension = DenseMultilinearExtension::from_evaluations_vec(4, table);
+    assert_eq!(extension.evaluate(&point.concat()), value);
+}
+
 #[test]
 fn in_eight_threads() {
     let rows = rows();
@@ -197,6 +307,7 @@ fn send_and_sync() {
     is::<DenseMultilinearExtension<KoalaBear>>();
     is::<SparseMultilinearExtension<KoalaBear>>();
     is::<Code<F65537>>();
+    is::<Addend<Goldilocks>>();
 }
 
 /// Numbers at the ends of the field and between.
