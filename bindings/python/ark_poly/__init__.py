@@ -343,7 +343,8 @@ def sum_check_proof_size(field: int, num_vars: int, degree: int) -> int:
     """How many bytes a proof has. It raises `WrongLength` where there are more than 63 variables, or the degree is none of 1 to
     65535, and so do the next calls."""
     size = ctypes.c_uint64()
-    _check(_calls.ark_sum_proof_size(_name(field), *_shape(num_vars, degree), ctypes.byref(size)))
+    challenge_degree(field)
+    _check(_calls.ark_sum_proof_size(field, *_shape(num_vars, degree), ctypes.byref(size)))
     return size.value
 
 

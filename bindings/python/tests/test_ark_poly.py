@@ -76,7 +76,7 @@ def raw_sums(call, field, given, left):
     if call == "sum_proof_size":
         size = ctypes.c_uint64(OLD)
         return function(field, *given[0], ctypes.byref(size)), [[size.value]]
-    said = [it for words in given[1:3] for it in (bytes(words), len(words))] if call != "sum_value" else []
+    said = [it for words in given[1:3] if call != "sum_value" for it in (bytes(words), len(words))]
     lists = given[3:] if said else given[1:]
     kinds = {"sum_prove": ("QQ", "BQ"), "sum_verify": ("QB", "QQ"), "sum_value": ("QQQ", "Q")}[call]
     lists = [array.array(kind, words) for kind, words in zip(kinds[0], lists)]
@@ -543,7 +543,7 @@ class Sums(unittest.TestCase):
         for call, field, status, given, left in ROWS:
             if status not in (0, 13) or call not in OF_SUMS:
                 continue
-            shape, said = given[0], [bytes(words) for words in given[1:3]]
+            shape, said = given[0], [bytes(words) for words in given[1:3] if call != "sum_value"]
             with self.subTest(call=call, field=field, given=given):
                 if call == "sum_proof_size":
                     self.assertEqual(ark_poly.sum_check_proof_size(field, *shape), left[0][0])
