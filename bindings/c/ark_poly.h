@@ -201,8 +201,8 @@ ark_status ark_sum_prove(uint64_t field, const uint8_t *label, size_t label_len,
  * the sum of products of the tables' multilinear polynomials must have there. If it has, the sum is true, or one of the m
  * challenges is unlucky: one of d at most of its field. A prover gets its point by this call too.
  * ARK_LENGTH where m is above 63, the degree none of 1 .. 65535, the sum isn't one element, the proof has another size, the point
- * isn't m challenges or the value one, ARK_REFUSED where the bytes are no proof. A proof from others is refused by ARK_LENGTH as
- * well. */
+ * isn't m challenges or the value one, ARK_REFUSED where the bytes are no proof. Of a proof that comes from elsewhere ARK_LENGTH
+ * is a refusal, too. */
 ark_status ark_sum_verify(uint64_t field, const uint8_t *label, size_t label_len, const uint8_t *statement, size_t statement_len,
                           uint32_t num_vars, uint32_t degree, const uint64_t *sum, size_t sum_len, const uint8_t *proof,
                           size_t proof_len, uint64_t *point, size_t point_len, uint64_t *value, size_t value_len);
