@@ -6,3 +6,4 @@ pub mod OfCodes
 pub mod Division
 pub mod Interpolation
 pub mod OfPieces
+pub mod OverSums

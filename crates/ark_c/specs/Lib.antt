@@ -2,3 +2,4 @@
 pub mod Names
 pub mod Statuses
 pub mod Pieces
+pub mod SumFields
