@@ -130,7 +130,9 @@ pub extern "C" fn ark_sum_prove(
 {
     answer_over_sums!(
         field,
-        proved(alloc, label, statement, num_vars, degree, tables, addends, proof, sum)
+        proved(
+            alloc, label, statement, num_vars, degree, tables, addends, proof, sum
+        )
     )
 }
 
@@ -205,7 +207,9 @@ pub extern "C" fn ark_sum_verify(
 {
     answer_over_sums!(
         field,
-        verified(alloc, label, statement, num_vars, degree, sum, proof, point, value)
+        verified(
+            alloc, label, statement, num_vars, degree, sum, proof, point, value
+        )
     )
 }
 
@@ -307,7 +311,5 @@ fn valued<F: SumElement>(
         × (¬ (IsReducedSum F.spelled num_vars degree tables.now addends.now × AreReduced F.spelled point.now))) }
     ensures no_other { result ≢ 13 }
 {
-    sum_status(Some(value_at::<F>(
-        alloc, num_vars, degree, tables, addends, point, value,
-    )))
+    sum_status(Some(value_at::<F>(alloc, num_vars, degree, tables, addends, point, value)))
 }

@@ -1,6 +1,6 @@
 use Rattle.ark_word_sums.specs.Faults.{IsOfSums}
 use Rattle.ark_word_sums.specs.declared.error.SumsError.TheVariants.{Length, Addends, NotReduced, Refused}
-use Rattle.ark_c.proofs.OverSums.{by_error, never_error, never_unnamed, when_done, when_error, when_not}
+use Rattle.ark_c.proofs.OverSums.{by_error, never_error, never_unnamed, when_done, when_not}
 use Rattle.ark_c.proofs.sums.proved.Goals as goal
 
 pub returns : goal.returns
