@@ -13,14 +13,14 @@
  *
  * Elements. A field is a prime p, its elements the numbers below p. A list of elements is a list of 64-bit words in the
  * machine's byte order: one word an element where p is below 2^64, and four otherwise, the low one first. Each number is
- * itself (no Montgomery form). Every length `.._len` counts words, and what is said of n elements is about
- * n * ark_words(field) of them.
+ * itself (no Montgomery form). The length `.._len` of such a list counts words, that of a list of bytes counts bytes, and what
+ * is said of n elements is about n * ark_words(field) words.
  *
  * Statuses. Whatever can be wrong is judged in the order of the enum below: first whether there is such a field, then
  * lengths, then whether each number is below p, and so on; ARK_ADDENDS alone comes right behind lengths. ARK_MEMORY has no
  * condition: it comes where memory was refused. A call that answers anything but ARK_OK has written nothing. ARK_MEMORY may
  * come from every call, and from every call over a field ARK_NO_FIELD and, where there are lists of elements, ARK_LENGTH for
- * a part of an element and ARK_NOT_REDUCED; each names the others.
+ * a part of an element (in `addends` it is ARK_ADDENDS) and ARK_NOT_REDUCED; each names the others.
  *
  * Domains. The domain of n elements is offset * w^i for i = 0 .. n - 1, where w = g^((p - 1) / n) and g is the field's
  * generator below. There is one for each power of two up to the field's greatest; the field of 433 elements has those of
@@ -174,7 +174,7 @@ ark_status ark_multilinear_fix(uint64_t field, const uint64_t *table, size_t tab
  * products, one after another: of each its coefficient, which is one element, then in one word the number of its factors, and a
  * word for each factor, the place of its table, the first one being 0. A table may be a factor several times, and an addend
  * without factors is its coefficient. The degree d, 0 < d < 65536, is the number of factors of the longest addend, and 1 where
- * none has any.
+ * none has any. A prover takes 2^m steps and more, even where there is no table.
  *
  * A challenge is an element of a field of 2^123 elements or more, which the sum's field lies in: with a y such that y^4 = 11 over
  * ARK_BABYBEAR, y^4 = 3 over ARK_KOALABEAR, y^2 = 7 over ARK_GOLDILOCKS. ARK_BN254_FR and ARK_BLS12_381_FR have their own
@@ -202,7 +202,7 @@ ark_status ark_sum_prove(uint64_t field, const uint8_t *label, size_t label_len,
  * challenges is unlucky: one of d at most of its field. A prover gets its point by this call too.
  * ARK_LENGTH where m is above 63, the degree none of 1 .. 65535, the sum isn't one element, the proof has another size, the point
  * isn't m challenges or the value one, ARK_REFUSED where the bytes are no proof. Of a proof that comes from elsewhere ARK_LENGTH
- * is a refusal, too. */
+ * is a refusal, too, and after ARK_MEMORY nothing is known of it. */
 ark_status ark_sum_verify(uint64_t field, const uint8_t *label, size_t label_len, const uint8_t *statement, size_t statement_len,
                           uint32_t num_vars, uint32_t degree, const uint64_t *sum, size_t sum_len, const uint8_t *proof,
                           size_t proof_len, uint64_t *point, size_t point_len, uint64_t *value, size_t value_len);

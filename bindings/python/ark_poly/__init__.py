@@ -7,11 +7,11 @@ library that is proved.
 [1, 2, 1]
 
 A field is one of the names below, or for one of one word its modulus. An element is a number below the modulus. A list of
-elements is any sequence of `int`, and the answer is then a `list`. It may also be words of 64 bits in one piece: an array of
-numpy's `uint64`, an `array.array("Q")` or a `memoryview` of one. The words are then taken without a copy, and the answer is of
-the same kind (an `array` where a `memoryview` was given); that of `evaluate` is of the points' kind. An element of a field of
-four words, as `BN254_FR`, is four of them, the low one first; an array of numpy has them in rows, of the shape `(n, 4)`, or
-flat.
+elements is any sequence of `int`, and the answer is then a `list`. It may also be words of 64 bits: an array of numpy's
+`uint64`, an `array.array("Q")` or a `memoryview` of one. Words that stand in one piece and may be written are taken without a
+copy, and the answer is of the same kind (an `array` where a `memoryview` was given); that of `evaluate` is of the points' kind.
+An element of a field of four words, as `BN254_FR`, is four of them, the low one first; an array of numpy has them in rows, of
+the shape `(n, 4)`, or flat.
 
 The functions that end in `_in_place` write over such words, or over a `list`. Where a call raises, nothing was written. While a
 call runs, other threads do too, and none may write over what the call was given. `ark_poly.parallel` makes the long calls on

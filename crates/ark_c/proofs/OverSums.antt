@@ -1,5 +1,6 @@
 -- What the number of an outcome tells of a call over a field that a number names for sums.
-use Rattle.std.proofs.Common.{◌≡◌, ◌≢◌, ◌↔◌, ◌==◌, ℕ, Option, Some, None, Result, Ok, Err, OnOk, OnErr, IfErr, if◌then◌else◌, refl, sym, ap, subst, ◌∙◌, rules}
+use Rattle.std.proofs.Common.{◌≡◌, ◌≢◌, ◌↔◌, ◌⊎◌, inl, inr, ◌==◌, ◌≤◌, ℕ, Option, Some, None, Result, Ok, Err, OnOk, OnErr, IfErr, if◌then◌else◌, refl, sym, ap, subst, ◌∙◌, lit≤, rules}
+use Rattle.ark_word_sums.specs.Faults.{IsOfProofs, IsOfSums}
 use Rattle.ark_word_sums.specs.declared.error.SumsError.{SumsError}
 use Rattle.ark_word_sums.specs.declared.error.SumsError.TheVariants.{Memory, Length, Addends, NotReduced, Refused}
 use Rattle.ark_c.specs.SumFields.{sum_status_of}
@@ -60,6 +61,26 @@ module _ (status : ℕ) (r : Outcome) (e : status ≡ sum_status_of (Some r)) wh
   pub never_unnamed : status ≢ 2
   never_unnamed z = none_not_some r (sym (one_number (Some r) None (sym e ∙ z)))
 
-  -- an error that never comes
-  pub never_error : (P : SumsError → Type 0) (x : SumsError) → IfErr r P → (P x → ⊥) → status ≢ sum_status_of (Some (Err x))
-  never_error P x h not z = not (subst (λ y. IfErr y P) (told (Err x) z) h)
+  -- the numbers of a prover's outcomes
+  pub of_sums : IfErr r IsOfSums → (status ≤ 4) ⊎ (status ≡ 12)
+  of_sums h = subst (λ n. (n ≤ 4) ⊎ (n ≡ 12)) (sym e) (numbers r h)
+    where
+      numbers : (x : Outcome) → IfErr x IsOfSums → (sum_status_of (Some x) ≤ 4) ⊎ (sum_status_of (Some x) ≡ 12)
+      numbers (Ok done) h = inl (lit≤ tt)
+      numbers (Err Memory) h = inl (lit≤ tt)
+      numbers (Err Length) h = inl (lit≤ tt)
+      numbers (Err NotReduced) h = inl (lit≤ tt)
+      numbers (Err Addends) h = inr refl
+      numbers (Err Refused) h = absurd h
+
+  -- and of a verifier's
+  pub of_proofs : IfErr r IsOfProofs → (status ≤ 4) ⊎ (status ≡ 13)
+  of_proofs h = subst (λ n. (n ≤ 4) ⊎ (n ≡ 13)) (sym e) (numbers r h)
+    where
+      numbers : (x : Outcome) → IfErr x IsOfProofs → (sum_status_of (Some x) ≤ 4) ⊎ (sum_status_of (Some x) ≡ 13)
+      numbers (Ok done) h = inl (lit≤ tt)
+      numbers (Err Memory) h = inl (lit≤ tt)
+      numbers (Err Length) h = inl (lit≤ tt)
+      numbers (Err NotReduced) h = inl (lit≤ tt)
+      numbers (Err Addends) h = absurd h
+      numbers (Err Refused) h = inr refl

@@ -1,6 +1,6 @@
 //! Sums of products over the cube: proofs in bytes, and what a verifier is left with.
 
-ghost use Rattle.std.specs.Prelude.{◌≡◌, ◌≢◌, ◌↔◌, ◌⊎◌, ◌<◌, ℕ, List, Err, IfErr, IsNone, OnErr, OnOk};
+ghost use Rattle.std.specs.Prelude.{◌≡◌, ◌≢◌, ◌↔◌, ◌⊎◌, ◌<◌, ◌≤◌, ℕ, List, Err, IfErr, IsNone, IsSomeAnd, OnErr, OnOk};
 ghost use Rattle.ark_math.specs.Words.{number_of_words};
 ghost use Rattle.ark_sum_check.specs.Cube.{Product};
 ghost use Rattle.ark_words.specs.Numbers.{AreReduced};
@@ -8,6 +8,7 @@ ghost use Rattle.ark_word_sums.specs.Challenges.{Checked, element_words};
 ghost use Rattle.ark_word_sums.specs.Proofs.{FitProver, FitValue, FitVerifier, HasProof, IsReducedTo};
 ghost use Rattle.ark_word_sums.specs.Proofs.{IsSumValue, ProvesSum, claim_by, size_of_proof};
 ghost use Rattle.ark_word_sums.specs.Sums.{AreAddends, HasSum, IsCubeSum, IsReducedSum, IsShape};
+ghost use Rattle.ark_c.specs.Names.{field_named};
 ghost use Rattle.ark_c.specs.SumFields.{place_of};
 
 use crate::status::sum_status;
@@ -47,10 +48,12 @@ impl NamedFields for SumFields {
 }
 
 /// How many words spell an element of the field of the challenges, and 0 where the number names no field for
-/// sums.
+/// sums. All calls over sums are over the field that the number names for the other calls, too.
 #[unsafe(no_mangle)]
 pub extern "C" fn ark_challenge_words(field: u64) -> usize
     ensures words { result ≢ 0 → ⟦<SumFields as NamedFields>⟧.over field (λ _ c. result ≡ element_words c) }
+    ensures field { result ≢ 0 → IsSomeAnd (field_named field) (λ f.
+        ⟦<SumFields as NamedFields>⟧.over field (λ _ c. c.spelled ≡ f)) }
     ensures no_field { (result ≡ 0) ↔ IsNone (place_of field) }
 {
     match field {
@@ -70,7 +73,8 @@ pub extern "C" fn ark_sum_proof_size(field: u64, num_vars: u32, degree: u32, siz
         size.new ≡ size_of_proof c num_vars degree) }
     ensures kept { result ≢ 0 → size.new ≡ size.old }
     ensures no_field { (result ≡ 2) ↔ IsNone (place_of field) }
-    ensures length { (result ≡ 3) ↔ ⟦<SumFields as NamedFields>⟧.over field (λ _ c. ¬ IsShape num_vars degree) }
+    ensures length { (result ≡ 3)
+        ↔ ⟦<SumFields as NamedFields>⟧.over field (λ _ _. ¬ IsShape num_vars degree) }
     ensures no_other { (result ≡ 0) ⊎ ((result ≡ 2) ⊎ (result ≡ 3)) }
 {
     answer_over_sums!(field, sized(num_vars, degree, size))
@@ -126,7 +130,7 @@ pub extern "C" fn ark_sum_prove(
         FitProver c num_vars degree tables.now proof.old sum.old
         × HasSum c.spelled num_vars degree tables.now addends.now
         × (¬ IsReducedSum c.spelled num_vars degree tables.now addends.now)) }
-    ensures no_other { result ≢ 13 }
+    ensures no_other { (result ≤ 4) ⊎ (result ≡ 12) }
 {
     answer_over_sums!(
         field,
@@ -154,7 +158,8 @@ fn proved<F: SumElement>(
         → ProvesSum ⟦<F as SumNumbers>⟧.checked label.now statement.now num_vars degree tables.now ps sum.new
         proof.new }
     ensures kept { result ≢ 0 → (proof.new ≡ proof.old) × (sum.new ≡ sum.old) }
-    ensures taken { result ≡ 0 → FitProver ⟦<F as SumNumbers>⟧.checked num_vars degree tables.now proof.old sum.old
+    ensures taken { result ≡ 0
+        → FitProver ⟦<F as SumNumbers>⟧.checked num_vars degree tables.now proof.old sum.old
         × IsReducedSum F.spelled num_vars degree tables.now addends.now }
     ensures named { result ≢ 2 }
     ensures length { (result ≡ 3)
@@ -166,7 +171,7 @@ fn proved<F: SumElement>(
         ↔ (FitProver ⟦<F as SumNumbers>⟧.checked num_vars degree tables.now proof.old sum.old
         × HasSum F.spelled num_vars degree tables.now addends.now
         × (¬ IsReducedSum F.spelled num_vars degree tables.now addends.now)) }
-    ensures no_other { result ≢ 13 }
+    ensures no_other { (result ≤ 4) ⊎ (result ≡ 12) }
 {
     sum_status(Some(prove::<F>(
         alloc, label, statement, num_vars, degree, tables, addends, proof, sum,
@@ -192,7 +197,8 @@ pub extern "C" fn ark_sum_verify(
         IsReducedTo c label.now statement.now (claim_by c num_vars degree (number_of_words sum.now)) proof.now
         point.new value.new) }
     ensures refused { result ≡ 13 → ⟦<SumFields as NamedFields>⟧.over field (λ _ c.
-        ¬ HasProof c label.now statement.now (claim_by c num_vars degree (number_of_words sum.now)) proof.now) }
+        ¬ HasProof c label.now statement.now (claim_by c num_vars degree (number_of_words sum.now))
+        proof.now) }
     ensures kept { result ≢ 0 → (point.new ≡ point.old) × (value.new ≡ value.old) }
     ensures taken { result ≡ 0 → ⟦<SumFields as NamedFields>⟧.over field (λ _ c.
         FitVerifier c num_vars degree sum.now proof.now point.old value.old
@@ -203,7 +209,7 @@ pub extern "C" fn ark_sum_verify(
     ensures not_reduced { (result ≡ 4) ↔ ⟦<SumFields as NamedFields>⟧.over field (λ _ c.
         FitVerifier c num_vars degree sum.now proof.now point.old value.old
         × (¬ (number_of_words sum.now < c.spelled.known.modulus))) }
-    ensures no_other { result ≢ 12 }
+    ensures no_other { (result ≤ 4) ⊎ (result ≡ 13) }
 {
     answer_over_sums!(
         field,
@@ -240,7 +246,7 @@ fn verified<F: SumElement>(
     ensures not_reduced { (result ≡ 4)
         ↔ (FitVerifier ⟦<F as SumNumbers>⟧.checked num_vars degree sum.now proof.now point.old value.old
         × (¬ (number_of_words sum.now < F.spelled.known.modulus))) }
-    ensures no_other { result ≢ 12 }
+    ensures no_other { (result ≤ 4) ⊎ (result ≡ 13) }
 {
     sum_status(Some(verify::<F>(
         alloc, label, statement, num_vars, degree, sum, proof, point, value,
@@ -276,7 +282,7 @@ pub extern "C" fn ark_sum_value(
         × HasSum c.spelled num_vars degree tables.now addends.now
         × (¬ (IsReducedSum c.spelled num_vars degree tables.now addends.now
         × AreReduced c.spelled point.now))) }
-    ensures no_other { result ≢ 13 }
+    ensures no_other { (result ≤ 4) ⊎ (result ≡ 12) }
 {
     answer_over_sums!(
         field,
@@ -297,7 +303,8 @@ fn valued<F: SumElement>(
     ensures value { result ≡ 0 → (ps : List (Product ℕ)) → AreAddends F.spelled ps addends.now
         → IsSumValue ⟦<F as SumNumbers>⟧.checked num_vars tables.now ps point.now value.new }
     ensures kept { result ≢ 0 → value.new ≡ value.old }
-    ensures taken { result ≡ 0 → FitValue ⟦<F as SumNumbers>⟧.checked num_vars degree tables.now point.now value.old
+    ensures taken { result ≡ 0
+        → FitValue ⟦<F as SumNumbers>⟧.checked num_vars degree tables.now point.now value.old
         × IsReducedSum F.spelled num_vars degree tables.now addends.now × AreReduced F.spelled point.now }
     ensures named { result ≢ 2 }
     ensures length { (result ≡ 3)
@@ -308,8 +315,9 @@ fn valued<F: SumElement>(
     ensures not_reduced { (result ≡ 4)
         ↔ (FitValue ⟦<F as SumNumbers>⟧.checked num_vars degree tables.now point.now value.old
         × HasSum F.spelled num_vars degree tables.now addends.now
-        × (¬ (IsReducedSum F.spelled num_vars degree tables.now addends.now × AreReduced F.spelled point.now))) }
-    ensures no_other { result ≢ 13 }
+        × (¬ (IsReducedSum F.spelled num_vars degree tables.now addends.now
+        × AreReduced F.spelled point.now))) }
+    ensures no_other { (result ≤ 4) ⊎ (result ≡ 12) }
 {
     sum_status(Some(value_at::<F>(alloc, num_vars, degree, tables, addends, point, value)))
 }

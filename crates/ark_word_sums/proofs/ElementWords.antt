@@ -1,5 +1,5 @@
 -- Elements in words, one after another, each by its coefficients.
-use Rattle.std.proofs.Common.{◌≡◌, ℕ, ◌+◌, ◌*◌, ◌/◌, ◌%◌, ◌≤◌, ◌<◌, List, [], ◌∷◌, ◌++◌, length, map, take, slice_range, refl, sym, ap, ap₂, ◌∙◌, arith}
+use Rattle.std.proofs.Common.{◌≡◌, ℕ, ◌+◌, ◌*◌, ◌/◌, ◌%◌, ◌≤◌, ◌<◌, List, [], ◌∷◌, ◌++◌, length, length-append, map, take, slice_range, refl, sym, ap, ap₂, ◌∙◌, arith}
 use Rattle.std.specs.List.{flat_map}
 use Rattle.std.proofs.lemmas.List.{append-nil, length-take-le, map-append, take-append-drop, take-take}
 use Rattle.std.proofs.lemmas.List.Concat.{flat_map-append}
@@ -7,9 +7,11 @@ use Rattle.std.proofs.lemmas.Nat.{div-add-mod', div-mul-add, mod-mul-add}
 use Rattle.std.proofs.lemmas.Slice.{between_is, take-put_mid}
 use borrow.Rule.Slice.PartMut.{put_mid}
 use Rattle.ark_math.specs.Module.{tabulate}
+use Rattle.ark_sum_check.proofs.Vectors.{first, rest}
 use Rattle.ark_words.specs.Numbers.{number_at, numbers}
 use Rattle.ark_words.proofs.WordLists.{count_of_words}
 use Rattle.ark_words.proofs.WordsApart.{numbers-append}
+use Rattle.ark_word_sums.proofs.AddendWords.{one_front}
 
 -- a front and what follows it
 pub front_and : {X : Type 0} (a e : ℕ) (xs : List X) → a ≤ e → take e xs ≡ take a xs ++ slice_range xs a e
@@ -68,3 +70,22 @@ whole_elements n degree width some_degree some_width whole =
     let again : q * degree ≡ q * degree + 0 = omega arith in
     let each : n / width / degree ≡ q = ap (λ k. k / degree) (count ∙ again) ∙ div-mul-add q degree 0 some_degree in
     ap (λ k. k * degree) each ∙ sym count
+
+-- ---- what words tell
+
+-- elements of so many numbers each, told by these, are told by all their numbers one after another
+module _ {E X : Type 0} (spelled : E → List X) (n : ℕ) (some : 0 < n) (long : (x : E) → length (spelled x) ≡ n) (told : (x y : E) → spelled x ≡ spelled y → x ≡ y) where
+  pub one_list : (xs ys : List E) → flat_map spelled xs ≡ flat_map spelled ys → xs ≡ ys
+  one_list [] [] e = refl
+  one_list [] (y ∷ ys) e = absurd (omega (arith, some, ap length e, length-append (spelled y) (flat_map spelled ys), long y))
+  one_list (x ∷ xs) [] e = absurd (omega (arith, some, ap length e, length-append (spelled x) (flat_map spelled xs), long x))
+  one_list (x ∷ xs) (y ∷ ys) e =
+      let split = one_front (spelled x) (spelled y) (flat_map spelled xs) (flat_map spelled ys) (long x ∙ sym (long y)) e in
+      ap₂ (λ u us. u ∷ us) (told x y split.0) (one_list xs ys split.1)
+
+-- numbers that tell their elements
+pub one_map : {F X : Type 0} (number : F → X) → ((a b : F) → number a ≡ number b → a ≡ b) → (xs ys : List F) → map number xs ≡ map number ys → xs ≡ ys
+one_map number same [] [] e = refl
+one_map number same [] (y ∷ ys) e = absurd (omega (arith, ap length e))
+one_map number same (x ∷ xs) [] e = absurd (omega (arith, ap length e))
+one_map number same (x ∷ xs) (y ∷ ys) e = ap₂ (λ u us. u ∷ us) (same x y (ap (first (number x)) e)) (one_map number same xs ys (ap rest e))

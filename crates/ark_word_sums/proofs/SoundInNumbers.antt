@@ -1,19 +1,18 @@
--- What accepted rounds tell of a sum of products of numbers.
-use Rattle.std.proofs.Common.{◌≡◌, ◌≢◌, ◌⊎◌, inl, inr, ⊎_elim, ℕ, ◌+◌, ◌<◌, ◌≤◌, List, [], ◌∷◌, All, drop, get_or, length, take, refl, sym, ap, ap₂, subst, ◌∙◌, arith, mod-eq_of_lt}
+-- Sums of products of numbers, by elements that these stand for.
+use Rattle.std.proofs.Common.{◌≡◌, ⊎_elim, ℕ, ◌+◌, ◌<◌, ◌≤◌, List, [], ◌∷◌, All, drop, get_or, length, take, refl, sym, ap, ap₂, subst, ◌∙◌, arith, mod-eq_of_lt}
 use Rattle.std.specs.List.{AllByRecursion}
 use Rattle.std.proofs.lemmas.Bool.{cases_lt}
 use Rattle.std.proofs.lemmas.List.{get_or-take, get_or-drop, get_or_past, length-take}
 use mathlib.Core.Path.{fun_ext}
-use Rattle.ark_math.specs.Field.{FieldOn, IsField, natural}
+use Rattle.ark_math.specs.Field.{FieldOn, natural}
 use Rattle.ark_base.specs.ResiduesLaws.{natural_number}
 use Rattle.ark_numbers.specs.Fields.{operations}
 use Rattle.ark_numbers.proofs.Values.{NumberField, number_carries, shown_field}
 use Rattle.ark_extensions.specs.Quadratics.{IsFieldEmbedding}
-use Rattle.ark_sum_check.specs.Cube.{Product, SumOfProducts, cube_sum, degree_of, sum_value}
+use Rattle.ark_sum_check.specs.Cube.{Product, SumOfProducts, cube_sum}
 use Rattle.ark_sum_check.specs.Embedded.{embedded_products, embedded_sum}
-use Rattle.ark_sum_check.specs.Rounds.{AreAccepted, AreDifferent, HasUnlucky, Round, challenges}
-use Rattle.ark_sum_check.proofs.Accepted.{sound}
-use Rattle.ark_sum_check.proofs.Embeddings.{cube_sum_kept, longest_kept}
+use Rattle.ark_sum_check.specs.Rounds.{AreDifferent}
+use Rattle.ark_sum_check.proofs.Embeddings.{cube_sum_kept}
 use Rattle.ark_word_sums.proofs.Numbers.{natural_kept, number_of_cube_sum}
 
 -- what is said of all items, and of what stands past the end, is said of an item wherever
@@ -71,17 +70,12 @@ module _ {F E : Type 0} (S : NumberField F) (L : FieldOn E) (w : F → E) (embed
       (fun_ext (λ i. fun_ext (λ b. number_of_element (t.tables i b) (small i b))))
       (products_back t.addends below)
 
-  pub sound_in_numbers : IsField L → ((a b : E) → (a ≡ b) ⊎ (a ≢ b)) → (d m n : ℕ) (t : SumOfProducts ℕ) (rs : List (Round E)) (last : E) → n < S.modulus
-      → ((i b : ℕ) → t.tables i b < S.modulus) → AllByRecursion (λ a. a.coefficient < S.modulus) t.addends → degree_of t ≤ d → length rs ≡ m → AreAccepted L d (natural L n) rs last
-      → (n ≡ cube_sum (operations (shown_field S)) m t) ⊎ ((last ≢ sum_value L (embedded_sum (natural L) t) (challenges rs)) ⊎ HasUnlucky L d (embedded_sum (natural L) t) rs)
-  sound_in_numbers N decide d m n t rs last l small below few count accepted =
+  -- a number that stands for the sum above is the sum of the numbers
+  pub sum_in_numbers : (m n : ℕ) (t : SumOfProducts ℕ) → n < S.modulus → ((i b : ℕ) → t.tables i b < S.modulus) → AllByRecursion (λ a. a.coefficient < S.modulus) t.addends
+      → natural L n ≡ cube_sum L m (embedded_sum (natural L) t) → n ≡ cube_sum (operations (shown_field S)) m t
+  sum_in_numbers m n t l small below is =
       let s = embedded_sum element t in
-      let degree : degree_of (embedded_sum (natural L) t) ≡ degree_of t = longest_kept (natural L) t.addends in
-      elim (sound L N decide d (natural L n) rs last (embedded_sum (natural L) t) (subst (λ k. k ≤ d) (sym degree) few) accepted) [
-        | inl true_sum ↦
-            let above : w (element n) ≡ w (cube_sum S.field m s) =
-            natural_kept S L w embeds n ∙ true_sum ∙ ap₂ (λ k u. cube_sum L k u) count (sum_over t) ∙ sym (cube_sum_kept S.field L w embeds m s) in
-            inl (sym (number_of_element n l)
-            ∙ number_of_cube_sum S m s t (element n) (embeds.one_to_one (element n) (cube_sum S.field m s) above) (sum_back t small below))
-        | inr other ↦ inr other
-      ]
+      let above : w (element n) ≡ w (cube_sum S.field m s) =
+      natural_kept S L w embeds n ∙ is ∙ ap (cube_sum L m) (sum_over t) ∙ sym (cube_sum_kept S.field L w embeds m s) in
+      sym (number_of_element n l)
+      ∙ number_of_cube_sum S m s t (element n) (embeds.one_to_one (element n) (cube_sum S.field m s) above) (sum_back t small below)

@@ -6,7 +6,7 @@ use Rattle.ark_math.specs.Words.{number_of_words}
 use Rattle.ark_transcript.specs.Calls.{Call, Absorbed, Begun}
 use Rattle.ark_sum_check.specs.Cube.{Product, SumOfProducts, sum_value}
 use Rattle.ark_sum_check.specs.Embedded.{embedded_sum}
-use Rattle.ark_sum_check.specs.Rounds.{AreAccepted, Round, challenges}
+use Rattle.ark_sum_check.specs.Rounds.{AreAccepted, HasOneOfFew, Round, challenges}
 use Rattle.ark_sum_check.specs.declared.verifier.Claim.{Claim}
 use Rattle.ark_fiat_shamir.specs.Derived.{AreDerived}
 use Rattle.ark_words.specs.Numbers.{IsOne}
@@ -67,6 +67,13 @@ ProvesNumber {E} c label statement m d tables ps n bytes =
 abbrev pub ProvesSum : {E : Type 0} → Checked E → List ℕ → List ℕ → ℕ → ℕ → List ℕ → List (Product ℕ) → List ℕ → List ℕ → Type 0
 ProvesSum c label statement m d tables ps sum bytes =
     ProvesNumber c label statement m d tables ps (number_of_words sum) bytes
+
+-- the bytes are a proof that these products' sum is n, of which a round is unlucky: d challenges at most are so, whatever
+-- was sent before, and its own is one of them
+abbrev pub IsUnluckyProof : {E : Type 0} → Checked E → List ℕ → List ℕ → ℕ → ℕ → List ℕ → List (Product ℕ) → ℕ → List ℕ → Type 0
+IsUnluckyProof {E} c label statement m d tables ps n bytes =
+    (rounds : List (Round E)) × (last : E) × IsProof c label statement (claim_by c m d n) bytes rounds last
+    × HasOneOfFew c.field d (sum_over c m tables ps) rounds
 
 -- the words spell the value at a point
 abbrev pub IsSumValue : {E : Type 0} → Checked E → ℕ → List ℕ → List (Product ℕ) → List ℕ → List ℕ → Type 0

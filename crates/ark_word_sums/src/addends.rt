@@ -51,8 +51,10 @@ pub fn are_coefficients<F: WordElement>(words: &[u64]) -> bool
 
 /// The addends that the words spell.
 pub fn addends_of<F: WordElement>(alloc: Global, words: &[u64]) -> Result<Vec<Addend<F>>, SumsError>
-    ensures spelled { IfOk result (λ read. AreAddends F.spelled (numbered F.numbering.number read.items) words.now) }
-    ensures reduced { IfOk result (λ read. AreCoefficients F.spelled (numbered F.numbering.number read.items)) }
+    ensures spelled { IfOk result (λ read.
+        AreAddends F.spelled (numbered F.numbering.number read.items) words.now) }
+    ensures reduced { IfOk result (λ read.
+        AreCoefficients F.spelled (numbered F.numbering.number read.items)) }
 {
     let mut addends = Vec::new(alloc);
     let mut rest = words;

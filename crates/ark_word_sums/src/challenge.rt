@@ -1,6 +1,8 @@
 //! Fields of challenges, by the coefficients of their elements.
 
 ghost use Rattle.std.specs.Prelude.{◌≡◌, ℕ, List, ◌<◌, get_or, length};
+ghost use Rattle.std.specs.List.{flat_map};
+ghost use Rattle.ark_bytes.specs.declared.compress.Compress.{Compress};
 
 use ark_extensions::{ExtensionOf, Quadratic, QuadraticModulus};
 use ark_traits::Field;
@@ -31,12 +33,15 @@ pub trait ChallengeOf<F: Field>: ExtensionOf<F> {
     ghost positive_law: { 0 < DEGREE };
 
     ghost apart_law: { (x y : Self) → coefficients x ≡ coefficients y → x ≡ y };
+
+    ghost bytes_law: { (x : Self) → (Self.format Compress.Yes).spelling x
+        ≡ flat_map (F.format Compress.Yes).spelling (coefficients x) };
 }
 
 impl<F: Field, M: QuadraticModulus<F>> ChallengeOf<F> for Quadratic<F, M> {
     ghost use Rattle.std.specs.Prelude.{[], ◌∷◌};
     ghost use Rattle.std.proofs.Common.{refl, lit<};
-    ghost use Rattle.ark_word_sums.specs.Coefficients.{two_apart};
+    ghost use Rattle.ark_word_sums.specs.Coefficients.{two_apart, two_spelled};
 
     ghost DEGREE = { 2 };
 
@@ -57,6 +62,8 @@ impl<F: Field, M: QuadraticModulus<F>> ChallengeOf<F> for Quadratic<F, M> {
     ghost positive_law = { lit< tt };
 
     ghost apart_law = { two_apart };
+
+    ghost bytes_law = { two_spelled (F.format Compress.Yes) };
 }
 
 /// The field two below.
@@ -64,7 +71,7 @@ impl<F: Field, M: QuadraticModulus<F>, N: QuadraticModulus<Quadratic<F, M>>> Cha
     for Quadratic<Quadratic<F, M>, N> {
     ghost use Rattle.std.specs.Prelude.{[], ◌∷◌};
     ghost use Rattle.std.proofs.Common.{refl, lit<};
-    ghost use Rattle.ark_word_sums.specs.Coefficients.{four_apart};
+    ghost use Rattle.ark_word_sums.specs.Coefficients.{four_apart, four_spelled};
 
     ghost DEGREE = { 4 };
 
@@ -93,12 +100,15 @@ impl<F: Field, M: QuadraticModulus<F>, N: QuadraticModulus<Quadratic<F, M>>> Cha
     ghost positive_law = { lit< tt };
 
     ghost apart_law = { four_apart };
+
+    ghost bytes_law = { four_spelled (F.format Compress.Yes) };
 }
 
 /// A field of four words is large enough to have the challenges itself.
 impl<M: PrimeModulus256> ChallengeOf<PrimeField256<M>> for PrimeField256<M> {
     ghost use Rattle.std.specs.Prelude.{[], ◌∷◌};
-    ghost use Rattle.std.proofs.Common.{refl, lit<};
+    ghost use Rattle.std.proofs.Common.{refl, lit<, sym};
+    ghost use Rattle.std.proofs.lemmas.List.{append-nil};
     ghost use Rattle.ark_word_sums.specs.Coefficients.{one_apart};
 
     ghost DEGREE = { 1 };
@@ -120,4 +130,6 @@ impl<M: PrimeModulus256> ChallengeOf<PrimeField256<M>> for PrimeField256<M> {
     ghost positive_law = { lit< tt };
 
     ghost apart_law = { one_apart };
+
+    ghost bytes_law = { λ x. sym (append-nil _) };
 }

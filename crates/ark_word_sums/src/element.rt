@@ -21,6 +21,8 @@ pub trait SumElement: WordElement {
     ghost small_law: { Self.Challenge.element_size ≤ 64 };
 
     ghost few_law: { Self.Challenge.DEGREE * Self.WIDTH ≤ 4 };
+
+    ghost wide_law: { 2 ^ 123 ≤ Self.modulus ^ Self.Challenge.DEGREE };
 }
 
 /// What contracts over words see of such a field.
@@ -59,6 +61,8 @@ impl SumElement for BabyBear {
     ghost small_law = { lit≤ tt };
 
     ghost few_law = { lit≤ tt };
+
+    ghost wide_law = { lit≤ tt };
 }
 
 impl SumElement for KoalaBear {
@@ -71,6 +75,8 @@ impl SumElement for KoalaBear {
     ghost small_law = { lit≤ tt };
 
     ghost few_law = { lit≤ tt };
+
+    ghost wide_law = { lit≤ tt };
 }
 
 impl SumElement for Goldilocks {
@@ -83,6 +89,8 @@ impl SumElement for Goldilocks {
     ghost small_law = { lit≤ tt };
 
     ghost few_law = { lit≤ tt };
+
+    ghost wide_law = { lit≤ tt };
 }
 
 impl SumElement for Bls12_381Scalar {
@@ -95,6 +103,8 @@ impl SumElement for Bls12_381Scalar {
     ghost small_law = { lit≤ tt };
 
     ghost few_law = { lit≤ tt };
+
+    ghost wide_law = { lit≤ tt };
 }
 
 impl SumElement for Bn254Scalar {
@@ -107,4 +117,6 @@ impl SumElement for Bn254Scalar {
     ghost small_law = { lit≤ tt };
 
     ghost few_law = { lit≤ tt };
+
+    ghost wide_law = { lit≤ tt };
 }

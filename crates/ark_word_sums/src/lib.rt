@@ -1,4 +1,5 @@
-//! Sum-checks over lists of words, for callers that know no type of a field: a prover and a verifier of bytes.
+//! Sum-checks over lists of words, for callers that know no type of a field: a prover and a verifier of
+//! bytes.
 #![tactic(auto)]
 
 mod addends;
@@ -16,7 +17,7 @@ mod words;
 pub use challenge::ChallengeOf;
 pub use element::{SumElement, SumNumbers};
 pub use error::SumsError;
-pub use laws::{one_reduction, true_or_unlucky};
+pub use laws::{one_list_of_elements, one_reduction, shown_or_unlucky, true_or_one_of_few};
 pub use proofs::proof_size;
 pub use prover::{prove, value_at};
 pub use verifier::verify;

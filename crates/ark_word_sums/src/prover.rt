@@ -6,7 +6,8 @@ ghost use Rattle.ark_sum_check.specs.Cube.{Product, cube_sum, sum_value};
 ghost use Rattle.ark_words.specs.Numbers.{AreReduced};
 ghost use Rattle.ark_word_sums.specs.Challenges.{AreElementsOf, element_words};
 ghost use Rattle.ark_word_sums.specs.Faults.{IsOfSums, IsRefusalOfNumbers, IsSumFault};
-ghost use Rattle.ark_word_sums.specs.Proofs.{FitProver, FitValue, IsSumValue, ProvesNumber, ProvesSum, size_of_proof, sum_over};
+ghost use Rattle.ark_word_sums.specs.Proofs.{FitProver, FitValue, IsSumValue, ProvesNumber, ProvesSum};
+ghost use Rattle.ark_word_sums.specs.Proofs.{size_of_proof, sum_over};
 ghost use Rattle.ark_word_sums.specs.Sums.{AreAddends, AreTables, HasSum, IsCubeSum, IsReducedSum, sum_by};
 
 use crate::element::{SumElement, SumNumbers};
@@ -19,23 +20,23 @@ use ark_fiat_shamir::prove_transcript_within;
 use ark_words::{WordElement, are_reduced};
 use std::alloc::Global;
 
-/// Writes the sum over the cube of a sum of products of tables, and a proof of it in bytes: what `verify` with
-/// the same label, statement and sum accepts, and reduces to the value of the same sum at a point, which
+/// Writes the sum over the cube of a sum of products of tables, and a proof of it in bytes: what `verify`
+/// with the same label, statement and sum accepts, and reduces to the value of the same sum at a point, which
 /// `value_at` writes too. `verify` gives the prover this point as well.
 ///
-/// The tables have `2^num_vars` numbers each, and stand one after another. Each addend is its coefficient, how
-/// many factors it has, and the indices of these factors' tables, and so one addend after another; a table may
-/// come as a factor several times. The longest has `degree` factors; where no addend has one, `degree` is 1.
-/// The challenges follow from the label, which names the protocol, and the statement: **bytes that fix tables
-/// and addends**, as these or a commitment to them. Else a prover may choose tables after it sees the
-/// challenges. It takes memory for the tables, for half of each in the field of the challenges, for the
-/// addends and the proof.
+/// The tables have `2^num_vars` numbers each, and stand one after another. Each addend is its coefficient,
+/// how many factors it has, and the indices of these factors' tables, and so one addend after another; a
+/// table may come as a factor several times. The longest has `degree` factors; where no addend has one,
+/// `degree` is 1. The challenges follow from the label, which names the protocol, and the statement: **bytes
+/// that fix tables and addends**, as these or a commitment to them. Else a prover may choose tables after it
+/// sees the challenges. It takes memory for the tables, for half of each in the field of the challenges, for
+/// the addends and the proof.
 ///
 /// The errors are judged in this order: `Length` where there are more variables than 63, the degree is none
-/// of 1 to 65535, the tables aren't whole ones, the proof hasn't `proof_size` bytes, or the sum's words aren't
-/// one number; `Addends` where the words of the addends spell no products of these tables of which the longest
-/// has as many factors as the degree; `NotReduced` where a number of a table, or a coefficient, isn't below
-/// the modulus; `Memory` where none of these holds.
+/// of 1 to 65535, the tables aren't whole ones, the proof hasn't `proof_size` bytes, or the sum's words
+/// aren't one number; `Addends` where the words of the addends spell no products of these tables of which the
+/// longest has as many factors as the degree; `NotReduced` where a number of a table, or a coefficient, isn't
+/// below the modulus; `Memory` where none of these holds.
 pub fn prove<F: SumElement>(
     alloc: Global,
     label: &[u8],
@@ -47,22 +48,24 @@ pub fn prove<F: SumElement>(
     proof: &mut [u8],
     sum: &mut [u64],
 ) -> Result<(), SumsError>
-    ensures sum { OnOk result ((ps : List (Product ℕ)) → AreAddends ⟦<F as SumNumbers>⟧.checked.spelled ps addends.now
-        → IsCubeSum ⟦<F as SumNumbers>⟧.checked.spelled num_vars tables.now ps sum.new) }
-    ensures proof { OnOk result ((ps : List (Product ℕ)) → AreAddends ⟦<F as SumNumbers>⟧.checked.spelled ps addends.now
-        → ProvesSum ⟦<F as SumNumbers>⟧.checked label.now statement.now num_vars degree tables.now ps sum.new proof.new) }
+    ensures sum { OnOk result ((ps : List (Product ℕ)) → AreAddends F.spelled ps addends.now
+        → IsCubeSum F.spelled num_vars tables.now ps sum.new) }
+    ensures proof { OnOk result ((ps : List (Product ℕ)) → AreAddends F.spelled ps addends.now
+        → ProvesSum ⟦<F as SumNumbers>⟧.checked label.now statement.now num_vars degree tables.now ps sum.new
+        proof.new) }
     ensures kept { OnErr result ((proof.new ≡ proof.old) × (sum.new ≡ sum.old)) }
-    ensures taken { OnOk result (FitProver ⟦<F as SumNumbers>⟧.checked num_vars degree tables.now proof.old sum.old
-        × IsReducedSum ⟦<F as SumNumbers>⟧.checked.spelled num_vars degree tables.now addends.now) }
+    ensures taken { OnOk result (
+        FitProver ⟦<F as SumNumbers>⟧.checked num_vars degree tables.now proof.old sum.old
+        × IsReducedSum F.spelled num_vars degree tables.now addends.now) }
     ensures length { (result ≡ Err SumsError.Length)
         ↔ (¬ FitProver ⟦<F as SumNumbers>⟧.checked num_vars degree tables.now proof.old sum.old) }
     ensures addends { (result ≡ Err SumsError.Addends)
         ↔ (FitProver ⟦<F as SumNumbers>⟧.checked num_vars degree tables.now proof.old sum.old
-        × (¬ HasSum ⟦<F as SumNumbers>⟧.checked.spelled num_vars degree tables.now addends.now)) }
+        × (¬ HasSum F.spelled num_vars degree tables.now addends.now)) }
     ensures not_reduced { (result ≡ Err SumsError.NotReduced)
         ↔ (FitProver ⟦<F as SumNumbers>⟧.checked num_vars degree tables.now proof.old sum.old
-        × HasSum ⟦<F as SumNumbers>⟧.checked.spelled num_vars degree tables.now addends.now
-        × (¬ IsReducedSum ⟦<F as SumNumbers>⟧.checked.spelled num_vars degree tables.now addends.now)) }
+        × HasSum F.spelled num_vars degree tables.now addends.now
+        × (¬ IsReducedSum F.spelled num_vars degree tables.now addends.now)) }
     ensures no_other { IfErr result IsOfSums }
 {
     if proof_size::<F>(num_vars, degree) != Some(proof.len())
@@ -115,9 +118,9 @@ fn proof_of_sum<F: SumElement>(
 /// challenges, as `verify` writes it: the products of the values there of the tables' multilinear extensions,
 /// added up. Where it is the value that `verify` left, the claim holds, but for few challenges.
 ///
-/// The errors are those of `prove`, with `Length` where the point hasn't `num_vars` elements or the value isn't
-/// one, each of `challenge_width` words, and `NotReduced` where a number of the point isn't below the modulus,
-/// too.
+/// The errors are those of `prove`, with `Length` where the point hasn't `num_vars` elements or the value
+/// isn't one, each of `challenge_width` words, and `NotReduced` where a number of the point isn't below the
+/// modulus, too.
 pub fn value_at<F: SumElement>(
     alloc: Global,
     num_vars: u32,
@@ -127,22 +130,23 @@ pub fn value_at<F: SumElement>(
     point: &[u64],
     value: &mut [u64],
 ) -> Result<(), SumsError>
-    ensures value { OnOk result ((ps : List (Product ℕ)) → AreAddends ⟦<F as SumNumbers>⟧.checked.spelled ps addends.now
+    ensures value { OnOk result ((ps : List (Product ℕ)) → AreAddends F.spelled ps addends.now
         → IsSumValue ⟦<F as SumNumbers>⟧.checked num_vars tables.now ps point.now value.new) }
     ensures kept { OnErr result (value.new ≡ value.old) }
-    ensures taken { OnOk result (FitValue ⟦<F as SumNumbers>⟧.checked num_vars degree tables.now point.now value.old
-        × IsReducedSum ⟦<F as SumNumbers>⟧.checked.spelled num_vars degree tables.now addends.now
-        × AreReduced ⟦<F as SumNumbers>⟧.checked.spelled point.now) }
+    ensures taken { OnOk result (
+        FitValue ⟦<F as SumNumbers>⟧.checked num_vars degree tables.now point.now value.old
+        × IsReducedSum F.spelled num_vars degree tables.now addends.now
+        × AreReduced F.spelled point.now) }
     ensures length { (result ≡ Err SumsError.Length)
         ↔ (¬ FitValue ⟦<F as SumNumbers>⟧.checked num_vars degree tables.now point.now value.old) }
     ensures addends { (result ≡ Err SumsError.Addends)
         ↔ (FitValue ⟦<F as SumNumbers>⟧.checked num_vars degree tables.now point.now value.old
-        × (¬ HasSum ⟦<F as SumNumbers>⟧.checked.spelled num_vars degree tables.now addends.now)) }
+        × (¬ HasSum F.spelled num_vars degree tables.now addends.now)) }
     ensures not_reduced { (result ≡ Err SumsError.NotReduced)
         ↔ (FitValue ⟦<F as SumNumbers>⟧.checked num_vars degree tables.now point.now value.old
-        × HasSum ⟦<F as SumNumbers>⟧.checked.spelled num_vars degree tables.now addends.now
-        × (¬ (IsReducedSum ⟦<F as SumNumbers>⟧.checked.spelled num_vars degree tables.now addends.now
-        × AreReduced ⟦<F as SumNumbers>⟧.checked.spelled point.now))) }
+        × HasSum F.spelled num_vars degree tables.now addends.now
+        × (¬ (IsReducedSum F.spelled num_vars degree tables.now addends.now
+        × AreReduced F.spelled point.now))) }
     ensures no_other { IfErr result IsOfSums }
 {
     let width = F::challenge_width();
@@ -172,7 +176,8 @@ fn value_of_sum<F: SumElement>(
     requires elements { length point.now ≡ num_vars * element_words ⟦<F as SumNumbers>⟧.checked }
     ensures value { IfOk result (λ found. (ps : List (Product ℕ)) → AreAddends F.spelled ps addends.now
         → (x : List F.Challenge) × AreElementsOf ⟦<F as SumNumbers>⟧.checked x point.now
-        × (found ≡ sum_value F.Challenge.field (sum_over ⟦<F as SumNumbers>⟧.checked num_vars tables.now ps) x)) }
+        × (found ≡ sum_value F.Challenge.field
+        (sum_over ⟦<F as SumNumbers>⟧.checked num_vars tables.now ps) x)) }
     ensures taken { IfOk result (λ _. IsReducedSum F.spelled num_vars degree tables.now addends.now
         × AreReduced F.spelled point.now) }
     ensures fault { IfErr result (IsSumFault (HasSum F.spelled num_vars degree tables.now addends.now)

@@ -7,7 +7,8 @@ ghost use Rattle.ark_sum_check.specs.Provers.{sum_of, variables_of};
 ghost use Rattle.ark_words.specs.Numbers.{AreReduced, numbers};
 ghost use Rattle.ark_word_sums.specs.Faults.{IsRefusalOfNumbers};
 ghost use Rattle.ark_word_sums.specs.Read.{numbered, table_lists};
-ghost use Rattle.ark_word_sums.specs.Sums.{AreAddends, AreCoefficients, AreTables, HasSum, IsReducedSum, IsSum, sum_by, table_count};
+ghost use Rattle.ark_word_sums.specs.Sums.{AreAddends, AreCoefficients, AreTables, HasSum, IsReducedSum, IsSum};
+ghost use Rattle.ark_word_sums.specs.Sums.{sum_by, table_count};
 
 use crate::addends::{addends_of, are_addends, are_coefficients};
 use crate::error::SumsError;

@@ -12,18 +12,18 @@ use crate::proofs::{proof_of, proof_size, transcript_of};
 use crate::words::{put_challenge, put_challenges};
 use ark_extensions::ExtensionOf;
 use ark_fiat_shamir::verify_transcript;
-use ark_sum_check::{Claim, Verdict};
+use ark_sum_check::{Claim, SumCheckError, Verdict};
 use std::alloc::Global;
 
-/// Whether the bytes are a proof that the sum over the cube of a sum of products, of so many variables and this
-/// degree, is this number, as `prove` writes it with the same label and statement. Then it writes what is left
-/// to check: that at this point, of `num_vars` elements of the field of the challenges, the sum of products has
-/// this value.
+/// Whether the bytes are a proof that the sum over the cube of a sum of products, of so many variables and
+/// this degree, is this number, as `prove` writes it with the same label and statement. Then it writes what
+/// is left to check: that at this point, of `num_vars` elements of the field of the challenges, the sum of
+/// products has this value.
 ///
 /// The errors are judged in this order: `Length` where there are more variables than 63, the degree is none
 /// of 1 to 65535, the sum's words aren't one number, the proof hasn't `proof_size` bytes, or point and value
-/// haven't `num_vars` elements and one, each of `challenge_width` words; `NotReduced` where the sum isn't below
-/// the modulus; `Refused` where the bytes are no proof of it; `Memory` where the former two don't hold.
+/// haven't `num_vars` elements and one, each of `challenge_width` words; `NotReduced` where the sum isn't
+/// below the modulus; `Refused` where the bytes are no proof of it; `Memory` where the former two don't hold.
 pub fn verify<F: SumElement>(
     alloc: Global,
     label: &[u8],
@@ -36,17 +36,20 @@ pub fn verify<F: SumElement>(
     value: &mut [u64],
 ) -> Result<(), SumsError>
     ensures reduced { OnOk result (IsReducedTo ⟦<F as SumNumbers>⟧.checked label.now statement.now
-        (claim_by ⟦<F as SumNumbers>⟧.checked num_vars degree (number_of_words sum.now)) proof.now point.new value.new) }
-    ensures refused { result ≡ Err SumsError.Refused → ¬ HasProof ⟦<F as SumNumbers>⟧.checked label.now statement.now
+        (claim_by ⟦<F as SumNumbers>⟧.checked num_vars degree (number_of_words sum.now)) proof.now point.new
+        value.new) }
+    ensures refused { result ≡ Err SumsError.Refused
+        → ¬ HasProof ⟦<F as SumNumbers>⟧.checked label.now statement.now
         (claim_by ⟦<F as SumNumbers>⟧.checked num_vars degree (number_of_words sum.now)) proof.now }
     ensures kept { OnErr result ((point.new ≡ point.old) × (value.new ≡ value.old)) }
-    ensures taken { OnOk result (FitVerifier ⟦<F as SumNumbers>⟧.checked num_vars degree sum.now proof.now point.old value.old
-        × (number_of_words sum.now < ⟦<F as SumNumbers>⟧.checked.spelled.known.modulus)) }
+    ensures taken { OnOk result (
+        FitVerifier ⟦<F as SumNumbers>⟧.checked num_vars degree sum.now proof.now point.old value.old
+        × (number_of_words sum.now < F.spelled.known.modulus)) }
     ensures length { (result ≡ Err SumsError.Length)
         ↔ (¬ FitVerifier ⟦<F as SumNumbers>⟧.checked num_vars degree sum.now proof.now point.old value.old) }
     ensures not_reduced { (result ≡ Err SumsError.NotReduced)
         ↔ (FitVerifier ⟦<F as SumNumbers>⟧.checked num_vars degree sum.now proof.now point.old value.old
-        × (¬ (number_of_words sum.now < ⟦<F as SumNumbers>⟧.checked.spelled.known.modulus))) }
+        × (¬ (number_of_words sum.now < F.spelled.known.modulus))) }
     ensures no_other { IfErr result IsOfProofs }
 {
     if !is_fit::<F>(num_vars, degree, sum, proof, point, value) {
@@ -104,13 +107,13 @@ fn reduction<F: SumElement>(
 {
     let read = proof_of::<F::Challenge>(alloc, proof)?;
     let mut transcript = transcript_of(label, statement);
-    let Verdict::Reduced(last, challenges) = verify_transcript(
-        alloc,
-        claim,
-        &read,
-        &mut transcript,
-    )?
-    else {
+    let verdict = match verify_transcript(alloc, claim, &read, &mut transcript) {
+        Ok(verdict) => verdict,
+        Err(SumCheckError::Memory) => return Err(SumsError::Memory),
+        // No degree below 2^16 reaches the characteristic.
+        Err(SumCheckError::SmallCharacteristic) => unreachable!(),
+    };
+    let Verdict::Reduced(last, challenges) = verdict else {
         return Err(SumsError::Refused);
     };
     Ok((last, challenges))

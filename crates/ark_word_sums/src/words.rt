@@ -39,7 +39,8 @@ pub fn challenges<F: SumElement>(
     words: &[u64],
 ) -> Result<Vec<F::Challenge>, WordsError>
     requires { length words.now % element_words ⟦<F as SumNumbers>⟧.checked ≡ 0 }
-    ensures elements { IfOk result (λ items. AreElementsOf ⟦<F as SumNumbers>⟧.checked items.items words.now) }
+    ensures elements { IfOk result (λ items.
+        AreElementsOf ⟦<F as SumNumbers>⟧.checked items.items words.now) }
     ensures refusal { IfErr result (IsRefusal (AreReduced F.spelled words.now) WordsError.Memory) }
 {
     let degree = F::Challenge::DEGREE;

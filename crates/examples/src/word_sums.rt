@@ -1,9 +1,17 @@
-//! A sum-check by words and bytes, by a caller that knows no type of a field: of three tables a, b and c, that
-//! the products a * b and three times c add up to a sum.
+//! A sum-check by words and bytes, by a caller that knows no type of a field: of three tables a, b and c,
+//! that the products a * b and three times c add up to a sum.
+
+ghost use Rattle.std.specs.Prelude.{◌≡◌, ◌⊎◌, List, ℕ, IfOk, true};
+ghost use Rattle.ark_math.specs.Words.{number_of_words};
+ghost use Rattle.ark_sum_check.specs.Cube.{Product};
+ghost use Rattle.ark_word_sums.specs.Proofs.{IsUnluckyProof};
+ghost use Rattle.ark_word_sums.specs.Sums.{AreAddends, IsCubeSum};
 
 use ark_base::{BabyBear, Goldilocks, KoalaBear};
 use ark_wide::Bls12_381Scalar;
-use ark_word_sums::{SumElement, SumNumbers, SumsError, proof_size, prove, value_at, verify};
+use ark_word_sums::{
+    SumElement, SumNumbers, SumsError, proof_size, prove, shown_or_unlucky, value_at, verify,
+};
 use ark_words::WordElement;
 use std::alloc::Global;
 use std::io::Print;
@@ -16,6 +24,40 @@ pub fn print_word_sums(rt: &impl Print, alloc: Global) -> anyhow::Result<()> {
     print_sum::<Bls12_381Scalar>(rt, alloc, "scalars of BLS12-381")
 }
 
+/// Whether a verifier that has the tables is shown the sum: the bytes are a proof, and what it leaves is
+/// true. Then the sum is that over the cube, or a round of the proof is unlucky.
+fn is_shown<F: SumElement>(
+    alloc: Global,
+    label: &[u8],
+    statement: &[u8],
+    num_vars: u32,
+    degree: u32,
+    tables: &[u64],
+    addends: &[u64],
+    sum: &[u64],
+    proof: &[u8],
+) -> Result<bool, SumsError>
+    ensures { IfOk result (λ shown. shown ≡ true
+        → (ps : List (Product ℕ)) × AreAddends F.spelled ps addends.now
+        × (IsCubeSum F.spelled num_vars tables.now ps sum.now
+        ⊎ IsUnluckyProof ⟦<F as SumNumbers>⟧.checked label.now statement.now num_vars degree tables.now ps
+        (number_of_words sum.now) proof.now)) }
+{
+    let width = F::challenge_width();
+    let mut challenges = vec![in alloc; 0u64; (num_vars as usize).saturating_mul(width)]?;
+    let mut left = vec![in alloc; 0u64; width]?;
+    let mut own = vec![in alloc; 0u64; width]?;
+    let point = challenges.as_mut_slice();
+    let value = left.as_mut_slice();
+    verify::<F>(
+        alloc, label, statement, num_vars, degree, sum, proof, point, value,
+    )?;
+    let found = own.as_mut_slice();
+    value_at::<F>(alloc, num_vars, degree, tables, addends, point, found)?;
+    shown_or_unlucky::<F>();
+    Ok(*found == *value)
+}
+
 fn print_sum<F: SumElement>(rt: &impl Print, alloc: Global, name: &str) -> anyhow::Result<()> {
     let tables = numbers(alloc, F::WIDTH)?;
     let addends = product_and_multiple(alloc, F::WIDTH)?;
@@ -24,34 +66,24 @@ fn print_sum<F: SumElement>(rt: &impl Print, alloc: Global, name: &str) -> anyho
     };
     let mut proof = vec![in alloc; 0u8; size]?;
     let mut sum = vec![in alloc; 0u64; F::WIDTH]?;
-    let made = prove::<F>(
+    prove::<F>(
         alloc, b"example", b"tables", 2, 2, &tables, &addends, &mut proof, &mut sum,
-    );
-    println!(rt; "{name}: {}, {size} bytes, sum {}", told(&made), sum[0])?;
-    let mut point = vec![in alloc; 0u64; 2 * F::challenge_width()]?;
-    let mut value = vec![in alloc; 0u64; F::challenge_width()]?;
-    let accepted = verify::<F>(
-        alloc, b"example", b"tables", 2, 2, &sum, &proof, &mut point, &mut value,
-    );
-    let mut own = vec![in alloc; 0u64; F::challenge_width()]?;
-    let found = value_at::<F>(alloc, 2, 2, &tables, &addends, &point, &mut own);
-    let whether = own == value;
-    println!(rt;
-        "{name}: {}, {}, the true value: {whether}",
-        told(&accepted),
-        told(&found)
     )?;
-    let other = verify::<F>(
-        alloc, b"example", b"others", 2, 2, &sum, &proof, &mut point, &mut value,
+    println!(rt; "{name}: {size} bytes, sum {}", sum[0])?;
+    let shown = is_shown::<F>(
+        alloc, b"example", b"tables", 2, 2, &tables, &addends, &sum, &proof,
+    )?;
+    let other = is_shown::<F>(
+        alloc, b"example", b"others", 2, 2, &tables, &addends, &sum, &proof,
     );
     if let Some(byte) = proof.get_mut(30) {
         *byte ^= 1;
     }
-    let changed = verify::<F>(
-        alloc, b"example", b"tables", 2, 2, &sum, &proof, &mut point, &mut value,
+    let changed = is_shown::<F>(
+        alloc, b"example", b"tables", 2, 2, &tables, &addends, &sum, &proof,
     );
     println!(rt;
-        "{name}: another statement {}, a byte changed {}",
+        "{name}: shown {shown}, of another statement {}, a byte changed {}",
         told(&other),
         told(&changed)
     )?;
@@ -86,9 +118,10 @@ fn push_number(words: &mut Vec<u64>, width: usize, number: u64) -> anyhow::Resul
     Ok(())
 }
 
-fn told(outcome: &Result<(), SumsError>) -> &'static str {
+fn told(outcome: &Result<bool, SumsError>) -> &'static str {
     match outcome {
-        Ok(()) => "ok",
+        Ok(true) => "true",
+        Ok(false) => "false",
         Err(SumsError::Memory) => "memory",
         Err(SumsError::Length) => "length",
         Err(SumsError::Addends) => "addends",

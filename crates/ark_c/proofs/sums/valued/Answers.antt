@@ -1,6 +1,5 @@
-use Rattle.ark_word_sums.specs.Faults.{IsOfSums}
-use Rattle.ark_word_sums.specs.declared.error.SumsError.TheVariants.{Length, Addends, NotReduced, Refused}
-use Rattle.ark_c.proofs.OverSums.{by_error, never_error, never_unnamed, when_done, when_not}
+use Rattle.ark_word_sums.specs.declared.error.SumsError.TheVariants.{Length, Addends, NotReduced}
+use Rattle.ark_c.proofs.OverSums.{by_error, never_unnamed, of_sums, when_done, when_not}
 use Rattle.ark_c.proofs.sums.valued.Goals as goal
 
 pub returns : goal.returns
@@ -17,5 +16,5 @@ returns g c =
       length = by_error s r is Length e.length;
       addends = by_error s r is Addends e.addends;
       not_reduced = by_error s r is NotReduced e.not_reduced;
-      no_other = never_error s r is IsOfSums Refused e.no_other (λ h. h);
+      no_other = of_sums s r is e.no_other;
     }

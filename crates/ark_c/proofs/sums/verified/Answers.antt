@@ -1,6 +1,5 @@
-use Rattle.ark_word_sums.specs.Faults.{IsOfProofs}
-use Rattle.ark_word_sums.specs.declared.error.SumsError.TheVariants.{Length, Addends, NotReduced, Refused}
-use Rattle.ark_c.proofs.OverSums.{by_error, never_error, never_unnamed, when_done, when_error, when_not}
+use Rattle.ark_word_sums.specs.declared.error.SumsError.TheVariants.{Length, NotReduced, Refused}
+use Rattle.ark_c.proofs.OverSums.{by_error, never_unnamed, of_proofs, when_done, when_error, when_not}
 use Rattle.ark_c.proofs.sums.verified.Goals as goal
 
 pub returns : goal.returns
@@ -17,5 +16,5 @@ returns g c =
       named = never_unnamed s r is;
       length = by_error s r is Length e.length;
       not_reduced = by_error s r is NotReduced e.not_reduced;
-      no_other = never_error s r is IsOfProofs Addends e.no_other (λ h. h);
+      no_other = of_proofs s r is e.no_other;
     }
