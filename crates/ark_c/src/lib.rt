@@ -25,6 +25,7 @@ ghost use Rattle.ark_words.specs.Parts.{AreColumnsTransformedBack, AreRowsTransf
 ghost use Rattle.ark_words.specs.Values.{FitPairs, AreProducts};
 ghost use Rattle.ark_words.specs.Weights.{FitWeights, ArePlaced, AreLagrange};
 
+pub mod fields;
 mod pieces;
 mod status;
 mod sums;
@@ -36,8 +37,12 @@ use ark_words::{
     ifft_columns, ifft_rows, interpolate, lagrange, message, multilinear_evaluate,
     multilinear_evaluate_sparse, multilinear_fix, multiply, multiply_values, restore, width,
 };
+pub use pieces::{ark_file_size, ark_join, ark_piece_size, ark_split};
 use status::status;
 use std::alloc::Global;
+pub use sums::{
+    ark_challenge_words, ark_sum_proof_size, ark_sum_prove, ark_sum_value, ark_sum_verify,
+};
 
 /// What a call gives over the field that a number names, and `None` where it names none.
 macro_rules! over_field {

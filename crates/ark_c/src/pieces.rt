@@ -1,8 +1,10 @@
 //! Files in pieces. The code is `FileCode`: any `k` of `n` pieces give a file back, for `0 < k ≤ n ≤ 2^16`.
 
-ghost use Rattle.std.specs.Prelude.{◌≡◌, ◌≢◌, ◌↔◌, ◌⊎◌, ℕ, ◌<◌, ◌≤◌, List, length, Err, IfOk, IfErr, OnOk, OnErr};
+ghost use Rattle.std.specs.Prelude.{◌≡◌, ◌≢◌, ◌↔◌, ◌⊎◌, ℕ, ◌<◌, ◌≤◌, List, length, Err, IfOk, IfErr, OnOk};
+ghost use Rattle.std.specs.Prelude.{OnErr};
 ghost use Rattle.shards_buffers.specs.Sizes.{FitPieces, FitRun, piece_size};
-ghost use Rattle.shards_buffers.specs.Runs.{AreAllPieces, AreEnough, EndAsPieces, HasCollision, HasDamage, HasTrailer};
+ghost use Rattle.shards_buffers.specs.Runs.{AreAllPieces, AreEnough, EndAsPieces, HasCollision, HasDamage};
+ghost use Rattle.shards_buffers.specs.Runs.{HasTrailer};
 ghost use Rattle.ark_c.specs.Pieces.{HasFileCode};
 
 use crate::status::piece_status;

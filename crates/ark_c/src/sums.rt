@@ -1,16 +1,18 @@
 //! Sums of products over the cube: proofs in bytes, and what a verifier is left with.
 
-ghost use Rattle.std.specs.Prelude.{◌≡◌, ◌≢◌, ◌↔◌, ◌⊎◌, ◌<◌, ◌≤◌, ℕ, List, Err, IfErr, IsNone, IsSomeAnd, OnErr, OnOk};
+ghost use Rattle.std.specs.Prelude.{◌≡◌, ◌≢◌, ◌↔◌, ◌⊎◌, ◌<◌, ◌≤◌, ℕ, List, Err, IfErr, IsNone, IsSomeAnd};
+ghost use Rattle.std.specs.Prelude.{OnErr, OnOk};
 ghost use Rattle.ark_math.specs.Words.{number_of_words};
 ghost use Rattle.ark_sum_check.specs.Cube.{Product};
 ghost use Rattle.ark_words.specs.Numbers.{AreReduced};
-ghost use Rattle.ark_word_sums.specs.Challenges.{Checked, element_words};
+ghost use Rattle.ark_word_sums.specs.Challenges.{element_words};
 ghost use Rattle.ark_word_sums.specs.Proofs.{FitProver, FitValue, FitVerifier, HasProof, IsReducedTo};
 ghost use Rattle.ark_word_sums.specs.Proofs.{IsSumValue, ProvesSum, claim_by, size_of_proof};
 ghost use Rattle.ark_word_sums.specs.Sums.{AreAddends, HasSum, IsCubeSum, IsReducedSum, IsShape};
 ghost use Rattle.ark_c.specs.Names.{field_named};
 ghost use Rattle.ark_c.specs.SumFields.{place_of};
 
+use crate::fields::{NamedFields, SumFields};
 use crate::status::sum_status;
 use ark_base::{BabyBear, Goldilocks, KoalaBear};
 use ark_wide::{Bls12_381Scalar, Bn254Scalar};
@@ -29,22 +31,6 @@ macro_rules! answer_over_sums {
             _ => return 2,
         }
     };
-}
-
-/// What contracts say of the field that a number names.
-pub trait NamedFields {
-    ghost over: { ℕ → ((E : Type 0) → Checked E → Type 0) → Type 0 };
-}
-
-/// The fields over which sums are checked.
-pub struct SumFields;
-
-impl NamedFields for SumFields {
-    ghost use Rattle.ark_c.specs.SumFields.{at_place, place_of};
-
-    ghost over = { λ name says. at_place (place_of name) (says _ ⟦<BabyBear as SumNumbers>⟧.checked)
-        (says _ ⟦<KoalaBear as SumNumbers>⟧.checked) (says _ ⟦<Goldilocks as SumNumbers>⟧.checked)
-        (says _ ⟦<Bn254Scalar as SumNumbers>⟧.checked) (says _ ⟦<Bls12_381Scalar as SumNumbers>⟧.checked) };
 }
 
 /// How many words spell an element of the field of the challenges, and 0 where the number names no field for

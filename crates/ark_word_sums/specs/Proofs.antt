@@ -68,8 +68,8 @@ abbrev pub ProvesSum : {E : Type 0} → Checked E → List ℕ → List ℕ → 
 ProvesSum c label statement m d tables ps sum bytes =
     ProvesNumber c label statement m d tables ps (number_of_words sum) bytes
 
--- the bytes are a proof that these products' sum is n, of which a round is unlucky: d challenges at most are so, whatever
--- was sent before, and its own is one of them
+-- the bytes are a proof that these products' sum is n, of which a round is unlucky: by its values and the rounds before,
+-- d challenges at most are so, and its own is one of them
 abbrev pub IsUnluckyProof : {E : Type 0} → Checked E → List ℕ → List ℕ → ℕ → ℕ → List ℕ → List (Product ℕ) → ℕ → List ℕ → Type 0
 IsUnluckyProof {E} c label statement m d tables ps n bytes =
     (rounds : List (Round E)) × (last : E) × IsProof c label statement (claim_by c m d n) bytes rounds last

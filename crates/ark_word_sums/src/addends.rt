@@ -1,6 +1,7 @@
 //! Addends in words: of each its coefficient, how many factors it has, and the indices of their tables.
 
-ghost use Rattle.std.specs.Prelude.{◌≡◌, ◌≢◌, ◌↔◌, ℕ, List, ◌∷◌, ◌++◌, ◌<◌, All, IfOk, IfSome, IsNone, IsTrue, length};
+ghost use Rattle.std.specs.Prelude.{◌≡◌, ◌≢◌, ◌↔◌, ℕ, List, ◌∷◌, ◌++◌, ◌<◌, All, IfOk, IfSome, IsNone};
+ghost use Rattle.std.specs.Prelude.{IsTrue, length};
 ghost use Rattle.ark_sum_check.specs.Cube.{Product};
 ghost use Rattle.ark_word_sums.specs.Sums.{AreAddends, AreCoefficients, AreOfTables};
 ghost use Rattle.ark_word_sums.specs.Read.{numbered};

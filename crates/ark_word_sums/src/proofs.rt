@@ -1,6 +1,7 @@
 //! Proofs in bytes.
 
-ghost use Rattle.std.specs.Prelude.{◌≡◌, ◌≢◌, ◌↔◌, ◌⊎◌, ℕ, List, ◌+◌, ◌*◌, ◌^◌, ◌<◌, Err, IfErr, IfOk, IfSome, IsNone, IsOkUnless, IsTrue, length, map};
+ghost use Rattle.std.specs.Prelude.{◌≡◌, ◌≢◌, ◌↔◌, ◌⊎◌, ℕ, List, ◌+◌, ◌*◌, ◌^◌, ◌<◌, Err, IfErr, IfOk};
+ghost use Rattle.std.specs.Prelude.{IfSome, IsNone, IsOkUnless, IsTrue, length, map};
 ghost use Rattle.ark_bytes.specs.declared.compress.Compress.{Compress};
 ghost use Rattle.ark_math.specs.Format.{list};
 ghost use Rattle.ark_fiat_shamir.specs.Sent.{sent};

@@ -1,6 +1,7 @@
 //! Proofs of sums, and values of sums at points.
 
-ghost use Rattle.std.specs.Prelude.{◌≡◌, ◌≢◌, ◌↔◌, ℕ, List, ◌*◌, ◌<◌, Err, IfErr, IfOk, IsTrue, OnErr, OnOk, length};
+ghost use Rattle.std.specs.Prelude.{◌≡◌, ◌≢◌, ◌↔◌, ℕ, List, ◌*◌, ◌<◌, Err, IfErr, IfOk, IsTrue, OnErr, OnOk};
+ghost use Rattle.std.specs.Prelude.{length};
 ghost use Rattle.ark_numbers.specs.Fields.{operations};
 ghost use Rattle.ark_sum_check.specs.Cube.{Product, cube_sum, sum_value};
 ghost use Rattle.ark_words.specs.Numbers.{AreReduced};

@@ -1,13 +1,15 @@
 //! A prover, and its sum over the cube, from words.
 
-ghost use Rattle.std.specs.Prelude.{◌≡◌, ◌≢◌, ◌↔◌, ℕ, List, ◌*◌, ◌/◌, ◌^◌, ◌<◌, ◌≤◌, All, IfErr, IfOk, IfSome, IsOkUnless, drop, length, map, max, take, Err};
+ghost use Rattle.std.specs.Prelude.{◌≡◌, ◌≢◌, ◌↔◌, ℕ, List, ◌*◌, ◌/◌, ◌^◌, ◌<◌, ◌≤◌, All, IfErr, IfOk};
+ghost use Rattle.std.specs.Prelude.{IfSome, IsOkUnless, drop, length, map, max, take, Err};
 ghost use Rattle.ark_sum_check.specs.Cube.{Product, cube_sum, degree_of, longest};
 ghost use Rattle.ark_sum_check.specs.Embedded.{embedded_sum};
 ghost use Rattle.ark_sum_check.specs.Provers.{sum_of, variables_of};
 ghost use Rattle.ark_words.specs.Numbers.{AreReduced, numbers};
 ghost use Rattle.ark_word_sums.specs.Faults.{IsRefusalOfNumbers};
 ghost use Rattle.ark_word_sums.specs.Read.{numbered, table_lists};
-ghost use Rattle.ark_word_sums.specs.Sums.{AreAddends, AreCoefficients, AreTables, HasSum, IsReducedSum, IsSum};
+ghost use Rattle.ark_word_sums.specs.Sums.{AreAddends, AreCoefficients, AreTables, HasSum, IsReducedSum};
+ghost use Rattle.ark_word_sums.specs.Sums.{IsSum};
 ghost use Rattle.ark_word_sums.specs.Sums.{sum_by, table_count};
 
 use crate::addends::{addends_of, are_addends, are_coefficients};
