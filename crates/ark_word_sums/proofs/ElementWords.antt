@@ -1,22 +1,18 @@
 -- Elements in words, one after another, each by its coefficients.
 use Rattle.std.proofs.Common.{◌≡◌, ℕ, ◌+◌, ◌*◌, ◌/◌, ◌%◌, ◌≤◌, ◌<◌, List, [], ◌∷◌, ◌++◌, length, length-append, map, take, slice_range, refl, sym, ap, ap₂, ◌∙◌, arith}
 use Rattle.std.specs.List.{flat_map}
-use Rattle.std.proofs.lemmas.List.{append-nil, length-take-le, map-append, take-append-drop, take-take}
+use Rattle.std.proofs.lemmas.List.{append-nil, length-take-le, map-append}
 use Rattle.std.proofs.lemmas.List.Concat.{flat_map-append}
 use Rattle.std.proofs.lemmas.Nat.{div-add-mod', div-mul-add, mod-mul-add}
-use Rattle.std.proofs.lemmas.Slice.{between_is, take-put_mid}
+use Rattle.std.proofs.lemmas.Slice.{take-put_mid}
 use borrow.Rule.Slice.PartMut.{put_mid}
 use Rattle.ark_math.specs.Module.{tabulate}
 use Rattle.ark_sum_check.proofs.Vectors.{first, rest}
 use Rattle.ark_words.specs.Numbers.{number_at, numbers}
+use Rattle.ark_words.proofs.OneSpelling.{front_and}
 use Rattle.ark_words.proofs.WordLists.{count_of_words}
 use Rattle.ark_words.proofs.WordsApart.{numbers-append}
 use Rattle.ark_word_sums.proofs.AddendWords.{one_front}
-
--- a front and what follows it
-pub front_and : {X : Type 0} (a e : ℕ) (xs : List X) → a ≤ e → take e xs ≡ take a xs ++ slice_range xs a e
-front_and a e xs l =
-    sym (take-append-drop a (take e xs)) ∙ ap₂ (λ us vs. us ++ vs) (take-take a e xs l) (sym (between_is xs a e))
 
 -- the pieces of one element more
 flat_map_one : {X A : Type 0} (f : X → List A) (xs : List X) (x : X) → flat_map f (xs ++ x ∷ []) ≡ flat_map f xs ++ f x

@@ -1,17 +1,18 @@
 //! What proofs in bytes tell, stated as contracts of functions that callers may cite: they promise nothing
 //! but their contracts.
 
-ghost use Rattle.std.specs.Prelude.{◌≡◌, ◌⊎◌, ℕ, List, ◌^◌, ◌<◌};
+ghost use Rattle.std.specs.Prelude.{◌≡◌, ◌⊎◌, ℕ, List, ◌^◌, ◌<◌, All, length};
 ghost use Rattle.ark_numbers.specs.Fields.{operations};
 ghost use Rattle.ark_sum_check.specs.Cube.{Product, cube_sum, sum_value};
 ghost use Rattle.ark_sum_check.specs.Rounds.{HasOneOfFew, Round, challenges};
 ghost use Rattle.ark_words.specs.Numbers.{AreReduced};
-ghost use Rattle.ark_word_sums.specs.Challenges.{AreElementsOf};
+ghost use Rattle.ark_word_sums.specs.Challenges.{AreElementsOf, element_words};
 ghost use Rattle.ark_word_sums.specs.Proofs.{IsProof, IsReducedTo, IsSumValue, IsUnluckyProof};
-ghost use Rattle.ark_word_sums.specs.Proofs.{claim_by, sum_over};
+ghost use Rattle.ark_word_sums.specs.Proofs.{ProvesNumber, claim_by, sum_over};
 ghost use Rattle.ark_word_sums.specs.Sums.{AreCoefficients, IsSum, sum_by};
 
 use crate::element::{SumElement, SumNumbers};
+use ark_words::one_list_of_words;
 
 /// A law: words are those of one list of elements of the field of the challenges. So points and values are
 /// equal where their words are.
@@ -45,6 +46,22 @@ pub fn true_or_one_of_few<F: SumElement>()
         → (n ≡ cube_sum (operations F.spelled.known) m (sum_by F.spelled m tables ps))
         ⊎ HasOneOfFew c.field d (sum_over c m tables ps) rounds }
 {}
+
+/// The law of words alone for honest provers: of bytes that `prove` wrote, for the sum that it wrote, `verify`
+/// leaves the very words that `value_at` writes at the point.
+pub fn honest_is_shown<F: SumElement>()
+    ensures { let c = ⟦<F as SumNumbers>⟧.checked in
+        (label statement bytes tables point value found : List ℕ) (m d n : ℕ) (ps : List (Product ℕ))
+        → d < 2 ^ 16 → ProvesNumber c label statement m d tables ps n bytes
+        → IsReducedTo c label statement (claim_by c m d n) bytes point value
+        → IsSumValue c m tables ps point found
+        → length value ≡ element_words c → length found ≡ element_words c
+        → All (λ word. word < 2 ^ 64) value → All (λ word. word < 2 ^ 64) found → found ≡ value }
+{
+    one_list_of_elements::<F>();
+    one_list_of_words::<F>();
+    one_reduction::<F>();
+}
 
 /// The law of words alone: where `verify` leaves a point and a value, and `value_at` writes this value at
 /// this point, the number is the sum over the cube, or a round of the proof is unlucky.

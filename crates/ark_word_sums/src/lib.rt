@@ -17,7 +17,9 @@ mod words;
 pub use challenge::ChallengeOf;
 pub use element::{SumElement, SumNumbers};
 pub use error::SumsError;
-pub use laws::{one_list_of_elements, one_reduction, shown_or_unlucky, true_or_one_of_few};
+pub use laws::{
+    honest_is_shown, one_list_of_elements, one_reduction, shown_or_unlucky, true_or_one_of_few,
+};
 pub use proofs::proof_size;
 pub use prover::{prove, value_at};
 pub use verifier::verify;

@@ -18,3 +18,4 @@ pub mod Multiples
 pub mod PartsInNumbers
 pub mod PartsLaw
 pub mod WordsApart
+pub mod OneSpelling

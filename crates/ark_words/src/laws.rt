@@ -4,6 +4,7 @@
 ghost use Rattle.std.specs.Prelude.{◌≡◌, ◌≢◌, ℕ, ◌+◌, ◌*◌, ◌<◌, ◌≤◌, ◌^◌, List, ◌++◌, All, length};
 ghost use Rattle.ark_numbers.specs.Answers.{coset_of, AreValues, AreInterpolated};
 ghost use Rattle.ark_words.specs.Codes.{FitWords, AreRestored, FitMessages, AreFound, message_size};
+ghost use Rattle.ark_words.specs.Numbers.{AreWhole, numbers};
 ghost use Rattle.ark_words.specs.Parts.{AreColumns, AreRows, AreRowsBack, AreColumnsBack, AreOrdered};
 
 use crate::element::WordElement;
@@ -31,6 +32,16 @@ pub fn parts_make_the_inverse<F: WordElement>()
         → AreOrdered F.spelled.known a b values rows
         → AreRowsBack F.spelled.known a b h rows before → AreColumnsBack F.spelled.known a b h before xs
         → AreInterpolated F.spelled.known (coset_of F.spelled.known (2 ^ a * 2 ^ b) h) values xs }
+{
+    let _ = F::WIDTH;
+}
+
+/// A law: lists of as many words, which spell the same elements, are the same list. So calls that answer the
+/// same numbers write the same words.
+pub fn one_list_of_words<F: WordElement>()
+    ensures { (words others : List ℕ) → AreWhole F.spelled words → length words ≡ length others
+        → All (λ word. word < 2 ^ 64) words → All (λ word. word < 2 ^ 64) others
+        → numbers F.spelled.width words ≡ numbers F.spelled.width others → words ≡ others }
 {
     let _ = F::WIDTH;
 }

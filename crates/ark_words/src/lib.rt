@@ -27,7 +27,9 @@ pub use element::{WordElement, width};
 pub use error::WordsError;
 pub use extensions::{multilinear_evaluate, multilinear_evaluate_sparse, multilinear_fix};
 pub use interpolations::interpolate;
-pub use laws::{parts_make_the_inverse, parts_make_the_transform, words_are_apart};
+pub use laws::{
+    one_list_of_words, parts_make_the_inverse, parts_make_the_transform, words_are_apart,
+};
 pub use lists::{are_reduced, elements};
 pub use parts::{fft_columns, fft_rows, ifft_columns, ifft_rows};
 pub use points::evaluate;
