@@ -1,16 +1,17 @@
 //! A sum-check by words and bytes, by a caller that knows no type of a field: of three tables a, b and c,
 //! that the products a * b and three times c add up to a sum.
 
-ghost use Rattle.std.specs.Prelude.{◌≡◌, ◌⊎◌, List, ℕ, IfOk, true};
+ghost use Rattle.std.specs.Prelude.{◌≡◌, ◌⊎◌, ◌^◌, ◌<◌, List, ℕ, All, IfOk, true};
 ghost use Rattle.ark_math.specs.Words.{number_of_words};
 ghost use Rattle.ark_sum_check.specs.Cube.{Product};
-ghost use Rattle.ark_word_sums.specs.Proofs.{IsUnluckyProof};
+ghost use Rattle.ark_word_sums.specs.Proofs.{IsUnluckyProof, ProvesSum};
 ghost use Rattle.ark_word_sums.specs.Sums.{AreAddends, IsCubeSum};
 
 use ark_base::{BabyBear, Goldilocks, KoalaBear};
 use ark_wide::Bls12_381Scalar;
 use ark_word_sums::{
-    SumElement, SumNumbers, SumsError, proof_size, prove, shown_or_unlucky, value_at, verify,
+    SumElement, SumNumbers, SumsError, honest_is_shown, proof_size, prove, shown_or_unlucky,
+    value_at, verify,
 };
 use ark_words::WordElement;
 use std::alloc::Global;
@@ -25,7 +26,7 @@ pub fn print_word_sums(rt: &impl Print, alloc: Global) -> anyhow::Result<()> {
 }
 
 /// Whether a verifier that has the tables is shown the sum: the bytes are a proof, and what it leaves is
-/// true. Then the sum is that over the cube, or a round of the proof is unlucky.
+/// true. Then the sum is that over the cube, or a round of the proof is unlucky. What `prove` wrote is shown.
 fn is_shown<F: SumElement>(
     alloc: Global,
     label: &[u8],
@@ -37,11 +38,14 @@ fn is_shown<F: SumElement>(
     sum: &[u64],
     proof: &[u8],
 ) -> Result<bool, SumsError>
-    ensures { IfOk result (λ shown. shown ≡ true
+    ensures sum { IfOk result (λ shown. shown ≡ true
         → (ps : List (Product ℕ)) × AreAddends F.spelled ps addends.now
         × (IsCubeSum F.spelled num_vars tables.now ps sum.now
         ⊎ IsUnluckyProof ⟦<F as SumNumbers>⟧.checked label.now statement.now num_vars degree tables.now ps
         (number_of_words sum.now) proof.now)) }
+    ensures honest { IfOk result (λ shown. (ps : List (Product ℕ)) → AreAddends F.spelled ps addends.now
+        → ProvesSum ⟦<F as SumNumbers>⟧.checked label.now statement.now num_vars degree tables.now ps sum.now
+        proof.now → shown ≡ true) }
 {
     let width = F::challenge_width();
     let mut challenges = vec![in alloc; 0u64; (num_vars as usize).saturating_mul(width)]?;
@@ -54,8 +58,18 @@ fn is_shown<F: SumElement>(
     )?;
     let found = own.as_mut_slice();
     value_at::<F>(alloc, num_vars, degree, tables, addends, point, found)?;
+    are_words(found);
+    are_words(value);
+    honest_is_shown::<F>();
     shown_or_unlucky::<F>();
     Ok(*found == *value)
+}
+
+// What lists of words hold.
+fn are_words(words: &[u64])
+    ensures { All (λ word. word < 2 ^ 64) words.now }
+{
+    let _ = words.len();
 }
 
 fn print_sum<F: SumElement>(rt: &impl Print, alloc: Global, name: &str) -> anyhow::Result<()> {
