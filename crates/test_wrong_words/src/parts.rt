@@ -15,7 +15,8 @@ pub fn rows<F: WordElement>(
     first: u64,
     offset: &[u64],
 ) -> Result<(), WordsError>
-    ensures { OnOk result (AreRowsTransformed F.spelled log_rows log_columns first words.old offset.now words.new) }
+    ensures { OnOk result (AreRowsTransformed F.spelled log_rows log_columns first words.old
+        offset.now words.new) }
 {
     fft_rows::<F>(alloc, words, log_rows, log_columns, first, offset)
 }
@@ -28,7 +29,8 @@ pub fn columns_back<F: WordElement>(
     log_columns: u32,
     offset: &[u64],
 ) -> Result<(), WordsError>
-    ensures { OnOk result (AreColumnsTransformedBack F.spelled log_rows log_columns words.old offset.now words.new) }
+    ensures { OnOk result (AreColumnsTransformedBack F.spelled log_rows log_columns words.old
+        offset.now words.new) }
 {
     ifft_columns::<F>(alloc, words, log_rows, log_columns, offset)
 }
