@@ -41,7 +41,9 @@ extern "C" {
 #define ARK_VERSION_PATCH 0
 #define ARK_VERSION ((ARK_VERSION_MAJOR << 16) | (ARK_VERSION_MINOR << 8) | ARK_VERSION_PATCH)
 
-/* The fields: a prime of one word is named by itself, one of four words by a number that is no prime.
+/* The fields: a prime of one word is named by itself, one of four words by a number that is no prime. Those of four words are
+ * 0x30644e72e131a029b85045b68181585d2833e84879b9709143e1f593f0000001 (BN254) and
+ * 0x73eda753299d7d483339d80809a1d80553bda402fffe5bfeffffffff00000001 (BLS12-381).
  *                                                          p                        g     greatest power of two */
 #define ARK_F5 UINT64_C(5)                               /* 5                        2     2^2 */
 #define ARK_F433 UINT64_C(433)                           /* 433                      5     2^4 */
@@ -170,11 +172,12 @@ ark_status ark_multilinear_fix(uint64_t field, const uint64_t *table, size_t tab
 /* Sum-checks: that a sum of products of tables, over all corners, is this number, by a proof in bytes that a verifier takes
  * without an answer. Each challenge is drawn by SHA-256 from what was said before it (Fiat-Shamir).
  *
- * A sum is over m variables, 0 <= m <= 63. `tables` are tables of 2^m elements as above, one after another. `addends` are their
- * products, one after another: of each its coefficient, which is one element, then in one word the number of its factors, and a
- * word for each factor, the place of its table, the first one being 0. A table may be a factor several times, and an addend
- * without factors is its coefficient. The degree d, 0 < d < 65536, is the number of factors of the longest addend, and 1 where
- * none has any. A prover takes 2^m steps and more, even where there is no table.
+ * A sum is over m variables, 0 <= m <= 63. `tables` are tables of 2^m elements, one after another, in each of which place i has
+ * the value at the corner whose variable j is bit j of i. `addends` are their products, one after another: of each its
+ * coefficient, which is one element, then in one word the number of its factors, and a word for each factor, the place of its
+ * table, the first one being 0. A table may be a factor several times, and an addend without factors is its coefficient at every
+ * corner. The degree d, 0 < d < 65536, is the number of factors of the longest addend, and 1 where none has any. A prover takes
+ * 2^m steps and more, even where there is no table.
  *
  * A challenge is an element of a field of 2^123 elements or more, which the sum's field lies in: with a y such that y^4 = 11 over
  * ARK_BABYBEAR, y^4 = 3 over ARK_KOALABEAR, y^2 = 7 over ARK_GOLDILOCKS. ARK_BN254_FR and ARK_BLS12_381_FR have their own
@@ -199,7 +202,7 @@ ark_status ark_sum_prove(uint64_t field, const uint8_t *label, size_t label_len,
 
 /* Whether the bytes are a proof of this sum. If so it writes what is left to check: a point of m challenges, and the value that
  * the sum of products of the tables' multilinear polynomials must have there. If it has, the sum is true, or one of the m
- * challenges is unlucky: one of d at most of its field. A prover gets its point by this call too.
+ * challenges is one of at most d unlucky elements of its field. A prover gets its point by this call too.
  * ARK_LENGTH where m is above 63, the degree none of 1 .. 65535, the sum isn't one element, the proof has another size, the point
  * isn't m challenges or the value one, ARK_REFUSED where the bytes are no proof. Of a proof that comes from elsewhere ARK_LENGTH
  * is a refusal, too, and after ARK_MEMORY nothing is known of it. */

@@ -380,7 +380,8 @@ def sum_check_verify(
     field: int, label: Any, statement: Any, num_vars: int, degree: int, total: int, proof: Any
 ) -> Tuple[List[Challenge], Challenge]:
     """What is left to check of a proof of this sum: a point, and the value there of the sum of products, which `sum_check_value`
-    finds. If it is that, the sum is true, or one of the point's challenges is unlucky: one of at most as many as the degree.
+    finds. If it is that, the sum is true, or one of the point's challenges is unlucky: one of at most as many as the degree. A
+    challenge, as the value, is a tuple of `challenge_degree(field)` coefficients.
 
     It raises `Refused` where the bytes are no proof, and `WrongLength` where they aren't as many as a proof has.
     """
