@@ -30,9 +30,6 @@ not_memory e = search rules
 not_length : NotPieces ≢ Length
 not_length e = search rules
 
-done_not_length : ◌≢◌ {A = PieceOutcome} (Ok tt) (Err Length)
-done_not_length e = search rules
-
 pub error_is : {T : Type 0} {x y : BufferError} → ◌≡◌ {A = Result T BufferError} (Err x) (Err y) → x ≡ y
 error_is same = search rules
 
@@ -52,8 +49,8 @@ module _ {status : ℕ} where
   on_done {D} r e h z = subst (λ o. OnOk o D) (one_outcome r (Ok tt) e z) h
 
   -- what holds but where a length is wrong
-  pub on_zero : {D : Type 0} (r : PieceOutcome) → status ≡ piece_status_of r → (r ≢ Err Length → D) → status ≡ 0 → D
-  on_zero r e h z = let is = one_outcome r (Ok tt) e z in h (λ wrong. done_not_length (sym is ∙ wrong))
+  pub but_length : {D : Type 0} (r : PieceOutcome) → status ≡ piece_status_of r → (r ≢ Err Length → D) → status ≢ 3 → D
+  but_length r e h other = h (λ is. other (e ∙ ap piece_status_of is))
 
   pub on_error : {D : Type 0} (r : PieceOutcome) → status ≡ piece_status_of r → OnErr r D → status ≢ 0 → D
   on_error (Ok done) e h other = absurd (other e)

@@ -91,7 +91,7 @@ pub extern "C" fn ark_join(alloc: Global, k: u64, n: u64, pieces: &[u8], file: &
         → (file.new ≡ bytes)
         ⊎ HasCollision ⟦<FileCode as StripeCode>⟧.number k n label bytes pieces.now }
     ensures kept { result ≢ 0 → file.new ≡ file.old }
-    ensures taken { result ≡ 0 → HasFileCode k n }
+    ensures code { result ≢ 3 → HasFileCode k n }
     // Pieces of a file are never refused, but for memory, where there is room for as many bytes as it has.
     ensures refused { (label bytes : List ℕ) → HasFileCode k n → length bytes ≡ length file.old
         → AreEnough ⟦<FileCode as StripeCode>⟧.number k n label bytes pieces.now

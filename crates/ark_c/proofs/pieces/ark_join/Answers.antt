@@ -1,6 +1,6 @@
 use Rattle.std.proofs.Common.{◌<◌, arith, inl, inr}
 use Rattle.shards_buffers.specs.declared.error.BufferError.TheVariants.{Length, Damaged}
-use Rattle.ark_c.proofs.OfPieces.{any_number, no_pieces, on_done, on_error, on_zero, only, taken_number}
+use Rattle.ark_c.proofs.OfPieces.{any_number, but_length, no_pieces, on_done, on_error, only, taken_number}
 use Rattle.ark_c.proofs.pieces.ark_join.Goals as goal
 
 pub returns : goal.returns
@@ -13,7 +13,7 @@ returns c =
       file = on_done r status e.file;
       trusted = on_done r status e.trusted;
       kept = on_error r status e.kept;
-      taken = on_zero r status (λ fits. let has = e.code fits in (has.1, has.2, has.3));
+      code = but_length r status (λ fits. let has = e.code fits in (has.1, has.2, has.3));
       refused = λ label bytes code size pieces. taken_number _ _ _ r status e.refused label bytes (lanes, code.0, code.1, code.2) size pieces;
       length = only Length r status (λ is. elim (e.length is) [
         | inl none ↦ inl (λ code. none (lanes, code.0, code.1, code.2))
