@@ -12,7 +12,7 @@ mod prime_numbers;
 pub use ark_traits::{
     CanonicalDeserialize, CanonicalSerialize, Compress, DomainCoeff, Either, Failed, FftField,
     Field, IoSink, IoSource, Lanes, One, PolyError, Polynomial, SerializationError, Sink, Source,
-    Spelled, Valid, Work, Zero, batch_inversion, k_adicity, list_size, log2, read_list,
+    Spelled, Summand, Valid, Work, Zero, batch_inversion, k_adicity, list_size, log2, read_list,
     read_number, recompress, recompressed_and_back, write_list, write_number, written_then_read,
 };
 pub use constants::ConstantZero;

@@ -177,7 +177,8 @@ pub trait Field: Copy
 }
 
 /// A module over a field: the values that domains transform. Each value has a meaning, and the laws speak of
-/// meanings, so two values may differ in a part that the meaning ignores.
+/// meanings, so two values may differ in a part that the meaning ignores. Kernels see it as a `Summand`, whose
+/// only product is counted.
 pub trait DomainCoeff<F: Field>: Copy
     + Add<Self, Output = Self>
     + Sub<Self, Output = Self>

@@ -8,6 +8,7 @@ mod inversion;
 mod lanes;
 mod numbers;
 mod polynomial;
+mod summand;
 mod work;
 
 pub use ark_bytes::{
@@ -21,4 +22,5 @@ pub use inversion::batch_inversion;
 pub use lanes::Lanes;
 pub use numbers::{k_adicity, log2};
 pub use polynomial::Polynomial;
+pub use summand::Summand;
 pub use work::Work;

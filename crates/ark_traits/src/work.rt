@@ -1,9 +1,11 @@
-//! What a kernel did, counted for contracts alone.
+//! What a kernel did, counted for contracts alone. A kernel's values are a `Summand`, so that `Work::scale` alone
+//! multiplies one.
 
 ghost use Rattle.std.specs.Prelude.{◌≡◌};
 ghost use Rattle.ark_math.specs.Cost.{counts, GrowsBy};
 
-use crate::field::{DomainCoeff, Field};
+use crate::field::Field;
+use crate::summand::Summand;
 use ark_bytes::counter::Counter;
 use std::marker::Model;
 
@@ -40,11 +42,17 @@ impl Work {
     }
 
     /// Multiplies a module value by a field element, and counts a product.
-    pub fn scale<F: Field, T: DomainCoeff<F>>(&mut self, value: &mut T, factor: F)
+    pub fn scale<F: Field, T: Summand<F>>(&mut self, value: &mut T, factor: F)
         ensures product { T.meaning value.new ≡ T.group.scale factor (T.meaning value.old) }
         ensures counted { GrowsBy (counts 1 0 0) self.old self.new }
     {
-        *value *= factor;
+        value.scale(factor, self);
+    }
+
+    // Counts a product.
+    pub(crate) fn product(&mut self)
+        ensures { GrowsBy (counts 1 0 0) self.old self.new }
+    {
         self.products.add_one();
     }
 

@@ -6,10 +6,10 @@ ghost use Rattle.ark_math.specs.Field.{power};
 ghost use Rattle.ark_math.specs.Module.{item};
 ghost use Rattle.ark_fft.specs.Scalings.{GrowsByScalings};
 
-use ark_traits::{DomainCoeff, FftField, Work};
+use ark_traits::{FftField, Summand, Work};
 
 // Scales each item.
-fn scale_each<F: FftField, T: DomainCoeff<F>>(work: &mut Work, xs: &mut [T], factor: F)
+fn scale_each<F: FftField, T: Summand<F>>(work: &mut Work, xs: &mut [T], factor: F)
     ensures items { (i : ℕ) → i < length xs.old → item T.group (map T.meaning xs.new) i
         ≡ T.group.scale factor (item T.group (map T.meaning xs.old) i) }
     ensures counted { GrowsBy (counts (length xs.old) 0 0) work.old work.new }
@@ -21,7 +21,7 @@ fn scale_each<F: FftField, T: DomainCoeff<F>>(work: &mut Work, xs: &mut [T], fac
 
 // Scales item i by start times the factor to the i. Two sequences of powers take turns, so that no product
 // waits for the last.
-pub(crate) fn scale_by_powers<F: FftField, T: DomainCoeff<F>>(
+pub(crate) fn scale_by_powers<F: FftField, T: Summand<F>>(
     work: &mut Work,
     xs: &mut [T],
     start: F,
@@ -48,11 +48,7 @@ pub(crate) fn scale_by_powers<F: FftField, T: DomainCoeff<F>>(
 }
 
 // Scales item i by the offset to the i, and nothing where the offset is one.
-pub(crate) fn shift_to_coset<F: FftField, T: DomainCoeff<F>>(
-    work: &mut Work,
-    xs: &mut [T],
-    offset: F,
-)
+pub(crate) fn shift_to_coset<F: FftField, T: Summand<F>>(work: &mut Work, xs: &mut [T], offset: F)
     ensures items { (i : ℕ) → i < length xs.old → item T.group (map T.meaning xs.new) i
         ≡ T.group.scale (power F.field offset i) (item T.group (map T.meaning xs.old) i) }
     ensures counted { GrowsByScalings (length xs.old) work.old work.new }

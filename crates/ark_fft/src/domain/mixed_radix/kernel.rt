@@ -20,7 +20,7 @@ use crate::domain::coset::Coset;
 use crate::domain::mixed_radix::size::odd_base;
 use crate::domain::radix2::fft::{bit_reverse, halves, level_tables, powers};
 use crate::domain::scaling::{scale_by_powers, shift_to_coset};
-use ark_traits::{DomainCoeff, FftField, PolyError, Work};
+use ark_traits::{FftField, PolyError, Summand, Work};
 use std::alloc::{AllocError, Global};
 
 // One level of a decimation in time by the odd base: a list is `base` parts of so many items, one after the other, and
@@ -35,7 +35,7 @@ struct Level<'a, F> {
 
 // The sum of the parts' values at one place, times the powers of the factor, by Horner's rule. The last part's is at
 // index `last`.
-fn horner_sum<F: FftField, T: DomainCoeff<F>>(
+fn horner_sum<F: FftField, T: Summand<F>>(
     work: &mut Work,
     parts: &[T],
     level: &Level<'_, F>,
@@ -62,7 +62,7 @@ fn horner_sum<F: FftField, T: DomainCoeff<F>>(
 }
 
 // The twiddles of one place: part r's item there times the power r of the place's own. A step in the count.
-fn apply_twiddles<F: FftField, T: DomainCoeff<F>>(
+fn apply_twiddles<F: FftField, T: Summand<F>>(
     work: &mut Work,
     parts: &mut [T],
     level: &Level<'_, F>,
@@ -94,7 +94,7 @@ fn apply_twiddles<F: FftField, T: DomainCoeff<F>>(
 }
 
 // The twiddles of all places.
-fn apply_all_twiddles<F: FftField, T: DomainCoeff<F>>(
+fn apply_all_twiddles<F: FftField, T: Summand<F>>(
     work: &mut Work,
     parts: &mut [T],
     level: &Level<'_, F>,
@@ -116,7 +116,7 @@ fn apply_all_twiddles<F: FftField, T: DomainCoeff<F>>(
 
 // Row j of the whole: at each place the sum of the parts' items, times the powers of the row's root of unity, whose
 // order is the base.
-fn sum_row<F: FftField, T: DomainCoeff<F>>(
+fn sum_row<F: FftField, T: Summand<F>>(
     work: &mut Work,
     parts: &[T],
     whole: &mut [T],
@@ -149,7 +149,7 @@ fn sum_row<F: FftField, T: DomainCoeff<F>>(
 }
 
 // Joins the parts: a transform of as many items as the base at each place, after its twiddles.
-fn join<F: FftField, T: DomainCoeff<F>>(
+fn join<F: FftField, T: Summand<F>>(
     work: &mut Work,
     parts: &mut [T],
     whole: &mut [T],
@@ -190,7 +190,7 @@ fn deinterleave<T: Copy>(whole: &[T], parts: &mut [T], base: usize, m: usize)
 }
 
 // The transform of a list of 2 ^ levels items. The tables are those of all levels, if there is one.
-fn even_transform<F: FftField, T: DomainCoeff<F>>(
+fn even_transform<F: FftField, T: Summand<F>>(
     work: &mut Work,
     xs: &mut [T],
     tables: &[F],
@@ -224,7 +224,7 @@ struct Plan<'a, F> {
 }
 
 // The transform of a list, with as many items to work in.
-fn mixed<F: FftField, T: DomainCoeff<F>>(
+fn mixed<F: FftField, T: Summand<F>>(
     work: &mut Work,
     xs: &mut [T],
     scratch: &mut [T],
@@ -291,7 +291,7 @@ fn even_tables<F: FftField>(alloc: Global, coset: &Coset<F>, root: F) -> Result<
 
 // Takes all memory, for a root's powers, for n items to work in and for n items, and cuts the list or fills it with
 // zeros.
-fn prepare<F: FftField, T: DomainCoeff<F>>(
+fn prepare<F: FftField, T: Summand<F>>(
     alloc: Global,
     root: F,
     n: usize,
@@ -314,7 +314,7 @@ fn prepare<F: FftField, T: DomainCoeff<F>>(
 
 /// The transform in place, by a butterfly for each pair of places and factor of two, a step for each base places
 /// and factor of the base, and a scaling a place where there is an offset.
-pub fn fft_counted<F: FftField, T: DomainCoeff<F>>(
+pub fn fft_counted<F: FftField, T: Summand<F>>(
     coset: &Coset<F>,
     alloc: Global,
     coeffs: &mut Vec<T>,
@@ -348,7 +348,7 @@ pub fn fft_counted<F: FftField, T: DomainCoeff<F>>(
 }
 
 /// The inverse of the transform in place, by as many butterflies and steps at the inverse root and one scaling a place.
-pub fn ifft_counted<F: FftField, T: DomainCoeff<F>>(
+pub fn ifft_counted<F: FftField, T: Summand<F>>(
     coset: &Coset<F>,
     alloc: Global,
     evals: &mut Vec<T>,

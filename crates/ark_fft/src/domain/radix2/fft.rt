@@ -17,12 +17,12 @@ ghost use Rattle.ark_traits.specs.Cost.{GrowsByCost};
 
 use crate::domain::coset::Coset;
 use crate::domain::scaling::{scale_by_powers, shift_to_coset};
-use ark_traits::{DomainCoeff, FftField, PolyError, Work};
+use ark_traits::{FftField, PolyError, Summand, Work};
 use std::alloc::{AllocError, Global};
 use std::mem;
 
 // One butterfly of a decimation in frequency (Gentleman-Sande): the sum, and the difference times the twiddle factor.
-fn butterfly<F: FftField, T: DomainCoeff<F>>(work: &mut Work, lo: &mut T, hi: &mut T, twiddle: F)
+fn butterfly<F: FftField, T: Summand<F>>(work: &mut Work, lo: &mut T, hi: &mut T, twiddle: F)
     ensures sum { T.meaning lo.new ≡ T.group.plus (T.meaning lo.old) (T.meaning hi.old) }
     ensures difference { T.meaning hi.new ≡ T.group.scale twiddle
         (T.group.plus (T.meaning lo.old) (T.group.negated (T.meaning hi.old))) }
@@ -36,7 +36,7 @@ fn butterfly<F: FftField, T: DomainCoeff<F>>(work: &mut Work, lo: &mut T, hi: &m
 }
 
 // Butterflies across two halves, each with the twiddle factor at its index.
-fn butterflies<F: FftField, T: DomainCoeff<F>>(
+fn butterflies<F: FftField, T: Summand<F>>(
     work: &mut Work,
     lo: &mut [T],
     hi: &mut [T],
@@ -58,7 +58,7 @@ fn butterflies<F: FftField, T: DomainCoeff<F>>(
 }
 
 // The butterfly of a list of two items.
-fn pair<F: FftField, T: DomainCoeff<F>>(work: &mut Work, xs: &mut [T], twiddle: F)
+fn pair<F: FftField, T: Summand<F>>(work: &mut Work, xs: &mut [T], twiddle: F)
     requires { length xs.old ≡ 2 }
     ensures sum { item T.group (map T.meaning xs.new) 0
         ≡ T.group.plus (item T.group (map T.meaning xs.old) 0) (item T.group (map T.meaning xs.old) 1) }
@@ -76,7 +76,7 @@ fn pair<F: FftField, T: DomainCoeff<F>>(work: &mut Work, xs: &mut [T], twiddle: 
 
 // The items at place i of each quarter of a list, by two levels of butterflies, with the tables of both.
 #[inline(always)]
-fn column<F: FftField, T: DomainCoeff<F>>(
+fn column<F: FftField, T: Summand<F>>(
     work: &mut Work,
     xs: &[T],
     tables: &[F],
@@ -108,7 +108,7 @@ fn column<F: FftField, T: DomainCoeff<F>>(
 
 // The two upper levels of a list of sixteen items. All items are read before one is written, so that the compiler can
 // take the four columns at once, where a loop of four rounds would be too short for it.
-fn sixteen<F: FftField, T: DomainCoeff<F>>(work: &mut Work, xs: &mut [T], tables: &[F])
+fn sixteen<F: FftField, T: Summand<F>>(work: &mut Work, xs: &mut [T], tables: &[F])
     requires size { length xs.old ≡ 16 }
     requires whole { length tables.now ≡ 16 }
     ensures columns { AreColumns F.field T.group tables.now 4 (item T.group (map T.meaning xs.old))
@@ -139,7 +139,7 @@ fn sixteen<F: FftField, T: DomainCoeff<F>>(work: &mut Work, xs: &mut [T], tables
 
 // The transform of four items, block r of a list, by two levels. Place i of it is left at the index that has the bits
 // of i backwards. The tables are those of both levels.
-fn four<F: FftField, T: DomainCoeff<F>>(work: &mut Work, xs: &mut [T], tables: &[F], r: usize)
+fn four<F: FftField, T: Summand<F>>(work: &mut Work, xs: &mut [T], tables: &[F], r: usize)
     requires within { 4 * r + 3 < length xs.old }
     requires whole { length tables.now ≡ 4 }
     ensures sums { (w : F) → AreLevels F.field w 2 tables.now → (q : ℕ) → q < 4
@@ -164,7 +164,7 @@ fn four<F: FftField, T: DomainCoeff<F>>(work: &mut Work, xs: &mut [T], tables: &
 }
 
 // The transforms of all blocks of four items. No block waits for another, so that several can be taken at a time.
-fn fours<F: FftField, T: DomainCoeff<F>>(work: &mut Work, xs: &mut [T], tables: &[F])
+fn fours<F: FftField, T: Summand<F>>(work: &mut Work, xs: &mut [T], tables: &[F])
     requires { length tables.now ≡ 4 }
     ensures sums { (w : F) → AreLevels F.field w 2 tables.now → (r q : ℕ) → r < length xs.old / 4 → q < 4
         → item T.group (map T.meaning xs.new) (4 * r + q) ≡ dft_at F.field T.group 4 w
@@ -179,7 +179,7 @@ fn fours<F: FftField, T: DomainCoeff<F>>(work: &mut Work, xs: &mut [T], tables: 
 // The levels of `halves` above blocks of four items: the transform's places are then those of the blocks' own ones. Two
 // levels are taken at once of sixteen items that are a word each, or shorter: longer ones would be moved about more than
 // is saved.
-fn down_to_fours<F: FftField, T: DomainCoeff<F>>(
+fn down_to_fours<F: FftField, T: Summand<F>>(
     work: &mut Work,
     xs: &mut [T],
     tables: &[F],
@@ -207,7 +207,7 @@ fn down_to_fours<F: FftField, T: DomainCoeff<F>>(
 }
 
 // The transform of `halves` of a list that is short enough to be passed over once more for its last two levels.
-fn short_halves<F: FftField, T: DomainCoeff<F>>(
+fn short_halves<F: FftField, T: Summand<F>>(
     work: &mut Work,
     xs: &mut [T],
     tables: &[F],
@@ -228,7 +228,7 @@ fn short_halves<F: FftField, T: DomainCoeff<F>>(
 
 // The transform in place, by decimation in frequency. It is left in bit-reversed order: place i at the index that has
 // the bits of i backwards. The tables are those of all levels, the whole list's twiddle factors first.
-pub(crate) fn halves<F: FftField, T: DomainCoeff<F>>(
+pub(crate) fn halves<F: FftField, T: Summand<F>>(
     work: &mut Work,
     xs: &mut [T],
     tables: &[F],
@@ -278,7 +278,7 @@ fn pack_levels<F: FftField>(table: &mut [F])
 
 // The transform of `halves` at the table's root. Once its twiddles have been read, those of the levels below take their
 // places, so that each level reads its own one after the other.
-fn first_halves<F: FftField, T: DomainCoeff<F>>(
+fn first_halves<F: FftField, T: Summand<F>>(
     work: &mut Work,
     xs: &mut [T],
     table: &mut [F],
@@ -441,12 +441,7 @@ pub(crate) fn bit_reverse<T>(xs: &mut [T], levels: u32)
 }
 
 // The transform at the table's root, in place and in order.
-fn in_order<F: FftField, T: DomainCoeff<F>>(
-    work: &mut Work,
-    xs: &mut [T],
-    table: &mut [F],
-    levels: u32,
-)
+fn in_order<F: FftField, T: Summand<F>>(work: &mut Work, xs: &mut [T], table: &mut [F], levels: u32)
     requires size { length xs.old ≡ 2 ^ levels }
     requires fits { length xs.old < 2 ^ 64 }
     requires half { length table.old ≡ length xs.old / 2 }
@@ -461,7 +456,7 @@ fn in_order<F: FftField, T: DomainCoeff<F>>(
 
 // One butterfly of a decimation in time, which joins two parts: hi times the twiddle factor, added to lo and taken from
 // it.
-fn join<F: FftField, T: DomainCoeff<F>>(work: &mut Work, lo: &mut T, hi: &mut T, twiddle: F)
+fn join<F: FftField, T: Summand<F>>(work: &mut Work, lo: &mut T, hi: &mut T, twiddle: F)
     ensures sum { T.meaning lo.new ≡ T.group.plus (T.meaning lo.old)
         (T.group.scale twiddle (T.meaning hi.old)) }
     ensures difference { T.meaning hi.new ≡ T.group.plus (T.meaning lo.old)
@@ -477,7 +472,7 @@ fn join<F: FftField, T: DomainCoeff<F>>(work: &mut Work, lo: &mut T, hi: &mut T,
 }
 
 // The butterflies that join two halves, each with the twiddle factor at its index.
-fn join_butterflies<F: FftField, T: DomainCoeff<F>>(
+fn join_butterflies<F: FftField, T: Summand<F>>(
     work: &mut Work,
     lo: &mut [T],
     hi: &mut [T],
@@ -501,7 +496,7 @@ fn join_butterflies<F: FftField, T: DomainCoeff<F>>(
 
 // The transform of 2 ^ log_len items, in place and in order, by decimation in time. The items stand in bit-reversed
 // order, each in all places of a block. The tables are those of all levels, the whole list's twiddles first.
-fn join_halves<F: FftField, T: DomainCoeff<F>>(
+fn join_halves<F: FftField, T: Summand<F>>(
     work: &mut Work,
     xs: &mut [T],
     tables: &[F],
@@ -563,7 +558,7 @@ struct Pruned<F> {
 
 // The transform of `join_halves` at the root, where the tables are those of all levels but the last. The last one's
 // twiddles take the place of these once they have been used.
-fn join_levels<F: FftField, T: DomainCoeff<F>>(
+fn join_levels<F: FftField, T: Summand<F>>(
     work: &mut Work,
     xs: &mut [T],
     tables: &mut [F],
@@ -595,7 +590,7 @@ fn join_levels<F: FftField, T: DomainCoeff<F>>(
 }
 
 // The transform of the first items, in place and in order, by butterflies of as many levels as these have.
-fn short_in_order<F: FftField, T: DomainCoeff<F>>(
+fn short_in_order<F: FftField, T: Summand<F>>(
     work: &mut Work,
     xs: &mut [T],
     tables: &mut [F],
@@ -693,7 +688,7 @@ pub(crate) fn level_tables<F: FftField>(
 }
 
 // Takes all memory, for the first half of a root's powers and for n items, and cuts the list or fills it with zeros.
-fn prepare<F: FftField, T: DomainCoeff<F>>(
+fn prepare<F: FftField, T: Summand<F>>(
     alloc: Global,
     root: F,
     n: usize,
@@ -713,7 +708,7 @@ fn prepare<F: FftField, T: DomainCoeff<F>>(
 
 // The transform in place of a list of at most a quarter of the n items, by decimation in time: n/2 butterflies for each
 // level of that many items, and a scaling an item where there is an offset.
-fn degree_aware_fft_in_place<F: FftField, T: DomainCoeff<F>>(
+fn degree_aware_fft_in_place<F: FftField, T: Summand<F>>(
     coset: &Coset<F>,
     alloc: Global,
     coeffs: &mut Vec<T>,
@@ -749,7 +744,7 @@ fn degree_aware_fft_in_place<F: FftField, T: DomainCoeff<F>>(
 
 // The transform in place of a longer list, by decimation in frequency: n/2 * log2(n) butterflies, and a scaling a place
 // where there is an offset.
-fn in_order_fft_in_place<F: FftField, T: DomainCoeff<F>>(
+fn in_order_fft_in_place<F: FftField, T: Summand<F>>(
     coset: &Coset<F>,
     alloc: Global,
     coeffs: &mut Vec<T>,
@@ -774,7 +769,7 @@ fn in_order_fft_in_place<F: FftField, T: DomainCoeff<F>>(
 }
 
 /// The transform in place, by fewer levels of butterflies where the list has at most a quarter of the n items.
-pub fn fft_counted<F: FftField, T: DomainCoeff<F>>(
+pub fn fft_counted<F: FftField, T: Summand<F>>(
     coset: &Coset<F>,
     alloc: Global,
     coeffs: &mut Vec<T>,
@@ -798,7 +793,7 @@ pub fn fft_counted<F: FftField, T: DomainCoeff<F>>(
 }
 
 /// The inverse of the transform in place, by n/2 * log2(n) butterflies at the inverse root and one scaling a place.
-pub fn ifft_counted<F: FftField, T: DomainCoeff<F>>(
+pub fn ifft_counted<F: FftField, T: Summand<F>>(
     coset: &Coset<F>,
     alloc: Global,
     evals: &mut Vec<T>,

@@ -9,11 +9,11 @@ ghost use Rattle.ark_math.specs.Module.{item};
 ghost use Rattle.ark_math.specs.Transform.{transform, value_at};
 
 use crate::domain::coset::Coset;
-use ark_traits::{DomainCoeff, FftField, PolyError, Work};
+use ark_traits::{FftField, PolyError, Summand, Work};
 use std::alloc::Global;
 
 // The value of a list at a point, term by term.
-fn plain_value<F: FftField, T: DomainCoeff<F>>(work: &mut Work, items: &[T], point: F) -> T
+fn plain_value<F: FftField, T: Summand<F>>(work: &mut Work, items: &[T], point: F) -> T
     ensures value { T.meaning result ≡ value_at F.field T.group (map T.meaning items.now) point }
     ensures counted { GrowsBy (counts (length items.now) 0 0) work.old work.new }
 {
@@ -29,7 +29,7 @@ fn plain_value<F: FftField, T: DomainCoeff<F>>(work: &mut Work, items: &[T], poi
 }
 
 // The values of a list at the points `offset * root^i`, each by a plain sum.
-fn plain_values<F: FftField, T: DomainCoeff<F>>(
+fn plain_values<F: FftField, T: Summand<F>>(
     work: &mut Work,
     items: &[T],
     values: &mut [T],
@@ -48,7 +48,7 @@ fn plain_values<F: FftField, T: DomainCoeff<F>>(
 }
 
 /// The transform in place by n plain sums, and so by n * n products.
-pub fn fft_plain<F: FftField, T: DomainCoeff<F>>(
+pub fn fft_plain<F: FftField, T: Summand<F>>(
     coset: &Coset<F>,
     alloc: Global,
     coeffs: &mut Vec<T>,

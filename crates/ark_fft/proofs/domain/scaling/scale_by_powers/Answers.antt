@@ -27,8 +27,8 @@ loop-i-init g c =
 pub loop-i-preserved : goal.loop-i-preserved
 loop-i-preserved g c =
     let K = g.F.Field.field in
-    let V = g.T.DomainCoeff.group in
-    let m = g.T.DomainCoeff.meaning in
+    let V = g.T.Summand.group in
+    let m = g.T.Summand.meaning in
     let i = c.loop-i.i in
     let v = c.loop-i.invariant in
     let in_xs : i < length c.loop-i.xs = subst (λ k. i < k) (sym c.loop-i.auto.xs) c.loop-i-test.true in
@@ -54,7 +54,7 @@ loop-i-preserved g c =
 pub returns-then-is_one-clause-items : goal.returns-then-is_one-clause-items
 returns-then-is_one-clause-items g c = λ i l.
     let one : c.args.factor ≡ g.F.Field.field.one = (g.met.F.Field.equality_law c.args.factor g.F.One.one).0 (sym c.is_one.ensures ∙ c.if-is_one.true) ∙ g.met.F.Field.one_law in
-    c.scale_each.ensures.items i l ∙ scaled_by_one g.T.DomainCoeff.group g.met.F.Field.field_laws c.args.factor c.args.start i _ one
+    c.scale_each.ensures.items i l ∙ scaled_by_one g.T.Summand.group g.met.F.Field.field_laws c.args.factor c.args.start i _ one
 
 pub returns-then-is_one-clause-counted : goal.returns-then-is_one-clause-counted
 returns-then-is_one-clause-counted g c = c.scale_each.ensures.counted

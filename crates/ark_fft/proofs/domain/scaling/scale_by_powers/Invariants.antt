@@ -6,8 +6,8 @@ use Rattle.ark_fft.proofs.domain.scaling.scale_by_powers.Given as goal
 
 abbrev pub invariant-loop-i : goal.invariant-loop-i
 invariant-loop-i g l =
-    let V = g.T.DomainCoeff.group in
-    let m = g.T.DomainCoeff.meaning in
+    let V = g.T.Summand.group in
+    let m = g.T.Summand.meaning in
     record {
       counted : GrowsBy (counts l.i 0 0) l.fn.work l.work;
       next_scale : l.next ≡ g.F.Field.field.times l.fn.start (power g.F.Field.field l.fn.factor l.i);

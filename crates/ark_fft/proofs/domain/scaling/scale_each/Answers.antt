@@ -9,8 +9,8 @@ use Rattle.ark_fft.proofs.domain.scaling.scale_each.Goals as goal
 
 pub loop-i-preserved : goal.loop-i-preserved
 loop-i-preserved g c =
-    let V = g.T.DomainCoeff.group in
-    let m = g.T.DomainCoeff.meaning in
+    let V = g.T.Summand.group in
+    let m = g.T.Summand.meaning in
     let i = c.loop-i.i in
     let v = c.loop-i.invariant in
     let in_xs : i < length c.loop-i.xs = subst (λ k. i < k) (sym c.loop-i.auto.xs) c.loop-i-test.true in

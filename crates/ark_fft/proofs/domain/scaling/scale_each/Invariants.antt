@@ -5,8 +5,8 @@ use Rattle.ark_fft.proofs.domain.scaling.scale_each.Given as goal
 
 abbrev pub invariant-loop-i : goal.invariant-loop-i
 invariant-loop-i g l =
-    let V = g.T.DomainCoeff.group in
-    let m = g.T.DomainCoeff.meaning in
+    let V = g.T.Summand.group in
+    let m = g.T.Summand.meaning in
     record {
       counted : GrowsBy (counts l.i 0 0) l.fn.work l.work;
       before : (i : ℕ) → i < l.i → item V (map m l.xs) i ≡ V.scale l.factor (item V (map m l.initial.xs) i);

@@ -36,8 +36,8 @@ deinterleave-requires-clause-parts_size g t c =
 
 pub loop-r-init : goal.loop-r-init
 loop-r-init g t c =
-    let V = g.T.DomainCoeff.group in
-    let m = g.T.DomainCoeff.meaning in
+    let V = g.T.Summand.group in
+    let m = g.T.Summand.meaning in
     let pos = positive c.args.plan.now.base c.requires.plan.above_one in
     let n = length c.args.xs.now / c.args.plan.now.base in
     let whole = parts_whole c.args.plan.now.levels c.args.plan.now.base c.args.plan.now.odds (length c.args.xs.now) pos c.if-plan-gt0.true c.requires.plan.size in
@@ -127,8 +127,8 @@ mixed-requires g t c κs within =
 pub loop-r-preserved : goal.loop-r-preserved
 loop-r-preserved g t c =
     let K = g.F.Field.field in
-    let V = g.T.DomainCoeff.group in
-    let m = g.T.DomainCoeff.meaning in
+    let V = g.T.Summand.group in
+    let m = g.T.Summand.meaning in
     let q = c.args.plan.now.base in
     let pos = positive q c.requires.plan.above_one in
     let len = length c.args.xs.now in
@@ -148,7 +148,7 @@ loop-r-preserved g t c =
     record {
       counted = part_counted q r0 c.args.plan.now.levels b part n v.counted c.mixed.ensures.counted of_scratch;
       done = λ w table tables r i rl il.
-          block_done g.met.F.Field.field_laws g.met.T.DomainCoeff.module_laws m n q r0 k (power K w (c.args.plan.now.stride * q)) c.loop-r.scratch c.mixed.new.xs (λ r k. item V (map m c.args.xs.now) (q * k + r)) written
+          block_done g.met.F.Field.field_laws g.met.T.Summand.module_laws m n q r0 k (power K w (c.args.plan.now.stride * q)) c.loop-r.scratch c.mixed.new.xs (λ r k. item V (map m c.args.xs.now) (q * k + r)) written
           (c.mixed.ensures.transformed w table (subst (λ x. AreLevels K x c.args.plan.now.levels c.args.plan.now.tables.now) (parted_root K w c.args.plan.now.stride q c.args.plan.now.odds c.if-plan-gt0.true) tables))
           v.rest (v.done w table tables) r i rl il;
       rest = λ r i l rl il.
@@ -193,7 +193,7 @@ returns-after-loop-r-clause-transformed g t c = λ w table tables i l.
     let end = ended c.loop-r.r q c.loop-r.auto.r-end c.loop-r-test.false in
     let whole = parts_whole c.args.plan.now.levels q c.args.plan.now.odds len pos c.if-plan-gt0.true c.requires.plan.size in
     let size = table_size len c.args.plan.now.stride (length c.args.plan.now.roots.now) q n c.requires.plan.whole whole in
-    mixed_joined g.met.F.Field.field_laws g.met.T.DomainCoeff.module_laws g.T.DomainCoeff.meaning w c.args.plan.now.roots.now q n c.args.plan.now.stride len c.args.xs.now c.loop-r.scratch c.join.new.whole
+    mixed_joined g.met.F.Field.field_laws g.met.T.Summand.module_laws g.T.Summand.meaning w c.args.plan.now.roots.now q n c.args.plan.now.stride len c.args.xs.now c.loop-r.scratch c.join.new.whole
     (record { powers = table; len = size; whole = whole; some = c.requires.plan.stride_not_zero })
     (λ r i rl il. c.loop-r.invariant.done w table tables r i (subst (λ k. r < k) (sym end) rl) il) c.join.ensures.joined i l
 

@@ -9,8 +9,8 @@ use Rattle.ark_fft.proofs.domain.mixed_radix.kernel.apply_all_twiddles.Goals as 
 pub loop-i-preserved : goal.loop-i-preserved
 loop-i-preserved g c =
     let K = g.F.Field.field in
-    let V = g.T.DomainCoeff.group in
-    let m = g.T.DomainCoeff.meaning in
+    let V = g.T.Summand.group in
+    let m = g.T.Summand.meaning in
     let i0 = c.loop-i.i in
     let v = c.loop-i.invariant in
     let here : i0 ≤ i0 = omega arith in

@@ -15,7 +15,7 @@ overflow_mul-turn g c =
 
 pub loop-r-init : goal.loop-r-init
 loop-r-init g c =
-    let V = g.T.DomainCoeff.group in
+    let V = g.T.Summand.group in
     let table = c.args.level.now.roots.now in
     record {
       from = omega arith;
@@ -23,10 +23,10 @@ loop-r-init g c =
       at = omega arith;
       counted = none_grown c.args.work.now;
       done = λ first r l.
-          let item_of = item V (map g.T.DomainCoeff.meaning c.args.parts.now) (r * c.args.level.now.part_len + c.args.i) in
+          let item_of = item V (map g.T.Summand.meaning c.args.parts.now) (r * c.args.level.now.part_len + c.args.i) in
           let none : r ≡ 0 = omega arith in
           let at : r * c.args.i * c.args.level.now.stride ≡ 0 = omega (arith, ap (λ q. q * c.args.i * c.args.level.now.stride) none) in
-          sym (ap (λ k. V.scale (get_or table k g.F.Field.field.zero) item_of) at ∙ ap (λ t. V.scale t item_of) first ∙ g.met.T.DomainCoeff.module_laws.one_scale item_of);
+          sym (ap (λ k. V.scale (get_or table k g.F.Field.field.zero) item_of) at ∙ ap (λ t. V.scale t item_of) first ∙ g.met.T.Summand.module_laws.one_scale item_of);
       rest = λ r l. refl;
       others = λ r k l ne. refl;
     }
@@ -72,8 +72,8 @@ bounds-parts-place g c =
 pub loop-r-preserved : goal.loop-r-preserved
 loop-r-preserved g c =
     let K = g.F.Field.field in
-    let V = g.T.DomainCoeff.group in
-    let m = g.T.DomainCoeff.meaning in
+    let V = g.T.Summand.group in
+    let m = g.T.Summand.meaning in
     let r0 = c.loop-r._r in
     let i0 = c.args.i in
     let s = c.args.level.now.stride in

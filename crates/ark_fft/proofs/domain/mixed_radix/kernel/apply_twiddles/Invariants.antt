@@ -5,8 +5,8 @@ use Rattle.ark_fft.proofs.domain.mixed_radix.kernel.apply_twiddles.Given as goal
 
 abbrev pub invariant-loop-r : goal.invariant-loop-r
 invariant-loop-r g l =
-    let V = g.T.DomainCoeff.group in
-    let m = g.T.DomainCoeff.meaning in
+    let V = g.T.Summand.group in
+    let m = g.T.Summand.meaning in
     record {
       from : 1 ≤ l._r;
       place : l.place ≡ (l._r - 1) * l.level.part_len + l.i;

@@ -11,7 +11,7 @@ bit_reverse-requires-clause-few g c =
 
 pub returns-then-levels-gt0-clause-transformed : goal.returns-then-levels-gt0-clause-transformed
 returns-then-levels-gt0-clause-transformed g c = λ v levels i l.
-    even_transformed g.met.F.Field.field_laws g.met.T.DomainCoeff.module_laws g.T.DomainCoeff.meaning c.args.levels _ v c.args.xs.now c.halves.new.xs c.bit_reverse.new.xs c.requires.size (omega arith) (omega arith) (c.halves.ensures.sums v levels) c.bit_reverse.ensures i l
+    even_transformed g.met.F.Field.field_laws g.met.T.Summand.module_laws g.T.Summand.meaning c.args.levels _ v c.args.xs.now c.halves.new.xs c.bit_reverse.new.xs c.requires.size (omega arith) (omega arith) (c.halves.ensures.sums v levels) c.bit_reverse.ensures i l
 
 pub returns-then-levels-gt0-clause-counted : goal.returns-then-levels-gt0-clause-counted
 returns-then-levels-gt0-clause-counted g c =
@@ -19,7 +19,7 @@ returns-then-levels-gt0-clause-counted g c =
 
 pub returns-else-levels-gt0-clause-transformed : goal.returns-else-levels-gt0-clause-transformed
 returns-else-levels-gt0-clause-transformed g c = λ v levels i l.
-    one_transformed g.met.F.Field.field_laws g.met.T.DomainCoeff.module_laws g.T.DomainCoeff.meaning c.args.levels _ v c.args.xs.now c.requires.size (omega arith) i l
+    one_transformed g.met.F.Field.field_laws g.met.T.Summand.module_laws g.T.Summand.meaning c.args.levels _ v c.args.xs.now c.requires.size (omega arith) i l
 
 pub returns-else-levels-gt0-clause-counted : goal.returns-else-levels-gt0-clause-counted
 returns-else-levels-gt0-clause-counted g c = no_butterflies c.args.levels _ c.args.work.now (omega arith)

@@ -16,10 +16,10 @@ use Rattle.ark_fft.proofs.domain.mixed_radix.kernel.fft_counted.Goals as goal
 pub returns-clause-transform : goal.returns-clause-transform
 returns-clause-transform g c =
     let K = g.F.Field.field in
-    let V = g.T.DomainCoeff.group in
-    let m = g.T.DomainCoeff.meaning in
+    let V = g.T.Summand.group in
+    let m = g.T.Summand.meaning in
     let N = g.met.F.Field.field_laws in
-    let L = g.met.T.DomainCoeff.module_laws in
+    let L = g.met.T.Summand.module_laws in
     let t = c.args.coset.now in
     let same = λ (x y : g.row.F.Denot). (g.met.F.Field.equality_law x y).0 in
     let d : Domain g.row.F.Denot = record { kind = mixed_radix; size = t.size; root = t.group_gen; offset = t.offset } in

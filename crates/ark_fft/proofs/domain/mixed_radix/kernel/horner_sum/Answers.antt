@@ -9,8 +9,8 @@ use Rattle.ark_fft.proofs.domain.mixed_radix.kernel.horner_sum.Goals as goal
 
 pub loop-r-init : goal.loop-r-init
 loop-r-init g c =
-    let V = g.T.DomainCoeff.group in
-    let m = g.T.DomainCoeff.meaning in
+    let V = g.T.Summand.group in
+    let m = g.T.Summand.meaning in
     let xs = c.args.parts.now in
     let i = c.args.last - (c.args.level.now.base - 1) * c.args.level.now.part_len in
     let place : c.args.last ≡ (c.args.level.now.base - 1) * c.args.level.now.part_len + i = omega arith in
@@ -21,7 +21,7 @@ loop-r-init g c =
       counted = none_grown c.args.work.now;
       sum =
           read_as m V.zero xs c.args.last c.index-parts-last.result c.requires.inside c.index-parts-last.is
-          ∙ (ap (item V (map m xs)) place ∙ sum_last g.met.T.DomainCoeff.module_laws c.args.factor c.args.level.now.base c.args.level.now.part_len i (item V (map m xs)) c.requires.base_not_zero);
+          ∙ (ap (item V (map m xs)) place ∙ sum_last g.met.T.Summand.module_laws c.args.factor c.args.level.now.base c.args.level.now.part_len i (item V (map m xs)) c.requires.base_not_zero);
     }
 
 pub overflow_sub-place : goal.overflow_sub-place
@@ -32,8 +32,8 @@ overflow_sub-place g c =
 pub loop-r-preserved : goal.loop-r-preserved
 loop-r-preserved g c =
     let K = g.F.Field.field in
-    let V = g.T.DomainCoeff.group in
-    let m = g.T.DomainCoeff.meaning in
+    let V = g.T.Summand.group in
+    let m = g.T.Summand.meaning in
     let q = c.args.level.now.base in
     let r = c.loop-r._r in
     let t = c.args.factor in
@@ -53,18 +53,18 @@ loop-r-preserved g c =
           let b : at < length xs = omega arith in
           let value : m x ≡ item V (map m xs) ((q - (r + 1)) * c.args.level.now.part_len + i) = read_as m V.zero xs at x b c.index-parts-place.is ∙ ap (item V (map m xs)) place in
           let times = c.scale.ensures.product in
-          let plus = g.met.T.DomainCoeff.add_assign_meaning _ _ _ c.add_assign.ensures.after in
+          let plus = g.met.T.Summand.add_assign_meaning _ _ _ c.add_assign.ensures.after in
           plus
           ∙ (ap (λ s. V.plus s (m x)) (times ∙ ap (V.scale t) v.sum)
           ∙ (ap (V.plus (V.scale t (sum_below V r (λ k. V.scale (power K t k) (item V (map m xs) ((q - r + k) * c.args.level.now.part_len + i)))))) value
-          ∙ sym (sum_before g.met.T.DomainCoeff.module_laws t q c.args.level.now.part_len i r (item V (map m xs)) c.loop-r-test.true)));
+          ∙ sym (sum_before g.met.T.Summand.module_laws t q c.args.level.now.part_len i r (item V (map m xs)) c.loop-r-test.true)));
     }
 
 pub returns-clause-sum : goal.returns-clause-sum
 returns-clause-sum g c = λ i e.
     let K = g.F.Field.field in
-    let V = g.T.DomainCoeff.group in
-    let m = g.T.DomainCoeff.meaning in
+    let V = g.T.Summand.group in
+    let m = g.T.Summand.meaning in
     let end : c.loop-r._r ≡ c.args.level.now.base = omega arith in
     let same : c.args.last - (c.args.level.now.base - 1) * c.args.level.now.part_len ≡ i = omega arith in
     c.loop-r.invariant.sum

@@ -6,8 +6,8 @@ use Rattle.ark_fft.proofs.domain.mixed_radix.kernel.horner_sum.Given as goal
 
 abbrev pub invariant-loop-r : goal.invariant-loop-r
 invariant-loop-r g l =
-    let V = g.T.DomainCoeff.group in
-    let m = g.T.DomainCoeff.meaning in
+    let V = g.T.Summand.group in
+    let m = g.T.Summand.meaning in
     record {
       from : 1 ≤ l._r;
       place : l.place ≡ (l.level.base - l._r) * l.level.part_len + (l.last - (l.level.base - 1) * l.level.part_len);

@@ -16,8 +16,8 @@ use Rattle.ark_fft.proofs.domain.mixed_radix.kernel.ifft_counted.Goals as goal
 pub returns-clause-inverse : goal.returns-clause-inverse
 returns-clause-inverse g c =
     let K = g.F.Field.field in
-    let V = g.T.DomainCoeff.group in
-    let m = g.T.DomainCoeff.meaning in
+    let V = g.T.Summand.group in
+    let m = g.T.Summand.meaning in
     let t = c.args.coset.now in
     let same = λ (x y : g.row.F.Denot). (g.met.F.Field.equality_law x y).0 in
     let d : Domain g.row.F.Denot = record { kind = mixed_radix; size = t.size; root = t.group_gen; offset = t.offset } in
@@ -44,7 +44,7 @@ returns-clause-inverse g c =
     subst (λ k. AreLevels K (power K t.group_gen_inv k) t.log_size_of_group c.as_slice-2.result.now) base
     (subst (AreLevels K _ t.log_size_of_group) (sym c.as_slice-2.ensures.value) (c.in_ok-tables.ensures.levels inverse_order)) in
     let is_inverse : IsInverse K V d (map m old) (map m now) =
-    backward g.met.F.Field.field_laws g.met.T.DomainCoeff.module_laws m d order (λ w. AreLevels K (power K w (1 * q ^ t.odd_exponent)) t.log_size_of_group c.as_slice-2.result.now) t.group_gen_inv t.offset_inv t.size_inv c.as_slice.result.now old fitted c.mixed.new.xs now
+    backward g.met.F.Field.field_laws g.met.T.Summand.module_laws m d order (λ w. AreLevels K (power K w (1 * q ^ t.odd_exponent)) t.log_size_of_group c.as_slice-2.result.now) t.group_gen_inv t.offset_inv t.size_inv c.as_slice.result.now old fitted c.mixed.new.xs now
     (record { of_root = root_inverse; of_offset = offset_inverse; of_size = size_inverse }) table tables
     (record {
       len_fitted = size_fitted;

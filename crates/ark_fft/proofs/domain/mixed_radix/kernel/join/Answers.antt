@@ -27,8 +27,8 @@ sum_row-requires-clause-whole_size g c = c.loop-j.auto.whole ∙ c.requires.whol
 pub loop-j-preserved : goal.loop-j-preserved
 loop-j-preserved g c =
     let K = g.F.Field.field in
-    let V = g.T.DomainCoeff.group in
-    let m = g.T.DomainCoeff.meaning in
+    let V = g.T.Summand.group in
+    let m = g.T.Summand.meaning in
     let j0 = c.loop-j.j in
     let v = c.loop-j.invariant in
     let old = λ (k : ℕ). item V (map m c.args.parts.now) k in

@@ -80,8 +80,8 @@ overflow_add-row g c =
 pub loop-i-preserved : goal.loop-i-preserved
 loop-i-preserved g c =
     let K = g.F.Field.field in
-    let V = g.T.DomainCoeff.group in
-    let m = g.T.DomainCoeff.meaning in
+    let V = g.T.Summand.group in
+    let m = g.T.Summand.meaning in
     let j0 = c.args.j in
     let i0 = c.loop-i.i in
     let xs = c.loop-i.whole in

@@ -6,8 +6,8 @@ use Rattle.ark_fft.proofs.domain.mixed_radix.kernel.sum_row.Given as goal
 
 abbrev pub invariant-loop-i : goal.invariant-loop-i
 invariant-loop-i g l =
-    let V = g.T.DomainCoeff.group in
-    let m = g.T.DomainCoeff.meaning in
+    let V = g.T.Summand.group in
+    let m = g.T.Summand.meaning in
     record {
       counted : GrowsBy (counts (l.i * (l.level.base - 1)) 0 0) l.fn.work l.work;
       done : (i : ℕ) → i < l.i → item V (map m l.whole) (l.j * l.level.part_len + i) ≡ sum_below V l.level.base (λ r. V.scale (power g.F.Field.field (get_or l.level.roots.now (l.j * (l.level.part_len * l.level.stride)) g.F.Field.field.zero) r) (item V (map m l.parts) (r * l.level.part_len + i)));

@@ -16,9 +16,9 @@ sixteen-requires-clause-whole g t c = subst (λ k. length c.args.tables.now ≡ 
 
 pub returns-then-size_of_val-le128-clause-sums : goal.returns-then-size_of_val-le128-clause-sums
 returns-then-size_of_val-le128-clause-sums g t c = λ w levels p l.
-    let V = g.T.DomainCoeff.group in
-    let m = g.T.DomainCoeff.meaning in
-    sixteen_to_fours g.met.F.Field.field_laws g.met.T.DomainCoeff.module_laws m c.args.levels w c.args.tables.now (λ k. item V (map m c.args.xs.now) k) c.sixteen.new.xs c.if-levels-eq4.true c.requires.whole levels c.sixteen.ensures.columns p l
+    let V = g.T.Summand.group in
+    let m = g.T.Summand.meaning in
+    sixteen_to_fours g.met.F.Field.field_laws g.met.T.Summand.module_laws m c.args.levels w c.args.tables.now (λ k. item V (map m c.args.xs.now) k) c.sixteen.new.xs c.if-levels-eq4.true c.requires.whole levels c.sixteen.ensures.columns p l
 
 pub returns-then-size_of_val-le128-clause-counted : goal.returns-then-size_of_val-le128-clause-counted
 returns-then-size_of_val-le128-clause-counted g t c = subst (λ k. GrowsBy (butterfly_counts (2 ^ k / 2 * (k - 2))) c.args.work.now c.sixteen.new.work) (sym c.if-levels-eq4.true) c.sixteen.ensures.counted
@@ -92,8 +92,8 @@ returns-then-levels-gt2-clause-sums g t c = λ w levels p l.
     let n2 : length c.down_to_fours.new.xs ≡ 2 ^ (n - 1) = c.down_to_fours.auto.xs ∙ (c.butterflies.auto.lo ∙ n0) in
     let half : len / 2 ≡ 2 ^ (n - 1) = sym s.ensures.front_len ∙ n0 in
     let both = next_levels g.F.Field.field n (len / 2) w c.args.tables.now r.result.0.now r.result.1.now some half r.ensures.front r.ensures.back levels in
-    let m = g.T.DomainCoeff.meaning in
-    let level : IsSplitLevel g.F.Field.field g.T.DomainCoeff.group m n w r.result.0.now c.args.xs.now s.result.0.now s.result.1.now c.butterflies.new.lo c.butterflies.new.hi = record {
+    let m = g.T.Summand.meaning in
+    let level : IsSplitLevel g.F.Field.field g.T.Summand.group m n w r.result.0.now c.args.xs.now s.result.0.now s.result.1.now c.butterflies.new.lo c.butterflies.new.hi = record {
       some = some;
       table = both.0;
       enough = r.ensures.front_len ∙ half;
@@ -101,7 +101,7 @@ returns-then-levels-gt2-clause-sums g t c = λ w levels p l.
       len_lo = n0;
       butterflies = λ i b. record { sum = c.butterflies.ensures.sums i b; difference = c.butterflies.ensures.differences i b };
     } in
-    level_of_blocks g.met.F.Field.field_laws g.met.T.DomainCoeff.module_laws m n w r.result.0.now c.args.xs.now s.result.0.now s.result.1.now c.butterflies.new.lo c.butterflies.new.hi c.down_to_fours.new.xs c.down_to_fours-then-levels-gt2.new.xs
+    level_of_blocks g.met.F.Field.field_laws g.met.T.Summand.module_laws m n w r.result.0.now c.args.xs.now s.result.0.now s.result.1.now c.butterflies.new.lo c.butterflies.new.hi c.down_to_fours.new.xs c.down_to_fours-then-levels-gt2.new.xs
     level (omega arith) n2 (c.down_to_fours.ensures.sums _ both.1) (c.down_to_fours-then-levels-gt2.ensures.sums _ both.1) p l
 
 pub returns-then-levels-gt2-clause-counted : goal.returns-then-levels-gt2-clause-counted
@@ -115,7 +115,7 @@ returns-then-levels-gt2-clause-counted g t c =
 
 pub returns-else-levels-gt2-clause-sums : goal.returns-else-levels-gt2-clause-sums
 returns-else-levels-gt2-clause-sums g t c = λ w levels p l.
-    one_block_of_four g.met.F.Field.field_laws g.met.T.DomainCoeff.module_laws g.T.DomainCoeff.meaning c.args.levels w c.args.xs.now (omega arith) p l
+    one_block_of_four g.met.F.Field.field_laws g.met.T.Summand.module_laws g.T.Summand.meaning c.args.levels w c.args.xs.now (omega arith) p l
 
 pub returns-else-levels-gt2-clause-counted : goal.returns-else-levels-gt2-clause-counted
 returns-else-levels-gt2-clause-counted g t c = no_count (2 ^ c.args.levels / 2) (c.args.levels - 2) c.args.work.now (omega arith)

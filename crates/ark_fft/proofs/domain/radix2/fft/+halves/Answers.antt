@@ -70,8 +70,8 @@ returns-then-levels-gt8-clause-sums g t c = λ w levels p l.
     let n2 : length c.halves.new.xs ≡ 2 ^ (n - 1) = c.halves.auto.xs ∙ (c.butterflies.auto.lo ∙ n0) in
     let half : len / 2 ≡ 2 ^ (n - 1) = sym s.ensures.front_len ∙ n0 in
     let both = next_levels g.F.Field.field n (len / 2) w c.args.tables.now r.result.0.now r.result.1.now some half r.ensures.front r.ensures.back levels in
-    let m = g.T.DomainCoeff.meaning in
-    let level : IsSplitLevel g.F.Field.field g.T.DomainCoeff.group m n w r.result.0.now c.args.xs.now s.result.0.now s.result.1.now c.butterflies.new.lo c.butterflies.new.hi = record {
+    let m = g.T.Summand.meaning in
+    let level : IsSplitLevel g.F.Field.field g.T.Summand.group m n w r.result.0.now c.args.xs.now s.result.0.now s.result.1.now c.butterflies.new.lo c.butterflies.new.hi = record {
       some = some;
       table = both.0;
       enough = r.ensures.front_len ∙ half;
@@ -79,7 +79,7 @@ returns-then-levels-gt8-clause-sums g t c = λ w levels p l.
       len_lo = n0;
       butterflies = λ i b. record { sum = c.butterflies.ensures.sums i b; difference = c.butterflies.ensures.differences i b };
     } in
-    one_level g.met.F.Field.field_laws g.met.T.DomainCoeff.module_laws m n w r.result.0.now c.args.xs.now s.result.0.now s.result.1.now c.butterflies.new.lo c.butterflies.new.hi c.halves.new.xs c.halves-then-levels-gt8.new.xs
+    one_level g.met.F.Field.field_laws g.met.T.Summand.module_laws m n w r.result.0.now c.args.xs.now s.result.0.now s.result.1.now c.butterflies.new.lo c.butterflies.new.hi c.halves.new.xs c.halves-then-levels-gt8.new.xs
     level n2 (c.halves.ensures.sums _ both.1) (c.halves-then-levels-gt8.ensures.sums _ both.1) p l
 
 pub returns-then-levels-gt8-clause-counted : goal.returns-then-levels-gt8-clause-counted
@@ -92,17 +92,17 @@ returns-then-levels-gt8-clause-counted g t c =
 
 pub returns-else-levels-gt8-clause-sums : goal.returns-else-levels-gt8-clause-sums
 returns-else-levels-gt8-clause-sums g t c = λ w levels p l.
-    no_level g.met.F.Field.field_laws g.met.T.DomainCoeff.module_laws c.args.levels w _ (omega arith) p l
+    no_level g.met.F.Field.field_laws g.met.T.Summand.module_laws c.args.levels w _ (omega arith) p l
 
 pub returns-else-levels-gt8-clause-counted : goal.returns-else-levels-gt8-clause-counted
 returns-else-levels-gt8-clause-counted g t c = no_count (2 ^ c.args.levels / 2) c.args.levels c.args.work.now (omega arith)
 
 pub returns-then-levels-eq1-clause-sums : goal.returns-then-levels-eq1-clause-sums
 returns-then-levels-eq1-clause-sums g t c = λ w levels p l.
-    let V = g.T.DomainCoeff.group in
-    let m = g.T.DomainCoeff.meaning in
+    let V = g.T.Summand.group in
+    let m = g.T.Summand.meaning in
     let two : length c.args.tables.now ≡ 2 ^ 1 = subst (λ k. length c.args.tables.now ≡ 2 ^ k) c.if-levels-eq1.true c.requires.whole in
     let within : 0 < length c.args.tables.now = omega (arith, two) in
-    one_pair g.met.F.Field.field_laws g.met.T.DomainCoeff.module_laws c.args.levels w c.args.tables.now (item V (map m c.args.xs.now)) (item V (map m c.pair.new.xs)) levels c.if-levels-eq1.true c.requires.whole
+    one_pair g.met.F.Field.field_laws g.met.T.Summand.module_laws c.args.levels w c.args.tables.now (item V (map m c.args.xs.now)) (item V (map m c.pair.new.xs)) levels c.if-levels-eq1.true c.requires.whole
     (same_butterfly V (get_or_read c.args.tables.now _ _ within c.index-tables-0.is g.F.Field.field.zero) refl refl (record { sum = c.pair.ensures.sum; difference = c.pair.ensures.difference }))
     p l

@@ -63,8 +63,8 @@ pub returns-then-log_len-gt0-clause-sums : goal.returns-then-log_len-gt0-clause-
 returns-then-log_len-gt0-clause-sums g t c = λ w f tables blocks p l.
     let K = g.F.Field.field in
     let N = g.met.F.Field.field_laws in
-    let L = g.met.T.DomainCoeff.module_laws in
-    let m = g.T.DomainCoeff.meaning in
+    let L = g.met.T.Summand.module_laws in
+    let m = g.T.Summand.meaning in
     let n = c.args.levels in
     let e = c.args.log_len in
     let some = c.if-log_len-gt0.true in
@@ -78,7 +78,7 @@ returns-then-log_len-gt0-clause-sums g t c = λ w f tables blocks p l.
     let n1 : length c.join_halves.new.xs ≡ 2 ^ (n - 1) = c.join_halves.auto.xs ∙ n0 in
     let half : len / 2 ≡ 2 ^ (n - 1) = sym s.ensures.front_len ∙ n0 in
     let both = next_levels K n (len / 2) w c.args.tables.now r.result.0.now r.result.1.now (some_levels n e some within) half r.ensures.front r.ensures.back tables in
-    let level : IsJoinedLevel K g.T.DomainCoeff.group m n e w r.result.0.now c.join_halves.new.xs c.join_halves-then-log_len-gt0.new.xs c.join_butterflies.new.lo c.join_butterflies.new.hi = record {
+    let level : IsJoinedLevel K g.T.Summand.group m n e w r.result.0.now c.join_halves.new.xs c.join_halves-then-log_len-gt0.new.xs c.join_butterflies.new.lo c.join_butterflies.new.hi = record {
       some = some;
       within = within;
       table = both.0;
@@ -102,7 +102,7 @@ returns-then-log_len-gt0-clause-counted g t c =
 pub returns-else-log_len-gt0-clause-sums : goal.returns-else-log_len-gt0-clause-sums
 returns-else-log_len-gt0-clause-sums g t c = λ w f table blocks p l.
     let none : c.args.log_len ≡ 0 = omega arith in
-    one_block g.met.F.Field.field_laws g.met.T.DomainCoeff.module_laws g.T.DomainCoeff.meaning c.args.levels c.args.log_len _ c.args.xs.now f none blocks p l
+    one_block g.met.F.Field.field_laws g.met.T.Summand.module_laws g.T.Summand.meaning c.args.levels c.args.log_len _ c.args.xs.now f none blocks p l
 
 pub returns-else-log_len-gt0-clause-counted : goal.returns-else-log_len-gt0-clause-counted
 returns-else-log_len-gt0-clause-counted g t c = no_count (2 ^ c.args.levels / 2) c.args.log_len c.args.work.now c.if-log_len-gt0.false

@@ -8,8 +8,8 @@ use Rattle.ark_fft.proofs.domain.radix2.fft.butterflies.Goals as goal
 
 pub loop-i-preserved : goal.loop-i-preserved
 loop-i-preserved g c =
-    let V = g.T.DomainCoeff.group in
-    let m = g.T.DomainCoeff.meaning in
+    let V = g.T.Summand.group in
+    let m = g.T.Summand.meaning in
     let i = c.loop-i.i in
     let v = c.loop-i.invariant in
     let in_lo : i < length c.loop-i.lo = subst (λ k. i < k) (sym c.loop-i.auto.lo) c.loop-i-test.true in
@@ -32,4 +32,4 @@ pub returns-clause-differences : goal.returns-clause-differences
 returns-clause-differences g c = λ i l. c.loop-i.invariant.crossed.done_hi i (subst (λ k. i < k) (sym (ended c.loop-i.i (length c.args.lo.now) c.loop-i.auto.i-end c.loop-i-test.false)) l)
 
 pub loop-i-init : goal.loop-i-init
-loop-i-init g c = record { counted = none_grown _; crossed = none_crossed g.T.DomainCoeff.meaning g.T.DomainCoeff.group.zero _ _ c.args.lo.now c.args.hi.now }
+loop-i-init g c = record { counted = none_grown _; crossed = none_crossed g.T.Summand.meaning g.T.Summand.group.zero _ _ c.args.lo.now c.args.hi.now }

@@ -6,8 +6,8 @@ use Rattle.ark_fft.proofs.domain.radix2.fft.butterflies.Given as goal
 
 abbrev pub invariant-loop-i : goal.invariant-loop-i
 invariant-loop-i g l =
-    let V = g.T.DomainCoeff.group in
-    let m = g.T.DomainCoeff.meaning in
+    let V = g.T.Summand.group in
+    let m = g.T.Summand.meaning in
     let lo0 = λ (k : ℕ). item V (map m l.initial.lo) k in
     let hi0 = λ (k : ℕ). item V (map m l.initial.hi) k in
     record {

@@ -8,8 +8,8 @@ use Rattle.ark_fft.proofs.domain.radix2.fft.column.Goals as goal
 
 pub returns-clause-items : goal.returns-clause-items
 returns-clause-items g c =
-    let V = g.T.DomainCoeff.group in
-    let m = g.T.DomainCoeff.meaning in
+    let V = g.T.Summand.group in
+    let m = g.T.Summand.meaning in
     let zero = g.F.Field.field.zero in
     let i = c.args.i in
     let n = c.args.quarter in

@@ -56,14 +56,14 @@ returns-clause-transform g c =
     let p = c.next_power_of_two.ensures in
     let e = c.ilog2-log_len.ensures in
     let of_now : length now ≡ t.size = c.short_in_order.auto.xs ∙ mid_size t.size len fitted front of_fitted short c.shift_to_coset.auto.xs in
-    ap (map g.T.DomainCoeff.meaning) (written_back now _ c.resize.new.self.len (of_now ∙ sym c.in_ok-resize.ensures.len))
-    ∙ short_transform t.size len fitted front of_fitted short c.shift_to_coset.auto.xs g.met.F.Field.field_laws g.met.T.DomainCoeff.module_laws g.T.DomainCoeff.meaning
+    ap (map g.T.Summand.meaning) (written_back now _ c.resize.new.self.len (of_now ∙ sym c.in_ok-resize.ensures.len))
+    ∙ short_transform t.size len fitted front of_fitted short c.shift_to_coset.auto.xs g.met.F.Field.field_laws g.met.T.Summand.module_laws g.T.Summand.meaning
     t.log_size_of_group c.ilog2-log_len.result t.group_gen t.offset
     (power_of_two g.F.FftField.adicity t.size t.log_size_of_group t.odd_exponent t.splits.product c.requires.even)
     (subst (λ w. HasOrder K w t.size) (sym ((g.met.F.Field.equality_law _ _).0 t.root_is)) (g.met.F.FftField.roots_law.order t.size (t.log_size_of_group, t.odd_exponent, t.splits)))
     (next_log _ _ _ (p.power, p.lower_bound, p.upper_bound) e.power_le e.next_power_gt)
     old c.resize.new.self.items now _ c.zero.result c.mul.result c.in_ok-tables.tables.items c.as_mut_slice.result.now
-    of_old c.as_mut_slice-xs.ensures.value c.in_ok-resize.ensures.items (ap g.T.DomainCoeff.meaning c.zero.ensures ∙ g.met.T.DomainCoeff.zero_meaning)
+    of_old c.as_mut_slice-xs.ensures.value c.in_ok-resize.ensures.items (ap g.T.Summand.meaning c.zero.ensures ∙ g.met.T.Summand.zero_meaning)
     c.shift_to_coset.ensures.items
     (g.met.F.Field.mul_law _ _ _ c.mul.ensures) c.as_mut_slice.ensures.value c.in_ok-tables.ensures.len c.in_ok-tables.ensures.first c.in_ok-tables.ensures.seconds
     c.short_in_order.auto.xs c.short_in_order.ensures.sums

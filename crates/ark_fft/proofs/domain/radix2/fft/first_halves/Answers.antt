@@ -49,8 +49,8 @@ returns-then-levels-gt0-clause-sums g c = λ w table p l.
     let n2 : length c.halves.new.xs ≡ 2 ^ (n - 1) = c.halves.auto.xs ∙ (c.butterflies.auto.lo ∙ n0) in
     let twiddles : length c.args.table.now ≡ 2 ^ (n - 1) = front_half n n some (itself n) (length c.args.xs.now) (length c.args.table.now) c.requires.size c.requires.half in
     let levels = c.pack_levels.ensures w (n - 1) twiddles table in
-    let m = g.T.DomainCoeff.meaning in
-    let level : IsSplitLevel g.F.Field.field g.T.DomainCoeff.group m n w c.args.table.now c.args.xs.now s.result.0.now s.result.1.now c.butterflies.new.lo c.butterflies.new.hi = record {
+    let m = g.T.Summand.meaning in
+    let level : IsSplitLevel g.F.Field.field g.T.Summand.group m n w c.args.table.now c.args.xs.now s.result.0.now s.result.1.now c.butterflies.new.lo c.butterflies.new.hi = record {
       some = some;
       table = table;
       enough = twiddles;
@@ -58,7 +58,7 @@ returns-then-levels-gt0-clause-sums g c = λ w table p l.
       len_lo = n0;
       butterflies = λ i b. record { sum = c.butterflies.ensures.sums i b; difference = c.butterflies.ensures.differences i b };
     } in
-    one_level g.met.F.Field.field_laws g.met.T.DomainCoeff.module_laws m n w c.args.table.now c.args.xs.now s.result.0.now s.result.1.now c.butterflies.new.lo c.butterflies.new.hi c.halves.new.xs c.halves-then-levels-gt0.new.xs
+    one_level g.met.F.Field.field_laws g.met.T.Summand.module_laws m n w c.args.table.now c.args.xs.now s.result.0.now s.result.1.now c.butterflies.new.lo c.butterflies.new.hi c.halves.new.xs c.halves-then-levels-gt0.new.xs
     level n2 (c.halves.ensures.sums _ levels) (c.halves-then-levels-gt0.ensures.sums _ levels) p l
 
 pub returns-then-levels-gt0-clause-counted : goal.returns-then-levels-gt0-clause-counted
@@ -71,7 +71,7 @@ returns-then-levels-gt0-clause-counted g c =
 
 pub returns-else-levels-gt0-clause-sums : goal.returns-else-levels-gt0-clause-sums
 returns-else-levels-gt0-clause-sums g c = λ w table p l.
-    no_level g.met.F.Field.field_laws g.met.T.DomainCoeff.module_laws c.args.levels w _ (omega arith) p l
+    no_level g.met.F.Field.field_laws g.met.T.Summand.module_laws c.args.levels w _ (omega arith) p l
 
 pub returns-else-levels-gt0-clause-counted : goal.returns-else-levels-gt0-clause-counted
 returns-else-levels-gt0-clause-counted g c = no_count (2 ^ c.args.levels / 2) c.args.levels c.args.work.now (omega arith)

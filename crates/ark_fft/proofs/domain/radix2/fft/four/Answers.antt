@@ -8,8 +8,8 @@ use Rattle.ark_fft.proofs.domain.radix2.fft.four.Goals as goal
 
 pub returns-clause-sums : goal.returns-clause-sums
 returns-clause-sums g c = λ w levels q l.
-    let V = g.T.DomainCoeff.group in
-    let m = g.T.DomainCoeff.meaning in
+    let V = g.T.Summand.group in
+    let m = g.T.Summand.meaning in
     let zero = g.F.Field.field.zero in
     let r = c.args.r in
     let xs = c.args.xs.now in
@@ -26,7 +26,7 @@ returns-clause-sums g c = λ w levels q l.
     let t1 : c.index-tables-1.result ≡ get_or tables 1 zero = get_or_read tables _ _ (omega (arith, four)) c.index-tables-1.is zero in
     let t2 : c.index-tables-2.result ≡ get_or tables 2 zero = get_or_read tables _ _ (omega (arith, four)) c.index-tables-2.is zero in
     let t3 : c.index-tables-2-2.result ≡ get_or tables 2 zero = get_or_read tables _ _ (omega (arith, four)) c.index-tables-2-2.is zero in
-    block_written g.met.F.Field.field_laws g.met.T.DomainCoeff.module_laws m w tables xs r c.butterfly.new.lo c.butterfly-2.new.lo c.butterfly.new.hi c.butterfly-2.new.hi c.butterfly-3.new.lo c.butterfly-3.new.hi c.butterfly-4.new.lo c.butterfly-4.new.hi levels four inside
+    block_written g.met.F.Field.field_laws g.met.T.Summand.module_laws m w tables xs r c.butterfly.new.lo c.butterfly-2.new.lo c.butterfly.new.hi c.butterfly-2.new.hi c.butterfly-3.new.lo c.butterfly-3.new.hi c.butterfly-4.new.lo c.butterfly-4.new.hi levels four inside
     (record {
       evens = same_butterfly V t0 x0 x2 (record { sum = c.butterfly.ensures.sum; difference = c.butterfly.ensures.difference });
       odds = same_butterfly V t1 x1 x3 (record { sum = c.butterfly-2.ensures.sum; difference = c.butterfly-2.ensures.difference });
@@ -36,4 +36,4 @@ returns-clause-sums g c = λ w levels q l.
     q l
 
 pub returns-clause-others : goal.returns-clause-others
-returns-clause-others g c = λ k out. written_nowhere_else g.T.DomainCoeff.meaning g.T.DomainCoeff.group.zero c.args.xs.now (4 * c.args.r) c.butterfly-3.new.lo c.butterfly-3.new.hi c.butterfly-4.new.lo c.butterfly-4.new.hi c.requires.within k out
+returns-clause-others g c = λ k out. written_nowhere_else g.T.Summand.meaning g.T.Summand.group.zero c.args.xs.now (4 * c.args.r) c.butterfly-3.new.lo c.butterfly-3.new.hi c.butterfly-4.new.lo c.butterfly-4.new.hi c.requires.within k out

@@ -18,8 +18,8 @@ loop-r-init g c = record {
 pub loop-r-preserved : goal.loop-r-preserved
 loop-r-preserved g c =
     let K = g.F.Field.field in
-    let V = g.T.DomainCoeff.group in
-    let m = g.T.DomainCoeff.meaning in
+    let V = g.T.Summand.group in
+    let m = g.T.Summand.meaning in
     let i = c.loop-r.r in
     let v = c.loop-r.invariant in
     let f = c.four.ensures in
@@ -27,7 +27,7 @@ loop-r-preserved g c =
       counted = grows_twice v.counted f.counted (omega arith) (omega arith) refl;
       sums = λ w levels r q l s. ⊎_elim
           (λ (e : r ≡ i). subst (λ t. item V (map m c.four.new.xs) (4 * t + q) ≡ dft_at K V 4 w (λ b. item V (map m c.args.xs.now) (4 * t + b)) (reversed 2 q)) (sym e)
-          (f.sums w levels q s ∙ same_block g.met.F.Field.field_laws g.met.T.DomainCoeff.module_laws m w c.loop-r.xs c.args.xs.now i i q (λ b a. v.rest (4 * i + b) (omega arith))))
+          (f.sums w levels q s ∙ same_block g.met.F.Field.field_laws g.met.T.Summand.module_laws m w c.loop-r.xs c.args.xs.now i i q (λ b a. v.rest (4 * i + b) (omega arith))))
           (λ (ne : r ≢ i). f.others (4 * r + q) (inl (omega arith)) ∙ v.sums w levels r q (omega arith) s)
           (cases_eq r i);
       rest = λ k l. f.others k (inr (omega arith)) ∙ v.rest k (omega arith);

@@ -27,8 +27,8 @@ in_order-requires-clause-half g c =
 pub returns-clause-inverse : goal.returns-clause-inverse
 returns-clause-inverse g c =
     let K = g.F.Field.field in
-    let V = g.T.DomainCoeff.group in
-    let m = g.T.DomainCoeff.meaning in
+    let V = g.T.Summand.group in
+    let m = g.T.Summand.meaning in
     let t = c.args.coset.now in
     let odds : t.odd_exponent ≡ 0 = c.requires.even in
     let same = λ (x y : g.row.F.Denot). (g.met.F.Field.equality_law x y).0 in
@@ -49,7 +49,7 @@ returns-clause-inverse g c =
     let table : ArePowers K t.group_gen_inv (t.size / 2) c.as_mut_slice.result.now =
     subst (ArePowers K t.group_gen_inv (t.size / 2)) (sym c.as_mut_slice.ensures.value) c.in_ok-table.ensures.table in
     let is_inverse : IsInverse K V d (map m old) (map m now) =
-    backward g.met.F.Field.field_laws g.met.T.DomainCoeff.module_laws m d t.log_size_of_group is_power order t.group_gen_inv t.offset_inv t.size_inv c.as_mut_slice.result.now old fitted c.in_order.new.xs now
+    backward g.met.F.Field.field_laws g.met.T.Summand.module_laws m d t.log_size_of_group is_power order t.group_gen_inv t.offset_inv t.size_inv c.as_mut_slice.result.now old fitted c.in_order.new.xs now
     (record { of_root = root_inverse; of_offset = offset_inverse; of_size = size_inverse }) table
     (record {
       len_fitted = size_fitted;

@@ -11,10 +11,10 @@ bit_reverse-requires-clause-few g c =
 
 pub returns-clause-sums : goal.returns-clause-sums
 returns-clause-sums g c = λ w table i l.
-    let m = g.T.DomainCoeff.meaning in
-    let V = g.T.DomainCoeff.group in
+    let m = g.T.Summand.meaning in
+    let V = g.T.Summand.group in
     let b : i < 2 ^ c.args.levels = omega arith in
     let mid : length c.first_halves.new.xs ≡ 2 ^ c.args.levels = omega arith in
     let now : length c.bit_reverse.new.xs ≡ 2 ^ c.args.levels = omega arith in
-    all_levels g.met.F.Field.field_laws g.met.T.DomainCoeff.module_laws m c.args.levels w c.args.xs.now c.first_halves.new.xs c.bit_reverse.new.xs mid now (c.first_halves.ensures.sums w table) c.bit_reverse.ensures i b
+    all_levels g.met.F.Field.field_laws g.met.T.Summand.module_laws m c.args.levels w c.args.xs.now c.first_halves.new.xs c.bit_reverse.new.xs mid now (c.first_halves.ensures.sums w table) c.bit_reverse.ensures i b
     ∙ ap (λ n. dft_at g.F.Field.field V n w (item V (map m c.args.xs.now)) i) (sym c.requires.size)

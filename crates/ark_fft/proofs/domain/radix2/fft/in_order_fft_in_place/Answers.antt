@@ -30,10 +30,10 @@ in_order-requires-clause-half g c =
 pub returns-clause-transform : goal.returns-clause-transform
 returns-clause-transform g c =
     let K = g.F.Field.field in
-    let V = g.T.DomainCoeff.group in
-    let m = g.T.DomainCoeff.meaning in
+    let V = g.T.Summand.group in
+    let m = g.T.Summand.meaning in
     let N = g.met.F.Field.field_laws in
-    let L = g.met.T.DomainCoeff.module_laws in
+    let L = g.met.T.Summand.module_laws in
     let t = c.args.coset.now in
     let d : Domain g.row.F.Denot = record { kind = radix2; size = t.size; root = t.group_gen; offset = t.offset } in
     let order : HasOrder K d.root d.size = subst (λ w. HasOrder K w t.size) (sym ((g.met.F.Field.equality_law _ _).0 t.root_is)) (g.met.F.FftField.roots_law.order t.size (t.log_size_of_group, t.odd_exponent, t.splits)) in

@@ -52,8 +52,8 @@ pub returns-then-log_len-gt0-clause-sums : goal.returns-then-log_len-gt0-clause-
 returns-then-log_len-gt0-clause-sums g c = λ f levels half blocks p l.
     let K = g.F.Field.field in
     let N = g.met.F.Field.field_laws in
-    let L = g.met.T.DomainCoeff.module_laws in
-    let m = g.T.DomainCoeff.meaning in
+    let L = g.met.T.Summand.module_laws in
+    let m = g.T.Summand.meaning in
     let n = c.args.pruned.now.levels in
     let e = c.args.pruned.now.log_len in
     let w = c.args.pruned.now.root in
@@ -68,7 +68,7 @@ returns-then-log_len-gt0-clause-sums g c = λ f levels half blocks p l.
     let len_twiddles : length twiddles ≡ 2 ^ (n - 1) = c.fill_with_powers.auto.xs ∙ front_half n e some within (2 ^ n) tables refl c.requires.whole in
     let n0 : length lo ≡ 2 ^ (n - 1) = front_half n e some within (length c.args.xs.now) (length lo) c.requires.size s.ensures.front_len in
     let n1 : length c.join_halves.new.xs ≡ 2 ^ (n - 1) = c.join_halves.auto.xs ∙ n0 in
-    let level : IsJoinedLevel K g.T.DomainCoeff.group m n e w twiddles c.join_halves.new.xs c.join_halves-then-log_len-gt0.new.xs c.join_butterflies.new.lo c.join_butterflies.new.hi = record {
+    let level : IsJoinedLevel K g.T.Summand.group m n e w twiddles c.join_halves.new.xs c.join_halves-then-log_len-gt0.new.xs c.join_butterflies.new.lo c.join_butterflies.new.hi = record {
       some = some;
       within = within;
       table = first;
@@ -92,7 +92,7 @@ returns-then-log_len-gt0-clause-counted g c =
 pub returns-else-log_len-gt0-clause-sums : goal.returns-else-log_len-gt0-clause-sums
 returns-else-log_len-gt0-clause-sums g c = λ f tables half blocks p l.
     let none : c.args.pruned.now.log_len ≡ 0 = omega arith in
-    one_block g.met.F.Field.field_laws g.met.T.DomainCoeff.module_laws g.T.DomainCoeff.meaning c.args.pruned.now.levels c.args.pruned.now.log_len _ c.args.xs.now f none blocks p l
+    one_block g.met.F.Field.field_laws g.met.T.Summand.module_laws g.T.Summand.meaning c.args.pruned.now.levels c.args.pruned.now.log_len _ c.args.xs.now f none blocks p l
 
 pub returns-else-log_len-gt0-clause-counted : goal.returns-else-log_len-gt0-clause-counted
 returns-else-log_len-gt0-clause-counted g c = no_count (2 ^ c.args.pruned.now.levels / 2) c.args.pruned.now.log_len c.args.work.now c.if-log_len-gt0.false

@@ -5,10 +5,10 @@ use Rattle.ark_fft.proofs.domain.radix2.fft.prepare.Goals as goal
 
 pub returns-clause-fitted : goal.returns-clause-fitted
 returns-clause-fitted g c = λ j l.
-    let V = g.T.DomainCoeff.group in
-    let m = g.T.DomainCoeff.meaning in
+    let V = g.T.Summand.group in
+    let m = g.T.Summand.meaning in
     ap (λ t. item V (map m t) j) c.in_ok-resize.ensures.items
-    ∙ read_fitted m V.zero c.args.coeffs.now.items c.args.n _ c.zero.result (ap m c.zero.ensures ∙ g.met.T.DomainCoeff.zero_meaning) j l
+    ∙ read_fitted m V.zero c.args.coeffs.now.items c.args.n _ c.zero.result (ap m c.zero.ensures ∙ g.met.T.Summand.zero_meaning) j l
 
 pub returns-clause-table : goal.returns-clause-table
 returns-clause-table g c = c.in_ok-table.ensures

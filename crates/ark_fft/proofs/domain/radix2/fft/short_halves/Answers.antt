@@ -17,7 +17,7 @@ returns-clause-sums g c = λ w levels p l.
     let K = g.F.Field.field in
     let N = g.met.F.Field.field_laws in
     let last = last_levels K N n (length c.args.tables.now) w c.args.tables.now c.split_at.result.1.now c.requires.some c.requires.whole c.split_at.ensures.back levels in
-    blocks_transformed N g.met.T.DomainCoeff.module_laws g.T.DomainCoeff.meaning n w c.args.xs.now c.down_to_fours.new.xs c.fours.new.xs (c.down_to_fours.ensures.sums w levels) c.requires.some
+    blocks_transformed N g.met.T.Summand.module_laws g.T.Summand.meaning n w c.args.xs.now c.down_to_fours.new.xs c.fours.new.xs (c.down_to_fours.ensures.sums w levels) c.requires.some
     (λ r q a b. c.fours.ensures.sums _ last r q (omega (arith, a, c.down_to_fours.auto.xs, c.requires.size, in_fours n c.requires.some)) b)
     p l
 

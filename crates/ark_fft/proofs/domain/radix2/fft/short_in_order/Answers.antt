@@ -58,10 +58,10 @@ spread_out-requires g c =
 
 pub returns-clause-sums : goal.returns-clause-sums
 returns-clause-sums g c = λ levels half i l.
-    let V = g.T.DomainCoeff.group in
-    let m = g.T.DomainCoeff.meaning in
+    let V = g.T.Summand.group in
+    let m = g.T.Summand.meaning in
     let N = g.met.F.Field.field_laws in
-    let L = g.met.T.DomainCoeff.module_laws in
+    let L = g.met.T.Summand.module_laws in
     let n = c.args.pruned.now.levels in
     let e = c.args.pruned.now.log_len in
     let b : 2 ^ n < 2 ^ 64 = omega (arith, c.requires.fits, c.requires.size) in

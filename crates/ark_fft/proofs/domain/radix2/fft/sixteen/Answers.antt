@@ -6,8 +6,8 @@ use Rattle.ark_fft.proofs.domain.radix2.fft.sixteen.Goals as goal
 
 pub returns-clause-columns : goal.returns-clause-columns
 returns-clause-columns g c =
-    let V = g.T.DomainCoeff.group in
-    let m = g.T.DomainCoeff.meaning in
+    let V = g.T.Summand.group in
+    let m = g.T.Summand.meaning in
     let xs = c.args.xs.now in
     let twiddle = λ (k : ℕ). get_or c.args.tables.now k g.F.Field.field.zero in
     let vs : List g.row.T.Denot = c.column-zero.result.0 ∷ c.column-one.result.0 ∷ c.column-two.result.0 ∷ c.column-three.result.0 ∷ c.column-zero.result.1 ∷ c.column-one.result.1 ∷ c.column-two.result.1 ∷ c.column-three.result.1 ∷ c.column-zero.result.2 ∷ c.column-one.result.2 ∷ c.column-two.result.2 ∷ c.column-three.result.2 ∷ c.column-zero.result.3 ∷ c.column-one.result.3 ∷ c.column-two.result.3 ∷ c.column-three.result.3 ∷ [] in

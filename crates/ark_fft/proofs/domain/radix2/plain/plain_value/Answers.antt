@@ -11,8 +11,8 @@ use Rattle.ark_fft.proofs.domain.radix2.plain.plain_value.Goals as goal
 pub loop-i-preserved : goal.loop-i-preserved
 loop-i-preserved g c =
     let K = g.F.Field.field in
-    let V = g.T.DomainCoeff.group in
-    let m = g.T.DomainCoeff.meaning in
+    let V = g.T.Summand.group in
+    let m = g.T.Summand.meaning in
     let i = c.loop-i.i in
     let v = c.loop-i.invariant in
     let items = c.args.items.now in
@@ -25,14 +25,14 @@ loop-i-preserved g c =
           ∙ (ap (λ t. K.times t c.args.point) v.next_factor
           ∙ (g.met.F.Field.field_laws.times_comm (power K c.args.point i) c.args.point ∙ ap (power K c.args.point) (sym (add-one i))));
       sum =
-          g.met.T.DomainCoeff.add_assign_meaning _ _ _ c.add_assign.ensures.after
+          g.met.T.Summand.add_assign_meaning _ _ _ c.add_assign.ensures.after
           ∙ (ap₂ V.plus v.sum
           (c.scale.ensures.product ∙ ap₂ V.scale v.next_factor (read_as m V.zero items i c.index-items-i.result inside c.index-items-i.is))
           ∙ ap (λ n. sum_below V n term) (sym (add-one i)));
     }
 
 pub add_assign-requires : goal.add_assign-requires
-add_assign-requires g c = g.met.T.DomainCoeff.can_add_assign_meaning _ _
+add_assign-requires g c = g.met.T.Summand.can_add_assign_meaning _ _
 
 pub mul-factor-requires : goal.mul-factor-requires
 mul-factor-requires g c = g.met.F.Field.can_mul_law _ _

@@ -8,8 +8,8 @@ use Rattle.ark_fft.proofs.domain.radix2.plain.plain_value.Given as goal
 abbrev pub invariant-loop-i : goal.invariant-loop-i
 invariant-loop-i g l =
     let K = g.F.Field.field in
-    let V = g.T.DomainCoeff.group in
-    let m = g.T.DomainCoeff.meaning in
+    let V = g.T.Summand.group in
+    let m = g.T.Summand.meaning in
     record {
       counted : GrowsBy (counts l.i 0 0) l.fn.work l.work;
       next_factor : l.factor ≡ power K l.point l.i;

@@ -11,8 +11,8 @@ use Rattle.ark_fft.proofs.domain.radix2.plain.plain_values.Goals as goal
 pub loop-i-preserved : goal.loop-i-preserved
 loop-i-preserved g c =
     let K = g.F.Field.field in
-    let V = g.T.DomainCoeff.group in
-    let m = g.T.DomainCoeff.meaning in
+    let V = g.T.Summand.group in
+    let m = g.T.Summand.meaning in
     let i = c.loop-i.i in
     let v = c.loop-i.invariant in
     let items = map m c.args.items.now in

@@ -9,8 +9,8 @@ use Rattle.ark_fft.proofs.domain.radix2.plain.plain_values.Given as goal
 abbrev pub invariant-loop-i : goal.invariant-loop-i
 invariant-loop-i g l =
     let K = g.F.Field.field in
-    let V = g.T.DomainCoeff.group in
-    let m = g.T.DomainCoeff.meaning in
+    let V = g.T.Summand.group in
+    let m = g.T.Summand.meaning in
     record {
       counted : GrowsBy (counts (l.i * length l.items) 0 0) l.fn.work l.work;
       next_point : l.point ≡ K.times l.fn.offset (power K l.root l.i);
