@@ -1,5 +1,5 @@
 //! Words with places erased, restored by two transforms. `Work` is told of every product of a module's value by an
-//! element of the field, and `Work::scale` alone makes one.
+//! element of the field: values are a `Summand`, so that another product than `Work::scale` does not compile.
 //!
 //! With `E` the erasure locator polynomial, which is zero exactly at the erased places' elements, and `f` the message's
 //! polynomial, the values of `E * f` are known at all places. At an erased place the formal derivative of `E * f` is
@@ -19,7 +19,7 @@ use crate::code::DomainCode;
 use crate::decoder::DomainDecoder;
 use crate::error::RsError;
 use crate::marks::{count_erased, count_marked};
-use ark_base::{DomainCoeff, FftField, Field, PolyError, Work};
+use ark_base::{FftField, Field, PolyError, Summand, Work};
 use ark_poly::EvaluationDomain;
 use std::alloc::{AllocError, Global};
 use std::mem;
@@ -27,7 +27,7 @@ use std::mem;
 impl<F: FftField, D: EvaluationDomain<F>> DomainCode<F, D> {
     /// `restore` with its cost told, whatever it answers: at most three times the butterflies and the steps of one
     /// inverse transform, and at most five products for each place beside theirs.
-    pub fn restore_counted<T: DomainCoeff<F>>(
+    pub fn restore_counted<T: Summand<F>>(
         &self,
         alloc: Global,
         word: &[Option<T>],
@@ -60,7 +60,7 @@ impl<F: FftField, D: EvaluationDomain<F>> DomainCode<F, D> {
 impl<F: FftField, D: EvaluationDomain<F>> DomainDecoder<F, D> {
     /// `restore` with its cost told, whatever it answers: at most three times the butterflies and the steps of one
     /// inverse transform, and at most five products for each place beside theirs.
-    pub fn restore_counted<T: DomainCoeff<F>>(
+    pub fn restore_counted<T: Summand<F>>(
         &self,
         alloc: Global,
         word: &[T],
@@ -95,7 +95,7 @@ impl<F: FftField, D: EvaluationDomain<F>> DomainDecoder<F, D> {
 
     // The coefficients of a message's polynomial, times the one that is zero at the erased places, for any message whose
     // codeword agrees with the word. It refuses as `restore` does.
-    pub(crate) fn interpolated<T: DomainCoeff<F>>(
+    pub(crate) fn interpolated<T: Summand<F>>(
         &self,
         alloc: Global,
         word: &[T],
@@ -173,7 +173,7 @@ fn is_wide<T>(items: &[T]) -> bool {
 
 // Scales a value; one that the factor leaves as it is need not be, and isn't where it is wide.
 #[inline(always)]
-fn scale_where<F: Field, T: DomainCoeff<F>>(
+fn scale_where<F: Field, T: Summand<F>>(
     changes: bool,
     is_wide: bool,
     value: &mut T,
@@ -193,12 +193,7 @@ fn scale_where<F: Field, T: DomainCoeff<F>>(
 
 // At a kept place the value times its factor, and zero at an erased one. The value is chosen before it is scaled, so that
 // no branch waits for a mark where values are narrow.
-fn weigh<F: Field, T: DomainCoeff<F>>(
-    values: &mut [T],
-    marks: &[bool],
-    factors: &[F],
-    work: &mut Work,
-)
+fn weigh<F: Field, T: Summand<F>>(values: &mut [T], marks: &[bool], factors: &[F], work: &mut Work)
     requires len { length values.old ≡ length marks.now }
     requires factors { length factors.now ≡ length marks.now }
     ensures values { (i : ℕ) → i < length marks.now → item T.group (map T.meaning values.new) i
@@ -218,7 +213,7 @@ fn weigh<F: Field, T: DomainCoeff<F>>(
 }
 
 // The coefficients of x times the formal derivative: each is scaled by its exponent, and none is moved.
-pub(crate) fn scale_by_exponents<F: Field, T: DomainCoeff<F>>(coeffs: &mut [T], work: &mut Work)
+pub(crate) fn scale_by_exponents<F: Field, T: Summand<F>>(coeffs: &mut [T], work: &mut Work)
     ensures coefficients { (i : ℕ) → i < length coeffs.old → item T.group (map T.meaning coeffs.new) i
         ≡ euler F.field T.group (item T.group (map T.meaning coeffs.old)) i }
     ensures products { work.new.products ≤ work.old.products + length coeffs.old }
@@ -234,7 +229,7 @@ pub(crate) fn scale_by_exponents<F: Field, T: DomainCoeff<F>>(coeffs: &mut [T], 
 
 // The kept values, and at an erased place the value that is there times its factor. Value and factor are chosen before,
 // so that no branch waits for a mark where values are narrow.
-fn fill<F: Field, T: DomainCoeff<F>>(
+fn fill<F: Field, T: Summand<F>>(
     values: &mut [T],
     word: &[T],
     marks: &[bool],
@@ -263,7 +258,7 @@ fn fill<F: Field, T: DomainCoeff<F>>(
 }
 
 // Whether all items are zero.
-fn are_zeros<F: Field, T: DomainCoeff<F>>(items: &[T]) -> bool
+fn are_zeros<F: Field, T: Summand<F>>(items: &[T]) -> bool
     ensures { IsTrue result ↔ ((i : ℕ) → item T.group (map T.meaning items.now) i ≡ T.group.zero) }
 {
     for item in items {

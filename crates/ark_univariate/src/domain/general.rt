@@ -10,7 +10,7 @@ mod bytes;
 pub use crate::domain::utils::Elements;
 use crate::domain::{EvaluationDomain, MixedRadixEvaluationDomain, Radix2EvaluationDomain};
 use ark_fft::domain::Coset;
-use ark_traits::{DomainCoeff, FftField, PolyError, Work};
+use ark_traits::{FftField, PolyError, Summand, Work};
 use std::alloc::{AllocError, Global};
 
 /// A domain of either kind: for a number of coefficients the radix 2 domain wherever there is one, even where
@@ -94,7 +94,7 @@ impl<F: FftField> EvaluationDomain<F> for GeneralEvaluationDomain<F> {
         over_both!(self, domain => GeneralElements(domain.elements()))
     }
 
-    fn fft_counted<T: DomainCoeff<F>>(
+    fn fft_counted<T: Summand<F>>(
         &self,
         alloc: Global,
         coeffs: &mut Vec<T>,
@@ -103,7 +103,7 @@ impl<F: FftField> EvaluationDomain<F> for GeneralEvaluationDomain<F> {
         over_both!(self, domain => domain.fft_counted(alloc, coeffs, work))
     }
 
-    fn ifft_counted<T: DomainCoeff<F>>(
+    fn ifft_counted<T: Summand<F>>(
         &self,
         alloc: Global,
         evals: &mut Vec<T>,

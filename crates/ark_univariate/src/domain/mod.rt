@@ -28,7 +28,7 @@ use ark_coeffs::progressions::{indicator, inverted_progression_less, spaced_prog
 pub use ark_fft::domain::Coset;
 use ark_fft::domain::first_items;
 pub use ark_traits::DomainCoeff;
-use ark_traits::{FftField, Field, PolyError, Work};
+use ark_traits::{FftField, Field, PolyError, Summand, Work};
 pub use general::GeneralEvaluationDomain;
 pub use mixed_radix::MixedRadixEvaluationDomain;
 pub use radix2::Radix2EvaluationDomain;
@@ -220,7 +220,7 @@ pub trait EvaluationDomain<F: FftField>: Copy
     }
 
     /// `fft_in_place` with its cost told. After an error the counts are as they were.
-    fn fft_counted<T: DomainCoeff<F>>(
+    fn fft_counted<T: Summand<F>>(
         &self,
         alloc: Global,
         coeffs: &mut Vec<T>,
@@ -276,7 +276,7 @@ pub trait EvaluationDomain<F: FftField>: Copy
     }
 
     /// `ifft_in_place` with its cost told. After an error the counts are as they were.
-    fn ifft_counted<T: DomainCoeff<F>>(
+    fn ifft_counted<T: Summand<F>>(
         &self,
         alloc: Global,
         evals: &mut Vec<T>,

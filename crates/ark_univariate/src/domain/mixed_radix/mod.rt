@@ -8,7 +8,7 @@ mod bytes;
 use crate::domain::EvaluationDomain;
 pub use crate::domain::utils::Elements;
 use ark_fft::domain::{Coset, mixed_radix};
-use ark_traits::{DomainCoeff, FftField, PolyError, Work};
+use ark_traits::{FftField, PolyError, Summand, Work};
 use std::alloc::{AllocError, Global};
 use std::fmt::{self, Debug, Formatter, Write};
 
@@ -77,7 +77,7 @@ impl<F: FftField> EvaluationDomain<F> for MixedRadixEvaluationDomain<F> {
         Elements::new(self.coset.size, self.coset.offset, self.coset.group_gen)
     }
 
-    fn fft_counted<T: DomainCoeff<F>>(
+    fn fft_counted<T: Summand<F>>(
         &self,
         alloc: Global,
         coeffs: &mut Vec<T>,
@@ -86,7 +86,7 @@ impl<F: FftField> EvaluationDomain<F> for MixedRadixEvaluationDomain<F> {
         mixed_radix::kernel::fft_counted(&self.coset, alloc, coeffs, work)
     }
 
-    fn ifft_counted<T: DomainCoeff<F>>(
+    fn ifft_counted<T: Summand<F>>(
         &self,
         alloc: Global,
         evals: &mut Vec<T>,

@@ -10,8 +10,8 @@ use Rattle.rs_code.proofs.restore.fill.Goals.{then-erased, else-erased, then-era
 
 pub loop-i-preserved : goal.loop-i-preserved
 loop-i-preserved g c =
-    let V = g.T.DomainCoeff.group in
-    let m = g.T.DomainCoeff.meaning in
+    let V = g.T.Summand.group in
+    let m = g.T.Summand.meaning in
     let K = g.F.Field.field in
     let v = c.loop-i.invariant in
     let s = c.scale_where.ensures in
@@ -46,7 +46,7 @@ loop-i-preserved g c =
     ] in
     record {
       before = written_more m V.zero P xs i c.scale_where.new.value inside v.before
-          (s.product ∙ filled-by g.met.F.Field.field_laws g.met.T.DomainCoeff.module_laws (get_or marks i true) (of_list K f i) _ (own i) (old i) _ factor value);
+          (s.product ∙ filled-by g.met.F.Field.field_laws g.met.T.Summand.module_laws (get_or marks i true) (of_list K f i) _ (own i) (old i) _ factor value);
       rest = written_rest m V.zero old xs i c.scale_where.new.value v.rest;
       products_are = omega (arith, s.products, v.products_are);
       butterflies_are = omega (arith, s.butterflies, v.butterflies_are);
@@ -60,5 +60,5 @@ scale_where-requires g c = λ kept.
       | then-erased-2 w ↦ absurd (true≢false (sym w.if-erased-2.true ∙ kept))
       | else-erased-2 w ↦ w.factor-is ∙ w.one-factor.ensures ∙ g.met.F.Field.one_law
     ] in
-    ap (λ f. g.T.DomainCoeff.group.scale f (g.T.DomainCoeff.meaning c.if-erased.value)) factor
-    ∙ g.met.T.DomainCoeff.module_laws.one_scale (g.T.DomainCoeff.meaning c.if-erased.value)
+    ap (λ f. g.T.Summand.group.scale f (g.T.Summand.meaning c.if-erased.value)) factor
+    ∙ g.met.T.Summand.module_laws.one_scale (g.T.Summand.meaning c.if-erased.value)

@@ -6,8 +6,8 @@ use Rattle.rs_code.proofs.restore.fill.Given as goal
 
 abbrev pub invariant-loop-i : goal.invariant-loop-i
 invariant-loop-i g l =
-    let V = g.T.DomainCoeff.group in
-    let m = g.T.DomainCoeff.meaning in
+    let V = g.T.Summand.group in
+    let m = g.T.Summand.meaning in
     let K = g.F.Field.field in
     record {
       before : (k : ℕ) → k < l.i → item V (map m l.values) k ≡ filled V (get_or l.marks k true) (of_list K l.factors k) (item V (map m l.word) k) (item V (map m l.initial.values) k);

@@ -7,8 +7,8 @@ use Rattle.rs_code.proofs.restore.scale_by_exponents.Goals as goal
 
 pub loop-i-preserved : goal.loop-i-preserved
 loop-i-preserved g c =
-    let V = g.T.DomainCoeff.group in
-    let m = g.T.DomainCoeff.meaning in
+    let V = g.T.Summand.group in
+    let m = g.T.Summand.meaning in
     let K = g.F.Field.field in
     let v = c.loop-i.invariant in
     let s = c.scale.ensures in

@@ -6,8 +6,8 @@ use Rattle.rs_code.proofs.restore.scale_by_exponents.Given as goal
 
 abbrev pub invariant-loop-i : goal.invariant-loop-i
 invariant-loop-i g l =
-    let V = g.T.DomainCoeff.group in
-    let m = g.T.DomainCoeff.meaning in
+    let V = g.T.Summand.group in
+    let m = g.T.Summand.meaning in
     let K = g.F.Field.field in
     record {
       exponent_is : l.exponent ≡ natural K l.i;

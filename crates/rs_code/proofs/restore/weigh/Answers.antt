@@ -11,8 +11,8 @@ use Rattle.rs_code.proofs.restore.weigh.Goals.{then-erased, else-erased}
 
 pub loop-i-preserved : goal.loop-i-preserved
 loop-i-preserved g c =
-    let V = g.T.DomainCoeff.group in
-    let m = g.T.DomainCoeff.meaning in
+    let V = g.T.Summand.group in
+    let m = g.T.Summand.meaning in
     let K = g.F.Field.field in
     let v = c.loop-i.invariant in
     let s = c.scale_where.ensures in
@@ -29,7 +29,7 @@ loop-i-preserved g c =
     let value : m c.if-erased.value ≡ (if get_or marks i true then V.zero else old i) =
     elim c.if-erased.branch [
       | then-erased w ↦
-          ap m w.value-is ∙ ap m w.zero-value.ensures ∙ g.met.T.DomainCoeff.zero_meaning
+          ap m w.value-is ∙ ap m w.zero-value.ensures ∙ g.met.T.Summand.zero_meaning
           ∙ sym (ap (λ o. if o then V.zero else old i) (at_default marks i _ true true in_marks w.if-erased.true))
       | else-erased w ↦
           ap m w.value-is ∙ read_as m V.zero xs i c.index-values-i.result inside c.index-values-i.is ∙ v.rest i (omega arith)
@@ -37,7 +37,7 @@ loop-i-preserved g c =
     ] in
     record {
       before = written_more m V.zero P xs i c.scale_where.new.value inside v.before
-          (s.product ∙ ap (λ r. V.scale r (m c.if-erased.value)) factor ∙ weighed-by g.met.F.Field.field_laws g.met.T.DomainCoeff.module_laws (get_or marks i true) (of_list K f i) (old i) _ value);
+          (s.product ∙ ap (λ r. V.scale r (m c.if-erased.value)) factor ∙ weighed-by g.met.F.Field.field_laws g.met.T.Summand.module_laws (get_or marks i true) (of_list K f i) (old i) _ value);
       rest = written_rest m V.zero old xs i c.scale_where.new.value v.rest;
       products_are = omega (arith, s.products, v.products_are);
       butterflies_are = omega (arith, s.butterflies, v.butterflies_are);
@@ -46,12 +46,12 @@ loop-i-preserved g c =
 
 pub scale_where-requires : goal.scale_where-requires
 scale_where-requires g c = λ kept.
-    let V = g.T.DomainCoeff.group in
-    let m = g.T.DomainCoeff.meaning in
+    let V = g.T.Summand.group in
+    let m = g.T.Summand.meaning in
     let r = c.index-factors-i.result in
     elim c.if-erased.branch [
       | then-erased w ↦
-          let none : m c.if-erased.value ≡ V.zero = ap m w.value-is ∙ ap m w.zero-value.ensures ∙ g.met.T.DomainCoeff.zero_meaning in
-          ap (V.scale r) none ∙ scale_zero g.met.T.DomainCoeff.module_laws r ∙ sym none
+          let none : m c.if-erased.value ≡ V.zero = ap m w.value-is ∙ ap m w.zero-value.ensures ∙ g.met.T.Summand.zero_meaning in
+          ap (V.scale r) none ∙ scale_zero g.met.T.Summand.module_laws r ∙ sym none
       | else-erased w ↦ absurd {A = V.scale r (m c.if-erased.value) ≡ m c.if-erased.value} (true≢false (ap not (sym w.if-erased.false) ∙ kept))
     ]

@@ -41,8 +41,8 @@ returns-in_err-values-clause-cost g c =
 
 pub returns-clause-agrees : goal.returns-clause-agrees
 returns-clause-agrees g c =
-    let V = g.T.DomainCoeff.group in
-    let m = g.T.DomainCoeff.meaning in
+    let V = g.T.Summand.group in
+    let m = g.T.Summand.meaning in
     let word = c.args.word.now in
     let marks : c.in_ok-decoder.decoder.erased ≡ map is_none word = c.in_ok-decoder.ensures.erased ∙ c.deref.ensures.value ∙ c.in_ok-erased_places.ensures in
     let values : c.deref-2.result.now ≡ map (λ p. unwrap_or p c.zero.result) word = c.deref-2.ensures.value ∙ c.in_ok-values.ensures in
@@ -53,8 +53,8 @@ returns-clause-agrees g c =
 pub returns-clause-only : goal.returns-clause-only
 returns-clause-only g c =
     let K = g.F.Field.field in
-    let V = g.T.DomainCoeff.group in
-    let m = g.T.DomainCoeff.meaning in
+    let V = g.T.Summand.group in
+    let m = g.T.Summand.meaning in
     let word = c.args.word.now in
     let marks : c.in_ok-decoder.decoder.erased ≡ map is_none word = c.in_ok-decoder.ensures.erased ∙ c.deref.ensures.value ∙ c.in_ok-erased_places.ensures in
     let values : c.deref-2.result.now ≡ map (λ p. unwrap_or p c.zero.result) word = c.deref-2.ensures.value ∙ c.in_ok-values.ensures in
@@ -66,8 +66,8 @@ returns-clause-only g c =
 
 pub returns-clause-refused : goal.returns-clause-refused
 returns-clause-refused g c =
-    let V = g.T.DomainCoeff.group in
-    let m = g.T.DomainCoeff.meaning in
+    let V = g.T.Summand.group in
+    let m = g.T.Summand.meaning in
     let word = c.args.word.now in
     let marks : c.in_ok-decoder.decoder.erased ≡ map is_none word = c.in_ok-decoder.ensures.erased ∙ c.deref.ensures.value ∙ c.in_ok-erased_places.ensures in
     let values : c.deref-2.result.now ≡ map (λ p. unwrap_or p c.zero.result) word = c.deref-2.ensures.value ∙ c.in_ok-values.ensures in

@@ -48,8 +48,8 @@ pub returns-then-not-are_zeros-clause-refused : goal.returns-then-not-are_zeros-
 returns-then-not-are_zeros-clause-refused g c =
     let K = g.F.Field.field in
     let N = g.met.F.Field.field_laws in
-    let V = g.T.DomainCoeff.group in
-    let m = g.T.DomainCoeff.meaning in
+    let V = g.T.Summand.group in
+    let m = g.T.Summand.meaning in
     let d = g.D.EvaluationDomain.domain c.self.inside.domain in
     let k = c.self.inside.k in
     let marks = c.self.inside.erased.items in
@@ -68,8 +68,8 @@ returns-then-not-are_zeros-clause-refused g c =
     let end : c.product_len.result ≡ k + mark_count marks =
     c.product_len.ensures.len ∙ sym (ap (λ r. r.code.k + mark_count r.erased) c.self.view_is) in
     let second : length u ≡ d.size = c.in_ok-ifft_counted.ensures.inverse.size in
-    let rest : (other : List g.T.DomainCoeff.Meaning) → IsCodeword K V d k other → AgreesElsewhere V marks y other → (i : ℕ) → k + mark_count marks ≤ i → item V u i ≡ V.zero =
-    interpolated-rest N g.met.T.DomainCoeff.module_laws d (order (lawful_domain N g.met.F.FftField.roots_law code.lawful)) code.lawful.offset_not_zero marks k c.self.invariant.len c.self.invariant.few
+    let rest : (other : List g.T.Summand.Meaning) → IsCodeword K V d k other → AgreesElsewhere V marks y other → (i : ℕ) → k + mark_count marks ≤ i → item V u i ≡ V.zero =
+    interpolated-rest N g.met.T.Summand.module_laws d (order (lawful_domain N g.met.F.FftField.roots_law code.lawful)) code.lawful.offset_not_zero marks k c.self.invariant.len c.self.invariant.few
     factors y v u c.self.invariant.factors_are (length-map c.weigh.new.values m ∙ first) weighing only in
     let some : ((i : ℕ) → k + mark_count marks ≤ i → item V u i ≡ V.zero) → ⊥ = λ none.
     let read : (i : ℕ) → c.product_len.result ≤ i → item V (map m c.deref-3.result.now) i ≡ V.zero = λ i l.
@@ -118,8 +118,8 @@ pub returns-clause-message : goal.returns-clause-message
 returns-clause-message g c =
     let K = g.F.Field.field in
     let N = g.met.F.Field.field_laws in
-    let V = g.T.DomainCoeff.group in
-    let m = g.T.DomainCoeff.meaning in
+    let V = g.T.Summand.group in
+    let m = g.T.Summand.meaning in
     let d = g.D.EvaluationDomain.domain c.self.inside.domain in
     let k = c.self.inside.k in
     let marks = c.self.inside.erased.items in
@@ -141,7 +141,7 @@ returns-clause-message g c =
     zeros_from m V.zero c.deref-3.result.now c.product_len.result (subst (λ x. (i : ℕ) → item V (map m x) i ≡ V.zero) (tail c.deref-3.result.now c.product_len.result) (c.are_zeros.ensures.0 c.if-not-are_zeros.false)) in
     let rest : (i : ℕ) → k + mark_count marks ≤ i → item V u i ≡ V.zero = λ i l.
     ap (λ x. item V (map m x) i) (sym c.deref-3.ensures.value) ∙ read i (omega (arith, l, end)) in
-    let found = codeword-from_rest N g.met.T.DomainCoeff.module_laws d (order (lawful_domain N g.met.F.FftField.roots_law code.lawful)) code.lawful.offset_not_zero marks k c.self.invariant.len c.self.invariant.few
+    let found = codeword-from_rest N g.met.T.Summand.module_laws d (order (lawful_domain N g.met.F.FftField.roots_law code.lawful)) code.lawful.offset_not_zero marks k c.self.invariant.len c.self.invariant.few
     factors y v u c.self.invariant.factors_are (length-map c.weigh.new.values m ∙ first) weighing inverse rest in
     let message = found.1.0 in (
       message,
@@ -153,8 +153,8 @@ pub returns-clause-product : goal.returns-clause-product
 returns-clause-product g c = λ message short agrees i.
     let K = g.F.Field.field in
     let N = g.met.F.Field.field_laws in
-    let V = g.T.DomainCoeff.group in
-    let m = g.T.DomainCoeff.meaning in
+    let V = g.T.Summand.group in
+    let m = g.T.Summand.meaning in
     let d = g.D.EvaluationDomain.domain c.self.inside.domain in
     let k = c.self.inside.k in
     let marks = c.self.inside.erased.items in
@@ -170,7 +170,7 @@ returns-clause-product g c = λ message short agrees i.
     let back = written_back c.weigh.new.values _ _ (omega (arith, c.weigh.auto.values, c.as_mut_slice.ensures.len)) in
     let weighing = weighed_by K V m marks _ factors _ c.args.word.now _ c.weigh.new.values d.size c.deref.ensures.value c.deref-2.ensures.value copied places c.weigh.ensures.values in
     let only : IsOnlyInverse K V d v u = subst (λ x. IsOnlyInverse K V d (map m x) u) back c.in_ok-ifft_counted.ensures.only in
-    interpolated-items N g.met.T.DomainCoeff.module_laws d (order (lawful_domain N g.met.F.FftField.roots_law code.lawful)) code.lawful.offset_not_zero marks k c.self.invariant.len c.self.invariant.few
+    interpolated-items N g.met.T.Summand.module_laws d (order (lawful_domain N g.met.F.FftField.roots_law code.lawful)) code.lawful.offset_not_zero marks k c.self.invariant.len c.self.invariant.few
     factors y v u c.self.invariant.factors_are (length-map c.weigh.new.values m ∙ first) weighing only message
     (subst (λ r. length message ≤ r.code.k) (sym c.self.view_is) short)
     (subst (λ r. AgreesElsewhere V r.erased y (transform K V r.code.domain message)) (sym c.self.view_is) agrees) i
@@ -178,5 +178,5 @@ returns-clause-product g c = λ message short agrees i.
 
 pub returns-clause-len : goal.returns-clause-len
 returns-clause-len g c =
-    let m = g.T.DomainCoeff.meaning in
+    let m = g.T.Summand.meaning in
     sym (length-map c.ifft_counted.new.evals.items m) ∙ c.in_ok-ifft_counted.ensures.inverse.size ∙ ap (λ r. r.code.domain.size) c.self.view_is

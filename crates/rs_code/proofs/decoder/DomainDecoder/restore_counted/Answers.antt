@@ -24,7 +24,7 @@ pub returns-in_err-fft_counted-clause-cost : goal.returns-in_err-fft_counted-cla
 returns-in_err-fft_counted-clause-cost g c =
     let s = g.F.FftField.adicity in
     let base = g.met.F.FftField.roots_law.base in
-    let m = g.T.DomainCoeff.meaning in
+    let m = g.T.Summand.meaning in
     let d = c.args.self.now.code.domain in
     let w = c.args.work.now in
     let h = c.scale_by_exponents.ensures in
@@ -36,19 +36,19 @@ returns-in_err-fft_counted-clause-cost g c =
 
 pub fill-requires-clause-len : goal.fill-requires-clause-len
 fill-requires-clause-len g c =
-    let m = g.T.DomainCoeff.meaning in
+    let m = g.T.Summand.meaning in
     let d = g.D.EvaluationDomain.domain c.self.inside.domain in
     ap length c.as_mut_slice-2.ensures.value
     ∙ sym (length-map c.fft_counted.new.coeffs.items m)
     ∙ ap length c.in_ok-fft_counted.ensures.transform
-    ∙ transform-length g.F.Field.field g.T.DomainCoeff.group d _
+    ∙ transform-length g.F.Field.field g.T.Summand.group d _
     ∙ sym (ap length c.deref.ensures.value ∙ c.self.invariant.len)
 
 pub returns-clause-agrees : goal.returns-clause-agrees
 returns-clause-agrees g c = λ i e.
-    let V = g.T.DomainCoeff.group in
+    let V = g.T.Summand.group in
     let K = g.F.Field.field in
-    let m = g.T.DomainCoeff.meaning in
+    let m = g.T.Summand.meaning in
     let marks : c.deref.result.now ≡ c.args.self.now.erased = c.deref.ensures.value ∙ ap (λ r. r.erased) c.self.view_is in
     let own : get_or c.deref.result.now i true ≡ false = ap (λ t. get_or t i true) marks ∙ e in
     ap (λ t. item V (map m t) i) (written_back c.fill.new.values _ _ (omega (arith, c.fill.auto.values, c.as_mut_slice-2.ensures.len)))
@@ -59,8 +59,8 @@ pub returns-clause-only : goal.returns-clause-only
 returns-clause-only g c = λ other is agrees.
     let K = g.F.Field.field in
     let N = g.met.F.Field.field_laws in
-    let V = g.T.DomainCoeff.group in
-    let m = g.T.DomainCoeff.meaning in
+    let V = g.T.Summand.group in
+    let m = g.T.Summand.meaning in
     let d = g.D.EvaluationDomain.domain c.self.inside.domain in
     let k = c.self.inside.k in
     let marks = c.self.inside.erased.items in
@@ -85,8 +85,8 @@ returns-clause-only g c = λ other is agrees.
     ∙ ap (λ x. filled V (get_or marks i true) (of_list K x i) (item V y i) (item V (map m c.as_mut_slice-2.result.now) i)) c.deref-2.ensures.value
     ∙ ap (λ x. filled V (get_or marks i true) (of_list K factors i) (item V y i) (item V x i)) transformed in
     let filled_back = written_back c.fill.new.values _ _ (omega (arith, c.fill.auto.values, c.as_mut_slice-2.ensures.len)) in
-    let same : (message : List g.T.DomainCoeff.Meaning) → length message ≤ k → AgreesElsewhere V marks y (transform K V d message) → transform K V d message ≡ last = λ message short agrees.
-    restored N g.met.T.DomainCoeff.module_laws d (order (lawful_domain N g.met.F.FftField.roots_law code.lawful)) code.lawful.offset_not_zero marks k c.self.invariant.len c.self.invariant.few
+    let same : (message : List g.T.Summand.Meaning) → length message ≤ k → AgreesElsewhere V marks y (transform K V d message) → transform K V d message ≡ last = λ message short agrees.
+    restored N g.met.T.Summand.module_laws d (order (lawful_domain N g.met.F.FftField.roots_law code.lawful)) code.lawful.offset_not_zero marks k c.self.invariant.len c.self.invariant.few
     factors y u t last message c.self.invariant.factors_are short agrees
     (λ i. c.in_ok-values.ensures.product message
     (subst (λ r. length message ≤ r.code.k) c.self.view_is short)
@@ -102,7 +102,7 @@ returns-clause-only g c = λ other is agrees.
 pub returns-clause-codeword : goal.returns-clause-codeword
 returns-clause-codeword g c =
     let found = c.in_ok-values.ensures.message in
-    let codeword = transform g.F.Field.field g.T.DomainCoeff.group c.args.self.now.code.domain found.0 in
+    let codeword = transform g.F.Field.field g.T.Summand.group c.args.self.now.code.domain found.0 in
     (found.0, found.1, sym (returns-clause-only g c codeword (found.0, found.1, refl) found.2))
 
 pub returns-clause-cost : goal.returns-clause-cost

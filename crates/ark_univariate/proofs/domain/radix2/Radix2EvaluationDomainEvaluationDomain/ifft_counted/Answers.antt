@@ -8,5 +8,5 @@ returns-clause-only g c =
     let t = c.args.self.now.coset in
     on_ok_weaker c.ifft_counted.result
     (only_inverse (lawful_domain g.met.F.Field.field_laws g.met.F.FftField.roots_law
-    (radix2_is_domain g.F.Field.field g.F.FftField.adicity g.F.FftField.root g.met.F.Field.equality_law t.splits c.args.self.now.even t.root_is t.offset_not_zero)) g.met.T.DomainCoeff.module_laws _ _)
+    (radix2_is_domain g.F.Field.field g.F.FftField.adicity g.F.FftField.root g.met.F.Field.equality_law t.splits c.args.self.now.even t.root_is t.offset_not_zero)) g.met.T.Summand.module_laws _ _)
     c.ifft_counted.ensures.inverse
