@@ -6,7 +6,7 @@ use Rattle.std.proofs.lemmas.Nat.{mul-mod_first}
 use Rattle.ark_math.specs.Field.{natural, minus}
 use Rattle.ark_math.specs.Prime.{IsPrime}
 use Rattle.ark_base.specs.ModulusLaws.{below_modulus}
-use Rattle.ark_math.proofs.Roots.Generator.{from_odd}
+use Rattle.ark_base.specs.GeneratorLaws.{from_odd}
 use Rattle.ark_base.specs.Element.{residue_of, number, prime_field, Shown, adicity, large_root, same_from_value}
 use Rattle.ark_base.specs.ElementLaws.{natural_residue}
 use Rattle.ark_base.specs.declared.prime_field.PrimeField.{PrimeField}

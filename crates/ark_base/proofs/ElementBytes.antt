@@ -1,7 +1,7 @@
 -- Elements that are read, and numbers that are no element's.
 use Rattle.std.proofs.Common.{◌≡◌, ℕ, ◌≤◌, arith, subst, sym}
-use Rattle.ark_math.specs.Format.{number}
-use Rattle.ark_math.proofs.Formats.OneToOne.{number_tells}
+use Rattle.ark_math_formats.specs.Format.{number}
+use Rattle.ark_math_formats.proofs.Formats.OneToOne.{number_tells}
 use Rattle.ark_bytes.specs.Reading.{SourceState, TakesSpelling, TakesFault}
 use Rattle.ark_bytes.proofs.Reading.{unlawful}
 use Rattle.ark_base.specs.Residues.{Numbering}

@@ -5,6 +5,5 @@ pub mod ElementBytes
 pub mod Numerals
 pub mod Reductions
 pub mod WordReduction
-pub use Rattle.ark_traits.proofs.Cost
 pub use Rattle.ark_bytes.proofs.ReadBack
 pub use Rattle.ark_bytes.proofs.Transfer

@@ -1,12 +1,11 @@
 -- Elements in bytes: every element has a spelling of its own, all of one length.
 use Rattle.std.specs.Prelude.{ℕ, ◌<◌, ◌^◌}
 use Rattle.std.proofs.Math.Nat.{lt_of_lt_of_le}
-use Rattle.ark_math.specs.Format.{IsFormat, IsOneToOne, number}
-use Rattle.ark_math.specs.Layouts.{AreElements}
+use Rattle.ark_math_formats.specs.Format.{IsFormat, IsOneToOne, number, AreElements}
 use Rattle.ark_base.specs.Residues.{Numbering}
 use Rattle.ark_base.specs.Widths.{width_of, residue}
-use Rattle.ark_math.proofs.Formats.Ends.{number_is_format, lawful_is_format, length-little_endian}
-use Rattle.ark_math.proofs.Formats.OneToOne.{number_tells, lawful_tells}
+use Rattle.ark_math_formats.proofs.Formats.Ends.{number_is_format, lawful_is_format, length-little_endian}
+use Rattle.ark_math_formats.proofs.Formats.OneToOne.{number_tells, lawful_tells}
 use Rattle.ark_base.specs.WidthLaws.{width_fits, width_positive}
 
 module _ {F : Type 0} {p : ℕ} (N : Numbering F p) where

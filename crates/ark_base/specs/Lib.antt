@@ -22,6 +22,12 @@ pub use Rattle.ark_bytes.specs.Reading
 pub use Rattle.ark_bytes.specs.Recompressing
 pub use Rattle.ark_bytes.specs.Transfer
 pub use Rattle.ark_bytes.specs.Writing
-pub use Rattle.ark_traits.specs.Cost
 pub use Rattle.ark_traits.specs.Lanes
 pub use Rattle.ark_traits.specs.declared.error.PolyError
+pub mod Euclid
+pub mod Generator
+pub mod GeneratorLaws
+pub mod NonResidues
+pub mod PowerMod
+pub mod ResidueNumbers
+pub mod RootLaws

@@ -8,8 +8,8 @@ use Rattle.std.proofs.lemmas.Nat.Gcd.{dvd_of_mod-eq-zero}
 use Rattle.std.proofs.lemmas.Bool.{and_parts, not-true, eqb-true, eqb-false, ltb-true, cases_lt, cases_eq, cond-true, cond-false, eq-eqb, ne_eqb}
 use Rattle.ark_math.specs.Prime.{IsPrime, power_mod}
 use Rattle.ark_math.proofs.Numbers.Prime.{is_prime_by, prime_from_test, divides_one}
-use Rattle.ark_math.proofs.Numbers.PowerMod.{power_mod-is}
-use Rattle.ark_math.proofs.Domains.Contained.{search_below}
+use Rattle.ark_base.specs.PowerMod.{power_mod-is}
+use Rattle.ark_math.proofs.Numbers.Search.{search_below}
 use Rattle.ark_base.specs.Modulus.{IsGenerator, power_below}
 
 -- ---- the test

@@ -2,7 +2,7 @@
 use Rattle.std.specs.Prelude.{◌≡◌, ◌≢◌, ℕ, ◌-◌, ◌^◌, ◌/◌, ◌%◌, ◌<◌, ◌⊎◌, Option}
 use Rattle.ark_math.specs.Prime.{IsPrime, power_mod}
 use Rattle.ark_math.specs.Root.{Adicity, IsAdicity, odd_base, odd_most, greatest_size}
-use Rattle.ark_math.specs.Generator.{for_odd}
+use Rattle.ark_base.specs.Generator.{for_odd}
 
 -- x ^ n % p by squaring, for n below 2 ^ b. It is opened where it is computed alone
 unfoldable pub power_below : ℕ → ℕ → ℕ → ℕ → ℕ

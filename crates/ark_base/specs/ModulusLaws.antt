@@ -5,10 +5,10 @@ use Rattle.std.proofs.lemmas.Nat.Gcd.{dvd_of_mod-eq-zero}
 use Rattle.std.proofs.lemmas.Bool.{and_parts, or_cases, eqb-true, leb-true, cases_eq}
 use Rattle.ark_math.specs.Root.{Adicity, odd_base, odd_most, greatest_size}
 use Rattle.ark_math.specs.Prime.{IsPrime, power_mod}
-use Rattle.ark_math.specs.Generator.{for_odd}
+use Rattle.ark_base.specs.Generator.{for_odd}
 use Rattle.ark_math.proofs.Numbers.Prime.{prime_from_test}
-use Rattle.ark_math.proofs.Numbers.PowerMod.{power_mod-is}
-use Rattle.ark_math.proofs.Roots.Generator.{is_odd_base}
+use Rattle.ark_base.specs.PowerMod.{power_mod-is}
+use Rattle.ark_base.specs.GeneratorLaws.{is_odd_base}
 use Rattle.ark_base.specs.Lucas.{is_small_prime, Parts, primes_of, are_primes, passes, prime_from_parts, small_from_parts, generator_from_parts}
 use Rattle.ark_base.specs.Modulus.{AreSizes, IsModulus, power_below}
 

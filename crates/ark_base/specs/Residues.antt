@@ -4,7 +4,7 @@ use Rattle.std.proofs.Common.{option_map, Option, mod-lt, le_of_lt}
 use Rattle.ark_math.specs.Field.{FieldOn}
 use Rattle.ark_math.specs.Prime.{IsPrime}
 use Rattle.ark_math.specs.Root.{Adicity}
-use Rattle.ark_math.specs.Generator.{root_by}
+use Rattle.ark_base.specs.Generator.{root_by}
 use Rattle.ark_base.specs.Modulus.{IsModulus}
 use Rattle.ark_base.specs.ModulusLaws.{below_modulus}
 

@@ -7,15 +7,14 @@ use Rattle.ark_math.specs.Field.{FieldOn, IsField, power, natural, minus}
 use Rattle.ark_math.specs.Prime.{IsPrime}
 use Rattle.ark_math.specs.Module.{IsModule, IsItself, itself}
 use Rattle.ark_math.specs.Root.{Adicity, AreRoots, AreGreatest, odd_base, greatest_size}
-use Rattle.ark_math.specs.Generator.{Generates, for_odd, root_by}
-use Rattle.ark_base.specs.ModulusLaws.{half_part, odd_part}
+use Rattle.ark_base.specs.Generator.{Generates, for_odd, root_by}
+use Rattle.ark_base.specs.ModulusLaws.{half_part, odd_part, power_below-is, power_below-lt}
 use Rattle.ark_math.proofs.Algebra.Groups.{itself_is_module}
 use Rattle.ark_math.proofs.Algebra.Powers.{power-one, power_comm}
-use Rattle.ark_math.proofs.Numbers.Residues.{plus_assoc, plus_negated, times_assoc, times_plus, inverts}
-use Rattle.ark_math.proofs.Roots.Roots.{roots_from_generator}
+use Rattle.ark_base.specs.ResidueNumbers.{plus_assoc, plus_negated, times_assoc, times_plus, inverts}
+use Rattle.ark_base.specs.RootLaws.{roots_from_generator}
 use Rattle.ark_base.specs.Residues.{Numbering, residue_of, residues, generator_of, root_of, two_adic_root, large_root}
 use Rattle.ark_base.specs.Modulus.{IsGeneratorFor, IsModulus, power_below}
-use Rattle.ark_base.specs.ModulusLaws.{power_below-is, power_below-lt}
 
 one_less : (n : ℕ) → 1 < n → n - 1 < n
 one_less n above = omega arith

@@ -1,6 +1,6 @@
 -- How many bytes an element has.
 use Rattle.std.specs.Prelude.{◌≡◌, ℕ, refl, ◌^◌, nat_lt, if◌then◌else◌}
-use Rattle.ark_math.specs.Format.{Format, number, stored}
+use Rattle.ark_math_formats.specs.Format.{Format, number, stored}
 
 -- how many bytes a number below 2^64 has
 abbrev pub width_of : ℕ → ℕ

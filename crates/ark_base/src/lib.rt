@@ -1,8 +1,7 @@
-//! Prime fields of one word, beside the fields and modules with laws that all crates share.
+//! The types of prime fields of one word, beside the fields and modules with laws that all crates share.
+//! `ark_fields` has ready fields.
 #![tactic(auto)]
 
-mod constants;
-mod fields;
 mod laws;
 mod montgomery32;
 mod prime_field;
@@ -10,18 +9,12 @@ mod prime_field32;
 mod prime_numbers;
 
 pub use ark_traits::{
-    CanonicalDeserialize, CanonicalSerialize, Compress, DomainCoeff, Either, Failed, FftField,
-    Field, IoSink, IoSource, Lanes, One, PolyError, Polynomial, SerializationError, Sink, Source,
+    CanonicalDeserialize, CanonicalSerialize, Compress, ConstantZero, DomainCoeff, Either, Failed,
+    FftField, Field, IoSink, IoSource, Lanes, One, PolyError, Polynomial, SerializationError, Sink, Source,
     Spelled, Summand, Valid, Work, Zero, batch_inversion, k_adicity, list_size, log2, read_list,
     read_number, recompress, recompressed_and_back, write_list, write_number, written_then_read,
 };
-pub use constants::ConstantZero;
-pub use fields::{
-    BabyBear, BabyBearModulus, Goldilocks, GoldilocksModulus, KoalaBear, KoalaBearModulus,
-};
 pub use laws::{small_numbers_are_different, small_numbers_are_different32};
-pub use prime_field::{
-    F5, F433, F65537, Modulus5, Modulus433, Modulus65537, PrimeField, PrimeModulus,
-};
+pub use prime_field::{PrimeField, PrimeModulus};
 pub use prime_field32::{PrimeField32, PrimeModulus32};
 pub use prime_numbers::PrimeNumbers;

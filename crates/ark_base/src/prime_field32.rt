@@ -9,11 +9,10 @@ ghost use Rattle.ark_base.specs.Modulus32.{IsModulus32};
 
 mod bytes;
 
-use crate::constants::ConstantZero;
 use crate::montgomery32;
 use crate::montgomery32::{negated, plus, product, reduce_sum};
 use crate::prime_numbers::{PrimeNumbers, hexadecimal};
-use ark_traits::{DomainCoeff, FftField, Field, One, Zero};
+use ark_traits::{ConstantZero, DomainCoeff, FftField, Field, One, Zero};
 use rand::{Rng, RngExt};
 use std::alloc::{AllocError, Global};
 use std::cmp::Ordering;
@@ -487,7 +486,7 @@ impl<M: PrimeModulus32> Field for PrimeField32<M> {
     ghost use Rattle.ark_base.specs.ElementBytes.{residue_elements};
     ghost use Rattle.ark_base.specs.Modulus32Laws.{small_word};
     ghost use Rattle.ark_base.specs.Widths.{width_of};
-    ghost use Rattle.ark_math.proofs.Formats.Modes.{one_format};
+    ghost use Rattle.ark_math_formats.proofs.Formats.Modes.{one_format};
 
     ghost field = { field_of M.modulus };
 

@@ -4,3 +4,4 @@ pub mod ReadBack
 pub mod Reading
 pub mod Transfer
 pub mod Writing
+pub mod Unfinished

@@ -3,7 +3,7 @@ use Rattle.std.proofs.Common.{◌≡◌, ℕ, suc, zero, ◌+◌, ◌*◌, ◌/�
 use Rattle.std.proofs.lemmas.List.{get_or-drop}
 use Rattle.std.proofs.Math.Nat.{pow-zero, pow-succ', div-div-eq-div-mul, pow-le-pow_right}
 use Rattle.std.specs.Int.{w64, to_le_bytes, bytes_low_first, byte_at}
-use Rattle.ark_math.specs.Format.{little_endian, number_of}
+use Rattle.ark_math_formats.specs.Format.{little_endian, number_of}
 
 abbrev pub AreBytes : List ℕ → Type 0
 AreBytes bytes = (i : ℕ) → get_or bytes i 0 < 256

@@ -1,9 +1,9 @@
 -- What is read from the bytes of a value that was written.
 use Rattle.std.proofs.Common.{◌≡◌, ℕ, List, ◌++◌, Option, Some, None, Result, Ok, Err, IfOk, IsOkUnless, inl, inr, refl, sym, ap, ◌∙◌, append-nil, arith, subst}
 use Rattle.std.specs.Io.KnownBytes.{Consumes, IsAtEnd}
-use Rattle.ark_math.specs.Format.{Format, IsFormat, IsUnfinished, Tells, AreSpelledAlike, KeepsAlike}
-use Rattle.ark_math.proofs.Formats.Ends.{spelled, fault_not_front}
-use Rattle.ark_math.proofs.Formats.OneToOne.{shown_front, alike_tells}
+use Rattle.ark_math_formats.specs.Format.{Format, IsFormat, IsUnfinished, Tells, AreSpelledAlike, KeepsAlike}
+use Rattle.ark_math_formats.proofs.Formats.Ends.{spelled, fault_not_front}
+use Rattle.ark_math_formats.proofs.Formats.OneToOne.{shown_front, alike_tells}
 use Rattle.ark_bytes.specs.Reading.{SourceState, TakesSpelling, TakesFault, Reads}
 use Rattle.ark_bytes.specs.Writing.{SinkState, Puts}
 use Rattle.ark_bytes.specs.Recompressing.{Moves}

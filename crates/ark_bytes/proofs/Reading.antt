@@ -2,9 +2,9 @@
 use Rattle.std.proofs.Common.{◌≡◌, ℕ, ◌^◌, ◌<◌, List, [], ◌∷◌, ◌++◌, length, Result, Ok, Err, inl, inr, refl, sym, ap, ◌∙◌, append_assoc, arith, subst}
 use Rattle.std.specs.Io.KnownBytes.{Consumes}
 use Rattle.std.proofs.KnownBytes.{Consumes-nil, Consumes-trans}
-use Rattle.ark_math.specs.Format.{Format, IsFormat, IsOneToOne, ◌⊗◌, number, little_endian, word, items, HaveSpellings, list, lawful, stored, either}
-use Rattle.ark_math.proofs.Formats.Ends.{spelled}
-use Rattle.ark_math.proofs.Formats.Unfinished.{unfinished_fields, unfinished_number, unfinished_length, unfinished_item, unfinished_first, unfinished_second, unfinished_tag, unfinished_left, unfinished_right}
+use Rattle.ark_math_formats.specs.Format.{Format, IsFormat, IsOneToOne, ◌⊗◌, number, little_endian, word, items, HaveSpellings, list, lawful, stored, either}
+use Rattle.ark_math_formats.proofs.Formats.Ends.{spelled}
+use Rattle.ark_bytes.proofs.Unfinished.{unfinished_fields, unfinished_number, unfinished_length, unfinished_item, unfinished_first, unfinished_second, unfinished_tag, unfinished_left, unfinished_right}
 use Rattle.ark_bytes.specs.declared.error.SerializationError.{SerializationError}
 use Rattle.ark_bytes.specs.declared.error.SerializationError.TheVariants.{IoError, InvalidData, Memory}
 use Rattle.ark_bytes.specs.Reading.{SourceState, Takes, TakesFault, TakesSpelling, HasStopped, Refuses, ReadsAs, Reads, Fills}

@@ -1,7 +1,7 @@
 -- What several writes append together.
 use Rattle.std.proofs.Common.{◌≡◌, ℕ, ◌+◌, length, List, [], ◌∷◌, ◌++◌, append_assoc, length-append, inl, inr, Result, Ok, Err, refl, sym, ap, ◌∙◌, subst}
 use Rattle.std.proofs.KnownBytes.{Appends-trans}
-use Rattle.ark_math.specs.Format.{Format, ◌⊗◌, word, number, items, HaveSpellings, list, lawful, either}
+use Rattle.ark_math_formats.specs.Format.{Format, ◌⊗◌, word, number, items, HaveSpellings, list, lawful, either}
 use Rattle.ark_bytes.specs.Writing.{SinkState, Puts, PutsSpelling, Stops, Writes}
 use Rattle.ark_bytes.proofs.Transfer.{AppendsBeginning-more, AppendsBeginning-after}
 use Rattle.ark_bytes.specs.declared.error.SerializationError.{SerializationError}

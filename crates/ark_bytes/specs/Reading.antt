@@ -1,7 +1,7 @@
 -- What a call that reads a value did to the reader's bytes.
 use Rattle.std.specs.Prelude.{◌≡◌, ℕ, ◌<◌, List, length, Option, Result, Ok, Err, ◌⊎◌}
 use Rattle.std.specs.Io.KnownBytes.{Consumes, IsAtEnd}
-use Rattle.ark_math.specs.Format.{Format, IsUnfinished}
+use Rattle.ark_math_formats.specs.Format.{Format, IsUnfinished}
 use Rattle.ark_bytes.specs.declared.error.SerializationError.{SerializationError}
 use Rattle.ark_bytes.specs.declared.error.SerializationError.TheVariants.{IoError, InvalidData, Memory}
 

@@ -1,7 +1,7 @@
 -- What a call did that reads a value in one mode and writes it in another.
 use Rattle.std.specs.Prelude.{◌≡◌, Result, Ok, Err, ◌⊎◌}
 use Rattle.std.specs.Io.KnownBytes.{Keeps}
-use Rattle.ark_math.specs.Format.{Format}
+use Rattle.ark_math_formats.specs.Format.{Format}
 use Rattle.ark_bytes.specs.Reading.{SourceState, TakesSpelling, Refuses}
 use Rattle.ark_bytes.specs.Writing.{SinkState, Writes}
 use Rattle.ark_bytes.specs.declared.error.SerializationError.{SerializationError}

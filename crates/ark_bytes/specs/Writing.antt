@@ -1,7 +1,7 @@
 -- What a call that writes a value did to the writer's bytes.
 use Rattle.std.specs.Prelude.{◌≡◌, ℕ, ◌+◌, List, Option, Result, Ok, Err}
 use Rattle.std.specs.Io.KnownBytes.{Appends}
-use Rattle.ark_math.specs.Format.{Format}
+use Rattle.ark_math_formats.specs.Format.{Format}
 use Rattle.ark_bytes.specs.Transfer.{AppendsBeginning}
 use Rattle.ark_bytes.specs.declared.error.SerializationError.{SerializationError}
 use Rattle.ark_bytes.specs.declared.error.SerializationError.TheVariants.{IoError, InvalidData, Memory}

@@ -1,7 +1,7 @@
 //! What writing and reading give together.
 
 ghost use Rattle.std.specs.Prelude.{◌≡◌, List, ℕ, ◌++◌, IfOk, IsOkUnless};
-ghost use Rattle.ark_math.specs.Format.{AreSpelledAlike, BeginsWithOneOfTwo};
+ghost use Rattle.ark_math_formats.specs.Format.{AreSpelledAlike, BeginsWithOneOfTwo};
 
 use crate::compress::Compress;
 use crate::error::SerializationError;

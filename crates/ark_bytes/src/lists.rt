@@ -1,7 +1,7 @@
 //! Lists: their length, and then their items. A `Vec` is read and written as its items.
 
 ghost use Rattle.std.specs.Prelude.{◌≡◌, ◌≤◌, ◌^◌, length, IfSome, IsNone};
-ghost use Rattle.ark_math.specs.Format.{list};
+ghost use Rattle.ark_math_formats.specs.Format.{list};
 ghost use Rattle.ark_bytes.specs.Reading.{source_state, ReadsAs};
 ghost use Rattle.ark_bytes.specs.Writing.{sink_state, Writes};
 
@@ -64,9 +64,9 @@ pub fn list_size<T: CanonicalSerialize>(items: &[T], mode: Compress) -> Option<u
 
 impl<T: Spelled> Spelled for Vec<T> {
     ghost use Rattle.std.specs.Prelude.{List, map};
-    ghost use Rattle.ark_math.specs.Format.{list, stored};
-    ghost use Rattle.ark_math.proofs.Formats.Ends.{list_is_format, lawful_is_format};
-    ghost use Rattle.ark_math.proofs.Formats.OneToOne.{list_shows, lawful_shows};
+    ghost use Rattle.ark_math_formats.specs.Format.{list, stored};
+    ghost use Rattle.ark_math_formats.proofs.Formats.Ends.{list_is_format, lawful_is_format};
+    ghost use Rattle.ark_math_formats.proofs.Formats.OneToOne.{list_shows, lawful_shows};
 
     ghost format = { λ mode. stored (list (T.format mode)) (λ v. v.items) };
 
@@ -83,8 +83,8 @@ impl<T: Spelled> Spelled for Vec<T> {
 }
 
 impl<T: CanonicalSerialize> CanonicalSerialize for Vec<T> {
-    ghost use Rattle.ark_math.specs.Format.{list};
-    ghost use Rattle.ark_math.proofs.Formats.Modes.{keeps_by_fields, keeps_in_lists};
+    ghost use Rattle.ark_math_formats.specs.Format.{list};
+    ghost use Rattle.ark_math_formats.proofs.Formats.Modes.{keeps_by_fields, keeps_in_lists};
 
     fn serialize_with_mode<W: Sink>(
         &self,

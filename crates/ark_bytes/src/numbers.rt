@@ -1,7 +1,7 @@
 //! Numbers, the low byte first.
 
 ghost use Rattle.std.specs.Prelude.{◌≡◌, ◌<◌, ◌≤◌, ◌^◌, length};
-ghost use Rattle.ark_math.specs.Format.{number, little_endian};
+ghost use Rattle.ark_math_formats.specs.Format.{number, little_endian};
 ghost use Rattle.ark_bytes.specs.Reading.{source_state, Reads};
 ghost use Rattle.ark_bytes.specs.Writing.{sink_state, Writes};
 
@@ -59,9 +59,9 @@ pub fn write_number<W: Sink>(
 
 impl Spelled for u8 {
     ghost use Rattle.std.specs.Prelude.{ℕ};
-    ghost use Rattle.ark_math.specs.Format.{number};
-    ghost use Rattle.ark_math.proofs.Formats.Ends.{number_is_format};
-    ghost use Rattle.ark_math.proofs.Formats.OneToOne.{number_tells};
+    ghost use Rattle.ark_math_formats.specs.Format.{number};
+    ghost use Rattle.ark_math_formats.proofs.Formats.Ends.{number_is_format};
+    ghost use Rattle.ark_math_formats.proofs.Formats.OneToOne.{number_tells};
 
     ghost format = { λ _. number 1 };
 
@@ -75,8 +75,8 @@ impl Spelled for u8 {
 }
 
 impl CanonicalSerialize for u8 {
-    ghost use Rattle.ark_math.specs.Format.{number};
-    ghost use Rattle.ark_math.proofs.Formats.Modes.{keeps_itself};
+    ghost use Rattle.ark_math_formats.specs.Format.{number};
+    ghost use Rattle.ark_math_formats.proofs.Formats.Modes.{keeps_itself};
 
     fn serialize_with_mode<W: Sink>(
         &self,
@@ -113,9 +113,9 @@ impl CanonicalDeserialize for u8 {
 
 impl Spelled for u32 {
     ghost use Rattle.std.specs.Prelude.{ℕ};
-    ghost use Rattle.ark_math.specs.Format.{number};
-    ghost use Rattle.ark_math.proofs.Formats.Ends.{number_is_format};
-    ghost use Rattle.ark_math.proofs.Formats.OneToOne.{number_tells};
+    ghost use Rattle.ark_math_formats.specs.Format.{number};
+    ghost use Rattle.ark_math_formats.proofs.Formats.Ends.{number_is_format};
+    ghost use Rattle.ark_math_formats.proofs.Formats.OneToOne.{number_tells};
 
     ghost format = { λ _. number 4 };
 
@@ -129,8 +129,8 @@ impl Spelled for u32 {
 }
 
 impl CanonicalSerialize for u32 {
-    ghost use Rattle.ark_math.specs.Format.{number};
-    ghost use Rattle.ark_math.proofs.Formats.Modes.{keeps_itself};
+    ghost use Rattle.ark_math_formats.specs.Format.{number};
+    ghost use Rattle.ark_math_formats.proofs.Formats.Modes.{keeps_itself};
 
     fn serialize_with_mode<W: Sink>(
         &self,
@@ -167,9 +167,9 @@ impl CanonicalDeserialize for u32 {
 
 impl Spelled for u64 {
     ghost use Rattle.std.specs.Prelude.{ℕ};
-    ghost use Rattle.ark_math.specs.Format.{number};
-    ghost use Rattle.ark_math.proofs.Formats.Ends.{number_is_format};
-    ghost use Rattle.ark_math.proofs.Formats.OneToOne.{number_tells};
+    ghost use Rattle.ark_math_formats.specs.Format.{number};
+    ghost use Rattle.ark_math_formats.proofs.Formats.Ends.{number_is_format};
+    ghost use Rattle.ark_math_formats.proofs.Formats.OneToOne.{number_tells};
 
     ghost format = { λ _. number 8 };
 
@@ -183,8 +183,8 @@ impl Spelled for u64 {
 }
 
 impl CanonicalSerialize for u64 {
-    ghost use Rattle.ark_math.specs.Format.{number};
-    ghost use Rattle.ark_math.proofs.Formats.Modes.{keeps_itself};
+    ghost use Rattle.ark_math_formats.specs.Format.{number};
+    ghost use Rattle.ark_math_formats.proofs.Formats.Modes.{keeps_itself};
 
     fn serialize_with_mode<W: Sink>(
         &self,
@@ -221,9 +221,9 @@ impl CanonicalDeserialize for u64 {
 
 impl Spelled for usize {
     ghost use Rattle.std.specs.Prelude.{ℕ};
-    ghost use Rattle.ark_math.specs.Format.{number};
-    ghost use Rattle.ark_math.proofs.Formats.Ends.{number_is_format};
-    ghost use Rattle.ark_math.proofs.Formats.OneToOne.{number_tells};
+    ghost use Rattle.ark_math_formats.specs.Format.{number};
+    ghost use Rattle.ark_math_formats.proofs.Formats.Ends.{number_is_format};
+    ghost use Rattle.ark_math_formats.proofs.Formats.OneToOne.{number_tells};
 
     ghost format = { λ _. number 8 };
 
@@ -237,8 +237,8 @@ impl Spelled for usize {
 }
 
 impl CanonicalSerialize for usize {
-    ghost use Rattle.ark_math.specs.Format.{number};
-    ghost use Rattle.ark_math.proofs.Formats.Modes.{keeps_itself};
+    ghost use Rattle.ark_math_formats.specs.Format.{number};
+    ghost use Rattle.ark_math_formats.proofs.Formats.Modes.{keeps_itself};
 
     fn serialize_with_mode<W: Sink>(
         &self,

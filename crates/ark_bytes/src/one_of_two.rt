@@ -19,9 +19,9 @@ pub enum Either<A, B> {
 
 impl<A: Spelled, B: Spelled> Spelled for Either<A, B> {
     ghost use Rattle.std.specs.Prelude.{◌⊎◌};
-    ghost use Rattle.ark_math.specs.Format.{either, shown_either, stored};
-    ghost use Rattle.ark_math.proofs.Formats.Ends.{either_is_format, lawful_is_format};
-    ghost use Rattle.ark_math.proofs.Formats.OneToOne.{either_shows, lawful_shows};
+    ghost use Rattle.ark_math_formats.specs.Format.{either, shown_either, stored};
+    ghost use Rattle.ark_math_formats.proofs.Formats.Ends.{either_is_format, lawful_is_format};
+    ghost use Rattle.ark_math_formats.proofs.Formats.OneToOne.{either_shows, lawful_shows};
     ghost use Rattle.ark_bytes.specs.Either.{sum_of};
 
     ghost format = { λ mode. stored (either (A.format mode) (B.format mode)) sum_of };
@@ -41,8 +41,8 @@ impl<A: Spelled, B: Spelled> Spelled for Either<A, B> {
 }
 
 impl<A: CanonicalSerialize, B: CanonicalSerialize> CanonicalSerialize for Either<A, B> {
-    ghost use Rattle.ark_math.specs.Format.{either};
-    ghost use Rattle.ark_math.proofs.Formats.Modes.{keeps_by_fields, keeps_in_either};
+    ghost use Rattle.ark_math_formats.specs.Format.{either};
+    ghost use Rattle.ark_math_formats.proofs.Formats.Modes.{keeps_by_fields, keeps_in_either};
     ghost use Rattle.ark_bytes.specs.Either.{sum_of};
 
     fn serialize_with_mode<W: Sink>(

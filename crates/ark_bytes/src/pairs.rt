@@ -8,9 +8,9 @@ use crate::traits::{CanonicalDeserialize, CanonicalSerialize, Spelled, Valid};
 use std::alloc::Global;
 
 impl<A: Spelled, B: Spelled> Spelled for (A, B) {
-    ghost use Rattle.ark_math.specs.Format.{◌⊗◌};
-    ghost use Rattle.ark_math.proofs.Formats.Ends.{pair_is_format};
-    ghost use Rattle.ark_math.proofs.Formats.OneToOne.{pair_shows};
+    ghost use Rattle.ark_math_formats.specs.Format.{◌⊗◌};
+    ghost use Rattle.ark_math_formats.proofs.Formats.Ends.{pair_is_format};
+    ghost use Rattle.ark_math_formats.proofs.Formats.OneToOne.{pair_shows};
 
     ghost format = { λ mode. A.format mode ⊗ B.format mode };
 
@@ -26,7 +26,7 @@ impl<A: Spelled, B: Spelled> Spelled for (A, B) {
 }
 
 impl<A: CanonicalSerialize, B: CanonicalSerialize> CanonicalSerialize for (A, B) {
-    ghost use Rattle.ark_math.proofs.Formats.Modes.{keeps_in_pairs};
+    ghost use Rattle.ark_math_formats.proofs.Formats.Modes.{keeps_in_pairs};
 
     fn serialize_with_mode<W: Sink>(
         &self,

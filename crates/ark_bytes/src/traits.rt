@@ -1,7 +1,7 @@
 //! Types that are spelled in bytes.
 
 ghost use Rattle.std.specs.Prelude.{◌≡◌, ◌≤◌, ◌^◌, length, IfSome, IsNone, IsOk};
-ghost use Rattle.ark_math.specs.Format.{Format, IsFormat, Tells};
+ghost use Rattle.ark_math_formats.specs.Format.{Format, IsFormat, Tells};
 ghost use Rattle.ark_bytes.specs.Reading.{source_state, Reads};
 ghost use Rattle.ark_bytes.specs.Writing.{sink_state, Writes};
 
@@ -34,7 +34,7 @@ pub trait Spelled {
 /// A type whose values are written. Both modes tell the same: values that are spelled alike in one are so in
 /// the other.
 pub trait CanonicalSerialize: Spelled {
-    ghost use Rattle.ark_math.specs.Format.{KeepsAlike};
+    ghost use Rattle.ark_math_formats.specs.Format.{KeepsAlike};
     ghost use Rattle.ark_bytes.specs.declared.compress.Compress.{Compress};
 
     /// Appends the value's spelling in the mode. `IoError` comes only where the writer failed in this call,

@@ -3,8 +3,8 @@
 ghost use Rattle.std.specs.Prelude.{ℕ};
 ghost use Rattle.ark_word_sums.specs.Challenges.{Checked};
 
-use ark_base::{BabyBear, Goldilocks, KoalaBear};
-use ark_wide::{Bls12_381Scalar, Bn254Scalar};
+use ark_fields::{BabyBear, Goldilocks, KoalaBear};
+use ark_prime256::{Bls12_381Scalar, Bn254Scalar};
 use ark_word_sums::SumNumbers;
 
 /// What contracts say of the field that a number names.

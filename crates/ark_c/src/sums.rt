@@ -14,8 +14,8 @@ ghost use Rattle.ark_c.specs.SumFields.{place_of};
 
 use crate::fields::{NamedFields, SumFields};
 use crate::status::sum_status;
-use ark_base::{BabyBear, Goldilocks, KoalaBear};
-use ark_wide::{Bls12_381Scalar, Bn254Scalar};
+use ark_fields::{BabyBear, Goldilocks, KoalaBear};
+use ark_prime256::{Bls12_381Scalar, Bn254Scalar};
 use ark_word_sums::{SumElement, SumNumbers, proof_size, prove, value_at, verify};
 use std::alloc::Global;
 

@@ -4,7 +4,7 @@ ghost use Rattle.std.specs.Prelude.{◌≡◌, ◌≢◌, ◌↔◌, ℕ, ◌+�
 ghost use Rattle.std.specs.Prelude.{IsOkUnless, IsTrue, List, replicate, take, drop};
 ghost use Rattle.ark_math.specs.Outcome.{IsOkUnlessEither};
 ghost use Rattle.ark_math.specs.Module.{itself, sum_below};
-ghost use Rattle.ark_math.specs.Points.{IsPlaceQuotient};
+ghost use Rattle.ark_math.specs.Field.{IsPlaceQuotient};
 ghost use Rattle.ark_math.specs.Univariate.{IsBelow, IsTrimmed, IsValue, of_list, added, difference, opposite};
 ghost use Rattle.ark_math.specs.Univariate.{monomial, product, scaled};
 

@@ -2,7 +2,7 @@
 
 ghost use Rattle.std.specs.Prelude.{◌≡◌, ◌≢◌, ℕ, ◌+◌, ◌-◌, ◌*◌, ◌/◌, ◌%◌, ◌<◌, length, IfOk, IsOkUnless};
 ghost use Rattle.ark_math.specs.Field.{power, minus};
-ghost use Rattle.ark_math.specs.Points.{IsPlaceQuotient};
+ghost use Rattle.ark_math.specs.Field.{IsPlaceQuotient};
 ghost use Rattle.ark_math.specs.Univariate.{of_list};
 
 use crate::dense::zeros;

@@ -1,11 +1,10 @@
 -- Lists of elements of a field below, as elements of its extension.
 use Rattle.std.proofs.Common.{◌≡◌, ℕ, ◌+◌, ◌*◌, ◌^◌, ◌<◌, ◌≤◌, List, length, get_or, map, ap, ap₂, ◌∙◌, arith}
 use Rattle.std.proofs.Math.Nat.{pow-le-pow_right}
-use Rattle.ark_math.specs.Field.{FieldOn, IsField, minus}
+use Rattle.ark_math.specs.Field.{FieldOn, IsField, minus, IsFieldEmbedding}
 use Rattle.ark_math.specs.Univariate.{of_list}
 use Rattle.ark_math.proofs.Lists.Lists.{read_as}
-use Rattle.ark_math.proofs.Polynomials.Multilinear.{bound}
-use Rattle.ark_extensions.specs.Quadratics.{IsFieldEmbedding}
+use Rattle.ark_math_variables.proofs.Polynomials.Multilinear.{bound}
 
 module _ {F G : Type 0} (K : FieldOn F) (E : FieldOn G) (e : F → G) where
   -- an item that was read

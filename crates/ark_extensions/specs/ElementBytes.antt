@@ -1,11 +1,10 @@
 -- Elements of a quadratic extension in bytes: the coefficient of 1, and then that of x.
 use Rattle.std.proofs.Common.{ℕ, ◌+◌, ap₂, arith, ◌∙◌}
 use Rattle.std.proofs.lemmas.List.{length-append}
-use Rattle.ark_math.specs.Format.{Format, IsFormat, Tells, IsOneToOne, KeepsAlike, ◌⊗◌, stored}
-use Rattle.ark_math.specs.Layouts.{AreElements, AreAlike}
-use Rattle.ark_math.proofs.Formats.Ends.{pair_is_format, lawful_is_format}
-use Rattle.ark_math.proofs.Formats.OneToOne.{pair_shows, pair_tells, lawful_shows, lawful_tells}
-use Rattle.ark_math.proofs.Formats.Modes.{pair_alike, lawful_alike, keeps_in_pairs, keeps_by_fields}
+use Rattle.ark_math_formats.specs.Format.{Format, IsFormat, Tells, IsOneToOne, KeepsAlike, ◌⊗◌, stored, AreElements, AreAlike}
+use Rattle.ark_math_formats.proofs.Formats.Ends.{pair_is_format, lawful_is_format}
+use Rattle.ark_math_formats.proofs.Formats.OneToOne.{pair_shows, pair_tells, lawful_shows, lawful_tells}
+use Rattle.ark_math_formats.proofs.Formats.Modes.{pair_alike, lawful_alike, keeps_in_pairs, keeps_by_fields}
 use Rattle.ark_extensions.specs.Elements.{coefficients}
 use Rattle.ark_extensions.specs.ElementLaws.{same_element}
 use Rattle.ark_extensions.specs.declared.quadratic.Quadratic.{Quadratic}

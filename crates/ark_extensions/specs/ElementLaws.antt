@@ -2,12 +2,12 @@
 use Rattle.std.proofs.Common.{◌≡◌, ℕ, zero, suc, ap, ap₂, ◌∙◌, refl, sym}
 use Rattle.std.specs.Prelude.{Decides, Bool, true, false, ◌&&◌}
 use Rattle.std.proofs.lemmas.Bool.{false≢true}
-use Rattle.ark_math.specs.Field.{FieldOn, IsField, natural, power}
+use Rattle.ark_math.specs.Field.{FieldOn, IsField, natural, power, IsFieldEmbedding}
 use Rattle.ark_math.specs.Module.{IsModule}
 use Rattle.ark_math.proofs.Algebra.Solve.{◌⊕◌, ◌⊗◌, nought, unit}
 use Rattle.ark_math.proofs.Algebra.Ring.{ring1, ring2, ring3, ring4}
 use Rattle.ark_math.proofs.Algebra.Groups.{pair_Decides, itself_is_module, paired_is_module, negated_unique}
-use Rattle.ark_extensions.specs.Quadratics.{IsNonResidue, IsFieldEmbedding, norm}
+use Rattle.ark_extensions.specs.Quadratics.{IsNonResidue, norm}
 use Rattle.ark_extensions.specs.QuadraticLaws.{quadratic_laws, inverted, norm_not_zero, root_is_no_square}
 use Rattle.ark_extensions.specs.Elements.{coefficients, element, embedded, extension, root, in_pairs, in_fours, four_coefficients, multiple}
 use Rattle.ark_extensions.specs.declared.quadratic.Quadratic.{Quadratic}

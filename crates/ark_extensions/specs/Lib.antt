@@ -1,5 +1,5 @@
--- Quadratic extensions over plain variables, with their laws; the extension's elements, with theirs; which numbers are no
--- squares modulo a prime.
+-- Quadratic extensions over plain variables, with their laws; the extension's elements, with
+-- theirs.
 pub mod Quadratics
 pub mod QuadraticLaws
 pub mod Elements
@@ -7,4 +7,3 @@ pub mod ElementLaws
 pub mod ElementBytes
 pub mod TowerLaws
 pub mod RootLaws
-pub mod NonResidues

@@ -19,12 +19,3 @@ quadratic K w = record {
 -- (a + b x) (a - b x)
 abbrev pub norm : {F : Type 0} → FieldOn F → F → F × F → F
 norm K w a = minus K (K.times a.0 a.0) (K.times w (K.times a.1 a.1))
-
--- f takes the operations of K to those of E, and no two elements to one
-pub record IsFieldEmbedding {F G : Type 0} (K : FieldOn F) (E : FieldOn G) (f : F → G) : Type 0 where
-  pub one_to_one : (a b : F) → f a ≡ f b → a ≡ b
-  pub zero_kept : f K.zero ≡ E.zero
-  pub one_kept : f K.one ≡ E.one
-  pub plus_kept : (a b : F) → f (K.plus a b) ≡ E.plus (f a) (f b)
-  pub times_kept : (a b : F) → f (K.times a b) ≡ E.times (f a) (f b)
-  pub negated_kept : (a : F) → f (K.negated a) ≡ E.negated (f a)

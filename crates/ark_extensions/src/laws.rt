@@ -3,7 +3,7 @@
 
 ghost use Rattle.std.specs.Prelude.{◌≡◌};
 ghost use Rattle.ark_math.specs.Field.{power};
-ghost use Rattle.ark_extensions.specs.Quadratics.{IsFieldEmbedding};
+ghost use Rattle.ark_math.specs.Field.{IsFieldEmbedding};
 ghost use Rattle.ark_extensions.specs.Elements.{embedded, root};
 
 use crate::modulus::QuadraticModulus;

@@ -1,18 +1,14 @@
 //! Quadratic extensions of fields, F[x]/(x^2 - w) where no element's square is w, and towers of them.
-//! `ark_base` has the traits, and the prime fields below.
+//! `ark_traits` has the traits, and `ark_extension_fields` ready ones.
 #![tactic(auto)]
 
 pub mod embedded;
-mod fields;
 pub mod laws;
 mod modulus;
 mod quadratic;
 mod tower;
 
-pub use embedded::ExtensionOf;
-pub use fields::{
-    BabyBear4, BabyBear4Modulus, Goldilocks2, Goldilocks2Modulus, KoalaBear4, KoalaBear4Modulus,
-};
+pub use ark_traits::ExtensionOf;
 pub use modulus::QuadraticModulus;
 pub use quadratic::Quadratic;
 pub use tower::{Quartic, QuarticModulus, RootModulus};

@@ -8,7 +8,7 @@ use Rattle.std.proofs.Math.Nat.{div-lt_iff_lt-mul}
 use borrow.Rule.Slice.PartMut.{put_mid}
 use Rattle.ark_math.specs.Field.{FieldOn, IsField, power}
 use Rattle.ark_math.specs.Module.{ModuleOn, IsModule, item}
-use Rattle.ark_math.proofs.Transforms.Places.{dft_at}
+use Rattle.ark_math_transforms.proofs.Transforms.Places.{dft_at}
 use Rattle.ark_fft.specs.Mixed.{joined}
 use Rattle.ark_fft.proofs.Levels.{AreTransformed, IsTransformed}
 use Rattle.ark_fft.proofs.Parts.{place_below, IsStepTable, joined_is}

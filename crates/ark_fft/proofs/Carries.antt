@@ -1,8 +1,8 @@
 -- One more than an index whose bits are read backwards: the ones before its first zero are carried.
 use Rattle.std.proofs.Common.{◌≡◌, ℕ, zero, suc, ◌+◌, ◌-◌, ◌*◌, ◌/◌, ◌%◌, ◌^◌, ◌<◌, ◌≤◌, ◌∙◌, ap, ⊎_elim, arith}
 use Rattle.std.proofs.lemmas.Bool.{cases_lt}
-use Rattle.ark_math.specs.BitReversal.{reversed}
-use Rattle.ark_math.proofs.Numbers.BitReversal.{reversed_below, reversed_even, reversed_odd}
+use Rattle.ark_math_transforms.specs.BitReversal.{reversed}
+use Rattle.ark_math_transforms.proofs.Numbers.BitReversal.{reversed_below, reversed_even, reversed_odd}
 use Rattle.ark_math.proofs.Numbers.PowersOfTwo.{pow_twice}
 
 -- what is left to find reversed n (i + 1) from, and the bit that a one is added to

@@ -4,11 +4,11 @@ use Rattle.std.proofs.lemmas.List.{get_or-take, get_or-drop}
 use Rattle.std.proofs.lemmas.Nat.{pow_pos}
 use Rattle.ark_math.specs.Field.{FieldOn, IsField, power}
 use Rattle.ark_math.specs.Module.{ModuleOn, IsModule, item}
-use Rattle.ark_math.specs.BitReversal.{reversed}
+use Rattle.ark_math_transforms.specs.BitReversal.{reversed}
 use Rattle.ark_math.proofs.Algebra.Powers.{power-mul}
 use Rattle.ark_math.proofs.Algebra.Sums.{sum_below-same}
 use Rattle.ark_math.proofs.Lists.Lists.{written_same, written_other}
-use Rattle.ark_math.proofs.Numbers.BitReversal.{half_of}
+use Rattle.ark_math_transforms.proofs.Numbers.BitReversal.{half_of}
 use Rattle.ark_math.proofs.Numbers.PowersOfTwo.{pow_twice}
 use Rattle.ark_fft.specs.Columns.{IsColumn, AreColumns}
 use Rattle.ark_fft.specs.Halves.{IsHalfTable, AreLevels}

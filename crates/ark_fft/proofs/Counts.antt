@@ -1,7 +1,7 @@
 -- Counts and bounds of the kernels' loops.
 use Rattle.std.proofs.Common.{◌≡◌, ◌≢◌, ℕ, ◌+◌, ◌*◌, ◌-◌, ◌<◌, ◌≤◌, refl, sym, ap, ◌∙◌, subst, arith}
 use Rattle.ark_math.specs.Cost.{Counts, GrowsBy, counts}
-use Rattle.ark_traits.proofs.Cost.{none_grown, grows_twice}
+use Rattle.ark_fft.proofs.Cost.{none_grown, grows_twice}
 
 -- ---- bounds
 

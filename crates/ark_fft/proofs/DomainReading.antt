@@ -3,9 +3,9 @@ use Rattle.std.proofs.Common.{◌≡◌, ◌≢◌, ◌↔◌, ◌⊎◌, ℕ, i
 use Rattle.std.specs.Option.{ok_or}
 use Rattle.ark_math.specs.Field.{FieldOn}
 use Rattle.ark_math.specs.Root.{Adicity, IsSupported}
-use Rattle.ark_math.specs.Format.{Format, IsFormat, IsOneToOne, word, number, ◌⊗◌, stored}
-use Rattle.ark_math.specs.Layouts.{DomainFields}
-use Rattle.ark_math.proofs.Formats.Domains.{short_one_to_one, long_one_to_one}
+use Rattle.ark_math_formats.specs.Format.{Format, IsFormat, IsOneToOne, word, number, ◌⊗◌, stored}
+use Rattle.ark_fft.specs.Layouts.{DomainFields}
+use Rattle.ark_fft.specs.LayoutLaws.{short_one_to_one, long_one_to_one}
 use Rattle.ark_bytes.specs.declared.compress.Compress.{Compress}
 use Rattle.ark_bytes.specs.declared.compress.Compress.TheVariants.{Yes, No}
 use Rattle.ark_bytes.specs.declared.error.SerializationError.{SerializationError}

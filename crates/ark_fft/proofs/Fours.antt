@@ -5,12 +5,12 @@ use Rattle.std.proofs.lemmas.Nat.{pow_pos}
 use Rattle.ark_math.specs.Field.{FieldOn, IsField, power}
 use Rattle.ark_math.specs.Module.{ModuleOn, IsModule, item}
 use Rattle.ark_math.specs.Cost.{Counts, GrowsBy, butterfly_counts}
-use Rattle.ark_math.proofs.Transforms.Places.{dft_at}
+use Rattle.ark_math_transforms.proofs.Transforms.Places.{dft_at}
 use Rattle.ark_math.proofs.Algebra.Powers.{power-mul}
 use Rattle.ark_math.proofs.Algebra.Sums.{sum_below-same}
 use Rattle.ark_math.proofs.Lists.Lists.{read_front, read_back, written_same, written_other}
-use Rattle.ark_traits.proofs.Cost.{grows_twice}
-use Rattle.ark_math.specs.BitReversal.{reversed}
+use Rattle.ark_fft.proofs.Cost.{grows_twice}
+use Rattle.ark_math_transforms.specs.BitReversal.{reversed}
 use Rattle.ark_fft.specs.Halves.{AreLevels}
 use Rattle.ark_fft.proofs.Halving.{one_level_to, four_items}
 use Rattle.ark_fft.proofs.Levels.{IsButterfly, AreReversed, IsSplitLevel}

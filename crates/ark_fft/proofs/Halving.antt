@@ -8,14 +8,14 @@ use Rattle.std.proofs.Math.Pow.{pow_mono, pow-lt}
 use Rattle.ark_math.specs.Field.{FieldOn, IsField, power}
 use Rattle.ark_math.specs.Root.{HasOrder}
 use Rattle.ark_math.specs.Module.{ModuleOn, IsModule, sum_below, item}
-use Rattle.ark_math.proofs.Transforms.Places.{dft_at}
-use Rattle.ark_math.specs.BitReversal.{reversed}
+use Rattle.ark_math_transforms.proofs.Transforms.Places.{dft_at}
+use Rattle.ark_math_transforms.specs.BitReversal.{reversed}
 use Rattle.ark_fft.specs.Halves.{IsHalfTable, AreLevels}
 use Rattle.ark_fft.proofs.Levels.{IsButterfly, same_butterfly, AreReversed, AreTransformed, IsSplitLevel}
 use Rattle.ark_math.proofs.Algebra.Groups.{zero_plus}
 use Rattle.ark_math.proofs.Lists.Lists.{read_front, read_back, read_order}
 use Rattle.ark_math.proofs.Algebra.Powers.{power-add, power-mul, power_comm, negated_one_even, negated_one_odd, half_of_order}
-use Rattle.ark_math.proofs.Numbers.BitReversal.{Half, low, high, half_of, reversed_low, reversed_high, reversed_below, reversed_twice}
+use Rattle.ark_math_transforms.proofs.Numbers.BitReversal.{Half, low, high, half_of, reversed_low, reversed_high, reversed_below, reversed_twice}
 use Rattle.ark_math.proofs.Numbers.PowersOfTwo.{pow_twice}
 use Rattle.ark_math.proofs.Algebra.Sums.{sum_below-same, sum_below-plus, sum_below-add}
 use Rattle.ark_math.proofs.Algebra.Solve.{◌⊗◌, ◌•◌, ◌⊞◌, ◌⊟◌, unit, negative}

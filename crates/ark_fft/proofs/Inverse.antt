@@ -6,7 +6,7 @@ use Rattle.ark_math.specs.Root.{HasOrder}
 use Rattle.ark_math.specs.Module.{ModuleOn, IsModule, item}
 use Rattle.ark_math.specs.Domain.{Domain}
 use Rattle.ark_math.specs.Transform.{IsInverse}
-use Rattle.ark_math.proofs.Transforms.Inverses.{is_inverse}
+use Rattle.ark_math_transforms.proofs.Transforms.Inverses.{is_inverse}
 use Rattle.ark_math.proofs.Algebra.Sums.{sum_below-same}
 use Rattle.ark_fft.proofs.Levels.{AreTransformed}
 

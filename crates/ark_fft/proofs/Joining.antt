@@ -7,8 +7,8 @@ use Rattle.std.proofs.Math.Pow.{pow_mono}
 use Rattle.ark_math.specs.Cost.{Counts, GrowsBy, butterfly_counts}
 use Rattle.ark_math.specs.Field.{FieldOn, IsField, power}
 use Rattle.ark_math.specs.Module.{ModuleOn, IsModule, sum_below, item}
-use Rattle.ark_math.proofs.Transforms.Places.{dft_at}
-use Rattle.ark_math.specs.BitReversal.{reversed}
+use Rattle.ark_math_transforms.proofs.Transforms.Places.{dft_at}
+use Rattle.ark_math_transforms.specs.BitReversal.{reversed}
 use Rattle.ark_fft.specs.Halves.{ArePowers, IsHalfTable, AreLevels}
 use Rattle.ark_math.proofs.Algebra.Groups.{zero_plus, scale_zero, one_times}
 use Rattle.ark_math.proofs.Lists.Lists.{read_front, read_back, read_order}
@@ -16,12 +16,12 @@ use Rattle.ark_math.proofs.Algebra.Powers.{power-add, power-mul, power_comm, neg
 use Rattle.ark_math.proofs.Algebra.Regrouped.{sum_below-past}
 use Rattle.ark_fft.proofs.Halving.{count_levels}
 use Rattle.ark_fft.proofs.Levels.{IsJoin, same_join, AreTransformed, IsJoinedLevel}
-use Rattle.ark_math.proofs.Numbers.BitReversal.{Half, low, high, half_of, reversed_low, reversed_high, reversed_below}
+use Rattle.ark_math_transforms.proofs.Numbers.BitReversal.{Half, low, high, half_of, reversed_low, reversed_high, reversed_below}
 use Rattle.ark_math.proofs.Numbers.PowersOfTwo.{pow_pred}
 use Rattle.ark_math.proofs.Algebra.Ring.{module1_2}
 use Rattle.ark_math.proofs.Algebra.Solve.{◌⊗◌, ◌•◌, ◌⊞◌, ◌⊟◌, unit, negative, origin}
 use Rattle.ark_fft.proofs.Split.{split}
-use Rattle.ark_traits.proofs.Cost.{none_grown, grows_twice}
+use Rattle.ark_fft.proofs.Cost.{none_grown, grows_twice}
 
 -- ---- blocks of 2 ^ b places
 

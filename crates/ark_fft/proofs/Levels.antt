@@ -2,8 +2,8 @@
 use Rattle.std.proofs.Common.{◌≡◌, ℕ, ◌-◌, ◌<◌, ◌≤◌, ◌^◌, ◌++◌, List, length, get_or, map, ◌∙◌, ap₂}
 use Rattle.ark_math.specs.Field.{FieldOn}
 use Rattle.ark_math.specs.Module.{ModuleOn, item}
-use Rattle.ark_math.specs.BitReversal.{reversed}
-use Rattle.ark_math.proofs.Transforms.Places.{dft_at}
+use Rattle.ark_math_transforms.specs.BitReversal.{reversed}
+use Rattle.ark_math_transforms.proofs.Transforms.Places.{dft_at}
 use Rattle.ark_fft.specs.Halves.{IsHalfTable}
 
 -- a butterfly of a decimation in frequency: the sum, and the difference times the twiddle factor

@@ -17,3 +17,4 @@ pub mod Radix2
 pub mod Short
 pub mod Split
 pub mod Yielded
+pub mod Cost

@@ -9,8 +9,8 @@ use Rattle.ark_math.specs.Root.{Adicity, HasOrder, Splits, odd_base}
 use Rattle.ark_math.specs.Domain.{Domain, mixed_radix}
 use Rattle.ark_math.specs.Cost.{Counts, GrowsBy, counts, butterfly_counts, Direction}
 use Rattle.ark_math.specs.Transform.{transform, IsInverse}
-use Rattle.ark_math.proofs.Transforms.Places.{dft_at}
-use Rattle.ark_math.specs.BitReversal.{reversed}
+use Rattle.ark_math_transforms.proofs.Transforms.Places.{dft_at}
+use Rattle.ark_math_transforms.specs.BitReversal.{reversed}
 use Rattle.ark_fft.specs.Halves.{ArePowers, AreLevels}
 use Rattle.ark_fft.proofs.Joining.{levels_of_size}
 use Rattle.ark_fft.proofs.Halving.{no_level}
@@ -18,13 +18,13 @@ use Rattle.ark_fft.proofs.Levels.{AreReversed, AreTransformed, IsTransformed}
 use Rattle.ark_fft.proofs.Inverse.{AreInverses, IsScaledBack, inverse_of_sums}
 use Rattle.ark_fft.specs.Mixed.{IsPowerTable, mixed_counts}
 use Rattle.ark_fft.specs.Scalings.{GrowsByScalings}
-use Rattle.ark_math.proofs.Roots.Orthogonal.{order_of_inverse}
+use Rattle.ark_math_transforms.proofs.Roots.Orthogonal.{order_of_inverse}
 use Rattle.ark_math.proofs.Algebra.Powers.{half_of_order, power-mul}
-use Rattle.ark_math.proofs.Transforms.Transforms.{AreShifted, is_transform}
-use Rattle.ark_math.proofs.Numbers.BitReversal.{reversed_below, reversed_twice}
+use Rattle.ark_math_transforms.proofs.Transforms.Transforms.{AreShifted, is_transform}
+use Rattle.ark_math_transforms.proofs.Numbers.BitReversal.{reversed_below, reversed_twice}
 use Rattle.ark_math.proofs.Lists.Lists.{read_order}
-use Rattle.ark_traits.specs.Cost.{GrowsByCost}
-use Rattle.ark_traits.proofs.Cost.{none_grown, grows_twice, scaled_first, scaled_last, mixed_cost}
+use Rattle.ark_fft.specs.Cost.{GrowsByCost}
+use Rattle.ark_fft.proofs.Cost.{none_grown, grows_twice, scaled_first, scaled_last, mixed_cost}
 use Rattle.ark_math.proofs.Numbers.Factors.{part_size, parts_whole}
 
 -- three facts of an answer that is Ok, together

@@ -2,9 +2,9 @@
 use Rattle.std.proofs.Common.{◌≡◌, ◌≢◌, ℕ, zero, ◌+◌, ◌-◌, ◌^◌, ◌<◌, ◌≤◌, suc, ◌*◌, ◌/◌, ◌%◌, ◌++◌, List, length, get_or, sym, ◌∙◌, ap, subst, ⊎_elim, arith, refl}
 use Rattle.std.proofs.lemmas.Bool.{cases_eq, cases_lt}
 use Rattle.std.proofs.lemmas.List.{get_or_append_left, get_or-append-add}
-use Rattle.ark_math.specs.BitReversal.{reversed}
+use Rattle.ark_math_transforms.specs.BitReversal.{reversed}
 use Rattle.ark_fft.specs.Halves.{IsDealt}
-use Rattle.ark_math.proofs.Numbers.BitReversal.{reversed_even, reversed_odd, reversed_low, reversed_high, reversed_none, reversed_below, reversed_twice}
+use Rattle.ark_math_transforms.proofs.Numbers.BitReversal.{reversed_even, reversed_odd, reversed_low, reversed_high, reversed_none, reversed_below, reversed_twice}
 use Rattle.ark_math.proofs.Numbers.PowersOfTwo.{pow_twice}
 use Rattle.std.proofs.lemmas.Nat.{pow_pos}
 

@@ -12,11 +12,11 @@ use Rattle.ark_fft.specs.Scalings.{GrowsByScalings}
 use Rattle.ark_fft.proofs.Halving.{is_half_table}
 use Rattle.ark_fft.proofs.Levels.{AreTransformed, IsTransformed}
 use Rattle.ark_fft.proofs.Inverse.{AreInverses, IsScaledBack, inverse_of_sums}
-use Rattle.ark_math.proofs.Roots.Orthogonal.{order_of_inverse}
+use Rattle.ark_math_transforms.proofs.Roots.Orthogonal.{order_of_inverse}
 use Rattle.ark_math.proofs.Algebra.Powers.{power-one}
-use Rattle.ark_math.proofs.Transforms.Transforms.{AreShifted, is_transform}
-use Rattle.ark_traits.specs.Cost.{GrowsByCost}
-use Rattle.ark_traits.proofs.Cost.{scaled_first, scaled_last, radix2_cost}
+use Rattle.ark_math_transforms.proofs.Transforms.Transforms.{AreShifted, is_transform}
+use Rattle.ark_fft.specs.Cost.{GrowsByCost}
+use Rattle.ark_fft.proofs.Cost.{scaled_first, scaled_last, radix2_cost}
 
 module _ {F M : Type 0} {K : FieldOn F} (V : ModuleOn F M) (N : IsField K) where
   -- a scaling by one value is one by its powers of one

@@ -8,7 +8,7 @@ use Rattle.ark_math.specs.Field.{FieldOn, IsField, power}
 use Rattle.ark_math.specs.Module.{ModuleOn, IsModule, item}
 use Rattle.ark_math.specs.Root.{Adicity, HasOrder}
 use Rattle.ark_math.specs.Transform.{transform}
-use Rattle.ark_math.proofs.Transforms.Places.{dft_at}
+use Rattle.ark_math_transforms.proofs.Transforms.Places.{dft_at}
 use Rattle.ark_fft.specs.Halves.{ArePowers, AreLevels}
 use Rattle.ark_fft.specs.Scalings.{GrowsByScalings}
 use Rattle.ark_fft.proofs.Joining.{sum_of_few, levels_below}
@@ -16,9 +16,9 @@ use Rattle.ark_math.proofs.Numbers.PowersOfTwo.{pow_pred}
 use Rattle.ark_math.proofs.Algebra.Powers.{half_of_order}
 use Rattle.ark_math.proofs.Domains.Sizes.{log_of_short, log_within}
 use Rattle.ark_math.proofs.Lists.Lists.{read_fitted}
-use Rattle.ark_math.proofs.Transforms.Transforms.{AreShifted, is_transform, shifted_front, shifted_past}
-use Rattle.ark_traits.specs.Cost.{GrowsByCost}
-use Rattle.ark_traits.proofs.Cost.{scaled_first, radix2_cost}
+use Rattle.ark_math_transforms.proofs.Transforms.Transforms.{AreShifted, is_transform, shifted_front, shifted_past}
+use Rattle.ark_fft.specs.Cost.{GrowsByCost}
+use Rattle.ark_fft.proofs.Cost.{scaled_first, radix2_cost}
 
 -- the fitted list, and its front once each item is scaled
 module _ {X : Type 0} (n len : ℕ) (fitted front : List X) (of_fitted : length fitted ≡ n) (short : len ≤ n / 4) (of_front : length front ≡ length (take len fitted)) where

@@ -2,7 +2,7 @@
 use Rattle.std.proofs.Common.{◌≡◌, ℕ, zero, suc, ◌+◌, ◌*◌, sym, ◌∙◌, ap, arith}
 use Rattle.ark_math.specs.Field.{FieldOn, IsField, power}
 use Rattle.ark_math.specs.Module.{ModuleOn, IsModule, sum_below}
-use Rattle.ark_math.proofs.Transforms.Places.{dft_at}
+use Rattle.ark_math_transforms.proofs.Transforms.Places.{dft_at}
 use Rattle.ark_math.proofs.Algebra.Powers.{power-add, power-mul, power_comm, power-one}
 use Rattle.ark_math.proofs.Algebra.Regrouped.{sum_below-none}
 use Rattle.ark_math.proofs.Algebra.Sums.{sum_below-same, sum_below-scale, sum_below-plus, sum_below-add}

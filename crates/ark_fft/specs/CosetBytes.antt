@@ -2,10 +2,10 @@
 use Rattle.std.specs.Prelude.{◌≡◌, ◌≢◌, ℕ, Bool, Decides, Option, Some, None}
 use Rattle.ark_math.specs.Field.{FieldOn, IsField}
 use Rattle.ark_math.specs.Root.{Adicity, IsAdicity}
-use Rattle.ark_math.specs.Format.{Format, IsFormat, IsOneToOne, KeepsAlike, Tells}
-use Rattle.ark_math.specs.Layouts.{AreAlike, DomainFields, long_domain, short_domain}
-use Rattle.ark_math.proofs.Formats.Domains.{offset_of, long_is_format, short_is_format, long_tells, short_tells}
-use Rattle.ark_math.proofs.Formats.Domains.{AreKept, short_keeps, short_keeps_long, long_keeps, long_keeps_short}
+use Rattle.ark_math_formats.specs.Format.{Format, IsFormat, IsOneToOne, KeepsAlike, Tells, AreAlike}
+use Rattle.ark_fft.specs.Layouts.{DomainFields, long_domain, short_domain}
+use Rattle.ark_fft.specs.LayoutLaws.{offset_of, long_is_format, short_is_format, long_tells, short_tells}
+use Rattle.ark_fft.specs.LayoutLaws.{AreKept, short_keeps, short_keeps_long, long_keeps, long_keeps_short}
 use Rattle.ark_bytes.specs.declared.compress.Compress.{Compress}
 use Rattle.ark_bytes.specs.declared.compress.Compress.TheVariants.{Yes, No}
 use Rattle.ark_fft.specs.declared.domain.coset.Coset.{Coset}

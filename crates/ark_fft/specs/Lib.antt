@@ -6,3 +6,6 @@ pub mod Elements
 pub mod Halves
 pub mod Mixed
 pub mod Scalings
+pub mod Cost
+pub mod LayoutLaws
+pub mod Layouts

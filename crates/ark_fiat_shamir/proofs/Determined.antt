@@ -1,8 +1,7 @@
 -- After the same calls there is one challenge, and one list of calls after it.
 use Rattle.std.proofs.Common.{◌≡◌, ℕ, List, [], ◌∷◌, sym, ◌∙◌, subst}
 use Rattle.ark_math.specs.Field.{FieldOn}
-use Rattle.ark_math.specs.Format.{Format}
-use Rattle.ark_math.specs.Layouts.{AreElements}
+use Rattle.ark_math_formats.specs.Format.{Format, AreElements}
 use Rattle.ark_transcript.proofs.Tries.{one_challenge}
 use Rattle.ark_sum_check.specs.Rounds.{AreChallenged, IsDetermined, Round}
 use Rattle.ark_fiat_shamir.specs.Derived.{IsRoundChallenge, after_values, challenge_label}

@@ -2,7 +2,7 @@
 use Rattle.std.specs.Prelude.{ℕ, List, [], ◌∷◌, ◌++◌, map, max}
 use Rattle.std.specs.Int.{w64, to_le_bytes}
 use Rattle.ark_math.specs.Field.{FieldOn}
-use Rattle.ark_math.specs.Format.{Format}
+use Rattle.ark_math_formats.specs.Format.{Format}
 use Rattle.ark_transcript.specs.Calls.{Call, Absorbed}
 use Rattle.ark_transcript.specs.Challenges.{IsChallenge}
 use Rattle.ark_sum_check.specs.Cube.{degree_of}

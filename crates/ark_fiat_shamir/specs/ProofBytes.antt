@@ -1,10 +1,10 @@
 -- Proofs in bytes: the list of the rounds, each the list of its values.
 use Rattle.std.specs.Prelude.{List, Vec, map}
 use Rattle.std.specs.declared.alloc.Global.{Global}
-use Rattle.ark_math.specs.Format.{Format, IsFormat, IsOneToOne, KeepsAlike, Tells, list, stored}
-use Rattle.ark_math.proofs.Formats.Ends.{list_is_format, lawful_is_format}
-use Rattle.ark_math.proofs.Formats.Modes.{keeps_in_lists, keeps_by_fields}
-use Rattle.ark_math.proofs.Formats.OneToOne.{list_shows, list_tells, lawful_shows}
+use Rattle.ark_math_formats.specs.Format.{Format, IsFormat, IsOneToOne, KeepsAlike, Tells, list, stored}
+use Rattle.ark_math_formats.proofs.Formats.Ends.{list_is_format, lawful_is_format}
+use Rattle.ark_math_formats.proofs.Formats.Modes.{keeps_in_lists, keeps_by_fields}
+use Rattle.ark_math_formats.proofs.Formats.OneToOne.{list_shows, list_tells, lawful_shows}
 use Rattle.ark_fiat_shamir.specs.declared.proof.SumCheckProof.{SumCheckProof}
 use Rattle.ark_fiat_shamir.specs.Sent.{sent}
 

@@ -1,11 +1,10 @@
 -- Rings and modules: equations by computation, sums, powers, inverses of many values.
 pub mod Groups
-pub mod Inversions
-pub mod Permuted
 pub mod Powers
 pub mod Regrouped
 pub mod Ring
 pub mod Signed
 pub mod Solve
 pub mod Sums
-pub mod WordPowers
+pub mod NonZero
+pub mod Products

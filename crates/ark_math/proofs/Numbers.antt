@@ -1,10 +1,6 @@
 -- Natural numbers: bits read backwards, primes, division, powers of two, residues and powers under a modulus, multiples.
-pub mod BitReversal
-pub mod Euclid
 pub mod Factors
 pub mod GreatestPowers
-pub mod Multiples
-pub mod PowerMod
 pub mod PowersOfTwo
 pub mod Prime
-pub mod Residues
+pub mod Search

@@ -1,5 +1,2 @@
--- Roots of unity: their order, those that a generator gives, sums of their powers.
-pub mod Generator
+-- Orders of roots of unity.
 pub mod Order
-pub mod Orthogonal
-pub mod Roots

@@ -1,2 +1,3 @@
-//! The mathematics of fields, modules, domains and transforms: definitions (`specs/`) and lemmas (`proofs/`), no code.
+//! The mathematics of fields, modules, domains and transforms: definitions (`specs/`) and the lemmas (`proofs/`) that
+//! the lowest crates cite, no code.
 #![tactic(auto)]

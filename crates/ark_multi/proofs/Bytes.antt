@@ -7,10 +7,10 @@ use Rattle.std.specs.declared.cmp.Ordering.{Ordering}
 use Rattle.std.specs.declared.cmp.Ordering.TheVariants.{Less, Equal, Greater}
 use Rattle.std.proofs.lemmas.Bool.{true≢false}
 use Rattle.std.proofs.lemmas.List.{length-map}
-use Rattle.ark_math.specs.Format.{Format, IsFormat, Tells, IsOneToOne, lawful, ◌⊗◌}
+use Rattle.ark_math_formats.specs.Format.{Format, IsFormat, Tells, IsOneToOne, lawful, ◌⊗◌}
 use Rattle.ark_math.specs.Field.{FieldOn, IsField}
-use Rattle.ark_math.specs.Term.{IsWithin}
-use Rattle.ark_math.proofs.Polynomials.TermLists.{keyed}
+use Rattle.ark_math_variables.specs.Term.{IsWithin}
+use Rattle.ark_multi.specs.TermLists.{keyed}
 use Rattle.ark_multi.specs.SortedTerms.{AreTerms}
 use Rattle.ark_multi.proofs.SortedTerms.{IsTermOrder, rising_like, All_like}
 use Rattle.ark_bytes.specs.Reading.{SourceState, TakesSpelling, TakesFault, Refuses}

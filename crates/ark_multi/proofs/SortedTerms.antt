@@ -18,14 +18,14 @@ use denote.Param.Members.{Mut}
 use denote.Ref.{Bor}
 use Rattle.ark_math.specs.Field.{FieldOn, IsField}
 use Rattle.ark_math.specs.Univariate.{nothing, added, scaled}
-use Rattle.ark_math.specs.Multivariate.{single, sum_at, of_listed}
-use Rattle.ark_math.specs.Term.{IsTerm, IsOnePower, IsWithin, term_value, total_degree}
+use Rattle.ark_math_variables.specs.Multivariate.{single, sum_at, of_listed}
+use Rattle.ark_math_variables.specs.Term.{IsTerm, IsOnePower, IsWithin, term_value, total_degree}
 use Rattle.ark_multi.specs.SortedTerms.{AreRising, IsLeastTerm}
 use Rattle.ark_math.proofs.Algebra.Groups.{itself_is_module, zero_plus, plus_swap, scale_zero}
-use Rattle.ark_math.proofs.Polynomials.Univariate.{coefficients_are_module}
-use Rattle.ark_math.proofs.Polynomials.Multivariate.{single-same, single-other, single-zero, single-added, single-scaled, sum_at-push}
-use Rattle.ark_math.proofs.Polynomials.Terms.{IsWithin-more, total_degree-cons}
-use Rattle.ark_math.proofs.Polynomials.TermLists.{keyed, keyed-push}
+use Rattle.ark_math_polynomials.proofs.Polynomials.Univariate.{coefficients_are_module}
+use Rattle.ark_math_variables.proofs.Polynomials.Multivariate.{single-same, single-other, single-zero, single-added, single-scaled, sum_at-push}
+use Rattle.ark_math_variables.proofs.Polynomials.Terms.{IsWithin-more, total_degree-cons}
+use Rattle.ark_multi.specs.TermLists.{keyed, keyed-push}
 
 -- ---- tests of a term's list
 

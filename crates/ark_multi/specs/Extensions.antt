@@ -2,7 +2,7 @@
 use Rattle.std.specs.Prelude.{ℕ, ◌^◌, List, map}
 use Rattle.ark_math.specs.Field.{FieldOn}
 use Rattle.ark_math.specs.Module.{tabulate}
-use Rattle.ark_math.specs.Multilinear.{Table}
+use Rattle.ark_math_variables.specs.Multilinear.{Table}
 use Rattle.ark_math.specs.Univariate.{of_list, of_pairs}
 use Rattle.ark_multi.specs.declared.multilinear.dense.DenseMultilinearExtension.{DenseMultilinearExtension}
 use Rattle.ark_multi.specs.declared.multilinear.sparse.SparseMultilinearExtension.{SparseMultilinearExtension}

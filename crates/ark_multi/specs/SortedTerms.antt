@@ -5,8 +5,8 @@ use Rattle.std.specs.declared.cmp.Ordering.{Ordering}
 use Rattle.std.specs.declared.cmp.Ordering.TheVariants.{Less}
 use Rattle.ark_math.specs.Field.{FieldOn}
 use Rattle.ark_math.specs.Univariate.{added, scaled}
-use Rattle.ark_math.specs.Multivariate.{single, of_listed}
-use Rattle.ark_math.specs.Term.{IsWithin}
+use Rattle.ark_math_variables.specs.Multivariate.{single, of_listed}
+use Rattle.ark_math_variables.specs.Term.{IsWithin}
 
 -- strictly rising terms with coefficients that aren't zero
 pub record AreRising {F T : Type 0} (K : FieldOn F) (cmp : T → T → Ordering) (cs : List (F × T)) : Type 0 where

@@ -4,8 +4,8 @@ ghost use Rattle.std.specs.Prelude.{◌≡◌, ◌≢◌, ◌↔◌, ◌≤◌, 
 ghost use Rattle.std.specs.Prelude.{IfOk, IsOkUnless, Vec};
 ghost use Rattle.std.specs.declared.alloc.Global.{Global};
 ghost use Rattle.std.specs.declared.cmp.Ordering.{Ordering};
-ghost use Rattle.ark_math.specs.Term.{IsOnePower, IsWithin};
-ghost use Rattle.ark_math.specs.Multivariate.{each_listed, of_listed, of_terms, IsTotalDegree, IsValueAt};
+ghost use Rattle.ark_math_variables.specs.Term.{IsOnePower, IsWithin};
+ghost use Rattle.ark_math_variables.specs.Multivariate.{each_listed, of_listed, of_terms, IsTotalDegree, IsValueAt};
 ghost use Rattle.ark_math.specs.Forms.{IsEmbedding, IsShown};
 ghost use Rattle.ark_math.specs.Univariate.{coefficient_operations};
 

@@ -1,2 +1,3 @@
 -- Numbers carry a field's operations to those of its numbers, and so every answer.
 pub mod Values
+pub mod CarriedExtensions

@@ -8,16 +8,17 @@ use Rattle.ark_math.specs.Prime.{IsPrime}
 use Rattle.ark_math.specs.Root.{Adicity, AreRoots}
 use Rattle.ark_math.specs.Domain.{Kind, Domain, HasNoSize, IsDomain}
 use Rattle.ark_math.specs.Transform.{transform, value_at, IsInverse}
-use Rattle.ark_math.specs.AtPoints.{HasValues}
-use Rattle.ark_math.proofs.Polynomials.UnivariateValues.{value_of_list}
-use Rattle.ark_math.specs.Multilinear.{extension}
+use Rattle.ark_math_points.specs.AtPoints.{HasValues}
+use Rattle.ark_math_polynomials.proofs.Polynomials.UnivariateValues.{value_of_list}
+use Rattle.ark_math_variables.specs.Multilinear.{extension}
 use Rattle.ark_math.specs.Univariate.{of_list, product, nothing, IsTrimmed, IsQuotient}
 use Rattle.ark_math.proofs.Algebra.Groups.{itself_is_module}
-use Rattle.ark_math.proofs.Polynomials.Trimmed.{trim-same, trim-trimmed}
-use Rattle.ark_math.proofs.Polynomials.UnivariateLists.{same_trimmed, trimmed_nothing}
-use Rattle.ark_math.proofs.Transforms.Carried.{Carries, carried, power-carried, value_at-carried, transform-carried, IsInverse-carried, of_list-carried, product-carried, extension-carried, IsQuotient-carried}
-use Rattle.ark_math.proofs.Callers.Transforms.{transform-meanings, inverse-meanings, transform-length}
-use Rattle.ark_math.proofs.Domains.GeneralSizes.{general_fits}
+use Rattle.ark_math_polynomials.proofs.Polynomials.Trimmed.{trim-same, trim-trimmed}
+use Rattle.ark_math_polynomials.proofs.Polynomials.UnivariateLists.{same_trimmed, trimmed_nothing}
+use Rattle.ark_math_transforms.proofs.Transforms.Carried.{Carries, carried, power-carried, value_at-carried, transform-carried, IsInverse-carried, of_list-carried, product-carried, IsQuotient-carried}
+use Rattle.ark_numbers.proofs.CarriedExtensions.{extension-carried}
+use Rattle.ark_math_domains.proofs.Callers.Transforms.{transform-meanings, inverse-meanings, transform-length}
+use Rattle.ark_math_transforms.proofs.Domains.GeneralSizes.{general_fits}
 use mathlib.Core.Path.{fun_ext}
 use Rattle.std.proofs.lemmas.Bool.Decides.{Decides-eqb}
 use Rattle.std.proofs.lemmas.List.{length-map, ext_get_or, get_or-map}

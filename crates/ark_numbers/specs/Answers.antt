@@ -5,7 +5,7 @@ use Rattle.ark_math.specs.Module.{itself}
 use Rattle.ark_math.specs.Root.{Adicity}
 use Rattle.ark_math.specs.Domain.{Kind, radix2, Domain, HasNoSize, IsSize, IsGeneral}
 use Rattle.ark_math.specs.Transform.{transform, IsInverse}
-use Rattle.ark_math.specs.NormalForms.{trim}
+use Rattle.ark_math_polynomials.specs.NormalForms.{trim}
 use Rattle.ark_math.specs.Univariate.{of_list, product, IsTrimmed, IsQuotient}
 use Rattle.ark_numbers.specs.Fields.{Known, operations, reduced}
 

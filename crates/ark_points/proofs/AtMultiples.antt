@@ -5,9 +5,9 @@ use Rattle.ark_math.specs.Module.{itself}
 use Rattle.ark_math.specs.Univariate.{IsBelow, IsValue, value_below}
 use Rattle.ark_math.proofs.Algebra.Powers.{power-times, times_zero}
 use Rattle.ark_math.proofs.Algebra.Sums.{sum_below-same}
-use Rattle.ark_math.specs.AtPoints.{AreDifferent, HasRepeated, HasValues, IsThrough, x_of, y_of}
+use Rattle.ark_math_points.specs.AtPoints.{AreDifferent, HasRepeated, HasValues, IsThrough, x_of, y_of}
 use Rattle.ark_points.specs.Steps.{ArePairsMoved, at_multiple}
-use Rattle.ark_math.proofs.AtPoints.Newton.{only_interpolation}
+use Rattle.ark_math_points.proofs.AtPoints.Newton.{only_interpolation}
 
 module _ {F : Type 0} (K : FieldOn F) (N : IsField K) where
   at_multiple-below : (c : F) (n : ℕ) (a : ℕ → F) → IsBelow K n a → IsBelow K n (at_multiple K c a)

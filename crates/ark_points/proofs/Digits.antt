@@ -2,12 +2,12 @@
 use Rattle.std.proofs.Common.{◌≡◌, ℕ, ◌+◌, ◌*◌, ◌<◌, List, sym, ap, subst, ◌∙◌, refl}
 use Rattle.ark_math.specs.Domain.{Domain, element}
 use Rattle.ark_math.specs.Field.{FieldOn, IsField, power}
-use Rattle.ark_math.specs.Points.{AreValues}
+use Rattle.ark_math_domains.specs.Points.{AreValues}
 use Rattle.ark_math.specs.Univariate.{IsValue, of_list}
 use Rattle.ark_math.proofs.Algebra.Powers.{power-add, power-mul, powers_inverse}
 use Rattle.ark_math.proofs.Algebra.Ring.{ring3}
 use Rattle.ark_math.proofs.Algebra.Solve.{◌⊗◌}
-use Rattle.ark_math.proofs.OverDomains.PlaceValues.{values-item}
+use Rattle.ark_math_domains.proofs.OverDomains.PlaceValues.{values-item}
 
 module _ {F : Type 0} (K : FieldOn F) (N : IsField K) where
   pub lowest_digit : (x y z root inverse : F) (digit base place : ℕ) → K.times root inverse ≡ K.one → y ≡ K.times x (power K inverse digit) → y ≡ K.times z (power K (power K root base) place) → x ≡ K.times z (power K root (digit + base * place))

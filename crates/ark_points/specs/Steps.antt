@@ -1,7 +1,7 @@
 -- Words of the private steps.
 use Rattle.std.specs.Prelude.{◌≡◌, ℕ, ◌<◌, List, length}
 use Rattle.ark_math.specs.Field.{FieldOn, power}
-use Rattle.ark_math.specs.AtPoints.{x_of, y_of}
+use Rattle.ark_math_points.specs.AtPoints.{x_of, y_of}
 
 -- a at c * x, as a polynomial in x
 abbrev pub at_multiple : {F : Type 0} → FieldOn F → F → (ℕ → F) → ℕ → F

@@ -1,14 +1,14 @@
 //! Division by x - z.
 
 ghost use Rattle.std.specs.Prelude.{◌≡◌, ℕ, ◌+◌, drop, IfOk, IsOkUnless};
-ghost use Rattle.ark_math.specs.Linear.{constant, linear_factor};
+ghost use Rattle.ark_math_polynomials.specs.Linear.{constant, linear_factor};
 ghost use Rattle.ark_math.specs.Module.{itself};
 ghost use Rattle.ark_math.specs.Transform.{value_at};
 ghost use Rattle.ark_math.specs.Univariate.{IsBelow, IsValue, added, of_list, product};
 
-use ark_base::{Field, PolyError};
-use ark_poly::DenseUVPolynomial;
-use ark_poly::univariate::DensePolynomial;
+use ark_traits::{Field, PolyError};
+use ark_univariate::DenseUVPolynomial;
+use ark_univariate::polynomial::univariate::DensePolynomial;
 use std::alloc::Global;
 
 /// The quotient of a polynomial by x - z, and its value at the point z, which is what the division leaves: by Horner's

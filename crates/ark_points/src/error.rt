@@ -2,7 +2,7 @@
 
 ghost use Rattle.std.specs.Prelude.{◌≡◌};
 
-use ark_base::PolyError;
+use ark_traits::PolyError;
 use std::alloc::{AllocError, AllocFailed};
 use thiserror::Error;
 

@@ -1,11 +1,11 @@
 //! The polynomial through given points.
 
 ghost use Rattle.std.specs.Prelude.{◌≡◌, ◌≢◌, ℕ, ◌<◌, length, map, IfOk, IsOkUnless, Err};
-ghost use Rattle.ark_math.specs.Linear.{linear_factor};
+ghost use Rattle.ark_math_polynomials.specs.Linear.{linear_factor};
 ghost use Rattle.ark_math.specs.Outcome.{IsOkUnlessEither};
 ghost use Rattle.ark_math.specs.Univariate.{IsBelow, of_list};
-ghost use Rattle.ark_math.specs.AtPoints.{AreDifferent, HasRepeated, HasValues, IsThrough, x_of, y_of};
-ghost use Rattle.ark_math.specs.Nodes.{nodes};
+ghost use Rattle.ark_math_points.specs.AtPoints.{AreDifferent, HasRepeated, HasValues, IsThrough, x_of, y_of};
+ghost use Rattle.ark_math_polynomials.specs.Nodes.{nodes};
 ghost use Rattle.ark_subproducts.specs.Tree.{IsTreeOver, derived};
 
 use crate::error::PointsError;
@@ -14,10 +14,10 @@ use crate::moved::{moved_pairs, with_powers};
 use crate::pairs::first_parts;
 use crate::repeated::has_repeated;
 use crate::values::values_with_tree;
-use ark_base::{FftField, Field, PolyError, Polynomial, batch_inversion};
-use ark_blocks::items::has_zero;
-use ark_poly::univariate::DensePolynomial;
-use ark_poly::{DenseUVPolynomial, EvaluationDomain, GeneralEvaluationDomain};
+use ark_traits::{FftField, Field, PolyError, Polynomial, batch_inversion};
+use ark_bit_reversed::items::has_zero;
+use ark_univariate::polynomial::univariate::DensePolynomial;
+use ark_univariate::{DenseUVPolynomial, EvaluationDomain, GeneralEvaluationDomain};
 use ark_subproducts::{SubproductTree, constant};
 use std::alloc::{AllocError, Global};
 

@@ -3,14 +3,14 @@
 ghost use Rattle.std.specs.Prelude.{◌≡◌, ◌≤◌, length, map, Err, IfOk};
 ghost use Rattle.ark_math.specs.Outcome.{IsOkUnlessEither};
 ghost use Rattle.ark_math.specs.Univariate.{of_list};
-ghost use Rattle.ark_math.specs.AtPoints.{HasRepeated, x_of};
+ghost use Rattle.ark_math_points.specs.AtPoints.{HasRepeated, x_of};
 
 use crate::error::PointsError;
 use crate::interpolation::from_points;
 use crate::pairs::{first_parts, paired};
 use crate::values::evaluate_at;
-use ark_base::FftField;
-use ark_poly::univariate::DensePolynomial;
+use ark_traits::FftField;
+use ark_univariate::polynomial::univariate::DensePolynomial;
 use std::alloc::Global;
 
 /// The polynomial through a polynomial's values at points, which are no fewer than its coefficients: the same one.

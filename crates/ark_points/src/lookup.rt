@@ -7,14 +7,14 @@
 
 ghost use Rattle.std.specs.Prelude.{◌≡◌, ℕ, ◌<◌, ◌↔◌, ◌⊎◌, length, get_or, IfOk, IfSome, IsOkUnless, IsTrue};
 ghost use Rattle.ark_math.specs.Field.{power};
-ghost use Rattle.ark_math.specs.Points.{AreValues};
+ghost use Rattle.ark_math_domains.specs.Points.{AreValues};
 ghost use Rattle.ark_math.specs.Univariate.{IsValue, of_list};
-ghost use Rattle.ark_math.specs.AtPoints.{AreValuesAt};
+ghost use Rattle.ark_math_points.specs.AtPoints.{AreValuesAt};
 
 use crate::places::take_places;
-use ark_base::{FftField, Field, PolyError, Polynomial};
-use ark_poly::univariate::DensePolynomial;
-use ark_poly::{DenseUVPolynomial, EvaluationDomain, Evaluations};
+use ark_traits::{FftField, Field, PolyError, Polynomial};
+use ark_univariate::polynomial::univariate::DensePolynomial;
+use ark_univariate::{DenseUVPolynomial, EvaluationDomain, Evaluations};
 use std::alloc::Global;
 
 // A domain that is so many times twice as large as one for the points and coefficients still serves.

@@ -2,9 +2,9 @@
 
 ghost use Rattle.std.specs.Prelude.{◌≡◌, ◌↔◌, ℕ, ◌<◌, ◌≤◌, length, IsTrue};
 ghost use Rattle.ark_math.specs.Univariate.{of_list};
-ghost use Rattle.ark_math.specs.AtPoints.{HasRepeated};
+ghost use Rattle.ark_math_points.specs.AtPoints.{HasRepeated};
 
-use ark_base::Field;
+use ark_traits::Field;
 
 /// Whether two of the points are one. It compares each two of them, and takes no memory.
 pub fn has_repeated<F: Field>(points: &[F]) -> bool

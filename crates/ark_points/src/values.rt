@@ -2,14 +2,14 @@
 
 ghost use Rattle.std.specs.Prelude.{◌≡◌, ◌<◌, length, IfOk, IsOkUnless};
 ghost use Rattle.ark_math.specs.Univariate.{of_list};
-ghost use Rattle.ark_math.specs.AtPoints.{AreValuesAt, HasValues};
+ghost use Rattle.ark_math_points.specs.AtPoints.{AreValuesAt, HasValues};
 ghost use Rattle.ark_subproducts.specs.Tree.{IsTreeOver};
 
 use crate::lookup::values_by_lookup;
-use ark_base::{FftField, PolyError};
-use ark_blocks::BlockRoots;
-use ark_poly::univariate::DensePolynomial;
-use ark_poly::{DenseUVPolynomial, EvaluationDomain, GeneralEvaluationDomain};
+use ark_traits::{FftField, PolyError};
+use ark_bit_reversed::BlockRoots;
+use ark_univariate::polynomial::univariate::DensePolynomial;
+use ark_univariate::{DenseUVPolynomial, EvaluationDomain, GeneralEvaluationDomain};
 use ark_subproducts::{SubproductTree, naive_evaluate_at, remainder, values_by_table};
 use std::alloc::Global;
 

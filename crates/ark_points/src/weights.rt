@@ -3,12 +3,12 @@
 ghost use Rattle.std.specs.Prelude.{◌≡◌, ℕ, ◌<◌, List, length, IfOk, Err};
 ghost use Rattle.ark_math.specs.Outcome.{IsOkUnlessEither};
 ghost use Rattle.ark_math.specs.Univariate.{of_list};
-ghost use Rattle.ark_math.specs.AtPoints.{AreDifferent, AreWeightsAt, HasRepeated};
-ghost use Rattle.ark_math.specs.AtPoints.{differences};
+ghost use Rattle.ark_math_points.specs.AtPoints.{AreDifferent, AreWeightsAt, HasRepeated};
+ghost use Rattle.ark_math_points.specs.AtPoints.{differences};
 
 use crate::error::PointsError;
 use crate::repeated::has_repeated;
-use ark_base::{Field, batch_inversion};
+use ark_traits::{Field, batch_inversion};
 use std::alloc::{AllocError, Global};
 
 /// How much the value at each of the points counts at `tau`: for every polynomial of a degree below the number of points

@@ -9,3 +9,4 @@ pub use Rattle.ark_multi.specs.Extensions
 pub use Rattle.ark_univariate.specs.declared.polynomial.univariate.dense_or_sparse.DenseOrSparsePolynomial
 pub use Rattle.ark_multi.specs.declared.multilinear.dense.DenseMultilinearExtension
 pub use Rattle.ark_multi.specs.declared.multilinear.sparse.SparseMultilinearExtension
+pub mod Rows

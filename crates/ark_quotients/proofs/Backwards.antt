@@ -9,9 +9,9 @@ use Rattle.ark_math.proofs.Algebra.Groups.{itself_is_module, zero_scale}
 use Rattle.ark_math.proofs.Algebra.Powers.{times_zero}
 use Rattle.ark_math.proofs.Algebra.Solve.{◌⊞◌, ◌⊟◌}
 use Rattle.ark_math.proofs.Algebra.Ring.{module0_2}
-use Rattle.ark_math.proofs.Polynomials.Univariate.{coefficients_are_module, monomial-same, monomial-other, same_below, difference-below, nothing-below}
-use Rattle.ark_math.proofs.Polynomials.UnivariateLoops.{cut, cut-inside, cut-outside, cut-none, cut-all, cut-more}
-use Rattle.ark_math.proofs.Polynomials.UnivariateProducts.{product_assoc, product_comm, added-product, one-product, nothing-product, product-below, monomial-product_past, monomial-product_before}
+use Rattle.ark_math_polynomials.proofs.Polynomials.Univariate.{coefficients_are_module, monomial-same, monomial-other, same_below, difference-below, nothing-below}
+use Rattle.ark_math_polynomials.proofs.Polynomials.UnivariateLoops.{cut, cut-inside, cut-outside, cut-none, cut-all, cut-more}
+use Rattle.ark_math_polynomials.proofs.Polynomials.UnivariateProducts.{product_assoc, product_comm, added-product, one-product, nothing-product, product-below, monomial-product_past, monomial-product_before}
 use Rattle.ark_quotients.proofs.PowerSeries.{agree-product}
 
 module _ {F : Type 0} (K : FieldOn F) where

@@ -2,8 +2,8 @@
 use Rattle.std.proofs.Common.{ℕ, arith}
 use Rattle.ark_math.specs.Field.{FieldOn, IsField}
 use Rattle.ark_math.specs.Univariate.{IsBelow}
-use Rattle.ark_math.proofs.Polynomials.UnivariateLists.{of_list-past}
-use Rattle.ark_math.proofs.Polynomials.UnivariatePairs.{of_pairs-absent}
+use Rattle.ark_math_polynomials.proofs.Polynomials.UnivariateLists.{of_list-past}
+use Rattle.ark_math_polynomials.proofs.Polynomials.UnivariatePairs.{of_pairs-absent}
 use Rattle.ark_quotients.specs.Divisors.{denoted, StandBelow}
 use Rattle.ark_quotients.specs.declared.division.Coefficients.{Coefficients}
 use Rattle.ark_quotients.specs.declared.division.Coefficients.TheVariants.{Listed, Terms}

@@ -2,3 +2,5 @@
 pub mod Backwards
 pub mod Divisors
 pub mod PowerSeries
+pub mod ConvertedLists
+pub mod LongDivision

@@ -12,8 +12,8 @@ use Rattle.ark_math.proofs.Algebra.Sums.{sum_below-same}
 use Rattle.ark_math.proofs.Algebra.Regrouped.{sum_below-zero}
 use Rattle.ark_math.proofs.Algebra.Solve.{◌⊞◌, ◌⊟◌, ◌⊖◌, nought}
 use Rattle.ark_math.proofs.Algebra.Ring.{ring1, module0_3}
-use Rattle.ark_math.proofs.Polynomials.Univariate.{coefficients_are_module, monomial-same, monomial-other}
-use Rattle.ark_math.proofs.Polynomials.UnivariateProducts.{product_assoc, product_comm, product-difference, added-product, one-product, monomial-product_past, monomial-product_before}
+use Rattle.ark_math_polynomials.proofs.Polynomials.Univariate.{coefficients_are_module, monomial-same, monomial-other}
+use Rattle.ark_math_polynomials.proofs.Polynomials.UnivariateProducts.{product_assoc, product_comm, product-difference, added-product, one-product, monomial-product_past, monomial-product_before}
 
 module _ {F : Type 0} (K : FieldOn F) where
   pub agree-product : (n : ℕ) (a b c d : ℕ → F) → AgreeBelow n a b → AgreeBelow n c d → AgreeBelow n (product K a c) (product K b d)

@@ -5,7 +5,7 @@ use Rattle.ark_math.specs.Field.{FieldOn}
 use Rattle.ark_math.specs.Module.{ModuleOn}
 use Rattle.ark_math.specs.Domain.{Domain}
 use Rattle.ark_math.specs.Transform.{transform, IsInverse}
-use Rattle.ark_math.proofs.Transforms.Carried.{IsLinear, same_carries, transform-linear, fit-linear}
+use Rattle.ark_math_transforms.proofs.Transforms.Carried.{IsLinear, same_carries, transform-linear, fit-linear}
 use Rattle.ark_rows.specs.Lanewise.{lane, lanewise}
 
 lane_linear : {F M : Type 0} (V : ModuleOn F M) (i : ℕ) → IsLinear (λ x. x) (lanewise V) V (λ r. r i)

@@ -5,12 +5,12 @@ use Rattle.ark_math.specs.Module.{itself, sum_below}
 use Rattle.ark_math.specs.Univariate.{IsBelow, IsValue, of_list, value_below}
 use Rattle.ark_math.proofs.Algebra.Ring.{ring2}
 use Rattle.ark_math.proofs.Algebra.Solve.{◌⊗◌, ◌⊕◌, nought}
-use Rattle.ark_math.proofs.Polynomials.Univariate.{IsBelow-more}
-use Rattle.ark_math.proofs.Polynomials.UnivariateLists.{of_list-below}
-use Rattle.ark_math.proofs.Polynomials.UnivariateValues.{one_value, value_below-first}
-use Rattle.ark_math.specs.AtPoints.{AreDifferent, AreWeightsAt, HasValues}
-use Rattle.ark_math.proofs.AtPoints.Newton.{only_interpolation, some_interpolation}
-use Rattle.ark_math.proofs.AtPoints.Lagrange.{weighted_values}
+use Rattle.ark_math_polynomials.proofs.Polynomials.Univariate.{IsBelow-more}
+use Rattle.ark_math_polynomials.proofs.Polynomials.UnivariateLists.{of_list-below}
+use Rattle.ark_math_polynomials.proofs.Polynomials.UnivariateValues.{one_value, value_below-first}
+use Rattle.ark_math_points.specs.AtPoints.{AreDifferent, AreWeightsAt, HasValues}
+use Rattle.ark_math_points.proofs.AtPoints.Newton.{only_interpolation, some_interpolation}
+use Rattle.ark_math_points.proofs.AtPoints.Lagrange.{weighted_values}
 use Rattle.ark_sharing.specs.Sharing.{AreNotZero, IsSharing}
 
 -- one value before others

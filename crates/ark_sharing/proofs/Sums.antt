@@ -7,10 +7,10 @@ use Rattle.ark_math.specs.Field.{FieldOn, IsField, minus}
 use Rattle.ark_math.specs.Univariate.{IsValue, added, difference, of_list, scaled}
 use Rattle.ark_math.proofs.Algebra.Ring.{ring1, ring2}
 use Rattle.ark_math.proofs.Algebra.Solve.{◌⊕◌, ◌⊖◌, nought}
-use Rattle.ark_math.proofs.Polynomials.Univariate.{added-below, difference-below, scaled-below}
-use Rattle.ark_math.proofs.Polynomials.UnivariateValues.{value-added, value-difference, value-scaled}
-use Rattle.ark_math.specs.AtPoints.{AreDifferent, x_of, y_of}
-use Rattle.ark_math.proofs.AtPoints.PairParts.{x_of_is}
+use Rattle.ark_math_polynomials.proofs.Polynomials.Univariate.{added-below, difference-below, scaled-below}
+use Rattle.ark_math_polynomials.proofs.Polynomials.UnivariateValues.{value-added, value-difference, value-scaled}
+use Rattle.ark_math_points.specs.AtPoints.{AreDifferent, x_of, y_of}
+use Rattle.ark_math_points.proofs.AtPoints.PairParts.{x_of_is}
 use Rattle.ark_sharing.specs.Sharing.{AreNotZero, AreOneToOne, AreShares, IsSharing, IsSharingWith, added_shares, scaled_shares}
 use Rattle.ark_sharing.proofs.Secrets.{sharing_more, some_sharing}
 

@@ -2,7 +2,7 @@
 use Rattle.std.specs.Prelude.{◌≡◌, ◌≢◌, ℕ, ◌<◌, List, [], ◌∷◌, length, map, zip}
 use Rattle.ark_math.specs.Field.{FieldOn}
 use Rattle.ark_math.specs.Univariate.{IsBelow, IsValue}
-use Rattle.ark_math.specs.AtPoints.{HasValues, x_of, y_of}
+use Rattle.ark_math_points.specs.AtPoints.{HasValues, x_of, y_of}
 
 -- a is a polynomial below k, and its value at zero is the secret
 pub record IsSharing {F : Type 0} (K : FieldOn F) (k : ℕ) (secret : F) (a : ℕ → F) : Type 0 where

@@ -2,7 +2,7 @@
 
 ghost use Rattle.std.specs.Prelude.{◌≡◌};
 
-use ark_base::PolyError;
+use ark_traits::PolyError;
 use ark_points::PointsError;
 use std::alloc::{AllocError, AllocFailed};
 use thiserror::Error;

@@ -3,11 +3,11 @@
 
 ghost use Rattle.std.specs.Prelude.{◌≡◌, ℕ, ◌+◌, ◌<◌, length, map};
 ghost use Rattle.ark_math.specs.Univariate.{added, scaled};
-ghost use Rattle.ark_math.specs.AtPoints.{AreDifferent, x_of};
+ghost use Rattle.ark_math_points.specs.AtPoints.{AreDifferent, x_of};
 ghost use Rattle.ark_sharing.specs.Sharing.{AreNotZero, AreOneToOne, AreShares, IsSharing, IsSharingWith};
 ghost use Rattle.ark_sharing.specs.Sharing.{added_shares, scaled_shares};
 
-use ark_base::Field;
+use ark_traits::Field;
 
 /// A law: for every `k - 1` shares at different points, none of them zero, and for every secret there is
 /// exactly one polynomial below `k` with these shares and that secret. So `k - 1` shares exclude no secret,

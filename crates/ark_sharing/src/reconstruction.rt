@@ -4,11 +4,11 @@ ghost use Rattle.std.specs.Prelude.{◌≡◌, ℕ, ◌≤◌, length, Err, IfOk
 ghost use Rattle.ark_math.specs.Module.{itself, sum_below};
 ghost use Rattle.ark_math.specs.Outcome.{IsOkUnlessEither};
 ghost use Rattle.ark_math.specs.Univariate.{of_list};
-ghost use Rattle.ark_math.specs.AtPoints.{AreDifferent, HasRepeated, x_of, y_of};
+ghost use Rattle.ark_math_points.specs.AtPoints.{AreDifferent, HasRepeated, x_of, y_of};
 ghost use Rattle.ark_sharing.specs.Sharing.{AreShares, IsSharing};
 
 use crate::error::SharingError;
-use ark_base::Field;
+use ark_traits::Field;
 use ark_points::{PointsError, first_parts, weights_at};
 use std::alloc::Global;
 

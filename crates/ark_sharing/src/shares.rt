@@ -4,16 +4,16 @@ ghost use Rattle.std.specs.Prelude.{◌≡◌, ◌↔◌, ◌⊎◌, ℕ, ◌+�
 ghost use Rattle.std.specs.Prelude.{Err, IfErr, IfOk, OnOk, IsOkUnless};
 ghost use Rattle.ark_math.specs.Outcome.{IsOkUnlessEither};
 ghost use Rattle.ark_math.specs.Univariate.{of_list};
-ghost use Rattle.ark_math.specs.AtPoints.{AreDifferent, HasRepeated};
+ghost use Rattle.ark_math_points.specs.AtPoints.{AreDifferent, HasRepeated};
 ghost use Rattle.ark_math.specs.Draws.{AreDrawn};
 ghost use Rattle.ark_sharing.specs.Sharing.{AreNotZero, AreShares, HasZero, IsSharing};
 
 use crate::error::SharingError;
-use ark_base::Field;
-use ark_blocks::items::has_zero;
+use ark_traits::Field;
+use ark_bit_reversed::items::has_zero;
 use ark_points::{has_repeated, naive_evaluate_at, paired};
-use ark_poly::DenseUVPolynomial;
-use ark_poly::univariate::DensePolynomial;
+use ark_univariate::DenseUVPolynomial;
+use ark_univariate::polynomial::univariate::DensePolynomial;
 use rand::CryptoRng;
 use std::alloc::{AllocError, Global};
 

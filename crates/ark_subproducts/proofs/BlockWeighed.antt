@@ -2,7 +2,7 @@
 use Rattle.std.proofs.Common.{◌≡◌, ℕ, ◌≤◌, List, ◌++◌, length, sym, ap₂, subst, ◌∙◌, arith}
 use Rattle.ark_math.specs.Field.{FieldOn, IsField}
 use Rattle.ark_math.specs.Univariate.{IsBelow, added, of_list, product}
-use Rattle.ark_math.specs.Nodes.{nodes}
+use Rattle.ark_math_polynomials.specs.Nodes.{nodes}
 use Rattle.ark_subproducts.specs.Tree.{AreFactors, weighed}
 use Rattle.ark_subproducts.specs.declared.blocks.Factors.{Factors}
 use Rattle.ark_subproducts.proofs.Weighed.{weighed-below, weighed-parts}

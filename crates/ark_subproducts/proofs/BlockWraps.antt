@@ -2,11 +2,11 @@
 use Rattle.std.proofs.Common.{◌≡◌, ℕ, ◌+◌, ◌<◌, ◌≤◌, List, length, sym, ◌∙◌, ap, subst, arith}
 use Rattle.ark_math.specs.Field.{FieldOn, IsField}
 use Rattle.ark_math.specs.Univariate.{IsBelow, IsValue, added, of_list, product}
-use Rattle.ark_math.proofs.Polynomials.UnivariateLoops.{cut, cut-inside, cut-outside}
-use Rattle.ark_math.proofs.Polynomials.UnivariateProducts.{value-product}
-use Rattle.ark_math.proofs.Polynomials.UnivariateValues.{value-added}
-use Rattle.ark_blocks.specs.Blocks.{AreReversed, AreValuesFrom, IsPowerOfTwo}
-use Rattle.ark_blocks.proofs.Callers.Runs.{values_wrapped}
+use Rattle.ark_math_polynomials.proofs.Polynomials.UnivariateLoops.{cut, cut-inside, cut-outside}
+use Rattle.ark_math_polynomials.proofs.Polynomials.UnivariateProducts.{value-product}
+use Rattle.ark_math_polynomials.proofs.Polynomials.UnivariateValues.{value-added}
+use Rattle.ark_bit_reversed.specs.Blocks.{AreReversed, AreValuesFrom, IsPowerOfTwo}
+use Rattle.ark_bit_reversed.proofs.Callers.Runs.{values_wrapped}
 
 module _ {F : Type 0} (K : FieldOn F) (N : IsField K) where
   -- what has the values of a polynomial below start + n at n elements where x ^ n is one has its coefficients from start on

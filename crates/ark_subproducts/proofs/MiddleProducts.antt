@@ -3,13 +3,13 @@
 use Rattle.std.proofs.Common.{◌≡◌, ℕ, ◌+◌, ◌-◌, ◌/◌, ◌<◌, ◌≤◌, List, ◌++◌, length, take, drop, Vec, sym, ◌∙◌, ap, ap₂, subst, arith}
 use Rattle.std.proofs.lemmas.List.{take-append-drop}
 use Rattle.std.specs.declared.alloc.Global.{Global}
-use Rattle.ark_blocks.proofs.Callers.PowersOfTwo.{two_halves}
-use Rattle.ark_blocks.specs.Blocks.{AreFirstValues, size_of}
+use Rattle.ark_bit_reversed.proofs.Callers.PowersOfTwo.{two_halves}
+use Rattle.ark_bit_reversed.specs.Blocks.{AreFirstValues, size_of}
 use Rattle.ark_math.specs.Field.{FieldOn, IsField}
 use Rattle.ark_math.specs.Univariate.{IsBelow, of_list, product, scaled}
-use Rattle.ark_math.proofs.Polynomials.UnivariateLoops.{cut, cut-inside, cut-outside}
-use Rattle.ark_math.specs.Nodes.{nodes}
-use Rattle.ark_math.specs.AtPoints.{HasValues}
+use Rattle.ark_math_polynomials.proofs.Polynomials.UnivariateLoops.{cut, cut-inside, cut-outside}
+use Rattle.ark_math_polynomials.specs.Nodes.{nodes}
+use Rattle.ark_math_points.specs.AtPoints.{HasValues}
 use Rattle.ark_subproducts.specs.Tree.{AreValuesOver, HasMiddle, IsBlockTreeOver, IsHalfOf, IsMiddle, IsPart, IsScaledRemainderBefore, IsTreeOfPart, RepresentsMultiple}
 use Rattle.ark_subproducts.specs.declared.few.FewProducts.{FewProducts}
 use Rattle.ark_subproducts.specs.declared.halves.Part.{Part}

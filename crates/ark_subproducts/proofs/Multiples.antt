@@ -10,8 +10,8 @@ use Rattle.ark_math.proofs.Algebra.Powers.{times_zero}
 use Rattle.ark_math.proofs.Algebra.Ring.{ring3}
 use Rattle.ark_math.proofs.Algebra.Solve.{◌⊗◌, ◌⊕◌, unit}
 use Rattle.ark_math.proofs.Algebra.Sums.{sum_below-same, sum_below-scale}
-use Rattle.ark_math.proofs.Polynomials.UnivariateLists.{of_list-past}
-use Rattle.ark_math.proofs.Polynomials.UnivariateLoops.{cut, cut-inside, cut-outside}
+use Rattle.ark_math_polynomials.proofs.Polynomials.UnivariateLists.{of_list-past}
+use Rattle.ark_math_polynomials.proofs.Polynomials.UnivariateLoops.{cut, cut-inside, cut-outside}
 
 module _ {F : Type 0} (K : FieldOn F) (N : IsField K) where
   pub product-scaled : (c a : ℕ → F) (s : F) (j : ℕ) → product K c (scaled K s a) j ≡ K.times s (product K c a j)

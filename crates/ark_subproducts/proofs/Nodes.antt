@@ -4,23 +4,23 @@ use Rattle.std.specs.declared.alloc.Global.{Global}
 use Rattle.std.proofs.lemmas.Bool.{cases_lt}
 use Rattle.std.proofs.lemmas.List.{take-append-drop}
 use Rattle.ark_math.specs.Field.{FieldOn, IsField, minus}
-use Rattle.ark_math.specs.Linear.{linear_factor}
+use Rattle.ark_math_polynomials.specs.Linear.{linear_factor}
 use Rattle.ark_math.specs.Univariate.{IsBelow, IsTrimmed, IsValue, of_list, product, monomial}
 use Rattle.ark_math.proofs.Algebra.Solve.{◌⊗◌, ◌⊖◌, nought, unit}
 use Rattle.ark_math.proofs.Algebra.Ring.{ring1}
 use Rattle.ark_math.proofs.Lists.Lists.{tail}
-use Rattle.ark_math.proofs.Polynomials.Univariate.{monomial-below}
-use Rattle.ark_math.proofs.Polynomials.UnivariateLists.{of_list-below, of_list-past, trimmed_length}
-use Rattle.ark_math.proofs.Polynomials.UnivariateProducts.{product_comm, product_assoc, product-below, value-product}
-use Rattle.ark_math.proofs.Polynomials.UnivariateValues.{has_value}
-use Rattle.ark_math.proofs.Callers.Remainders.{linear_root, divided_root}
-use Rattle.ark_math.proofs.Polynomials.LinearFactors.{before, linear-product, nodes-joined}
-use Rattle.ark_math.specs.Nodes.{nodes}
+use Rattle.ark_math_polynomials.proofs.Polynomials.Univariate.{monomial-below}
+use Rattle.ark_math_polynomials.proofs.Polynomials.UnivariateLists.{of_list-below, of_list-past, trimmed_length}
+use Rattle.ark_math_polynomials.proofs.Polynomials.UnivariateProducts.{product_comm, product_assoc, product-below, value-product}
+use Rattle.ark_math_polynomials.proofs.Polynomials.UnivariateValues.{has_value}
+use Rattle.ark_math_polynomials.proofs.Callers.Remainders.{linear_root, divided_root}
+use Rattle.ark_math_polynomials.proofs.Polynomials.LinearFactors.{before, linear-product, nodes-joined}
+use Rattle.ark_math_polynomials.specs.Nodes.{nodes}
 use Rattle.ark_subproducts.specs.Tree.{HasRoom, IsEnd, Represents, IsHalved, IsMonic}
 use Rattle.ark_subproducts.specs.declared.few.FewProducts.{FewProducts}
 use Rattle.ark_subproducts.specs.declared.tree.Tree.{Tree}
 use Rattle.ark_subproducts.specs.declared.tree.Tree.TheVariants.{Few, Halves'}
-use Rattle.ark_blocks.specs.Blocks.{AreFirstValues}
+use Rattle.ark_bit_reversed.specs.Blocks.{AreFirstValues}
 
 module _ {F : Type 0} (K : FieldOn F) (N : IsField K) where
   pub nodes-below : (zs : List F) → IsBelow K (length zs + 1) (nodes K zs)

@@ -5,11 +5,11 @@ use Rattle.ark_math.specs.Module.{itself, sum_below}
 use Rattle.ark_math.specs.Univariate.{IsBelow, IsValue, of_list, product}
 use Rattle.ark_math.proofs.Algebra.Groups.{itself_is_module, zero_scale}
 use Rattle.ark_math.proofs.Algebra.Regrouped.{sum_below-past}
-use Rattle.ark_math.proofs.Polynomials.Univariate.{same_below}
-use Rattle.ark_math.proofs.Polynomials.UnivariateLists.{of_list-past}
-use Rattle.ark_math.proofs.Polynomials.UnivariateProducts.{product-below}
-use Rattle.ark_math.specs.Nodes.{nodes}
-use Rattle.ark_math.specs.AtPoints.{HasValues}
+use Rattle.ark_math_polynomials.proofs.Polynomials.Univariate.{same_below}
+use Rattle.ark_math_polynomials.proofs.Polynomials.UnivariateLists.{of_list-past}
+use Rattle.ark_math_polynomials.proofs.Polynomials.UnivariateProducts.{product-below}
+use Rattle.ark_math_polynomials.specs.Nodes.{nodes}
+use Rattle.ark_math_points.specs.AtPoints.{HasValues}
 use Rattle.ark_subproducts.specs.Tree.{IsScaledRemainder}
 use Rattle.ark_subproducts.proofs.Nodes.{cofactor, cofactor-below, cofactor-whole, nodes-below}
 use Rattle.ark_subproducts.proofs.ScaledRemainders.{remainder_at_leaf}

@@ -4,10 +4,10 @@ use Rattle.std.proofs.lemmas.Bool.{cases_lt}
 use Rattle.std.proofs.lemmas.List.{get_or-append_right, get_or_append_left, length-append}
 use Rattle.ark_math.specs.Field.{FieldOn, IsField}
 use Rattle.ark_math.specs.Univariate.{IsBelow, IsValue, of_list, product, scaled}
-use Rattle.ark_math.proofs.Polynomials.LinearFactors.{nodes-joined}
-use Rattle.ark_math.proofs.Polynomials.UnivariateProducts.{product_comm, product-below}
-use Rattle.ark_math.specs.AtPoints.{HasValues}
-use Rattle.ark_math.specs.Nodes.{nodes}
+use Rattle.ark_math_polynomials.proofs.Polynomials.LinearFactors.{nodes-joined}
+use Rattle.ark_math_polynomials.proofs.Polynomials.UnivariateProducts.{product_comm, product-below}
+use Rattle.ark_math_points.specs.AtPoints.{HasValues}
+use Rattle.ark_math_polynomials.specs.Nodes.{nodes}
 use Rattle.ark_subproducts.specs.Tree.{IsScaledRemainderBefore, IsScaledRemainder}
 use Rattle.ark_subproducts.proofs.Multiples.{product-scaled}
 use Rattle.ark_subproducts.proofs.Nodes.{nodes-below}

@@ -2,7 +2,7 @@
 use Rattle.std.proofs.Common.{◌≡◌, ℕ, suc, ◌+◌, ◌-◌, ◌<◌, List, [], ◌∷◌, length, refl, sym, ◌∙◌, ap, ap₂, subst, arith}
 use mathlib.Core.Path.{fun_ext}
 use Rattle.ark_math.specs.Field.{FieldOn, IsField, power}
-use Rattle.ark_math.specs.Linear.{linear_factor}
+use Rattle.ark_math_polynomials.specs.Linear.{linear_factor}
 use Rattle.ark_math.specs.Module.{itself, sum_below}
 use Rattle.ark_math.specs.Univariate.{IsBelow, IsValue, monomial, of_list, product, scaled, value_below}
 use Rattle.ark_math.proofs.Algebra.Groups.{itself_is_module, zero_plus}
@@ -11,15 +11,15 @@ use Rattle.ark_math.proofs.Algebra.Regrouped.{sum_below-first, sum_below-swap, s
 use Rattle.ark_math.proofs.Algebra.Ring.{ring3}
 use Rattle.ark_math.proofs.Algebra.Solve.{◌⊗◌}
 use Rattle.ark_math.proofs.Algebra.Sums.{sum_below-add, sum_below-same, sum_below-scale}
-use Rattle.ark_math.proofs.Polynomials.Univariate.{monomial-below}
-use Rattle.ark_math.proofs.Polynomials.UnivariateLists.{of_list-below}
-use Rattle.ark_math.proofs.Polynomials.UnivariateProducts.{one-product, product-added, product-below, product-nothing, product_assoc, product_comm}
-use Rattle.ark_math.proofs.Polynomials.UnivariateValues.{value_is}
+use Rattle.ark_math_polynomials.proofs.Polynomials.Univariate.{monomial-below}
+use Rattle.ark_math_polynomials.proofs.Polynomials.UnivariateLists.{of_list-below}
+use Rattle.ark_math_polynomials.proofs.Polynomials.UnivariateProducts.{one-product, product-added, product-below, product-nothing, product_assoc, product_comm}
+use Rattle.ark_math_polynomials.proofs.Polynomials.UnivariateValues.{value_is}
 use Rattle.ark_subproducts.proofs.Multiples.{product-scaled}
 use Rattle.ark_subproducts.proofs.Nodes.{nodes-below}
 use Rattle.ark_subproducts.proofs.ScaledRemainders.{quotient-item}
 use Rattle.ark_subproducts.specs.Steps.{power_sum}
-use Rattle.ark_math.specs.Nodes.{nodes}
+use Rattle.ark_math_polynomials.specs.Nodes.{nodes}
 use Rattle.ark_subproducts.specs.Tree.{weighed}
 
 module _ {F : Type 0} (K : FieldOn F) (N : IsField K) where

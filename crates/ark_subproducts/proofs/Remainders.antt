@@ -3,8 +3,8 @@ use Rattle.std.proofs.Common.{◌≡◌, ℕ, ◌/◌, ◌<◌, List, ◌++◌, 
 use Rattle.std.proofs.lemmas.List.{length-append, length-drop, length-take-le, take-append-drop}
 use Rattle.ark_math.specs.Field.{FieldOn, IsField}
 use Rattle.ark_math.specs.Univariate.{IsQuotient}
-use Rattle.ark_math.specs.Nodes.{nodes}
-use Rattle.ark_math.specs.AtPoints.{AreValuesAt}
+use Rattle.ark_math_polynomials.specs.Nodes.{nodes}
+use Rattle.ark_math_points.specs.AtPoints.{AreValuesAt}
 use Rattle.ark_subproducts.proofs.Callers.Values.{values_of_remainder}
 use Rattle.ark_subproducts.proofs.PointParts.{values-joined}
 

@@ -6,9 +6,9 @@ use Rattle.ark_math.specs.Univariate.{of_list}
 use Rattle.ark_math.proofs.Algebra.Powers.{power_even, times_zero, zero_factor}
 use Rattle.ark_math.proofs.Algebra.Ring.{ring2_by}
 use Rattle.ark_math.proofs.Algebra.Solve.{◌⊗◌, ◌⊕◌, ◌⊖◌, negative, nought}
-use Rattle.ark_blocks.specs.Blocks.{AreReversed, IsPowerOfTwo}
+use Rattle.ark_bit_reversed.specs.Blocks.{AreReversed, IsPowerOfTwo}
 use Rattle.ark_subproducts.specs.Steps.{AreOffRoots, ArePowers, IsOffRoot}
-use Rattle.ark_blocks.proofs.Callers.PowersOfTwo.{two_halves}
+use Rattle.ark_bit_reversed.proofs.Callers.PowersOfTwo.{two_halves}
 
 module _ {F : Type 0} (K : FieldOn F) (N : IsField K) where
   -- a root's square is one of half the order

@@ -2,7 +2,7 @@
 use Rattle.std.proofs.Common.{◌≡◌, ℕ, zero, suc, ◌+◌, ◌-◌, ◌<◌, ◌≤◌, [], ◌∷◌, refl, sym, ◌∙◌, ap, ap₂, subst, arith}
 use mathlib.Core.Path.{fun_ext}
 use Rattle.ark_math.specs.Field.{FieldOn, IsField, minus}
-use Rattle.ark_math.specs.Linear.{constant, linear_factor}
+use Rattle.ark_math_polynomials.specs.Linear.{constant, linear_factor}
 use Rattle.ark_math.specs.Module.{sum_below, itself}
 use Rattle.ark_math.specs.Univariate.{IsBelow, IsValue, added, product}
 use Rattle.ark_math.proofs.Algebra.Groups.{itself_is_module, zero_scale}
@@ -10,11 +10,11 @@ use Rattle.ark_math.proofs.Algebra.Regrouped.{sum_below-past}
 use Rattle.ark_math.proofs.Algebra.Sums.{sum_below-same}
 use Rattle.ark_math.proofs.Algebra.Solve.{◌⊗◌, ◌⊕◌, ◌⊖◌, nought}
 use Rattle.ark_math.proofs.Algebra.Ring.{ring2}
-use Rattle.ark_math.proofs.Callers.Remainders.{constant_value, linear_root}
-use Rattle.ark_math.proofs.Polynomials.UnivariateLists.{of_list-past}
-use Rattle.ark_math.proofs.Polynomials.UnivariateProducts.{product_comm, product_assoc, product-below, value-product}
-use Rattle.ark_math.proofs.Polynomials.UnivariateValues.{has_value, one_value, value-added}
-use Rattle.ark_math.proofs.Polynomials.LinearFactors.{linear-product}
+use Rattle.ark_math_polynomials.proofs.Callers.Remainders.{constant_value, linear_root}
+use Rattle.ark_math_polynomials.proofs.Polynomials.UnivariateLists.{of_list-past}
+use Rattle.ark_math_polynomials.proofs.Polynomials.UnivariateProducts.{product_comm, product_assoc, product-below, value-product}
+use Rattle.ark_math_polynomials.proofs.Polynomials.UnivariateValues.{has_value, one_value, value-added}
+use Rattle.ark_math_polynomials.proofs.Polynomials.LinearFactors.{linear-product}
 use Rattle.ark_subproducts.specs.Tree.{IsScaledRemainderBefore, IsScaledRemainder}
 
 module _ {F : Type 0} (K : FieldOn F) (N : IsField K) where

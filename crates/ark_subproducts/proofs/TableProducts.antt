@@ -10,14 +10,14 @@ use Rattle.ark_math.specs.Univariate.{IsBelow, of_list}
 use Rattle.ark_math.proofs.Algebra.Ring.{ring2}
 use Rattle.ark_math.proofs.Algebra.Solve.{◌⊕◌, ◌⊖◌}
 use Rattle.ark_math.proofs.Domains.Sizes.{power_lt}
-use Rattle.ark_math.proofs.Polynomials.Univariate.{same_below}
-use Rattle.ark_math.proofs.Polynomials.UnivariateLists.{of_list-past}
-use Rattle.ark_math.proofs.Polynomials.UnivariateLoops.{cut, cut-inside, cut-outside}
+use Rattle.ark_math_polynomials.proofs.Polynomials.Univariate.{same_below}
+use Rattle.ark_math_polynomials.proofs.Polynomials.UnivariateLists.{of_list-past}
+use Rattle.ark_math_polynomials.proofs.Polynomials.UnivariateLoops.{cut, cut-inside, cut-outside}
 use Rattle.ark_math.proofs.Numbers.PowersOfTwo.{pow_twice}
-use Rattle.ark_blocks.specs.Blocks.{AreFirstValues, AreReversed, AreValuesFrom, IsPowerOfTwo}
-use Rattle.ark_blocks.proofs.Callers.PowersOfTwo.{half_is_power}
-use Rattle.ark_blocks.proofs.Callers.Padded.{item_behind, whole_blocks}
-use Rattle.ark_blocks.proofs.Callers.Runs.{values_wrapped}
+use Rattle.ark_bit_reversed.specs.Blocks.{AreFirstValues, AreReversed, AreValuesFrom, IsPowerOfTwo}
+use Rattle.ark_bit_reversed.proofs.Callers.PowersOfTwo.{half_is_power}
+use Rattle.ark_bit_reversed.proofs.Callers.Padded.{item_behind, whole_blocks}
+use Rattle.ark_bit_reversed.proofs.Callers.Runs.{values_wrapped}
 use Rattle.ark_subproducts.specs.Tree.{IsBegun}
 
 -- twice a power of two below 2 ^ 64 isn't above it

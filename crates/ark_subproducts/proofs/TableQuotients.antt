@@ -7,20 +7,20 @@ use Rattle.ark_math.proofs.Algebra.Groups.{one_times}
 use Rattle.ark_math.proofs.Algebra.Powers.{times_zero}
 use Rattle.ark_math.proofs.Algebra.Ring.{ring3_by}
 use Rattle.ark_math.proofs.Algebra.Solve.{◌⊗◌, ◌⊕◌, ◌⊖◌, nought, unit}
-use Rattle.ark_math.proofs.Polynomials.UnivariateLoops.{cut, cut-inside, cut-outside}
-use Rattle.ark_math.proofs.Polynomials.UnivariateProducts.{product-below, value-product}
-use Rattle.ark_math.proofs.Polynomials.UnivariateValues.{has_value, value_below-added, value_is}
-use Rattle.ark_math.proofs.Polynomials.Zeros.{same_from_values}
-use Rattle.ark_blocks.specs.Blocks.{AreFirstValues, AreReversed, IsPowerOfTwo, element_of, size_of}
-use Rattle.ark_math.specs.Nodes.{nodes}
-use Rattle.ark_blocks.proofs.Callers.Runs.{power_at_first, values-product}
-use Rattle.ark_blocks.proofs.Callers.Splits.{value_by_halves, value_of_same}
-use Rattle.ark_math.specs.AtPoints.{AreDifferent, HasValues}
+use Rattle.ark_math_polynomials.proofs.Polynomials.UnivariateLoops.{cut, cut-inside, cut-outside}
+use Rattle.ark_math_polynomials.proofs.Polynomials.UnivariateProducts.{product-below, value-product}
+use Rattle.ark_math_polynomials.proofs.Polynomials.UnivariateValues.{has_value, value_below-added, value_is}
+use Rattle.ark_math_polynomials.proofs.Polynomials.Zeros.{same_from_values}
+use Rattle.ark_bit_reversed.specs.Blocks.{AreFirstValues, AreReversed, IsPowerOfTwo, element_of, size_of}
+use Rattle.ark_math_polynomials.specs.Nodes.{nodes}
+use Rattle.ark_bit_reversed.proofs.Callers.Runs.{power_at_first, values-product}
+use Rattle.ark_bit_reversed.proofs.Callers.Splits.{value_by_halves, value_of_same}
+use Rattle.ark_math_points.specs.AtPoints.{AreDifferent, HasValues}
 use Rattle.ark_subproducts.specs.Steps.{ArePowers}
 use Rattle.ark_subproducts.specs.Tree.{IsMonic}
-use Rattle.ark_math.proofs.AtPoints.Lagrange.{through_values}
+use Rattle.ark_math_points.proofs.AtPoints.Lagrange.{through_values}
 use Rattle.ark_subproducts.proofs.Nodes.{nodes-halves, nodes-zero, nodes_monic}
-use Rattle.ark_blocks.proofs.Callers.PowersOfTwo.{some_power}
+use Rattle.ark_bit_reversed.proofs.Callers.PowersOfTwo.{some_power}
 
 -- elements in bit-reversed order, all different, as many as a power of two
 pub record AreElements {F : Type 0} (K : FieldOn F) (size : ℕ) (x : ℕ → F) : Type 0 where

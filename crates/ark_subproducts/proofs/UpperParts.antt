@@ -9,8 +9,8 @@ use Rattle.ark_math.specs.Univariate.{IsBelow, of_list, product}
 use Rattle.ark_math.proofs.Algebra.Groups.{itself_is_module, scale_zero, zero_plus, zero_scale}
 use Rattle.ark_math.proofs.Algebra.Regrouped.{sum_below-past, sum_below-zero}
 use Rattle.ark_math.proofs.Algebra.Sums.{sum_below-add, sum_below-same}
-use Rattle.ark_math.proofs.Polynomials.UnivariateLists.{of_list-below, of_list-past}
-use Rattle.ark_math.proofs.Polynomials.UnivariateProducts.{product-below}
+use Rattle.ark_math_polynomials.proofs.Polynomials.UnivariateLists.{of_list-below, of_list-past}
+use Rattle.ark_math_polynomials.proofs.Polynomials.UnivariateProducts.{product-below}
 
 -- the coefficients from a place on, moved down to zero
 abbrev pub past : {F : Type 0} → ℕ → (ℕ → F) → ℕ → F

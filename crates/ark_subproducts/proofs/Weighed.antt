@@ -3,18 +3,18 @@ use Rattle.std.proofs.Common.{◌≡◌, ℕ, zero, suc, ◌+◌, ◌-◌, ◌<�
 use mathlib.Core.Path.{fun_ext}
 use Rattle.std.proofs.lemmas.List.{get_or-append_right, get_or_append_left, length-take-le, take-append-drop}
 use Rattle.ark_math.specs.Field.{FieldOn, IsField, minus, natural}
-use Rattle.ark_math.specs.Linear.{linear_factor}
+use Rattle.ark_math_polynomials.specs.Linear.{linear_factor}
 use Rattle.ark_math.specs.Univariate.{IsBelow, IsValue, added, monomial, of_list, product, scaled}
 use Rattle.ark_math.proofs.Algebra.Solve.{◌⊗◌, ◌⊕◌, ◌⊖◌, nought, unit}
 use Rattle.ark_math.proofs.Algebra.Ring.{ring1, ring2, ring3, ring4}
-use Rattle.ark_math.proofs.Callers.Remainders.{linear_root}
-use Rattle.ark_math.proofs.Polynomials.Univariate.{added-below, scaled-below, nothing-below}
-use Rattle.ark_math.proofs.Polynomials.UnivariateLists.{of_list-below}
-use Rattle.ark_math.proofs.Polynomials.UnivariateProducts.{product_comm, product_assoc, product-added, added-product, product-below, one-product, nothing-product, constant-product, value-product}
-use Rattle.ark_math.proofs.Polynomials.UnivariateValues.{has_value, one_value, value-added, value-scaled}
-use Rattle.ark_math.proofs.Polynomials.LinearFactors.{linear-product, nodes-joined}
+use Rattle.ark_math_polynomials.proofs.Callers.Remainders.{linear_root}
+use Rattle.ark_math_polynomials.proofs.Polynomials.Univariate.{added-below, scaled-below, nothing-below}
+use Rattle.ark_math_polynomials.proofs.Polynomials.UnivariateLists.{of_list-below}
+use Rattle.ark_math_polynomials.proofs.Polynomials.UnivariateProducts.{product_comm, product_assoc, product-added, added-product, product-below, one-product, nothing-product, constant-product, value-product}
+use Rattle.ark_math_polynomials.proofs.Polynomials.UnivariateValues.{has_value, one_value, value-added, value-scaled}
+use Rattle.ark_math_polynomials.proofs.Polynomials.LinearFactors.{linear-product, nodes-joined}
 use Rattle.ark_subproducts.proofs.Nodes.{cofactor, cofactor-below, nodes-below, nodes-zero}
-use Rattle.ark_math.specs.Nodes.{nodes}
+use Rattle.ark_math_polynomials.specs.Nodes.{nodes}
 use Rattle.ark_subproducts.specs.Tree.{derived, weighed}
 
 module _ {F : Type 0} (K : FieldOn F) (N : IsField K) where

@@ -3,7 +3,7 @@ use Rattle.std.specs.Prelude.{◌≡◌, ℕ, ◌<◌, ◌≤◌, ◌⊎◌, Lis
 use Rattle.ark_math.specs.Field.{FieldOn, power}
 use Rattle.ark_math.specs.Module.{itself, sum_below}
 use Rattle.ark_math.specs.Univariate.{of_list}
-use Rattle.ark_blocks.specs.Blocks.{AreFirstValues, size_of}
+use Rattle.ark_bit_reversed.specs.Blocks.{AreFirstValues, size_of}
 use Rattle.ark_subproducts.specs.declared.roots.Known.{Known}
 
 -- the sum of w 0, w 1, .., each times the power t of its point of a list

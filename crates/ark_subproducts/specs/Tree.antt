@@ -2,10 +2,10 @@
 use Rattle.std.specs.Prelude.{◌≡◌, ℕ, suc, ◌+◌, ◌-◌, ◌/◌, ◌<◌, ◌≤◌, List, [], ◌∷◌, length, take, drop, Option, Some, None, Vec}
 use Rattle.std.specs.declared.alloc.Global.{Global}
 use Rattle.ark_math.specs.Field.{FieldOn, natural}
-use Rattle.ark_math.specs.Linear.{linear_factor}
+use Rattle.ark_math_polynomials.specs.Linear.{linear_factor}
 use Rattle.ark_math.specs.Univariate.{IsBelow, IsValue, added, nothing, of_list, product, scaled}
-use Rattle.ark_blocks.specs.Blocks.{AreFirstValues, IsPowerOfTwo, size_of}
-use Rattle.ark_math.specs.Nodes.{nodes}
+use Rattle.ark_bit_reversed.specs.Blocks.{AreFirstValues, IsPowerOfTwo, size_of}
+use Rattle.ark_math_polynomials.specs.Nodes.{nodes}
 use Rattle.ark_subproducts.specs.declared.blocks.Factors.{Factors}
 use Rattle.ark_subproducts.specs.declared.few.FewProducts.{FewProducts}
 use Rattle.ark_subproducts.specs.declared.halves.Part.{Part}

@@ -5,10 +5,10 @@
 //! product over the other half, which is the transposed way of summing products up the tree.
 
 ghost use Rattle.std.specs.Prelude.{◌≡◌, ℕ, ◌+◌, ◌/◌, ◌<◌, ◌≤◌, drop, length, take, IfOk, IfSome, List, OnOk};
-ghost use Rattle.ark_blocks.specs.Blocks.{AreFirstValues, IsPowerOfTwo, size_of};
+ghost use Rattle.ark_bit_reversed.specs.Blocks.{AreFirstValues, IsPowerOfTwo, size_of};
 ghost use Rattle.ark_math.specs.Univariate.{IsBelow, added, of_list, product, scaled};
-ghost use Rattle.ark_math.specs.AtPoints.{HasValues};
-ghost use Rattle.ark_math.specs.Nodes.{nodes};
+ghost use Rattle.ark_math_points.specs.AtPoints.{HasValues};
+ghost use Rattle.ark_math_polynomials.specs.Nodes.{nodes};
 ghost use Rattle.ark_subproducts.specs.Tree.{AreFactors, AreValuesOver, HasMiddle, HasRoom, IsBlockTreeOver, IsGivenTo, IsMiddle};
 ghost use Rattle.ark_subproducts.specs.Tree.{IsPart, IsProductOver, IsScaledRemainder, IsScaledRemainderBefore};
 ghost use Rattle.ark_subproducts.specs.Tree.{IsTreeOfPart, Represents, RepresentsMultiple, weighed};
@@ -18,8 +18,8 @@ use crate::halves::Part;
 use crate::multiple::Multiple;
 use crate::products::coefficients;
 use crate::tree::Tree;
-use ark_blocks::BlockRoots;
-use ark_blocks::items::{add_products, place_products};
+use ark_bit_reversed::BlockRoots;
+use ark_bit_reversed::items::{add_products, place_products};
 use ark_coeffs::dense::multiply_each;
 use ark_traits::{FftField, Field};
 use ark_univariate::DenseUVPolynomial;

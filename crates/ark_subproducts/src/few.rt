@@ -2,15 +2,15 @@
 
 ghost use Rattle.std.specs.Prelude.{◌≡◌, ℕ, ◌+◌, ◌-◌, ◌/◌, ◌<◌, ◌≤◌, drop, length, take, IfOk, OnOk};
 ghost use Rattle.ark_math.specs.Univariate.{of_list, product, scaled};
-ghost use Rattle.ark_math.specs.AtPoints.{HasValues};
+ghost use Rattle.ark_math_points.specs.AtPoints.{HasValues};
 ghost use Rattle.ark_subproducts.specs.Steps.{power_sum};
-ghost use Rattle.ark_math.specs.Nodes.{nodes};
+ghost use Rattle.ark_math_polynomials.specs.Nodes.{nodes};
 ghost use Rattle.ark_subproducts.specs.Tree.{AreFewProducts, IsScaledRemainder, weighed};
 
 use crate::multiple::Multiple;
 use crate::parts::write_part;
-use ark_blocks::items::{clear, sum_of};
-use ark_blocks::product_of_few;
+use ark_bit_reversed::items::{clear, sum_of};
+use ark_bit_reversed::product_of_few;
 use ark_coeffs::dense::{multiply_each, naive_product, scale_each, zeros};
 use ark_traits::Field;
 use ark_univariate::DenseUVPolynomial;

@@ -1,12 +1,12 @@
 //! Points with elements of a table for them, and both halves of these.
 
 ghost use Rattle.std.specs.Prelude.{◌+◌, ◌/◌, ◌<◌, ◌≤◌, drop, length, take, IfOk, IfSome};
-ghost use Rattle.ark_blocks.specs.Blocks.{AreFirstValues};
+ghost use Rattle.ark_bit_reversed.specs.Blocks.{AreFirstValues};
 ghost use Rattle.ark_math.specs.Univariate.{of_list};
 ghost use Rattle.ark_subproducts.specs.Tree.{IsHalfOf, IsPart};
 
 use crate::products::extended;
-use ark_blocks::BlockRoots;
+use ark_bit_reversed::BlockRoots;
 use ark_traits::FftField;
 use std::alloc::{AllocError, Global};
 

@@ -1,10 +1,10 @@
 //! Constant polynomials, and parts of products.
 
 ghost use Rattle.std.specs.Prelude.{◌≡◌, ℕ, ◌+◌, ◌<◌, ◌≤◌, length, IfOk, IsOkUnless};
-ghost use Rattle.ark_math.specs.Linear.{constant as constant_of};
+ghost use Rattle.ark_math_polynomials.specs.Linear.{constant as constant_of};
 ghost use Rattle.ark_math.specs.Univariate.{of_list, product};
 
-use ark_blocks::items::clear;
+use ark_bit_reversed::items::clear;
 use ark_coeffs::dense::add_scaled;
 use ark_traits::{Field, PolyError};
 use ark_univariate::DenseUVPolynomial;

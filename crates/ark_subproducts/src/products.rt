@@ -1,13 +1,13 @@
 //! Products of x - z over points by transforms over blocks of roots of unity: each from the values of those over both halves.
 
 ghost use Rattle.std.specs.Prelude.{◌≡◌, ℕ, ◌+◌, ◌-◌, ◌*◌, ◌^◌, ◌<◌, ◌≤◌, length, IfOk, IsOkUnless};
-ghost use Rattle.ark_blocks.specs.Blocks.{AreFirstValues, IsPowerOfTwo, size_of};
-ghost use Rattle.ark_math.specs.Nodes.{nodes};
+ghost use Rattle.ark_bit_reversed.specs.Blocks.{AreFirstValues, IsPowerOfTwo, size_of};
+ghost use Rattle.ark_math_polynomials.specs.Nodes.{nodes};
 ghost use Rattle.ark_math.specs.Univariate.{of_list, product};
 ghost use Rattle.ark_subproducts.specs.Tree.{IsBegun};
 
 use crate::quotients::product_of;
-use ark_blocks::{BlockRoots, product_of_few};
+use ark_bit_reversed::{BlockRoots, product_of_few};
 use ark_coeffs::dense::{multiply_each, subtract_each};
 use ark_traits::{FftField, Field, PolyError};
 use ark_univariate::DenseUVPolynomial;

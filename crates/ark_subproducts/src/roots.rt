@@ -1,10 +1,10 @@
 //! Values at points of which some are roots of unity: these are looked up in a table, and the others go down a tree.
 
 ghost use Rattle.std.specs.Prelude.{◌≡◌, ℕ, ◌<◌, ◌≤◌, ◌⊎◌, length, IfOk, IsOkUnless};
-ghost use Rattle.ark_blocks.specs.Blocks.{AreFirstValues, AreReversed, IsPowerOfTwo, element_of, size_of};
+ghost use Rattle.ark_bit_reversed.specs.Blocks.{AreFirstValues, AreReversed, IsPowerOfTwo, element_of, size_of};
 ghost use Rattle.ark_math.specs.Field.{power};
 ghost use Rattle.ark_math.specs.Univariate.{IsValue, of_list};
-ghost use Rattle.ark_math.specs.AtPoints.{AreValuesAt, HasValues};
+ghost use Rattle.ark_math_points.specs.AtPoints.{AreValuesAt, HasValues};
 ghost use Rattle.ark_subproducts.specs.Steps.{AreOffRoots, ArePowers, IsKnown, IsOffRoot};
 ghost use Rattle.ark_subproducts.specs.Tree.{IsBlockTreeOver};
 
@@ -12,7 +12,7 @@ use crate::blocks::BlockTree;
 use crate::halves::Part;
 use crate::table::powers_of;
 use crate::values::naive_evaluate_at;
-use ark_blocks::BlockRoots;
+use ark_bit_reversed::BlockRoots;
 use ark_traits::{FftField, Field, PolyError};
 use ark_univariate::DenseUVPolynomial;
 use ark_univariate::univariate::DensePolynomial;

@@ -2,10 +2,10 @@
 //! there the polynomial's values are divided by those of the product of x - z, and go down the tree as they are.
 
 ghost use Rattle.std.specs.Prelude.{◌≡◌, ◌≢◌, ℕ, ◌+◌, ◌<◌, length, IfOk, IfSome, OnOk};
-ghost use Rattle.ark_blocks.specs.Blocks.{AreFirstValues, IsPowerOfTwo, size_of};
-ghost use Rattle.ark_math.specs.Nodes.{nodes};
+ghost use Rattle.ark_bit_reversed.specs.Blocks.{AreFirstValues, IsPowerOfTwo, size_of};
+ghost use Rattle.ark_math_polynomials.specs.Nodes.{nodes};
 ghost use Rattle.ark_math.specs.Univariate.{IsBelow, of_list, product};
-ghost use Rattle.ark_math.specs.AtPoints.{AreValuesAt, HasValues};
+ghost use Rattle.ark_math_points.specs.AtPoints.{AreValuesAt, HasValues};
 ghost use Rattle.ark_subproducts.specs.Steps.{ArePowers};
 ghost use Rattle.ark_subproducts.specs.Tree.{IsHalved, IsPart, IsTreeOfPart};
 
@@ -13,7 +13,7 @@ use crate::blocks::BlockTree;
 use crate::halves::Part;
 use crate::multiple::Multiple;
 use crate::tree::Tree;
-use ark_blocks::items::{has_zero, multiply_by_gaps, place_products, raise_each};
+use ark_bit_reversed::items::{has_zero, multiply_by_gaps, place_products, raise_each};
 use ark_coeffs::dense::{multiply_each, zeros};
 use ark_traits::{FftField, Field, batch_inversion};
 use ark_univariate::DenseUVPolynomial;

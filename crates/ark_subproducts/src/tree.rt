@@ -1,10 +1,10 @@
 //! Points halved over and over, and the product of x - z over the points of each part.
 
 ghost use Rattle.std.specs.Prelude.{◌≡◌, ◌/◌, ◌<◌, ◌≤◌, drop, length, take, IfOk, IsOkUnless, List};
-ghost use Rattle.ark_blocks.specs.Blocks.{size_of};
+ghost use Rattle.ark_bit_reversed.specs.Blocks.{size_of};
 ghost use Rattle.ark_math.specs.Univariate.{IsBelow, of_list};
-ghost use Rattle.ark_math.specs.AtPoints.{AreValuesAt};
-ghost use Rattle.ark_math.specs.Nodes.{nodes};
+ghost use Rattle.ark_math_points.specs.AtPoints.{AreValuesAt};
+ghost use Rattle.ark_math_polynomials.specs.Nodes.{nodes};
 ghost use Rattle.ark_subproducts.specs.Tree.{IsBlockTreeOver, IsMonic, IsTreeOver, weighed};
 
 use crate::blocks::BlockTree;
@@ -13,7 +13,7 @@ use crate::halves::Part;
 use crate::quotients::{product_of, remainder};
 use crate::roots::values_by_tree;
 use crate::values::naive_evaluate_at;
-use ark_blocks::{BlockRoots, product_of_few};
+use ark_bit_reversed::{BlockRoots, product_of_few};
 use ark_traits::{FftField, PolyError, Polynomial};
 use ark_univariate::DenseUVPolynomial;
 use ark_univariate::univariate::DensePolynomial;

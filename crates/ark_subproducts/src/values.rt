@@ -2,7 +2,7 @@
 
 ghost use Rattle.std.specs.Prelude.{◌≡◌, length, IfOk, IsOkUnless};
 ghost use Rattle.ark_math.specs.Univariate.{of_list};
-ghost use Rattle.ark_math.specs.AtPoints.{HasValues};
+ghost use Rattle.ark_math_points.specs.AtPoints.{HasValues};
 
 use ark_traits::{Field, PolyError, Polynomial};
 use ark_univariate::univariate::DensePolynomial;

@@ -6,8 +6,8 @@ use Rattle.ark_math.specs.Univariate.{IsBelow, IsValue, difference, nothing, of_
 use Rattle.ark_math.proofs.Outcomes.Draws.{AreDrawn-push}
 use Rattle.ark_math.proofs.Algebra.Solve.{nought, ◌⊖◌}
 use Rattle.ark_math.proofs.Algebra.Ring.{ring2_by}
-use Rattle.ark_math.proofs.Polynomials.Univariate.{IsBelow-more, difference-below}
-use Rattle.ark_math.proofs.Polynomials.UnivariateValues.{one_value, value-difference, value-nothing}
+use Rattle.ark_math_polynomials.proofs.Polynomials.Univariate.{IsBelow-more, difference-below}
+use Rattle.ark_math_polynomials.proofs.Polynomials.UnivariateValues.{one_value, value-difference, value-nothing}
 use Rattle.ark_sum_check.specs.Cube.{SumOfProducts, bound_to, cube_sum, degree_of, round_value, sum_value}
 use Rattle.ark_sum_check.specs.Rounds.{AreAccepted, AreChallenged, AreTrueRounds, HasUnlucky, IsRound, IsSound, IsTrueRound, IsUnlucky, Round, challenges}
 use Rattle.ark_sum_check.proofs.TrueRounds.{cube_sum-halves, cube_sum-none, natural-one, sum_value-cons, true_polynomial}

@@ -6,12 +6,12 @@ use Rattle.std.proofs.lemmas.Bool.{cases_lt}
 use Rattle.std.proofs.lemmas.List.{get_or-take, get_or_past, length-map, length-set, length-take}
 use Rattle.std.proofs.lemmas.List.Elements.{All-get_or}
 use Rattle.ark_math.specs.Field.{FieldOn, IsField}
-use Rattle.ark_math.specs.Multilinear.{fixed}
+use Rattle.ark_math_variables.specs.Multilinear.{fixed}
 use Rattle.ark_math.specs.Univariate.{IsBelow, nothing, of_list}
 use Rattle.ark_math.proofs.Lists.Lists.{read_as, read_at, written_more, written_rest}
-use Rattle.ark_math.proofs.Polynomials.Multilinear.{bound-below, fixed-nothing, fixed-one}
-use Rattle.ark_math.proofs.Polynomials.Univariate.{same_below}
-use Rattle.ark_math.proofs.Polynomials.UnivariateLists.{of_list-past}
+use Rattle.ark_math_variables.proofs.Polynomials.Multilinear.{bound-below, fixed-nothing, fixed-one}
+use Rattle.ark_math_polynomials.proofs.Polynomials.Univariate.{same_below}
+use Rattle.ark_math_polynomials.proofs.Polynomials.UnivariateLists.{of_list-past}
 use Rattle.ark_sum_check.specs.Cube.{bound_to, sum_with}
 use Rattle.ark_sum_check.specs.Lists.{as_tables}
 

@@ -6,13 +6,12 @@ use Rattle.std.proofs.lemmas.Bool.{cases_eq, cases_lt}
 use Rattle.std.proofs.lemmas.List.{length-map, map-append, take_more}
 use Rattle.std.proofs.lemmas.List.Elements.{All-map, All-nil, All-push}
 use Rattle.std.proofs.lemmas.Simd.{map-map}
-use Rattle.ark_math.specs.Field.{FieldOn, IsField, minus, natural}
+use Rattle.ark_math.specs.Field.{FieldOn, IsField, minus, natural, IsFieldEmbedding}
 use Rattle.ark_math.specs.Module.{itself, sum_below, tabulate}
-use Rattle.ark_math.specs.Multilinear.{fixed}
+use Rattle.ark_math_variables.specs.Multilinear.{fixed}
 use Rattle.ark_math.specs.Univariate.{nothing, of_list}
 use Rattle.ark_math.proofs.Lists.Lists.{item_of, read_as, read_at, read_back, read_front}
-use Rattle.ark_math.proofs.Polynomials.Multilinear.{fixed-nothing, fixed-one}
-use Rattle.ark_extensions.specs.Quadratics.{IsFieldEmbedding}
+use Rattle.ark_math_variables.proofs.Polynomials.Multilinear.{fixed-nothing, fixed-one}
 use Rattle.ark_sum_check.specs.Cube.{Product, SumOfProducts, bound_to, combined, cube_sum, degree_of, longest, picked_product, round_value, sum_at, sum_value, sum_with}
 use Rattle.ark_sum_check.specs.Embedded.{embedded_products, embedded_sum}
 use Rattle.ark_sum_check.specs.Lists.{AreWithin, as_products, as_sum, as_tables}

@@ -9,7 +9,7 @@ use Rattle.std.proofs.lemmas.List.Elements.{All-push, All-set, All-weaker}
 use Rattle.std.proofs.Math.Seq.{take-set-lt}
 use Rattle.ark_math.specs.Field.{FieldOn, IsField, minus, natural}
 use Rattle.ark_math.specs.Module.{IsModule, itself, sum_below}
-use Rattle.ark_math.specs.Multilinear.{fixed, weight}
+use Rattle.ark_math_variables.specs.Multilinear.{fixed, weight}
 use Rattle.ark_math.specs.Univariate.{added, monomial, nothing, of_pairs}
 use Rattle.ark_math.proofs.Algebra.Groups.{itself_is_module}
 use Rattle.ark_math.proofs.Algebra.Sums.{sum_below-plus, sum_below-same}
@@ -17,10 +17,10 @@ use Rattle.ark_math.proofs.Algebra.Regrouped.{sum_below-none, sum_below-single, 
 use Rattle.ark_math.proofs.Algebra.Solve.{unit, ◌⊖◌, ◌⊗◌}
 use Rattle.ark_math.proofs.Algebra.Ring.{ring2}
 use Rattle.ark_math.proofs.Lists.Lists.{item_of}
-use Rattle.ark_math.proofs.Polynomials.Cube.{weight-even, weight-odd}
-use Rattle.ark_math.proofs.Polynomials.Multilinear.{fixed-added, fixed-monomial, fixed-nothing}
-use Rattle.ark_math.proofs.Polynomials.Univariate.{coefficients_are_module, monomial-other, monomial-same}
-use Rattle.ark_math.proofs.Polynomials.UnivariatePairs.{monomial-added, of_pairs-push, take_next}
+use Rattle.ark_math_variables.proofs.Polynomials.Cube.{weight-even, weight-odd}
+use Rattle.ark_math_variables.proofs.Polynomials.Multilinear.{fixed-added, fixed-monomial, fixed-nothing}
+use Rattle.ark_math_polynomials.proofs.Polynomials.Univariate.{coefficients_are_module, monomial-other, monomial-same}
+use Rattle.ark_math_polynomials.proofs.Polynomials.UnivariatePairs.{monomial-added, of_pairs-push, take_next}
 use Rattle.ark_sum_check.specs.Cube.{all_of, bound_to, product_of, round_value, sum_at, sum_value}
 use Rattle.ark_sum_check.specs.Provers.{AreRising}
 use Rattle.ark_sum_check.specs.Rounds.{IsTrueRound}

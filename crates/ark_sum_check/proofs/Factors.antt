@@ -7,7 +7,7 @@ use Rattle.std.proofs.lemmas.Simd.{map-map}
 use Rattle.ark_math.specs.Field.{FieldOn, IsField}
 use Rattle.ark_math.specs.Univariate.{nothing, of_list}
 use Rattle.ark_math.proofs.Lists.Tabulated.{length-tabulate}
-use Rattle.ark_math.proofs.Polynomials.UnivariateLists.{of_list-past}
+use Rattle.ark_math_polynomials.proofs.Polynomials.UnivariateLists.{of_list-past}
 use Rattle.ark_sum_check.specs.Cube.{SumOfProducts, all_of, bound_to, combined, degree_of, longest, product_of, sum_value, sum_with}
 use Rattle.ark_sum_check.specs.Lists.{as_sum, as_summed, as_tables}
 use Rattle.ark_sum_check.specs.Provers.{Summed, addends_of, sum_of, variables_of}

@@ -5,7 +5,7 @@ use Rattle.std.proofs.Math.Nat.{mod-eq_of_lt, pow-le-pow_right}
 use Rattle.ark_math.specs.Field.{FieldOn, IsField}
 use Rattle.ark_math.specs.Univariate.{nothing, of_list}
 use Rattle.ark_math.proofs.Lists.Lists.{read_as}
-use Rattle.ark_math.proofs.Polynomials.Cube.{pow_twice}
+use Rattle.ark_math_variables.proofs.Polynomials.Cube.{pow_twice}
 use Rattle.ark_math.specs.Module.{tabulate}
 use Rattle.ark_math.proofs.Lists.Tabulated.{tabulate-push}
 use Rattle.ark_sum_check.specs.Cube.{all_of, combined, longest, picked_product}

@@ -7,7 +7,7 @@ use Rattle.ark_math.specs.Module.{itself, sum_below}
 use Rattle.ark_math.specs.Univariate.{of_list}
 use Rattle.ark_math.proofs.Algebra.Solve.{nought, unit, ◌⊕◌, ◌⊗◌}
 use Rattle.ark_math.proofs.Algebra.Ring.{ring2, ring3}
-use Rattle.ark_math.proofs.Polynomials.Multilinear.{fixed-one}
+use Rattle.ark_math_variables.proofs.Polynomials.Multilinear.{fixed-one}
 use Rattle.ark_sum_check.specs.Cube.{SumOfProducts, bound_to, combined, sum_at}
 use Rattle.ark_sum_check.specs.Rounds.{IsTrueRound}
 use Rattle.ark_sum_check.proofs.TrueRounds.{round_value-bound}

@@ -5,21 +5,21 @@ use mathlib.Core.Path.{fun_ext}
 use Rattle.std.proofs.lemmas.Bool.{cases_eq}
 use Rattle.std.proofs.lemmas.List.{get_or_append_left, get_or_push, length_push}
 use Rattle.ark_math.specs.Field.{FieldOn, IsField, minus, natural}
-use Rattle.ark_math.specs.Linear.{constant}
+use Rattle.ark_math_polynomials.specs.Linear.{constant}
 use Rattle.ark_math.specs.Module.{itself, sum_below}
-use Rattle.ark_math.specs.Multilinear.{extension, fixed}
+use Rattle.ark_math_variables.specs.Multilinear.{extension, fixed}
 use Rattle.ark_math.specs.Univariate.{IsBelow, IsValue, added, nothing, of_list, product, scaled}
 use Rattle.ark_math.proofs.Algebra.Groups.{itself_is_module, zero_plus}
 use Rattle.ark_math.proofs.Algebra.Sums.{sum_below-plus, sum_below-same}
 use Rattle.ark_math.proofs.Algebra.Solve.{nought, unit, ◌⊕◌, ◌⊖◌, ◌⊗◌}
 use Rattle.ark_math.proofs.Algebra.Ring.{ring1, ring2, ring3}
-use Rattle.ark_math.proofs.Callers.Remainders.{constant_value}
-use Rattle.ark_math.proofs.Polynomials.Cube.{pow_twice, sum_below-pairs}
-use Rattle.ark_math.proofs.Polynomials.Multilinear.{extension-cons, extension-nil, fixed-one}
-use Rattle.ark_math.proofs.Polynomials.Univariate.{IsBelow-more, added-below, nothing-below, scaled-below}
-use Rattle.ark_math.proofs.Polynomials.UnivariateLists.{of_list-below}
-use Rattle.ark_math.proofs.Polynomials.UnivariateProducts.{product-below, value-product}
-use Rattle.ark_math.proofs.Polynomials.UnivariateValues.{value-added, value-nothing, value-of_list, value-scaled}
+use Rattle.ark_math_polynomials.proofs.Callers.Remainders.{constant_value}
+use Rattle.ark_math_variables.proofs.Polynomials.Cube.{pow_twice, sum_below-pairs}
+use Rattle.ark_math_variables.proofs.Polynomials.Multilinear.{extension-cons, extension-nil, fixed-one}
+use Rattle.ark_math_polynomials.proofs.Polynomials.Univariate.{IsBelow-more, added-below, nothing-below, scaled-below}
+use Rattle.ark_math_polynomials.proofs.Polynomials.UnivariateLists.{of_list-below}
+use Rattle.ark_math_polynomials.proofs.Polynomials.UnivariateProducts.{product-below, value-product}
+use Rattle.ark_math_polynomials.proofs.Polynomials.UnivariateValues.{value-added, value-nothing, value-of_list, value-scaled}
 use Rattle.ark_sum_check.specs.Cube.{Product, SumOfProducts, bound_to, combined, cube_sum, degree_of, longest, picked_product, round_value, sum_at, sum_value}
 use Rattle.ark_sum_check.specs.Rounds.{IsTrueRound}
 

@@ -2,12 +2,12 @@
 use Rattle.std.proofs.Common.{◌≡◌, ℕ, suc, ◌+◌, ◌*◌, ◌^◌, ◌<◌, List, [], ◌∷◌, get_or, length, refl, ◌∙◌, ap, ap₂, arith}
 use Rattle.ark_math.specs.Field.{FieldOn, IsField, minus, natural}
 use Rattle.ark_math.specs.Module.{itself, sum_below}
-use Rattle.ark_math.specs.Multilinear.{extension, fixed, weight}
+use Rattle.ark_math_variables.specs.Multilinear.{extension, fixed, weight}
 use Rattle.ark_math.specs.Univariate.{nothing}
 use Rattle.ark_math.proofs.Algebra.Sums.{sum_below-same}
 use Rattle.ark_math.proofs.Algebra.Solve.{nought, unit, ◌⊕◌, ◌⊖◌, ◌⊗◌}
 use Rattle.ark_math.proofs.Algebra.Ring.{ring2}
-use Rattle.ark_math.proofs.Polynomials.Multilinear.{fixed-one}
+use Rattle.ark_math_variables.proofs.Polynomials.Multilinear.{fixed-one}
 use Rattle.ark_sum_check.specs.Cube.{all_of, bound_to, combined, cube_sum, product_of, sum_at}
 
 module _ {F : Type 0} (K : FieldOn F) (N : IsField K) where

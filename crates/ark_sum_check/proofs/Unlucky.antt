@@ -5,8 +5,8 @@ use Rattle.ark_math.specs.Field.{FieldOn, IsField, minus}
 use Rattle.ark_math.specs.Univariate.{IsValue, difference, value_below}
 use Rattle.ark_math.proofs.Algebra.Solve.{nought, ◌⊖◌}
 use Rattle.ark_math.proofs.Algebra.Ring.{ring2_by}
-use Rattle.ark_math.proofs.Polynomials.UnivariateValues.{has_value, one_value, value_is, value-difference}
-use Rattle.ark_math.proofs.Polynomials.Zeros.{zeros_nothing}
+use Rattle.ark_math_polynomials.proofs.Polynomials.UnivariateValues.{has_value, one_value, value_is, value-difference}
+use Rattle.ark_math_polynomials.proofs.Polynomials.Zeros.{zeros_nothing}
 use Rattle.ark_sum_check.specs.Cube.{SumOfProducts, bound_to, cube_sum, degree_of, round_value, sum_value}
 use Rattle.ark_sum_check.specs.Rounds.{AreAccepted, AreDifferent, AtMost, HasOneOfFew, HasUnlucky, IsUnlucky, Round, challenges}
 use Rattle.ark_sum_check.proofs.Accepted.{sound}

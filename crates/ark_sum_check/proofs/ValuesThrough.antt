@@ -2,16 +2,16 @@
 use Rattle.std.proofs.Common.{◌≡◌, ◌≢◌, ℕ, suc, ◌+◌, ◌-◌, ◌<◌, ◌≤◌, List, [], ◌∷◌, length, refl, sym, ◌∙◌, ap, subst, arith, ⊎_elim}
 use Rattle.std.proofs.lemmas.Bool.{cases_eq}
 use Rattle.ark_math.specs.Field.{FieldOn, IsField, minus, natural}
-use Rattle.ark_math.specs.Linear.{linear_factor}
+use Rattle.ark_math_polynomials.specs.Linear.{linear_factor}
 use Rattle.ark_math.specs.Univariate.{IsBelow, IsValue, added, difference, of_list, product, scaled, value_below}
 use Rattle.ark_math.proofs.Algebra.Powers.{natural-add}
 use Rattle.ark_math.proofs.Algebra.Solve.{negative, nought, unit, ◌⊕◌, ◌⊖◌, ◌⊗◌}
 use Rattle.ark_math.proofs.Algebra.Ring.{ring1, ring2, ring2_by, ring3, ring4}
-use Rattle.ark_math.proofs.Polynomials.Univariate.{IsBelow-more, added-below, difference-below, scaled-below}
-use Rattle.ark_math.proofs.Polynomials.UnivariateLists.{of_list-below}
-use Rattle.ark_math.proofs.Polynomials.UnivariateProducts.{product-below, value-product}
-use Rattle.ark_math.proofs.Polynomials.UnivariateValues.{has_value, one_value, value_is, value-added, value-difference, value-of_list, value-scaled}
-use Rattle.ark_math.proofs.Polynomials.Zeros.{same_from_values}
+use Rattle.ark_math_polynomials.proofs.Polynomials.Univariate.{IsBelow-more, added-below, difference-below, scaled-below}
+use Rattle.ark_math_polynomials.proofs.Polynomials.UnivariateLists.{of_list-below}
+use Rattle.ark_math_polynomials.proofs.Polynomials.UnivariateProducts.{product-below, value-product}
+use Rattle.ark_math_polynomials.proofs.Polynomials.UnivariateValues.{has_value, one_value, value_is, value-added, value-difference, value-of_list, value-scaled}
+use Rattle.ark_math_polynomials.proofs.Polynomials.Zeros.{same_from_values}
 use Rattle.ark_sum_check.specs.Rounds.{AreDifferent, IsThrough, IsValueThrough}
 
 -- y is the value at x of a polynomial with the values v i, .., v (i + k) at i, .., i + k, and of degree k at most

@@ -2,7 +2,7 @@
 use Rattle.std.specs.Prelude.{ℕ, List, [], ◌∷◌, ◌^◌, get_or, length, max}
 use Rattle.ark_math.specs.Field.{FieldOn}
 use Rattle.ark_math.specs.Module.{itself, sum_below, tabulate}
-use Rattle.ark_math.specs.Multilinear.{extension, fixed}
+use Rattle.ark_math_variables.specs.Multilinear.{extension, fixed}
 use Rattle.ark_math.specs.Univariate.{nothing}
 
 -- a coefficient times the product of factors, each by the index of its table

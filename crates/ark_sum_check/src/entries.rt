@@ -3,7 +3,7 @@
 
 ghost use Rattle.std.specs.Prelude.{◌≡◌, ℕ, ◌+◌, ◌*◌, ◌/◌, ◌<◌, ◌≤◌, [], ◌∷◌, All, drop, length, take};
 ghost use Rattle.ark_math.specs.Module.{itself, sum_below};
-ghost use Rattle.ark_math.specs.Multilinear.{fixed};
+ghost use Rattle.ark_math_variables.specs.Multilinear.{fixed};
 ghost use Rattle.ark_math.specs.Univariate.{added, monomial, of_pairs};
 ghost use Rattle.ark_sum_check.specs.Provers.{AreRising};
 

@@ -1,12 +1,12 @@
 //! The table that makes a sum over the cube a value at a point.
 
 ghost use Rattle.std.specs.Prelude.{◌≡◌, ℕ, ◌<◌, ◌^◌, [], ◌∷◌, length, IfOk, IsOkUnless};
-ghost use Rattle.ark_math.specs.Multilinear.{extension, weight};
+ghost use Rattle.ark_math_variables.specs.Multilinear.{extension, weight};
 ghost use Rattle.ark_math.specs.Univariate.{of_list};
 ghost use Rattle.ark_sum_check.specs.Cube.{cube_sum, product_of};
 
 use crate::error::SumCheckError;
-use ark_lists::windows::weights;
+use ark_tables::windows::weights;
 use ark_traits::Field;
 use std::alloc::Global;
 

@@ -1,7 +1,7 @@
 //! Tables by lists of values at the corners of a cube: their first variable bound.
 
 ghost use Rattle.std.specs.Prelude.{◌≡◌, ℕ, ◌+◌, ◌*◌, ◌^◌, ◌<◌, ◌≤◌, [], ◌∷◌, All, length};
-ghost use Rattle.ark_math.specs.Multilinear.{fixed};
+ghost use Rattle.ark_math_variables.specs.Multilinear.{fixed};
 ghost use Rattle.ark_math.specs.Univariate.{of_list};
 ghost use Rattle.ark_sum_check.specs.Cube.{bound_to, sum_with};
 ghost use Rattle.ark_sum_check.specs.Lists.{as_tables};

@@ -11,7 +11,7 @@ use crate::error::SumCheckError;
 use crate::proof::Proof;
 use crate::prover::Prover;
 use crate::sparse::SparseProver;
-use ark_extensions::ExtensionOf;
+use ark_traits::ExtensionOf;
 use ark_traits::Field;
 use std::alloc::Global;
 

@@ -1,2 +1,3 @@
 -- Lemmas of this crate, beside those of `ark_math`.
-pub mod Cost
+pub mod Inversions
+pub mod WordPowers

@@ -1,3 +1,2 @@
--- How a transform moves the counts, and two elements side by side.
+-- Two elements side by side, as contracts see them.
 pub mod Lanes
-pub mod Cost

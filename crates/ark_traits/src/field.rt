@@ -7,7 +7,7 @@ ghost use Rattle.ark_math.specs.Words.{number_of_words};
 ghost use Rattle.ark_math.specs.Module.{ModuleOn, IsModule, IsItself};
 ghost use Rattle.ark_math.specs.Root.{Adicity, IsSupported, AreRoots, AreGreatest};
 ghost use Rattle.ark_math.specs.Root.{adicity_of};
-ghost use Rattle.ark_math.specs.Layouts.{AreElements, AreAlike};
+ghost use Rattle.ark_math_formats.specs.Format.{AreElements, AreAlike};
 
 use ark_bytes::{CanonicalDeserialize, CanonicalSerialize};
 use rand::Rng;

@@ -2,7 +2,7 @@
 
 ghost use Rattle.std.specs.Prelude.{◌≡◌, ℕ, ◌<◌, length, OnOk, OnErr};
 ghost use Rattle.ark_math.specs.Univariate.{of_list};
-ghost use Rattle.ark_math.specs.Points.{IsPlaceQuotient};
+ghost use Rattle.ark_math.specs.Field.{IsPlaceQuotient};
 
 use crate::field::Field;
 use std::alloc::{AllocError, Global};

@@ -2,7 +2,9 @@
 //! shows what writes and reads bytes again.
 #![tactic(auto)]
 
+mod constants;
 mod error;
+mod extension;
 mod field;
 mod inversion;
 mod lanes;
@@ -16,7 +18,9 @@ pub use ark_bytes::{
     SerializationError, Sink, Source, Spelled, Valid, list_size, read_list, read_number,
     recompress, recompressed_and_back, write_list, write_number, written_then_read,
 };
+pub use constants::ConstantZero;
 pub use error::PolyError;
+pub use extension::ExtensionOf;
 pub use field::{DomainCoeff, FftField, Field, One, Zero};
 pub use inversion::batch_inversion;
 pub use lanes::Lanes;

@@ -24,7 +24,7 @@ pub trait Polynomial<F: Field>: Clone
     + Drop
     + CanonicalSerialize
     + CanonicalDeserialize {
-    ghost use Rattle.ark_math.specs.Format.{Tells};
+    ghost use Rattle.ark_math_formats.specs.Format.{Tells};
     ghost use Rattle.ark_bytes.specs.declared.compress.Compress.{Compress};
 
     /// The points at which it is evaluated.

@@ -2,8 +2,7 @@
 use Rattle.std.proofs.Common.{◌≡◌, ◌≢◌, ℕ, zero, suc, ◌+◌, ◌-◌, ◌<◌, List, sym, ◌∙◌, ap, inl, inr, subst, arith}
 use Rattle.std.specs.Int.{w64, from_le_bytes}
 use Rattle.ark_math.specs.Field.{FieldOn, natural}
-use Rattle.ark_math.specs.Format.{Format}
-use Rattle.ark_math.specs.Layouts.{AreElements}
+use Rattle.ark_math_formats.specs.Format.{Format, AreElements}
 use Rattle.ark_transcript.specs.Calls.{Call}
 use Rattle.ark_transcript.specs.Challenges.{IsChallenge, challenge_of, then_asked}
 

@@ -2,9 +2,8 @@
 use Rattle.std.proofs.Common.{◌≡◌, ◌≢◌, ℕ, List, [], ◌++◌, length, Some, None, arith, sym, ◌∙◌, ap, inl, inr, append-nil, Option}
 use Rattle.std.specs.Io.KnownBytes.{Consumes, IsAtEnd}
 use Rattle.std.proofs.lemmas.List.{length-append, nil_from_length}
-use Rattle.ark_math.specs.Format.{Format, IsFormat}
-use Rattle.ark_math.specs.Layouts.{AreElements}
-use Rattle.ark_math.proofs.Formats.Ends.{fault_not_front, spelled}
+use Rattle.ark_math_formats.specs.Format.{Format, IsFormat, AreElements}
+use Rattle.ark_math_formats.proofs.Formats.Ends.{fault_not_front, spelled}
 use Rattle.ark_bytes.specs.Reading.{SourceState, Refuses, HasStopped, TakesSpelling}
 use Rattle.ark_bytes.specs.declared.error.SerializationError.{SerializationError}
 use Rattle.ark_bytes.specs.declared.error.SerializationError.TheVariants.{IoError, InvalidData, Memory}

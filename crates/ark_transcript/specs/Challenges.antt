@@ -3,7 +3,7 @@ use Rattle.std.specs.Prelude.{◌≡◌, ◌≢◌, ◌⊎◌, ℕ, suc, zero, �
 use Rattle.std.specs.Int.{w64, from_le_bytes, to_le_bytes}
 use Rattle.sha2.specs.Sha256.{sha256}
 use Rattle.ark_math.specs.Field.{FieldOn, natural}
-use Rattle.ark_math.specs.Format.{Format}
+use Rattle.ark_math_formats.specs.Format.{Format}
 use Rattle.ark_math.specs.Module.{tabulate}
 use Rattle.ark_transcript.specs.Calls.{Call, Asked, spelled}
 

@@ -1,11 +1,11 @@
 -- What is written and read of evaluations: the list and the domain, and no spelling where these don't fit.
 use Rattle.std.proofs.Common.{◌≡◌, ◌≢◌, List, length, map, Result, sym, ap, subst, ◌∙◌}
 use Rattle.std.proofs.lemmas.List.{length-map}
-use Rattle.ark_math.specs.Format.{Format, IsFormat, Tells, ◌⊗◌, list}
-use Rattle.ark_math.specs.Layouts.{evaluations}
+use Rattle.ark_math_formats.specs.Format.{Format, IsFormat, Tells, ◌⊗◌, list}
+use Rattle.ark_univariate.specs.Layouts.{evaluations}
 use Rattle.ark_math.specs.Domain.{Domain}
-use Rattle.ark_math.proofs.Formats.Ends.{list_is_format}
-use Rattle.ark_math.proofs.Formats.OneToOne.{pair_shows, list_shows}
+use Rattle.ark_math_formats.proofs.Formats.Ends.{list_is_format}
+use Rattle.ark_math_formats.proofs.Formats.OneToOne.{pair_shows, list_shows}
 use Rattle.ark_bytes.specs.declared.error.SerializationError.{SerializationError}
 use Rattle.ark_bytes.specs.Writing.{SinkState, PutsSpelling, Stops, Writes}
 use Rattle.ark_bytes.specs.Reading.{SourceState, Refuses, TakesSpelling, TakesFault}

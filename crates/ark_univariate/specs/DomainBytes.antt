@@ -3,12 +3,13 @@ use Rattle.std.specs.Prelude.{◌≡◌, ◌⊎◌, ℕ, Bool, Decides}
 use Rattle.std.proofs.Common.{inl, inr, sym, ap, ◌∙◌}
 use Rattle.ark_math.specs.Field.{FieldOn, IsField}
 use Rattle.ark_math.specs.Root.{Adicity, IsAdicity}
-use Rattle.ark_math.specs.Format.{Format, IsFormat, KeepsAlike, Tells, IsOneToOne, stored, either, shown_either}
-use Rattle.ark_math.specs.Layouts.{AreAlike, DomainFields, general_domain as tagged}
-use Rattle.ark_math.proofs.Formats.Domains.{AreKept}
-use Rattle.ark_math.proofs.Formats.Ends.{lawful_is_format, either_is_format}
-use Rattle.ark_math.proofs.Formats.Modes.{keeps_by_fields, keeps_in_either}
-use Rattle.ark_math.proofs.Formats.OneToOne.{lawful_shows, either_shows}
+use Rattle.ark_math_formats.specs.Format.{Format, IsFormat, KeepsAlike, Tells, IsOneToOne, stored, either, shown_either, AreAlike}
+use Rattle.ark_univariate.specs.Layouts.{general_domain as tagged}
+use Rattle.ark_fft.specs.Layouts.{DomainFields}
+use Rattle.ark_fft.specs.LayoutLaws.{AreKept}
+use Rattle.ark_math_formats.proofs.Formats.Ends.{lawful_is_format, either_is_format}
+use Rattle.ark_math_formats.proofs.Formats.Modes.{keeps_by_fields, keeps_in_either}
+use Rattle.ark_math_formats.proofs.Formats.OneToOne.{lawful_shows, either_shows}
 use Rattle.ark_bytes.specs.declared.compress.Compress.{Compress}
 use Rattle.ark_bytes.specs.declared.one_of_two.Either.{Either}
 use Rattle.ark_bytes.specs.declared.one_of_two.Either.TheVariants.{First, Second}

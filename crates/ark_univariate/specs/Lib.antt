@@ -4,3 +4,6 @@ pub mod Domains
 pub mod DomainBytes
 pub mod Values
 pub mod ValuesBytes
+pub mod GatheredLaws
+pub mod LayoutLaws
+pub mod Layouts

@@ -1,11 +1,11 @@
 -- Evaluations in bytes: their layout is a format, tells what the spellings of elements and domains do, and is told by both
 -- modes where these are.
 use Rattle.std.specs.Prelude.{List, map}
-use Rattle.ark_math.specs.Format.{Format, IsFormat, KeepsAlike, Tells, ◌⊗◌, list}
-use Rattle.ark_math.specs.Layouts.{evaluations}
-use Rattle.ark_math.proofs.Formats.Ends.{pair_is_format, list_is_format, lawful_is_format}
-use Rattle.ark_math.proofs.Formats.Modes.{keeps_in_pairs, keeps_in_lists, keeps_by_fields}
-use Rattle.ark_math.proofs.Formats.OneToOne.{pair_shows, list_shows, lawful_shows}
+use Rattle.ark_math_formats.specs.Format.{Format, IsFormat, KeepsAlike, Tells, ◌⊗◌, list}
+use Rattle.ark_univariate.specs.Layouts.{evaluations}
+use Rattle.ark_math_formats.proofs.Formats.Ends.{pair_is_format, list_is_format, lawful_is_format}
+use Rattle.ark_math_formats.proofs.Formats.Modes.{keeps_in_pairs, keeps_in_lists, keeps_by_fields}
+use Rattle.ark_math_formats.proofs.Formats.OneToOne.{pair_shows, list_shows, lawful_shows}
 use Rattle.ark_univariate.specs.Values.{Values, list_and_domain}
 
 module _ {F D : Type 0} (e : Format F) (d : Format D) (IsLawful : Values F D → Type 0) (E : IsFormat e) (L : IsFormat d) where

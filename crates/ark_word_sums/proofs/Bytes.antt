@@ -5,9 +5,8 @@ use Rattle.std.specs.List.{AllByRecursion, flat_map}
 use Rattle.std.proofs.lemmas.List.{length-map, nil_from_length}
 use Rattle.std.proofs.lemmas.Nat.{mul-le}
 use Rattle.ark_math.specs.Field.{FieldOn}
-use Rattle.ark_math.specs.Format.{Format, HaveSpellings, IsFormat, IsSpelled, list, word}
-use Rattle.ark_math.specs.Layouts.{AreElements}
-use Rattle.ark_math.proofs.Formats.Ends.{fault_not_front, spelled}
+use Rattle.ark_math_formats.specs.Format.{Format, HaveSpellings, IsFormat, IsSpelled, list, word, AreElements}
+use Rattle.ark_math_formats.proofs.Formats.Ends.{fault_not_front, spelled}
 use Rattle.ark_bytes.specs.Reading.{HasStopped, Refuses, SourceState, TakesSpelling}
 use Rattle.ark_bytes.specs.declared.error.SerializationError.{SerializationError}
 use Rattle.ark_bytes.specs.declared.error.SerializationError.TheVariants.{IoError, InvalidData, Memory}

@@ -1,11 +1,9 @@
 -- What a prover makes, as a proof of what the words claim.
 use Rattle.std.proofs.Common.{◌≡◌, ℕ, ◌+◌, ◌*◌, ◌≤◌, List, [], ◌∷◌, length, map, refl, sym, ap, ap₂, subst, subst₂, ◌∙◌, arith}
 use mathlib.Core.Path.{fun_ext}
-use Rattle.ark_math.specs.Field.{FieldOn, natural}
-use Rattle.ark_math.specs.Format.{Format, list}
-use Rattle.ark_math.specs.Layouts.{AreElements}
+use Rattle.ark_math.specs.Field.{FieldOn, natural, IsFieldEmbedding}
+use Rattle.ark_math_formats.specs.Format.{Format, list, AreElements}
 use Rattle.ark_numbers.proofs.Values.{NumberField}
-use Rattle.ark_extensions.specs.Quadratics.{IsFieldEmbedding}
 use Rattle.ark_transcript.specs.Calls.{Call}
 use Rattle.ark_sum_check.specs.Cube.{Product, SumOfProducts, cube_sum, sum_value}
 use Rattle.ark_sum_check.specs.Embedded.{embedded_products, embedded_sum}

@@ -1,10 +1,9 @@
 -- A number stands for the element whose number it is.
 use Rattle.std.proofs.Common.{◌≡◌, ℕ, zero, suc, sym, ap, ap₂, ◌∙◌}
-use Rattle.ark_math.specs.Field.{FieldOn, natural}
+use Rattle.ark_math.specs.Field.{FieldOn, natural, IsFieldEmbedding}
 use Rattle.ark_base.specs.ResiduesLaws.{natural_of_number}
 use Rattle.ark_numbers.specs.Fields.{operations}
 use Rattle.ark_numbers.proofs.Values.{NumberField, shown_field, number_carries, negated_kept}
-use Rattle.ark_extensions.specs.Quadratics.{IsFieldEmbedding}
 use Rattle.ark_sum_check.specs.Cube.{SumOfProducts, cube_sum}
 use Rattle.ark_sum_check.specs.Embedded.{embedded_sum}
 use Rattle.ark_sum_check.proofs.Embeddings.{cube_sum_kept}

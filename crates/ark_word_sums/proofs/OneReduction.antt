@@ -3,8 +3,7 @@ use Rattle.std.proofs.Common.{◌≡◌, ℕ, ◌+◌, ◌*◌, List, [], ◌∷
 use Rattle.std.specs.List.{AllByRecursion, flat_map}
 use Rattle.std.proofs.lemmas.List.{append_cancel_left, length-map}
 use Rattle.ark_math.specs.Field.{FieldOn, IsField}
-use Rattle.ark_math.specs.Format.{Format, list, word}
-use Rattle.ark_math.specs.Layouts.{AreElements}
+use Rattle.ark_math_formats.specs.Format.{Format, list, word, AreElements}
 use Rattle.ark_sum_check.specs.Rounds.{AreAccepted, AreChallenged, AreDifferent, IsDetermined, Round}
 use Rattle.ark_sum_check.proofs.ValuesThrough.{one_value_through}
 use Rattle.ark_sum_check.proofs.Vectors.{first, rest}

@@ -2,9 +2,9 @@
 use Rattle.std.proofs.Common.{◌≡◌, ℕ, ◌^◌, ◌<◌, List, [], ◌∷◌, Vec, Global, length, map, refl, sym, ap, ap₂, arith}
 use Rattle.std.specs.List.{AllByRecursion}
 use Rattle.std.proofs.lemmas.List.{length-map}
-use Rattle.ark_math.specs.Format.{Format, HaveSpellings, IsFormat, IsOneToOne, list}
-use Rattle.ark_math.proofs.Formats.Ends.{list_is_format}
-use Rattle.ark_math.proofs.Formats.OneToOne.{list_tells}
+use Rattle.ark_math_formats.specs.Format.{Format, HaveSpellings, IsFormat, IsOneToOne, list}
+use Rattle.ark_math_formats.proofs.Formats.Ends.{list_is_format}
+use Rattle.ark_math_formats.proofs.Formats.OneToOne.{list_tells}
 use Rattle.ark_sum_check.specs.Rounds.{Round, challenges, rounds_at}
 use Rattle.ark_sum_check.proofs.Vectors.{first, rest}
 use Rattle.ark_fiat_shamir.specs.Sent.{sent}

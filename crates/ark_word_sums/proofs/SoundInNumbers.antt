@@ -4,11 +4,10 @@ use Rattle.std.specs.List.{AllByRecursion}
 use Rattle.std.proofs.lemmas.Bool.{cases_lt}
 use Rattle.std.proofs.lemmas.List.{get_or-take, get_or-drop, get_or_past, length-take}
 use mathlib.Core.Path.{fun_ext}
-use Rattle.ark_math.specs.Field.{FieldOn, natural}
+use Rattle.ark_math.specs.Field.{FieldOn, natural, IsFieldEmbedding}
 use Rattle.ark_base.specs.ResiduesLaws.{natural_number}
 use Rattle.ark_numbers.specs.Fields.{operations}
 use Rattle.ark_numbers.proofs.Values.{NumberField, number_carries, shown_field}
-use Rattle.ark_extensions.specs.Quadratics.{IsFieldEmbedding}
 use Rattle.ark_sum_check.specs.Cube.{Product, SumOfProducts, cube_sum}
 use Rattle.ark_sum_check.specs.Embedded.{embedded_products, embedded_sum}
 use Rattle.ark_sum_check.specs.Rounds.{AreDifferent}

@@ -2,7 +2,7 @@
 use Rattle.std.specs.Prelude.{◌≡◌, ℕ, ◌*◌, List}
 use Rattle.std.specs.List.{flat_map}
 use Rattle.ark_math.specs.Field.{FieldOn}
-use Rattle.ark_math.specs.Format.{Format}
+use Rattle.ark_math_formats.specs.Format.{Format}
 use Rattle.ark_words.specs.Numbers.{Spelled, numbers}
 
 -- the field of the numbers, and of the challenges the operations, an element's bytes, how many these are, and its

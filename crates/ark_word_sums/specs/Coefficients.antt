@@ -2,7 +2,7 @@
 use Rattle.std.proofs.Common.{◌≡◌, ℕ, List, [], ◌∷◌, ◌++◌, ap, ap₂, sym, ◌∙◌, get_or}
 use Rattle.std.specs.List.{flat_map}
 use Rattle.std.proofs.lemmas.List.{append-nil, append_assoc}
-use Rattle.ark_math.specs.Format.{Format}
+use Rattle.ark_math_formats.specs.Format.{Format}
 use Rattle.ark_extensions.specs.ElementBytes.{in_bytes}
 use Rattle.ark_extensions.specs.ElementLaws.{same_element}
 use Rattle.ark_extensions.specs.declared.quadratic.Quadratic.{Quadratic}

@@ -1,7 +1,7 @@
 -- Proofs of sums in bytes, by the challenges that follow from a label and a statement.
 use Rattle.std.specs.Prelude.{◌≡◌, ℕ, ◌+◌, ◌*◌, List, [], ◌∷◌, length, map}
 use Rattle.ark_math.specs.Field.{natural}
-use Rattle.ark_math.specs.Format.{list}
+use Rattle.ark_math_formats.specs.Format.{list}
 use Rattle.ark_math.specs.Words.{number_of_words}
 use Rattle.ark_transcript.specs.Calls.{Call, Absorbed, Begun}
 use Rattle.ark_sum_check.specs.Cube.{Product, SumOfProducts, sum_value}

@@ -5,9 +5,9 @@ ghost use Rattle.ark_bytes.specs.declared.compress.Compress.{Compress};
 ghost use Rattle.ark_word_sums.specs.Challenges.{Checked, element_words};
 
 use crate::challenge::ChallengeOf;
-use ark_base::{BabyBear, Goldilocks, KoalaBear};
-use ark_extensions::{BabyBear4, Goldilocks2, KoalaBear4};
-use ark_wide::{Bls12_381Scalar, Bn254Scalar};
+use ark_fields::{BabyBear, Goldilocks, KoalaBear};
+use ark_extension_fields::{BabyBear4, Goldilocks2, KoalaBear4};
+use ark_prime256::{Bls12_381Scalar, Bn254Scalar};
 use ark_words::WordElement;
 
 /// A field of numbers below a prime over which sums are checked, by challenges of one of its own size or

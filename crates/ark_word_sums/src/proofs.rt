@@ -3,7 +3,7 @@
 ghost use Rattle.std.specs.Prelude.{◌≡◌, ◌≢◌, ◌↔◌, ◌⊎◌, ℕ, List, ◌+◌, ◌*◌, ◌^◌, ◌<◌, Err, IfErr, IfOk};
 ghost use Rattle.std.specs.Prelude.{IfSome, IsNone, IsOkUnless, IsTrue, length, map};
 ghost use Rattle.ark_bytes.specs.declared.compress.Compress.{Compress};
-ghost use Rattle.ark_math.specs.Format.{list};
+ghost use Rattle.ark_math_formats.specs.Format.{list};
 ghost use Rattle.ark_fiat_shamir.specs.Sent.{sent};
 ghost use Rattle.ark_word_sums.specs.Proofs.{begun, size_of_proof};
 ghost use Rattle.ark_word_sums.specs.Sums.{IsShape};

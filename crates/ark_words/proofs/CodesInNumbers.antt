@@ -4,10 +4,10 @@ use Rattle.std.proofs.lemmas.List.{length-map, take-map}
 use Rattle.ark_math.specs.Module.{ModuleOn, IsItself, itself, item}
 use Rattle.ark_math.specs.Domain.{Domain, IsDomain}
 use Rattle.ark_math.specs.Transform.{transform, fit}
-use Rattle.ark_math.proofs.Callers.Transforms.{same_from_meanings, transform-length, transform-meanings}
+use Rattle.ark_math_domains.proofs.Callers.Transforms.{same_from_meanings, transform-length, transform-meanings}
 use Rattle.ark_math.proofs.Lists.Lists.{same_from_map}
 use Rattle.ark_math.proofs.Lists.Tabulated.{length-tabulate}
-use Rattle.ark_math.proofs.Transforms.Carried.{same_carries, meaning_linear, transform-linear, transform-carried}
+use Rattle.ark_math_transforms.proofs.Transforms.Carried.{same_carries, meaning_linear, transform-linear, transform-carried}
 use Rattle.ark_numbers.specs.Fields.{Known, operations}
 use Rattle.ark_numbers.specs.Answers.{coset_of, AreValues}
 use Rattle.ark_numbers.proofs.Values.{NumberField, shown_field, field_laws, module_laws, number_carries, domain_carried, elements_of, residue}

@@ -5,8 +5,8 @@ use Rattle.std.proofs.lemmas.Slice.{between_is, between_to_end}
 use Rattle.ark_math.specs.Module.{ModuleOn, IsItself, itself, item}
 use Rattle.ark_math.specs.Domain.{Domain}
 use Rattle.ark_math.specs.Transform.{transform, fit}
-use Rattle.ark_math.proofs.Callers.Transforms.{same_from_meanings, fit-same}
-use Rattle.ark_math.proofs.Transforms.Carried.{same_carries, meaning_linear, transform-linear}
+use Rattle.ark_math_domains.proofs.Callers.Transforms.{same_from_meanings, fit-same}
+use Rattle.ark_math_transforms.proofs.Transforms.Carried.{same_carries, meaning_linear, transform-linear}
 use Rattle.ark_numbers.specs.Fields.{Known, operations}
 use Rattle.ark_numbers.specs.Answers.{coset_of}
 use Rattle.ark_numbers.proofs.Values.{NumberField, shown_field, number_carries, elements_of, residue}

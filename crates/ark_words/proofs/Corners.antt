@@ -6,12 +6,13 @@ use Rattle.std.proofs.lemmas.List.{length-map, get_or-map}
 use mathlib.Core.Path.{fun_ext}
 use Rattle.ark_math.specs.Cost.{IsLog2Up}
 use Rattle.ark_math.specs.Module.{tabulate}
-use Rattle.ark_math.specs.Multilinear.{extension, fixed}
+use Rattle.ark_math_variables.specs.Multilinear.{extension, fixed}
 use Rattle.ark_math.specs.Univariate.{of_list}
-use Rattle.ark_math.proofs.Domains.Costs.{one_log2}
+use Rattle.ark_math.proofs.Numbers.GreatestPowers.{one_log2}
 use Rattle.ark_math.proofs.Domains.Sizes.{log_of_power}
 use Rattle.ark_math.proofs.Lists.Tabulated.{is_tabulated}
-use Rattle.ark_math.proofs.Transforms.Carried.{extension-carried, of_list-carried}
+use Rattle.ark_math_transforms.proofs.Transforms.Carried.{of_list-carried}
+use Rattle.ark_numbers.proofs.CarriedExtensions.{extension-carried}
 use Rattle.ark_numbers.specs.Fields.{operations}
 use Rattle.ark_numbers.proofs.Values.{NumberField, shown_field, number_carries, negated_kept}
 use Rattle.ark_words.specs.Extensions.{AreLeft}

@@ -1,8 +1,8 @@
 -- Tables by their entries: lists of indices and of values side by side, and the values' numbers.
 use Rattle.std.proofs.Common.{◌≡◌, ◌==◌, ℕ, Bool, true, false, List, [], ◌∷◌, ◌++◌, if◌then◌else◌, length, map, zip, refl, sym, ap, ap₂, ◌∙◌, arith}
 use mathlib.Core.Path.{fun_ext}
-use Rattle.ark_math.specs.Multilinear.{extension, written}
-use Rattle.ark_math.proofs.Transforms.Carried.{extension-carried}
+use Rattle.ark_math_variables.specs.Multilinear.{extension, written}
+use Rattle.ark_numbers.proofs.CarriedExtensions.{extension-carried}
 use Rattle.ark_numbers.specs.Fields.{operations}
 use Rattle.ark_numbers.proofs.Values.{NumberField, shown_field, number_carries, negated_kept}
 

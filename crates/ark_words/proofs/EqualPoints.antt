@@ -1,6 +1,6 @@
 -- What the error of a call at points tells.
 use Rattle.std.proofs.Common.{◌≡◌, ◌↔◌, ℕ, Option, Some, None, Result, Err, IsNone, IsSome, refl, rules}
-use Rattle.ark_math.specs.AtPoints.{AreDifferent, HasRepeated}
+use Rattle.ark_math_points.specs.AtPoints.{AreDifferent, HasRepeated}
 use Rattle.ark_words.specs.declared.error.WordsError.{WordsError}
 use Rattle.ark_words.specs.declared.error.WordsError.TheVariants.{Memory, Length, NotReduced, NoDomain, ZeroDivisor, EqualPoints, TooFew, NoCodeword}
 use Rattle.ark_words.specs.Faults.{IsOfPoints, IsRefusalOfPoints}

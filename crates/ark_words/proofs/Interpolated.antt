@@ -1,12 +1,12 @@
 -- The polynomial through points, by the numbers of its coefficients.
 use Rattle.std.proofs.Common.{◌≡◌, ℕ, zero, suc, ◌%◌, ◌<◌, List, [], ◌∷◌, All, length, map, get_or, refl, sym, ap, ap₂, subst, ◌∙◌, mod-eq_of_lt, arith}
 use Rattle.std.proofs.lemmas.List.{length-map, get_or-map, ext_get_or}
-use Rattle.ark_math.specs.AtPoints.{HasValues}
+use Rattle.ark_math_points.specs.AtPoints.{HasValues}
 use Rattle.ark_math.specs.Field.{FieldOn}
 use Rattle.ark_math.specs.Module.{itself}
 use Rattle.ark_math.specs.Transform.{value_at}
 use Rattle.ark_math.specs.Univariate.{IsBelow, IsValue, of_list}
-use Rattle.ark_math.proofs.Polynomials.UnivariateValues.{value-of_list}
+use Rattle.ark_math_polynomials.proofs.Polynomials.UnivariateValues.{value-of_list}
 use Rattle.ark_numbers.specs.Fields.{operations, reduced}
 use Rattle.ark_numbers.proofs.Values.{NumberField, shown_field, field_laws, elements_of, values_of_elements, value_carried}
 

@@ -6,8 +6,8 @@ use Rattle.ark_math.specs.Module.{ModuleOn, IsItself, itself}
 use Rattle.ark_math.specs.Domain.{Domain}
 use Rattle.ark_math.specs.Transform.{transform, IsInverse}
 use Rattle.ark_math.proofs.Algebra.Powers.{times_zero}
-use Rattle.ark_math.proofs.Callers.Transforms.{transform-meanings, inverse-meanings}
-use Rattle.ark_math.proofs.Transforms.Carried.{IsLinear, carried, transform-linear, fit-linear}
+use Rattle.ark_math_domains.proofs.Callers.Transforms.{transform-meanings, inverse-meanings}
+use Rattle.ark_math_transforms.proofs.Transforms.Carried.{IsLinear, carried, transform-linear, fit-linear}
 use Rattle.ark_numbers.specs.Fields.{operations, reduced}
 use Rattle.ark_numbers.specs.Answers.{domain_of, AreValues, AreInterpolated}
 use Rattle.ark_numbers.proofs.Values.{NumberField, shown_field, field_laws, number_carries, domain_carried, IsOurs}

@@ -7,17 +7,16 @@ use Rattle.ark_math.specs.Module.{ModuleOn, IsItself, itself, item}
 use Rattle.ark_math.specs.Root.{Splits, IsSupported}
 use Rattle.ark_math.specs.Domain.{Domain, radix2, domain_of, element}
 use Rattle.ark_math.specs.Transform.{transform, IsInverse}
-use Rattle.ark_math.proofs.Domains.Elements.{power_not_zero}
+use Rattle.ark_math.proofs.Algebra.NonZero.{power_not_zero}
 use Rattle.ark_math.proofs.Domains.Sizes.{radix2_splits}
 use Rattle.ark_math.proofs.Lists.Tabulated.{tabulate-same}
-use Rattle.ark_math.proofs.Transforms.Carried.{map-tabulate, power-carried}
+use Rattle.ark_math_transforms.proofs.Transforms.Carried.{map-tabulate, power-carried}
 use Rattle.ark_numbers.specs.Fields.{operations}
 use Rattle.ark_numbers.specs.Answers.{coset_of, AreValues, AreInterpolated}
 use Rattle.ark_numbers.proofs.Values.{NumberField, shown_field, field_laws, number_carries, domain_carried, IsOurs}
-use Rattle.ark_parts.specs.Parts.{column, row, of_columns, of_row}
-use Rattle.ark_parts.proofs.Domains.{part_root, element_not_zero}
-use Rattle.ark_words.specs.Parts.{of_column}
-use Rattle.ark_words.specs.Parts.{of_row as row_of}
+use Rattle.ark_fft_parts.specs.Parts.{column, row, of_columns, of_row}
+use Rattle.ark_fft_parts.proofs.Domains.{part_root, element_not_zero}
+use Rattle.ark_words.specs.Parts.{of_column, of_row as row_of}
 use Rattle.ark_words.proofs.Multiples.{scaled, scaled_linear, values_scaled, interpolated_scaled}
 
 -- a multiple of k as so many times k

@@ -11,16 +11,15 @@ use Rattle.ark_math.specs.Transform.{transform, IsInverse}
 use Rattle.ark_math.proofs.Algebra.Groups.{itself_is_module}
 use Rattle.ark_math.proofs.Domains.Sizes.{radix2_splits}
 use Rattle.ark_math.proofs.Lists.Tabulated.{item-tabulate, tabulate-same}
-use Rattle.ark_math.proofs.Transforms.Carried.{carried, map-tabulate, transform-carried, IsInverse-carried}
+use Rattle.ark_math_transforms.proofs.Transforms.Carried.{carried, map-tabulate, transform-carried, IsInverse-carried}
 use Rattle.ark_base.specs.ResiduesLaws.{number_of_residue}
 use Rattle.ark_numbers.specs.Fields.{operations, reduced}
 use Rattle.ark_numbers.specs.Answers.{coset_of, AreInterpolated}
 use Rattle.ark_numbers.proofs.Values.{NumberField, shown_field, field_laws, number_carries, residue_carries, residue, elements_of, values_of_elements, domain_carried, not_zero_back, IsOurs}
-use Rattle.ark_parts.specs.Parts.{column, across, down, of_columns, of_row}
-use Rattle.ark_parts.proofs.Making.{parts_make_the_transform}
-use Rattle.ark_parts.proofs.Unmaking.{parts_make_the_inverse}
-use Rattle.ark_words.specs.Parts.{of_column, AreColumns, AreRows, AreRowsBack, AreColumnsBack, AreOrdered}
-use Rattle.ark_words.specs.Parts.{of_row as row_of}
+use Rattle.ark_fft_parts.specs.Parts.{column, across, down, of_columns, of_row}
+use Rattle.ark_fft_parts.proofs.Making.{parts_make_the_transform}
+use Rattle.ark_fft_parts.proofs.Unmaking.{parts_make_the_inverse}
+use Rattle.ark_words.specs.Parts.{of_column, AreColumns, AreRows, AreRowsBack, AreColumnsBack, AreOrdered, of_row as row_of}
 use Rattle.ark_words.proofs.Interpolated.{numbers_back}
 use Rattle.ark_words.proofs.PartsInNumbers.{item-mapped, column-mapped, columns_ours, row_ours, columns_offset, row_offset}
 

@@ -4,8 +4,8 @@ use Rattle.std.proofs.lemmas.Bool.{cases_lt}
 use Rattle.ark_math.specs.Field.{FieldOn, IsField}
 use Rattle.ark_math.specs.Univariate.{IsBelow, IsQuotient}
 use Rattle.ark_math.proofs.Algebra.Powers.{zero_factor}
-use Rattle.ark_math.proofs.Polynomials.Univariate.{IsBelow-more, IsBelow-less}
-use Rattle.ark_math.proofs.Polynomials.UnivariateProducts.{product_leading}
+use Rattle.ark_math_polynomials.proofs.Polynomials.Univariate.{IsBelow-more, IsBelow-less}
+use Rattle.ark_math_polynomials.proofs.Polynomials.UnivariateProducts.{product_leading}
 
 module _ {F : Type 0} (K : FieldOn F) (N : IsField K) where
   -- a coefficient of the quotient past the dividend's, where those above it are zero

@@ -3,14 +3,14 @@ use Rattle.std.proofs.Common.{◌≡◌, ◌↔◌, ◌+◌, ◌/◌, ◌<◌, �
 use Rattle.std.proofs.lemmas.List.{length-map, get_or-map}
 use mathlib.Core.Path.{fun_ext}
 use Rattle.std.proofs.lemmas.Bool.{cases_lt}
-use Rattle.ark_math.specs.AtPoints.{AreDifferent, HasRepeated, HasValues}
+use Rattle.ark_math_points.specs.AtPoints.{AreDifferent, HasRepeated, HasValues}
 use Rattle.ark_math.specs.Field.{FieldOn}
 use Rattle.ark_math.specs.Module.{itself, tabulate}
 use Rattle.ark_math.specs.Transform.{value_at}
 use Rattle.ark_math.specs.Univariate.{of_list, IsBelow}
 use Rattle.ark_math.proofs.Lists.Tabulated.{length-tabulate, get_or-tabulate, tabulate-same}
-use Rattle.ark_math.proofs.Transforms.Carried.{map-tabulate}
-use Rattle.ark_math.proofs.Polynomials.UnivariateLists.{of_list-past, of_list-below}
+use Rattle.ark_math_transforms.proofs.Transforms.Carried.{map-tabulate}
+use Rattle.ark_math_polynomials.proofs.Polynomials.UnivariateLists.{of_list-past, of_list-below}
 use Rattle.ark_numbers.specs.Fields.{operations}
 use Rattle.ark_numbers.proofs.Values.{NumberField, shown_field, elements_of, values_at_carried}
 use Rattle.ark_words.specs.Interpolations.{AreThrough, AreInterpolating}

@@ -5,10 +5,10 @@ use Rattle.std.proofs.lemmas.List.{length-map}
 use Rattle.ark_math.specs.Field.{FieldOn, power}
 use Rattle.ark_math.specs.Module.{itself, sum_below}
 use Rattle.ark_math.specs.Domain.{Kind, Domain, element}
-use Rattle.ark_math.specs.Points.{AreWeights}
+use Rattle.ark_math_domains.specs.Points.{AreWeights}
 use Rattle.ark_math.specs.Univariate.{IsBelow, of_list, value_below}
 use Rattle.ark_math.proofs.Algebra.Sums.{sum_below-same}
-use Rattle.ark_math.proofs.Transforms.Carried.{Carries, carried, power-carried, of_list-carried}
+use Rattle.ark_math_transforms.proofs.Transforms.Carried.{Carries, carried, power-carried, of_list-carried}
 use Rattle.ark_base.specs.ResiduesLaws.{number_of_residue}
 use Rattle.ark_numbers.specs.Fields.{Known, operations}
 use Rattle.ark_numbers.specs.Answers.{domain_of, coset_of}

@@ -5,10 +5,10 @@ use mathlib.Core.Path.{fun_ext}
 use Rattle.ark_math.specs.Field.{FieldOn}
 use Rattle.ark_math.specs.Univariate.{of_list, product, nothing, IsBelow, IsQuotient}
 use Rattle.ark_math.proofs.Lists.Tabulated.{get_or-tabulate}
-use Rattle.ark_math.proofs.Polynomials.Univariate.{IsBelow-more}
-use Rattle.ark_math.proofs.Polynomials.UnivariateLists.{of_list-past, of_list-below}
-use Rattle.ark_math.proofs.Polynomials.UnivariateProducts.{product-below}
-use Rattle.ark_math.proofs.Transforms.Carried.{of_list-carried, product-carried, IsQuotient-carried}
+use Rattle.ark_math_polynomials.proofs.Polynomials.Univariate.{IsBelow-more}
+use Rattle.ark_math_polynomials.proofs.Polynomials.UnivariateLists.{of_list-past, of_list-below}
+use Rattle.ark_math_polynomials.proofs.Polynomials.UnivariateProducts.{product-below}
+use Rattle.ark_math_transforms.proofs.Transforms.Carried.{of_list-carried, product-carried, IsQuotient-carried}
 use Rattle.ark_numbers.specs.Fields.{operations}
 use Rattle.ark_numbers.proofs.Values.{NumberField, shown_field, field_laws, number_carries, is_zero}
 use Rattle.ark_words.specs.Numbers.{number_at, numbers}

@@ -2,7 +2,7 @@
 -- one whose variable j is bit j of i, and a point.
 use Rattle.std.specs.Prelude.{◌≡◌, ℕ, ◌-◌, ◌^◌, ◌/◌, ◌<◌, ◌≤◌, List, All, length, zip}
 use Rattle.ark_math.specs.Module.{tabulate}
-use Rattle.ark_math.specs.Multilinear.{extension, fixed, written}
+use Rattle.ark_math_variables.specs.Multilinear.{extension, fixed, written}
 use Rattle.ark_math.specs.Univariate.{of_list}
 use Rattle.ark_math.specs.Words.{number_of_words}
 use Rattle.ark_numbers.specs.Fields.{operations}

@@ -1,6 +1,6 @@
 -- Interpolation over lists of words: n points, n values and n coefficients, the lowest first.
 use Rattle.std.specs.Prelude.{◌≡◌, ℕ, ◌<◌, ◌/◌, List, All, length, map}
-use Rattle.ark_math.specs.AtPoints.{AreDifferent, HasRepeated}
+use Rattle.ark_math_points.specs.AtPoints.{AreDifferent, HasRepeated}
 use Rattle.ark_math.specs.Module.{itself}
 use Rattle.ark_math.specs.Transform.{value_at}
 use Rattle.ark_numbers.specs.Fields.{operations}

@@ -6,7 +6,7 @@ use Rattle.ark_math.specs.Domain.{Domain, element}
 use Rattle.ark_math.specs.Words.{number_of_words}
 use Rattle.ark_numbers.specs.Fields.{Known, operations}
 use Rattle.ark_numbers.specs.Answers.{coset_of, AreValues, AreInterpolated}
-use Rattle.ark_parts.specs.Parts.{column, row, across, down, AreInParts}
+use Rattle.ark_fft_parts.specs.Parts.{column, row, across, down, AreInParts}
 use Rattle.ark_words.specs.Numbers.{Spelled, numbers, HaveLengths}
 
 -- ---- the domains, where h is the offset of all

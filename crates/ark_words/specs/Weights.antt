@@ -1,6 +1,6 @@
 -- The weights by which the values over a domain of n elements give the value at a point: an offset, a point and n weights.
 use Rattle.std.specs.Prelude.{ℕ, ◌<◌, ◌/◌, List, length}
-use Rattle.ark_math.specs.Points.{AreWeights}
+use Rattle.ark_math_domains.specs.Points.{AreWeights}
 use Rattle.ark_math.specs.Words.{number_of_words}
 use Rattle.ark_numbers.specs.Fields.{operations}
 use Rattle.ark_numbers.specs.Answers.{coset_of}

@@ -6,7 +6,7 @@ ghost use Rattle.ark_numbers.specs.Fields.{known_by};
 ghost use Rattle.ark_words.specs.Numbers.{Spelled, in_words};
 
 use ark_base::{PrimeField, PrimeField32, PrimeModulus, PrimeModulus32, PrimeNumbers};
-use ark_wide::{PrimeField256, PrimeModulus256};
+use ark_prime256::{PrimeField256, PrimeModulus256};
 
 /// A field whose elements are the numbers below a prime, each spelled by so many words of 64 bits, the low
 /// one first.
@@ -136,7 +136,7 @@ impl<M: PrimeModulus32> WordElement for PrimeField32<M> {
 
 impl<M: PrimeModulus256> WordElement for PrimeField256<M> {
     ghost use Rattle.std.proofs.Common.{lit<};
-    ghost use Rattle.ark_wide.specs.Element.{unit as unit256};
+    ghost use Rattle.ark_prime256.specs.Element.{unit as unit256};
 
     ghost WIDTH = { 4 };
 

@@ -1,7 +1,7 @@
 //! Multilinear extensions of tables.
 
 ghost use Rattle.std.specs.Prelude.{◌≡◌, ◌↔◌, ◌<◌, ◌^◌, All, IfOk, OnOk, OnErr, IfErr, IsTrue, length, zip};
-ghost use Rattle.ark_math.specs.Multilinear.{extension, written};
+ghost use Rattle.ark_math_variables.specs.Multilinear.{extension, written};
 ghost use Rattle.ark_words.specs.Extensions.{FitExtended, IsExtended, AreLeft, FitFixed, AreFixed};
 ghost use Rattle.ark_words.specs.Extensions.{FitSparse, IsExtendedByEntries};
 ghost use Rattle.ark_words.specs.Faults.{IsPlain};
@@ -10,8 +10,8 @@ ghost use Rattle.ark_words.specs.Numbers.{BothReduced};
 use crate::element::WordElement;
 use crate::error::WordsError;
 use crate::lists::{both, put};
-use ark_lists::tables::{fixed_table, value_of_table};
-use ark_lists::windows::{bind_variables, value_at, written_entries};
+use ark_tables::tables::{fixed_table, value_of_table};
+use ark_tables::windows::{bind_variables, value_at, written_entries};
 use ark_traits::{Field, PolyError, log2};
 use std::alloc::{AllocError, Global};
 
@@ -59,7 +59,7 @@ pub fn multilinear_evaluate<F: WordElement>(
 /// values at the corners are given, and all others are zero: value `i` is the one at the corner whose place
 /// in the table is index `i`. The indices stand in any order; where one comes again, the last value counts.
 /// The value that is written is one number. It takes memory for the elements, and what `written_entries` and
-/// `bind_variables` of `ark_lists` take.
+/// `bind_variables` of `ark_tables` take.
 ///
 /// The errors are judged in this order: `Length` where values or point aren't whole elements, the written
 /// value's words aren't one, there aren't as many indices as values, `m` is above 63, or an index isn't below

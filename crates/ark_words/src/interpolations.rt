@@ -2,7 +2,7 @@
 
 ghost use Rattle.std.specs.Prelude.{◌≡◌, ◌↔◌, ℕ, ◌<◌, ◌≤◌, ◌/◌, All, length};
 ghost use Rattle.std.specs.Prelude.{IfOk, IfErr, IsTrue, OnOk, OnErr};
-ghost use Rattle.ark_math.specs.AtPoints.{AreDifferent, HasRepeated, HasValues};
+ghost use Rattle.ark_math_points.specs.AtPoints.{AreDifferent, HasRepeated, HasValues};
 ghost use Rattle.ark_math.specs.Univariate.{IsBelow, of_list};
 ghost use Rattle.ark_words.specs.Faults.{IsOfPoints, IsRefusalOfPoints};
 ghost use Rattle.ark_words.specs.Interpolations.{FitInterpolation, ArePointsDifferent, HasEqualPoints};

@@ -18,7 +18,7 @@ use crate::error::WordsError;
 use crate::lists::refusal;
 use crate::scaled::{put_scaled, scaled_elements};
 use ark_fft::domain::Coset;
-use ark_parts::Parts;
+use ark_fft_parts::Parts;
 use ark_traits::{FftField, Work};
 use std::alloc::Global;
 

@@ -5,7 +5,7 @@ use ark_base::{
 };
 use ark_extensions::Quadratic;
 use ark_rows::Row;
-use ark_wide::{PrimeField256, PrimeModulus256};
+use ark_prime256::{PrimeField256, PrimeModulus256};
 use std::alloc::Global;
 use std::io::Print;
 use std::time::{Clock, Instant};

@@ -2,7 +2,8 @@
 
 use crate::batches::{Benchmark, Counted, Number, Reporter, mixed};
 use crate::draws::Draws;
-use ark_base::{BabyBear, DomainCoeff, F65537, FftField, PolyError, Zero};
+use ark_base::{DomainCoeff, FftField, PolyError, Zero};
+use ark_fields::{BabyBear, F65537};
 use ark_poly::{EvaluationDomain, Radix2EvaluationDomain};
 use ark_rows::Row;
 use rs_code::Code;

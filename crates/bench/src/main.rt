@@ -16,17 +16,16 @@ mod polynomials;
 mod sums;
 mod transforms;
 
-use ark_base::{
-    BabyBear, CanonicalSerialize, Compress, DomainCoeff, F433, F65537, Field, Goldilocks,
-    KoalaBear, Polynomial,
-};
-use ark_extensions::{BabyBear4, ExtensionOf, Goldilocks2};
+use ark_base::{CanonicalSerialize, Compress, DomainCoeff, Field, Polynomial};
+use ark_fields::{BabyBear, F433, F65537, Goldilocks, KoalaBear};
+use ark_extensions::ExtensionOf;
+use ark_extension_fields::{BabyBear4, Goldilocks2};
 use ark_poly::univariate::{DensePolynomial, SparsePolynomial};
 use ark_poly::{
     DenseMultilinearExtension, DenseUVPolynomial, EvaluationDomain, MixedRadixEvaluationDomain,
     MultilinearExtension, Radix2EvaluationDomain, SparseMultilinearExtension,
 };
-use ark_wide::Bls12_381Scalar;
+use ark_prime256::Bls12_381Scalar;
 use at_points::{report_at_points, report_shares};
 use batches::{Counted, Number, Reporter};
 use bytes::{ReadBack, Written};

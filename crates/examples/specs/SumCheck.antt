@@ -2,7 +2,7 @@
 use Rattle.std.specs.Prelude.{◌-◌, ◌^◌, [], ◌∷◌}
 use Rattle.ark_math.specs.Field.{FieldOn}
 use Rattle.ark_math.specs.Module.{itself, sum_below}
-use Rattle.ark_math.specs.Multilinear.{Table, fixed}
+use Rattle.ark_math_variables.specs.Multilinear.{Table, fixed}
 
 -- the sum of a table's values at all corners
 abbrev pub sum_of_all : {F : Type 0} → FieldOn F → Table F → F

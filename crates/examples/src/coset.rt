@@ -3,7 +3,7 @@
 ghost use Rattle.std.specs.Prelude.{◌≡◌, ◌↔◌, ℕ, length, IfOk, Err};
 ghost use Rattle.ark_math.specs.Outcome.{IsOkUnlessEither};
 ghost use Rattle.ark_math.specs.Univariate.{IsBelow};
-ghost use Rattle.ark_math.specs.Points.{AreValues};
+ghost use Rattle.ark_math_domains.specs.Points.{AreValues};
 
 use ark_base::{FftField, PolyError};
 use ark_poly::EvaluationDomain;

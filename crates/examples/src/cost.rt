@@ -3,7 +3,8 @@
 ghost use Rattle.std.specs.Prelude.{◌≡◌, ◌+◌, ◌≤◌, length, OnOk};
 ghost use Rattle.ark_poly.specs.Domains.{radix2_domain};
 
-use ark_base::{DomainCoeff, F433, FftField, PolyError, Work};
+use ark_base::{DomainCoeff, FftField, PolyError, Work};
+use ark_fields::F433;
 use ark_poly::{EvaluationDomain, Radix2EvaluationDomain};
 use rs_code::{Code, RsError};
 use std::alloc::Global;

@@ -3,9 +3,9 @@
 ghost use Rattle.std.specs.Prelude.{◌≡◌, ◌*◌, ◌%◌, ◌^◌, None, refl};
 ghost use Rattle.ark_base.specs.Lucas.{small, large, done};
 ghost use Rattle.ark_base.specs.ModulusLaws.{modulus_from_parts};
-ghost use Rattle.ark_wide.specs.Words.{words_of};
+ghost use Rattle.ark_prime256.specs.Words.{words_of};
 
-use ark_wide::{BigInteger256, PrimeField256, PrimeModulus256};
+use ark_prime256::{BigInteger256, PrimeField256, PrimeModulus256};
 
 /// The prime of the field of the coordinates of Curve25519's points, of 255 bits.
 pub struct Curve25519CoordinateModulus;

@@ -1,7 +1,7 @@
 //! One error for a program that calls several crates: `?` makes it of each of theirs.
 
 ghost use Rattle.std.specs.Prelude.{◌≡◌, ◌++◌, ℕ, List, IfOk};
-ghost use Rattle.ark_math.specs.Layouts.{dense};
+ghost use Rattle.ark_univariate.specs.Layouts.{dense};
 ghost use Rattle.ark_math.specs.Univariate.{IsValue, of_list};
 
 use ark_base::{CanonicalDeserialize, Compress, Field, PolyError, SerializationError};

@@ -4,10 +4,11 @@ ghost use Rattle.std.specs.Prelude.{◌≡◌, length, map, IfOk};
 ghost use Rattle.ark_math.specs.Domain.{radix2};
 ghost use Rattle.ark_math.specs.Transform.{transform};
 ghost use Rattle.ark_fft.specs.Coset.{coset_domain};
-ghost use Rattle.ark_parts.specs.Parts.{AreInParts, row};
+ghost use Rattle.ark_fft_parts.specs.Parts.{AreInParts, row};
 
-use ark_base::{DomainCoeff, F65537, FftField, PolyError, Work};
-use ark_parts::{Parts, parts_make_the_transform};
+use ark_base::{DomainCoeff, FftField, PolyError, Work};
+use ark_fields::F65537;
+use ark_fft_parts::{Parts, parts_make_the_transform};
 use ark_poly::{EvaluationDomain, Radix2EvaluationDomain};
 use std::alloc::Global;
 

@@ -1,7 +1,7 @@
 //! An interpolation: from values over a domain to a value anywhere.
 
 ghost use Rattle.std.specs.Prelude.{◌≡◌, ℕ, length, IfOk, IsOkUnless};
-ghost use Rattle.ark_math.specs.Points.{AreValues};
+ghost use Rattle.ark_math_domains.specs.Points.{AreValues};
 ghost use Rattle.ark_math.specs.Univariate.{IsBelow, IsValue};
 
 use ark_base::{FftField, PolyError};

@@ -40,9 +40,8 @@ mod transcript;
 mod word_sums;
 mod words;
 
-use ark_base::{
-    BabyBear, F433, F65537, FftField, Field, PolyError, PrimeField, PrimeModulus, Work,
-};
+use ark_base::{FftField, Field, PolyError, PrimeField, PrimeModulus, Work};
+use ark_fields::{BabyBear, F433, F65537};
 use ark_poly::univariate::DensePolynomial;
 use ark_poly::{
     DenseMultilinearExtension, DenseUVPolynomial, EvaluationDomain, MixedRadixEvaluationDomain,

@@ -1,7 +1,7 @@
 //! An opening in one pass: a polynomial's value at a point, and the quotient that shows it.
 
 ghost use Rattle.std.specs.Prelude.{◌≡◌, IfOk, IsOkUnless};
-ghost use Rattle.ark_math.specs.Linear.{constant, linear_factor};
+ghost use Rattle.ark_math_polynomials.specs.Linear.{constant, linear_factor};
 ghost use Rattle.ark_math.specs.Univariate.{added, of_list, product};
 
 use ark_base::{Field, PolyError};

@@ -2,10 +2,11 @@
 
 ghost use Rattle.std.specs.Prelude.{map};
 ghost use Rattle.std.proofs.Common.{lit<, refl};
-ghost use Rattle.ark_extensions.specs.NonResidues.{no_square_by_power};
+ghost use Rattle.ark_base.specs.NonResidues.{no_square_by_power};
 ghost use Rattle.ark_math.specs.Univariate.{IsValue, of_list};
 
-use ark_base::{F433, Field, Modulus433, PrimeModulus};
+use ark_base::{Field, PrimeModulus};
+use ark_fields::{F433, Modulus433};
 use ark_extensions::embedded::evaluate;
 use ark_extensions::{ExtensionOf, Quadratic, QuadraticModulus};
 

@@ -5,7 +5,8 @@
 use crate::row_bytes::{is_shown, proof_bytes};
 use crate::row_sum_check::row_sum_check;
 use crate::transcript::opening_points;
-use ark_base::{Field, Goldilocks, PolyError};
+use ark_base::{Field, PolyError};
+use ark_fields::Goldilocks;
 use ark_poly::{DenseMultilinearExtension, Polynomial};
 use ark_sum_check::{Addend, Prover, SumCheckError, Verdict, eq_table};
 use std::alloc::{AllocError, Global};

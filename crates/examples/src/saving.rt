@@ -2,7 +2,7 @@
 
 ghost use Rattle.std.specs.Prelude.{◌≡◌, ◌++◌, ℕ, List, Some, IfOk, IsOkUnless};
 ghost use Rattle.std.specs.Io.KnownBytes.{Appends, Consumes};
-ghost use Rattle.ark_math.specs.Layouts.{dense};
+ghost use Rattle.ark_univariate.specs.Layouts.{dense};
 
 use ark_base::{
     CanonicalDeserialize, CanonicalSerialize, Compress, Field, IoSink, IoSource,

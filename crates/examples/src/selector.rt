@@ -1,7 +1,7 @@
 //! A table that is one at one place: what chooses a value in a multilinear protocol.
 
 ghost use Rattle.std.specs.Prelude.{◌≡◌, ◌<◌, ◌^◌, length, IfOk, IsOkUnless};
-ghost use Rattle.ark_math.specs.Multilinear.{weight};
+ghost use Rattle.ark_math_variables.specs.Multilinear.{weight};
 
 use ark_base::{Field, PolyError};
 use ark_poly::{Polynomial, SparseMultilinearExtension};

@@ -1,7 +1,7 @@
 //! The values of a sparse polynomial over a domain.
 
 ghost use Rattle.std.specs.Prelude.{IfOk, IsOkUnless};
-ghost use Rattle.ark_math.specs.Points.{AreValues};
+ghost use Rattle.ark_math_domains.specs.Points.{AreValues};
 ghost use Rattle.ark_math.specs.Univariate.{of_pairs};
 
 use ark_base::{FftField, PolyError};

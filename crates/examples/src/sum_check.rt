@@ -3,7 +3,7 @@
 ghost use Rattle.std.specs.Prelude.{◌≡◌, ◌<◌, length, IfOk, IsOkUnless};
 ghost use Rattle.ark_math.specs.Field.{minus};
 ghost use Rattle.ark_math.specs.Module.{itself, sum_below};
-ghost use Rattle.ark_math.specs.Multilinear.{Table, extension};
+ghost use Rattle.ark_math_variables.specs.Multilinear.{Table, extension};
 ghost use Rattle.ark_math.specs.Univariate.{of_list};
 ghost use Rattle.examples.specs.SumCheck.{sum_of_all, sum_of_others};
 

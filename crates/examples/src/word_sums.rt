@@ -7,8 +7,8 @@ ghost use Rattle.ark_sum_check.specs.Cube.{Product};
 ghost use Rattle.ark_word_sums.specs.Proofs.{IsUnluckyProof, ProvesSum};
 ghost use Rattle.ark_word_sums.specs.Sums.{AreAddends, IsCubeSum};
 
-use ark_base::{BabyBear, Goldilocks, KoalaBear};
-use ark_wide::Bls12_381Scalar;
+use ark_fields::{BabyBear, Goldilocks, KoalaBear};
+use ark_prime256::Bls12_381Scalar;
 use ark_word_sums::{
     SumElement, SumNumbers, SumsError, honest_is_shown, proof_size, prove, shown_or_unlucky,
     value_at, verify,

@@ -5,13 +5,13 @@ use mathlib.Core.Path.{fun_ext}
 use Rattle.ark_math.specs.Field.{FieldOn, power}
 use Rattle.ark_math.specs.Domain.{Kind, Domain, IsSize}
 use Rattle.ark_math.specs.Univariate.{of_list, nothing, product, IsQuotient}
-use Rattle.ark_math.proofs.Domains.Domains.{root_order, size_not_zero}
-use Rattle.ark_math.proofs.Domains.GeneralSizes.{general_sizes, one_general_size}
-use Rattle.ark_math.proofs.Polynomials.Quotients.{one_quotient, zero_quotient}
-use Rattle.ark_math.proofs.Polynomials.Trimmed.{trim-same}
-use Rattle.ark_math.proofs.Polynomials.UnivariateLists.{same_trimmed}
-use Rattle.ark_math.proofs.Transforms.Carried.{carried, power-carried, of_list-carried, product-carried, IsInverse-carried}
-use Rattle.ark_math.proofs.Transforms.Inverses.{one_inverse}
+use Rattle.ark_math_transforms.proofs.Domains.Domains.{root_order, size_not_zero}
+use Rattle.ark_math_transforms.proofs.Domains.GeneralSizes.{general_sizes, one_general_size}
+use Rattle.ark_math_polynomials.proofs.Polynomials.Quotients.{one_quotient, zero_quotient}
+use Rattle.ark_math_polynomials.proofs.Polynomials.Trimmed.{trim-same}
+use Rattle.ark_math_polynomials.proofs.Polynomials.UnivariateLists.{same_trimmed}
+use Rattle.ark_math_transforms.proofs.Transforms.Carried.{carried, power-carried, of_list-carried, product-carried, IsInverse-carried}
+use Rattle.ark_math_transforms.proofs.Transforms.Inverses.{one_inverse}
 use Rattle.ark_traits.specs.declared.error.PolyError.{PolyError}
 use Rattle.ark_base.specs.ResiduesLaws.{number_of_residue}
 use Rattle.polyrun_lib.specs.declared.command.Direction.{Direction}

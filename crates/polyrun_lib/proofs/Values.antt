@@ -4,11 +4,11 @@ use Rattle.ark_math.specs.Field.{FieldOn}
 use Rattle.ark_math.specs.Module.{ModuleOn, IsItself, itself}
 use Rattle.ark_math.specs.Domain.{Domain}
 use Rattle.ark_math.specs.Transform.{transform, value_at, IsInverse}
-use Rattle.ark_math.specs.Multilinear.{extension}
+use Rattle.ark_math_variables.specs.Multilinear.{extension}
 use Rattle.ark_math.specs.Univariate.{of_list, product, nothing, IsTrimmed, IsQuotient}
-use Rattle.ark_math.proofs.Polynomials.UnivariateLists.{zero_divisor_cases}
-use Rattle.ark_math.proofs.Transforms.Inversion.{inverse_exists}
-use Rattle.ark_math.proofs.Domains.Domains.{root_order, size_not_zero}
+use Rattle.ark_math_polynomials.proofs.Polynomials.UnivariateLists.{zero_divisor_cases}
+use Rattle.ark_math_transforms.proofs.Transforms.Inversion.{inverse_exists}
+use Rattle.ark_math_transforms.proofs.Domains.Domains.{root_order, size_not_zero}
 use Rattle.std.specs.Result.{IsErrAnd}
 use Rattle.std.specs.Prelude.{IsErr}
 use Rattle.std.proofs.lemmas.Result.{IfOk-from_err}

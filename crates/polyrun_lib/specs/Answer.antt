@@ -4,7 +4,7 @@ use Rattle.ark_math.specs.Module.{itself}
 use Rattle.ark_math.specs.Domain.{Kind, Domain, HasNoSize}
 use Rattle.ark_math.specs.Transform.{value_at}
 use Rattle.ark_math.specs.Univariate.{of_list}
-use Rattle.ark_math.specs.Multilinear.{extension}
+use Rattle.ark_math_variables.specs.Multilinear.{extension}
 use Rattle.ark_traits.specs.declared.error.PolyError.{PolyError}
 use Rattle.ark_traits.specs.declared.error.PolyError.TheVariants.{Memory, NoDomain, ZeroDivisor}
 use Rattle.ark_numbers.specs.Fields.{Known, field_5, field_433, field_65537, babybear, koalabear, goldilocks, bls12_381, bn254, operations, reduced}

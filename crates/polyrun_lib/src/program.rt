@@ -25,16 +25,14 @@ use crate::lines::{line, number_line, refusal_line, single_line, usage_line};
 use crate::rows::check_rows;
 use crate::vectors::vectors_of;
 use crate::words::number;
-use ark_base::{
-    BabyBear, F5, F433, F65537, FftField, Field, Goldilocks, KoalaBear, PolyError, PrimeNumbers,
-    Sink, Work,
-};
+use ark_base::{FftField, Field, PolyError, PrimeNumbers, Sink, Work};
+use ark_fields::{BabyBear, F433, F5, F65537, Goldilocks, KoalaBear};
 use ark_poly::univariate::{DenseOrSparsePolynomial, DensePolynomial};
 use ark_poly::{
     DenseMultilinearExtension, DenseUVPolynomial, EvaluationDomain, GeneralEvaluationDomain,
     Polynomial,
 };
-use ark_wide::{Bls12_381Scalar, Bn254Scalar};
+use ark_prime256::{Bls12_381Scalar, Bn254Scalar};
 use std::alloc::{AllocError, Global};
 
 // The domains that the transforms are over.

@@ -3,16 +3,16 @@ use Rattle.std.proofs.Common.{◌≡◌, ◌≢◌, ℕ, ◌<◌, Bool, true, fa
 use mathlib.Core.Path.{fun_ext}
 use Rattle.std.proofs.lemmas.Bool.{cases_lt}
 use Rattle.std.proofs.lemmas.List.{get_or-map, get_or_past}
-use Rattle.ark_math.specs.Field.{FieldOn, IsField, natural}
+use Rattle.ark_math.specs.Field.{FieldOn, IsField, natural, IsPlaceQuotient}
 use Rattle.ark_math.specs.Root.{HasOrder}
 use Rattle.ark_math.specs.Module.{ModuleOn, IsItself, itself, item}
 use Rattle.ark_math.specs.Domain.{Domain, element}
 use Rattle.ark_math.specs.Univariate.{of_list}
-use Rattle.ark_math.specs.Points.{AreValues, IsPlaceQuotient}
+use Rattle.ark_math_domains.specs.Points.{AreValues}
 use Rattle.ark_math.proofs.Algebra.Powers.{times_zero}
-use Rattle.ark_math.proofs.OverDomains.PlaceValues.{values-item, values-length}
-use Rattle.ark_math.proofs.Polynomials.UnivariateValues.{one_value}
-use Rattle.ark_math.specs.Nodes.{nodes}
+use Rattle.ark_math_domains.proofs.OverDomains.PlaceValues.{values-item, values-length}
+use Rattle.ark_math_polynomials.proofs.Polynomials.UnivariateValues.{one_value}
+use Rattle.ark_math_polynomials.specs.Nodes.{nodes}
 use Rattle.rs_code.specs.Locator.{AreFactors, IsFactor, euler, lost, derivative_at}
 use Rattle.rs_code.proofs.Factors.{nodes-value, derivative_at-value}
 use Rattle.rs_code.proofs.Lost.{derivative_at-lost}

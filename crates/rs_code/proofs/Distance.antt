@@ -10,7 +10,7 @@ use Rattle.ark_math.specs.Root.{HasOrder}
 use Rattle.ark_math.specs.Domain.{Domain, element}
 use Rattle.ark_math.specs.Transform.{transform}
 use Rattle.ark_math.proofs.Algebra.Groups.{cancel_left, negated_plus, scale_zero, zero_plus}
-use Rattle.ark_math.proofs.Callers.Transforms.{transform-length}
+use Rattle.ark_math_domains.proofs.Callers.Transforms.{transform-length}
 use Rattle.rs_code.specs.Codeword.{IsCodeword, AgreesBut, AgreesElsewhere, AgreesWith, erasure_count, mark_count}
 use Rattle.rs_code.specs.Locator.{lost, by_factors}
 use Rattle.rs_code.proofs.Divided.{divided}

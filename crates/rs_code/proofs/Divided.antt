@@ -9,7 +9,8 @@ use Rattle.ark_math.proofs.Algebra.Groups.{scale_zero}
 use Rattle.ark_math.proofs.Algebra.Sums.{sum_below-powers}
 use Rattle.ark_math.proofs.Algebra.Solve.{◌⊞◌, ◌•◌, negative}
 use Rattle.ark_math.proofs.Algebra.Ring.{module1_2}
-use Rattle.ark_math.proofs.Domains.Elements.{elements_differ, minus_not_zero}
+use Rattle.ark_math_domains.proofs.Domains.Elements.{elements_differ}
+use Rattle.ark_math.proofs.Algebra.NonZero.{minus_not_zero}
 use Rattle.rs_code.specs.Locator.{lost_from, by_factor, by_factors}
 use Rattle.rs_code.proofs.Locators.{value, value-same, IsShort, by_factor-value}
 

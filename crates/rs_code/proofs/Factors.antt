@@ -2,17 +2,17 @@
 use Rattle.std.proofs.Common.{◌≡◌, ℕ, zero, suc, ◌+◌, ◌<◌, List, [], ◌∷◌, length, sym, ◌∙◌, ap, ap₂, refl, subst, arith}
 use mathlib.Core.Path.{fun_ext}
 use Rattle.ark_math.specs.Field.{FieldOn, IsField, minus}
-use Rattle.ark_math.specs.Linear.{linear_factor}
+use Rattle.ark_math_polynomials.specs.Linear.{linear_factor}
 use Rattle.ark_math.specs.Module.{itself}
 use Rattle.ark_math.specs.Univariate.{monomial, product, IsBelow, IsValue}
 use Rattle.ark_math.proofs.Algebra.Groups.{itself_is_module, zero_scale}
 use Rattle.ark_math.proofs.Algebra.Solve.{◌⊕◌, ◌⊖◌, ◌⊗◌, negative, unit, nought}
 use Rattle.ark_math.proofs.Algebra.Ring.{ring2, ring3}
-use Rattle.ark_math.proofs.Polynomials.Univariate.{monomial-below}
-use Rattle.ark_math.proofs.Polynomials.UnivariateProducts.{product_comm}
-use Rattle.ark_math.proofs.Polynomials.UnivariateValues.{value_below-monomial, value_below-past}
-use Rattle.ark_math.specs.Nodes.{nodes}
-use Rattle.ark_math.proofs.Polynomials.LinearFactors.{before, linear-product}
+use Rattle.ark_math_polynomials.proofs.Polynomials.Univariate.{monomial-below}
+use Rattle.ark_math_polynomials.proofs.Polynomials.UnivariateProducts.{product_comm}
+use Rattle.ark_math_polynomials.proofs.Polynomials.UnivariateValues.{value_below-monomial, value_below-past}
+use Rattle.ark_math_polynomials.specs.Nodes.{nodes}
+use Rattle.ark_math_polynomials.proofs.Polynomials.LinearFactors.{before, linear-product}
 use Rattle.rs_code.specs.Locator.{locator_at, derivative_at, euler, by_factor, by_factors}
 use Rattle.rs_code.proofs.Locators.{value, IsShort, by_factors-short, by_factors-value, euler-value, euler-short}
 

@@ -11,17 +11,19 @@ use Rattle.ark_math.specs.Module.{itself}
 use Rattle.ark_math.specs.Root.{HasOrder}
 use Rattle.ark_math.specs.Domain.{Domain, element}
 use Rattle.ark_math.specs.Univariate.{difference, monomial, nothing, IsBelow, IsValue}
-use Rattle.ark_math.specs.Points.{vanishing}
+use Rattle.ark_math_domains.specs.Points.{vanishing}
 use Rattle.ark_math.proofs.Algebra.Groups.{itself_is_module, one_times, zero_scale}
 use Rattle.ark_math.proofs.Algebra.Powers.{power-one, times_zero}
 use Rattle.ark_math.proofs.Algebra.Solve.{◌⊕◌, ◌⊗◌, unit, nought}
 use Rattle.ark_math.proofs.Algebra.Ring.{ring2, ring4, ring5}
-use Rattle.ark_math.proofs.Domains.Elements.{element-power, elements_differ, minus_same, same_from_minus, value-vanishing, element-vanishes}
-use Rattle.ark_math.proofs.OverDomains.Vanishing.{vanishing-below, vanishing-leading}
-use Rattle.ark_math.proofs.Polynomials.Univariate.{IsBelow-less, difference-below, monomial-same, monomial-other}
-use Rattle.ark_math.proofs.Polynomials.UnivariateValues.{one_value, value_is, value-difference, value-monomial}
-use Rattle.ark_math.proofs.Polynomials.Zeros.{zeros_nothing}
-use Rattle.ark_math.specs.Nodes.{nodes}
+use Rattle.ark_math_domains.proofs.Domains.Elements.{element-power, elements_differ}
+use Rattle.ark_math_domains.proofs.OverDomains.AtElements.{value-vanishing, element-vanishes}
+use Rattle.ark_math.proofs.Algebra.NonZero.{minus_same, same_from_minus}
+use Rattle.ark_math_domains.proofs.OverDomains.Vanishing.{vanishing-below, vanishing-leading}
+use Rattle.ark_math_polynomials.proofs.Polynomials.Univariate.{IsBelow-less, difference-below, monomial-same, monomial-other}
+use Rattle.ark_math_polynomials.proofs.Polynomials.UnivariateValues.{one_value, value_is, value-difference, value-monomial}
+use Rattle.ark_math_polynomials.proofs.Polynomials.Zeros.{zeros_nothing}
+use Rattle.ark_math_polynomials.specs.Nodes.{nodes}
 use Rattle.rs_code.specs.Codeword.{mark_count}
 use Rattle.rs_code.specs.Locator.{euler, locator_at, lost, derivative_at}
 use Rattle.rs_code.proofs.Factors.{nodes-value, derivative_at-value}

@@ -6,7 +6,8 @@ use Rattle.ark_math.specs.Root.{HasOrder}
 use Rattle.ark_math.specs.Domain.{Domain, element}
 use Rattle.ark_math.proofs.Algebra.Groups.{itself_is_module, zero_plus, zero_scale}
 use Rattle.ark_math.proofs.Algebra.Powers.{times_zero}
-use Rattle.ark_math.proofs.Domains.Elements.{elements_differ, power_not_zero, times_not_zero, minus_not_zero, minus_same}
+use Rattle.ark_math_domains.proofs.Domains.Elements.{elements_differ}
+use Rattle.ark_math.proofs.Algebra.NonZero.{power_not_zero, times_not_zero, minus_not_zero, minus_same}
 use Rattle.ark_math.proofs.Roots.Order.{root_not_zero}
 use Rattle.rs_code.specs.Codeword.{mark_count}
 use Rattle.rs_code.specs.Locator.{lost_from, lost, locator_at, derivative_at}

@@ -7,7 +7,7 @@ use Rattle.ark_math.specs.Module.{ModuleOn, IsModule, item}
 use Rattle.ark_math.specs.Domain.{Domain, element}
 use Rattle.ark_math.specs.Transform.{transform, fit, IsInverse, IsOnlyInverse}
 use Rattle.ark_math.proofs.Lists.Tabulated.{length-tabulate, item-tabulate}
-use Rattle.ark_math.proofs.Callers.Transforms.{inverse_of_transform, transform-length}
+use Rattle.ark_math_domains.proofs.Callers.Transforms.{inverse_of_transform, transform-length}
 use Rattle.rs_code.proofs.Locators.{value-same}
 use Rattle.rs_code.proofs.Restored.{list-short, transform-item, transform-from}
 

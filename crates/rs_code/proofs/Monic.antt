@@ -3,7 +3,7 @@ use Rattle.std.proofs.Common.{◌≡◌, ℕ, suc, ◌<◌, List, [], ◌∷◌,
 use Rattle.ark_math.specs.Field.{FieldOn, IsField}
 use Rattle.ark_math.proofs.Algebra.Solve.{◌⊕◌, ◌⊗◌, negative, unit, nought}
 use Rattle.ark_math.proofs.Algebra.Ring.{ring1}
-use Rattle.ark_math.specs.Nodes.{nodes}
+use Rattle.ark_math_polynomials.specs.Nodes.{nodes}
 use Rattle.rs_code.proofs.Factors.{factor-product, nodes-short}
 
 -- of degree n, with one as the leading coefficient

@@ -11,8 +11,8 @@ use Rattle.ark_math.specs.Univariate.{of_list}
 use Rattle.ark_math.proofs.Algebra.Groups.{scale_zero}
 use Rattle.ark_math.proofs.Algebra.Powers.{power-one, power-add, power-mul}
 use Rattle.ark_math.proofs.Algebra.Sums.{sum_below-same}
-use Rattle.ark_math.proofs.Domains.Domains.{size_supported}
-use Rattle.ark_math.proofs.Domains.Elements.{element-power}
+use Rattle.ark_math_transforms.proofs.Domains.Domains.{size_supported}
+use Rattle.ark_math_domains.proofs.Domains.Elements.{element-power}
 use Rattle.rs_code.specs.Code.{IsSpaced}
 use Rattle.rs_code.specs.Codeword.{AgreesElsewhere, mark_count}
 use Rattle.rs_code.specs.Locator.{lost, euler, by_factors, AreFactors, filled}

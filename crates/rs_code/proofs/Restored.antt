@@ -11,7 +11,7 @@ use Rattle.ark_math.specs.Univariate.{of_list}
 use Rattle.ark_math.proofs.Algebra.Groups.{zero_scale}
 use Rattle.ark_math.proofs.Algebra.Sums.{sum_below-same}
 use Rattle.ark_math.proofs.Lists.Tabulated.{length-tabulate, item-tabulate, is_tabulated}
-use Rattle.ark_math.proofs.Callers.Transforms.{fit-same, transform-length}
+use Rattle.ark_math_domains.proofs.Callers.Transforms.{fit-same, transform-length}
 use Rattle.rs_code.specs.Codeword.{IsCodeword, AgreesElsewhere, mark_count}
 use Rattle.rs_code.specs.Locator.{lost, locator_at, derivative_at, euler, by_factors, IsFactor, AreFactors, weighed, filled}
 use Rattle.rs_code.proofs.Locators.{value, value-same, IsShort, by_factors-short, by_factors-value, euler-value}

@@ -6,8 +6,8 @@ use Rattle.ark_math.specs.Root.{Adicity, IsAdicity, odd_base}
 use Rattle.ark_math.specs.Domain.{Kind, radix2, mixed_radix, Domain, IsSize}
 use Rattle.ark_math.specs.Cost.{Counts, GoesBy, IsLog2Up, forward, inverse}
 use Rattle.ark_math.proofs.Domains.Sizes.{log_of_power}
-use Rattle.ark_base.proofs.Cost.{Grown, grown}
-use Rattle.ark_base.specs.Cost.{GrowsByCost}
+use Rattle.ark_fft.proofs.Cost.{Grown, grown}
+use Rattle.ark_fft.specs.Cost.{GrowsByCost}
 use Rattle.rs_code.specs.Cost.{GrowsWithin}
 
 -- each size has its butterflies and steps

@@ -1,11 +1,10 @@
 -- Words of the private steps that look at four places together of which each is a quarter turn of the last.
 use Rattle.std.specs.Prelude.{◌≡◌, ℕ, zero, suc, ◌+◌, ◌*◌, ◌%◌, ◌≤◌, ◌<◌, Bool, true, false, List, length, get_or, map, not, ◌++◌, [], ◌∷◌, if◌then◌else◌, Vec}
 use Rattle.std.specs.declared.alloc.Global.{Global}
-use Rattle.ark_math.specs.Field.{FieldOn, minus, power}
+use Rattle.ark_math.specs.Field.{FieldOn, minus, power, product_below}
 use Rattle.ark_math.specs.Domain.{Domain, element}
-use Rattle.ark_math.specs.Multilinear.{product_below}
 use Rattle.ark_math.specs.Univariate.{of_list}
-use Rattle.ark_blocks.specs.Blocks.{AreReversed, IsPowerOfTwo, element_of, size_of}
+use Rattle.ark_bit_reversed.specs.Blocks.{AreReversed, IsPowerOfTwo, element_of, size_of}
 use Rattle.rs_code.specs.Locator.{locator_at, lost}
 use Rattle.rs_code.specs.declared.turns.AtTurns.{AtTurns}
 use Rattle.rs_code.specs.declared.turns.PlaceValues.{PlaceValues}

@@ -12,8 +12,8 @@ use crate::error::RsError;
 use crate::locator::factors;
 use crate::marks::count_marked;
 use crate::part::spaced_part;
-use ark_base::{DomainCoeff, FftField, Work};
-use ark_poly::{EvaluationDomain, GeneralEvaluationDomain};
+use ark_traits::{DomainCoeff, FftField, Work};
+use ark_univariate::{EvaluationDomain, GeneralEvaluationDomain};
 use std::alloc::Global;
 use std::marker::{Model, PhantomData};
 

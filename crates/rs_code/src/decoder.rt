@@ -8,8 +8,8 @@ ghost use Rattle.rs_code.specs.Refusals.{RefusesRightly};
 use crate::error::RsError;
 use crate::part::{fill_spaced, fold};
 use crate::restore::scale_by_exponents;
-use ark_base::{DomainCoeff, FftField, Work};
-use ark_poly::{EvaluationDomain, GeneralEvaluationDomain};
+use ark_traits::{DomainCoeff, FftField, Work};
+use ark_univariate::{EvaluationDomain, GeneralEvaluationDomain};
 use std::alloc::Global;
 use std::marker::Model;
 

@@ -7,8 +7,8 @@ ghost use Rattle.rs_code.specs.Codeword.{AgreesBut, AgreesElsewhere, AgreesWith,
 ghost use Rattle.rs_code.specs.Codeword.{mark_count};
 
 use crate::code::DomainCode;
-use ark_base::{DomainCoeff, FftField};
-use ark_poly::{EvaluationDomain, Radix2EvaluationDomain};
+use ark_traits::{DomainCoeff, FftField};
+use ark_univariate::{EvaluationDomain, Radix2EvaluationDomain};
 
 /// A law: two codewords that agree at `k` places are one. So two of them differ at `n - k + 1` places at least, the
 /// minimum distance of the code. Marked are the places at which they may differ.

@@ -8,8 +8,8 @@ ghost use Rattle.ark_math.specs.Univariate.{of_list};
 ghost use Rattle.rs_code.specs.Code.{IsSpaced};
 ghost use Rattle.rs_code.specs.Locator.{filled};
 
-use ark_base::{DomainCoeff, FftField, Field};
-use ark_poly::EvaluationDomain;
+use ark_traits::{DomainCoeff, FftField, Field};
+use ark_univariate::EvaluationDomain;
 
 /// The elements of the least domain for `k` items, where they are evenly spaced ones of this domain, and how far apart;
 /// else all elements.

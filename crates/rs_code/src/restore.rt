@@ -19,8 +19,8 @@ use crate::code::DomainCode;
 use crate::decoder::DomainDecoder;
 use crate::error::RsError;
 use crate::marks::{count_erased, count_marked};
-use ark_base::{FftField, Field, PolyError, Summand, Work};
-use ark_poly::EvaluationDomain;
+use ark_traits::{FftField, Field, PolyError, Summand, Work};
+use ark_univariate::EvaluationDomain;
 use std::alloc::{AllocError, Global};
 use std::mem;
 

@@ -6,8 +6,8 @@ ghost use Rattle.rs_code.specs.Codeword.{IsCodeword, after_first};
 use crate::code::DomainCode;
 use crate::decoder::DomainDecoder;
 use crate::error::RsError;
-use ark_base::{DomainCoeff, FftField};
-use ark_poly::EvaluationDomain;
+use ark_traits::{DomainCoeff, FftField};
+use ark_univariate::EvaluationDomain;
 use std::alloc::{AllocError, Global};
 
 impl<F: FftField, D: EvaluationDomain<F>> DomainCode<F, D> {

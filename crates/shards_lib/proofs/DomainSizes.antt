@@ -6,7 +6,7 @@ use Rattle.std.proofs.lemmas.Bool.{cases_lt, leb-true, leb-false}
 use Rattle.ark_math.specs.Field.{FieldOn}
 use Rattle.ark_math.specs.Root.{Adicity, Splits, odd_base}
 use Rattle.ark_math.specs.Domain.{Kind, radix2, mixed_radix, Domain, domain_of, IsDomain, IsSize, IsLeast, IsRadix2, HasNoSize}
-use Rattle.ark_math.proofs.Domains.GeneralSizes.{none_from_no_least}
+use Rattle.ark_math_transforms.proofs.Domains.GeneralSizes.{none_from_no_least}
 use Rattle.ark_math.proofs.Domains.Sizes.{power_lt}
 use Rattle.shards_lib.specs.Numbers.{doubled, domain_size, IsNumberDomain}
 

@@ -1,11 +1,11 @@
 -- What numbers at given places tell at the others.
 use Rattle.std.proofs.Common.{◌≡◌, ◌≢◌, ℕ, ◌*◌, ◌+◌, ◌<◌, ◌≤◌, List, length, get_or, sym, ◌∙◌, ap, refl, subst, arith}
-use Rattle.ark_math.specs.AtPoints.{AreDifferent}
+use Rattle.ark_math_points.specs.AtPoints.{AreDifferent}
 use Rattle.ark_math.specs.Field.{FieldOn, IsField, natural}
 use Rattle.ark_math.specs.Module.{itself, sum_below}
 use Rattle.ark_math.specs.Univariate.{IsBelow, value_below}
 use Rattle.ark_math.proofs.Algebra.Sums.{sum_below-same}
-use Rattle.ark_math.proofs.Polynomials.Zeros.{same_from_values}
+use Rattle.ark_math_polynomials.proofs.Polynomials.Zeros.{same_from_values}
 use Rattle.shards_lib.specs.Numbers.{Numbered, number_at_place, place_element, value_at_place}
 use Rattle.shards_lib.specs.PlaceValues.{some_polynomial}
 

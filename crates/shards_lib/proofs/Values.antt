@@ -10,10 +10,10 @@ use Rattle.ark_math.specs.Univariate.{IsBelow, of_list, value_below}
 use Rattle.ark_math.proofs.Lists.Lists.{written_same, written_other}
 use Rattle.ark_math.proofs.Algebra.Sums.{sum_below-same}
 use Rattle.ark_math.proofs.Algebra.Groups.{one_times}
-use Rattle.ark_math.proofs.Polynomials.Univariate.{IsBelow-more}
-use Rattle.ark_math.proofs.Polynomials.UnivariateLists.{of_list-below}
-use Rattle.ark_math.proofs.Polynomials.UnivariateValues.{value_is}
-use Rattle.ark_math.proofs.OverDomains.PlaceValues.{transform-values, values-item}
+use Rattle.ark_math_polynomials.proofs.Polynomials.Univariate.{IsBelow-more}
+use Rattle.ark_math_polynomials.proofs.Polynomials.UnivariateLists.{of_list-below}
+use Rattle.ark_math_polynomials.proofs.Polynomials.UnivariateValues.{value_is}
+use Rattle.ark_math_domains.proofs.OverDomains.PlaceValues.{transform-values, values-item}
 use Rattle.ark_rows.specs.Lanewise.{lane, lanewise}
 use Rattle.ark_rows.specs.Row.{lanes}
 use Rattle.ark_rows.specs.declared.row.Row.{Row}

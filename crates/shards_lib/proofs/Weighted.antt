@@ -1,7 +1,7 @@
 -- Numbers by weights.
 use Rattle.std.proofs.Common.{◌≡◌, ◌≢◌, ℕ, ◌*◌, ◌+◌, ◌<◌, ◌≤◌, List, length, map, ◌++◌, [], ◌∷◌, zero, suc, length-append, get_or, sym, ◌∙◌, ap, ap₂, refl, subst, arith}
 use Rattle.std.proofs.lemmas.List.{get_or-append-add, get_or_append_left, get_or-map, length-map}
-use Rattle.ark_math.specs.AtPoints.{AreDifferent, AreWeightsAt}
+use Rattle.ark_math_points.specs.AtPoints.{AreDifferent, AreWeightsAt}
 use Rattle.ark_math.specs.Field.{FieldOn, IsField, natural}
 use Rattle.ark_math.specs.Module.{itself, sum_below}
 use Rattle.ark_math.specs.Univariate.{IsBelow, of_list, value_below}

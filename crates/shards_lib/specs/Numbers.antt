@@ -2,7 +2,7 @@
 use Rattle.std.specs.Prelude.{◌≡◌, ℕ, zero, suc, ◌*◌, ◌<◌, nat_le, if◌then◌else◌}
 use Rattle.std.proofs.Common.{ap}
 use Rattle.ark_math.proofs.Algebra.Sums.{sum_below-same}
-use Rattle.ark_math.specs.AtPoints.{differences}
+use Rattle.ark_math_points.specs.AtPoints.{differences}
 use Rattle.ark_math.specs.Domain.{Domain}
 use Rattle.ark_math.specs.Field.{FieldOn, power, natural}
 use Rattle.ark_math.specs.Module.{sum_below, itself}

@@ -1,14 +1,14 @@
 -- The polynomial with values at the first places, and its values at all.
 use Rattle.std.proofs.Common.{◌≡◌, ◌≢◌, ℕ, ◌<◌, List, length, sym, ap, ◌∙◌, refl, arith}
-use Rattle.ark_math.specs.AtPoints.{AreDifferent, AreWeightsAt, HasValues, differences}
+use Rattle.ark_math_points.specs.AtPoints.{AreDifferent, AreWeightsAt, HasValues, differences}
 use Rattle.ark_math.specs.Field.{FieldOn, IsField}
 use Rattle.ark_math.specs.Module.{itself, sum_below, tabulate}
 use Rattle.ark_math.specs.Univariate.{IsBelow, of_list, value_below}
 use Rattle.ark_math.proofs.Algebra.Sums.{sum_below-same}
-use Rattle.ark_math.proofs.AtPoints.Basis.{differences-some}
-use Rattle.ark_math.proofs.AtPoints.Lagrange.{through_values, weights_are}
+use Rattle.ark_math_points.proofs.AtPoints.Basis.{differences-some}
+use Rattle.ark_math_points.proofs.AtPoints.Lagrange.{through_values, weights_are}
 use Rattle.ark_math.proofs.Lists.Tabulated.{length-tabulate, get_or-tabulate}
-use Rattle.ark_math.proofs.Polynomials.UnivariateValues.{value_is}
+use Rattle.ark_math_polynomials.proofs.Polynomials.UnivariateValues.{value_is}
 use Rattle.shards_lib.specs.Numbers.{Numbered, place_element, value_at_place, weight}
 
 module _ {F : Type 0} (s : Numbered F) (N : IsField s.field)

@@ -1,11 +1,11 @@
 -- The elements at the places differ, so the numbers at the first ones are the items.
 use Rattle.std.proofs.Common.{◌≡◌, ◌≢◌, ℕ, ◌<◌, ◌≤◌, ◌^◌, sym, ◌∙◌, ap, refl, arith}
-use Rattle.ark_math.specs.AtPoints.{AreDifferent}
+use Rattle.ark_math_points.specs.AtPoints.{AreDifferent}
 use Rattle.ark_math.specs.Domain.{Domain, domain_of, IsDomain, element, radix2}
 use Rattle.ark_math.specs.Field.{FieldOn, IsField, natural}
 use Rattle.ark_math.specs.Root.{Adicity, AreRoots, Splits}
 use Rattle.ark_math.proofs.Algebra.Groups.{one_times}
-use Rattle.ark_math.proofs.Domains.LawfulDomains.{elements_differ, lawful_domain}
+use Rattle.ark_math_domains.proofs.Domains.LawfulDomains.{elements_differ, lawful_domain}
 use Rattle.shards_lib.specs.Numbers.{domain_size, number_at_place, numbered, place_element}
 use Rattle.shards_lib.specs.Rows.{HasCode}
 use Rattle.shards_lib.specs.Doubled.{domain_splits, room_for}

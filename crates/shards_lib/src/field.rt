@@ -3,7 +3,8 @@
 ghost use Rattle.std.specs.Prelude.{◌≡◌, ◌≢◌, ℕ, ◌≤◌};
 ghost use Rattle.ark_math.specs.Field.{natural};
 
-use ark_base::{F65537, FftField, Modulus65537, PrimeModulus};
+use ark_base::{FftField, PrimeModulus};
+use ark_fields::{F65537, Modulus65537};
 
 /// A field whose elements are the numbers up to 2^16: so many ones, added up.
 pub trait NumberField: FftField {
@@ -32,7 +33,7 @@ pub trait NumberField: FftField {
 impl NumberField for F65537 {
     ghost use Rattle.std.proofs.Common.{refl};
     ghost use Rattle.ark_base.specs.Element.{number};
-    ghost use Rattle.ark_base.specs.declared.prime_field.Modulus65537.{Modulus65537};
+    ghost use Rattle.ark_fields.specs.declared.small.Modulus65537.{Modulus65537};
     ghost use Rattle.shards_lib.specs.NumberLaws.{fits, inverse, inverse_law, of_natural, to_natural, sixteen};
 
     ghost number = { number };

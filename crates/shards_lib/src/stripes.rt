@@ -2,11 +2,11 @@
 //! elements of a domain of the polynomial with at most `k` coefficients that has these, and its numbers the values at all.
 
 ghost use Rattle.std.specs.Prelude.{◌≡◌, ◌≢◌, ℕ, ◌+◌, ◌*◌, ◌^◌, ◌<◌, ◌≤◌, ◌++◌, true, false, List, get_or, length, map, IfOk, OnOk};
-ghost use Rattle.ark_math.specs.AtPoints.{AreDifferent, AreWeightsAt};
+ghost use Rattle.ark_math_points.specs.AtPoints.{AreDifferent, AreWeightsAt};
 ghost use Rattle.ark_math.specs.Domain.{element};
 ghost use Rattle.ark_math.specs.Module.{itself};
 ghost use Rattle.ark_math.specs.Univariate.{of_list};
-ghost use Rattle.ark_poly.specs.Domains.{radix2_domain};
+ghost use Rattle.ark_univariate.specs.Domains.{radix2_domain};
 ghost use Rattle.ark_rows.specs.Lanewise.{lanewise};
 ghost use Rattle.ark_rows.specs.Row.{lanes};
 ghost use Rattle.rs_code.specs.Codeword.{AgreesElsewhere, IsCodeword, mark_count};
@@ -19,9 +19,10 @@ ghost use Rattle.shards_lib.specs.Weights.{AreWeights, IsExtender};
 use crate::field::NumberField;
 use crate::products::{MOST_TERMS, write_sums};
 use crate::rows::{StripeGroup, put_rows, word_rows};
-use ark_base::{F65537, Zero};
+use ark_base::Zero;
+use ark_fields::F65537;
 use ark_points::{PointsError, weights_at};
-use ark_poly::{EvaluationDomain, Radix2EvaluationDomain};
+use ark_univariate::{EvaluationDomain, Radix2EvaluationDomain};
 use ark_rows::Row;
 use rs_code::{DomainCode, DomainDecoder, RsError};
 use shards_format::{PlacedNumbers, StripeCode};

@@ -1,11 +1,9 @@
 //! The answers to the lines of the input.
 
 use crate::words::{no_case, words_of};
-use ark_base::{
-    BabyBearModulus, Modulus5, Modulus433, Modulus65537, PolyError, PrimeField, PrimeField32,
-    PrimeModulus, PrimeModulus32,
-};
-use ark_wide::{Bls12_381ScalarModulus, PrimeField256, PrimeModulus256};
+use ark_base::{PolyError, PrimeField, PrimeField32, PrimeModulus, PrimeModulus32};
+use ark_fields::{BabyBearModulus, Modulus433, Modulus5, Modulus65537};
+use ark_prime256::{Bls12_381ScalarModulus, PrimeField256, PrimeModulus256};
 use std::alloc::{AllocError, Global};
 use std::env::Env;
 use std::process::ExitCode;

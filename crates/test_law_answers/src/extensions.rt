@@ -1,7 +1,7 @@
 //! Cases of multilinear extensions, spelled by their tables.
 
 use ark_base::{PolyError, Polynomial};
-use ark_laws::{
+use ark_poly::laws::{
     Exchange, only_multilinear, value_at_corner, values_with_bound_variables,
     values_with_exchanged_variables,
 };

@@ -1,7 +1,7 @@
 //! Cases of one polynomial in several forms: a law and two words, terms where the polynomial is sparse and coefficients
 //! where it is dense.
 
-use ark_laws::{
+use ark_poly::laws::{
     both_products, degree_of_product, dense_and_back, divisions_of_all_forms, sparse_and_back,
     values_of_all_forms, values_of_both_forms,
 };

@@ -1,6 +1,6 @@
 //! Cases of elements side by side, two in each, over the field of 65537 elements: a call, the elements, and a lane.
 
-use ark_base::F65537;
+use ark_fields::F65537;
 use ark_rows::{Row, lane_of};
 use std::alloc::Global;
 use test_cases::answers::Answer;

@@ -19,8 +19,9 @@ mod reading;
 mod univariate;
 
 use crate::reading::answer_of;
-use ark_base::{BabyBear, Field, Goldilocks, KoalaBear, PrimeNumbers};
-use ark_wide::Bls12_381Scalar;
+use ark_base::{Field, PrimeNumbers};
+use ark_fields::{BabyBear, Goldilocks, KoalaBear};
+use ark_prime256::Bls12_381Scalar;
 use std::alloc::Global;
 use std::process::ExitCode;
 use test_cases::answers::{Answer, Answers, BLS12_381, FieldAnswers, answer_lines, over_field};

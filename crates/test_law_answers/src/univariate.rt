@@ -1,7 +1,7 @@
 //! Cases of divisions by x - z, and of values by the weights at a point.
 
 use ark_base::PolyError;
-use ark_laws::{division_at_point, weighted_sum, without_root};
+use ark_poly::laws::{division_at_point, weighted_sum, without_root};
 use ark_univariate::univariate::DensePolynomial;
 use ark_univariate::{DenseUVPolynomial, EvaluationDomain, Evaluations, GeneralEvaluationDomain};
 use std::alloc::Global;

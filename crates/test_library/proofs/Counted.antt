@@ -3,7 +3,7 @@ use Rattle.std.proofs.Common.{◌≡◌, ℕ, ◌*◌, ◌/◌, ◌%◌, Some, r
 use Rattle.ark_math.specs.Root.{Adicity, IsAdicity, Splits, odd_base}
 use Rattle.ark_math.specs.Domain.{radix2, mixed_radix}
 use Rattle.ark_math.specs.Cost.{Direction, IsLog2Up, counted_items}
-use Rattle.ark_math.proofs.Domains.Costs.{one_cost}
+use Rattle.ark_math_transforms.proofs.Domains.Costs.{one_cost}
 use Rattle.test_library.specs.Costs.{Costs}
 
 pub of_radix2 : (s : Adicity) → IsAdicity s → (n len : ℕ) (direction : Direction) (levels b : ℕ) → IsLog2Up (counted_items n len direction) levels → b ≡ n / 2 * levels →

@@ -1,9 +1,7 @@
 ghost use Rattle.std.specs.Prelude.{◌<◌};
 
-use ark_base::{
-    BabyBear, F5, F65537, Field, Goldilocks, KoalaBear, PrimeField, PrimeField32, PrimeModulus,
-    PrimeModulus32,
-};
+use ark_base::{Field, PrimeField, PrimeField32, PrimeModulus, PrimeModulus32};
+use ark_fields::{BabyBear, F5, F65537, Goldilocks, KoalaBear};
 use rand_pcg::Pcg64;
 
 // A field whose elements are numbers below a prime.

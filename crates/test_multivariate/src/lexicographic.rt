@@ -4,15 +4,15 @@ ghost use Rattle.std.specs.Prelude.{◌≡◌};
 ghost use Rattle.std.specs.Cmp.{on_total, po};
 ghost use Rattle.std.specs.Cmp.Lexicographic.{slice_cmp};
 ghost use Rattle.std.specs.Ordering.{as_partial_cmp, on};
-ghost use Rattle.ark_lists.specs.Graded.{pair_cmp};
-ghost use Rattle.ark_lists.proofs.GradedOrder.{pairs_ties, pairs_total, same_term_Decides};
+ghost use Rattle.ark_tables.specs.Graded.{pair_cmp};
+ghost use Rattle.ark_tables.proofs.GradedOrder.{pairs_ties, pairs_total, same_term_Decides};
 ghost use Rattle.std.proofs.Common.{refl};
 
 use ark_base::{
     CanonicalDeserialize, CanonicalSerialize, Compress, Field, PolyError, SerializationError, Sink,
     Source, Spelled, Valid,
 };
-use ark_lists::powers::compared_pairs;
+use ark_tables::powers::compared_pairs;
 use ark_multi::multivariate::{SparseTerm, Term};
 use std::alloc::{AllocError, Global};
 use std::cmp::Ordering;
@@ -58,11 +58,11 @@ impl Ord for LexicographicTerm {
 
 impl Spelled for LexicographicTerm {
     ghost use Rattle.std.specs.Prelude.{ℕ, List};
-    ghost use Rattle.ark_math.specs.Format.{stored};
-    ghost use Rattle.ark_math.specs.Layouts.{term};
-    ghost use Rattle.ark_math.proofs.Formats.Ends.{lawful_is_format};
-    ghost use Rattle.ark_math.proofs.Formats.OneToOne.{lawful_shows};
-    ghost use Rattle.ark_math.proofs.Formats.SeveralVariables.{term_is_format, term_tells};
+    ghost use Rattle.ark_math_formats.specs.Format.{stored};
+    ghost use Rattle.ark_multi.specs.Layouts.{term};
+    ghost use Rattle.ark_math_formats.proofs.Formats.Ends.{lawful_is_format};
+    ghost use Rattle.ark_math_formats.proofs.Formats.OneToOne.{lawful_shows};
+    ghost use Rattle.ark_multi.specs.LayoutLaws.{term_is_format, term_tells};
 
     ghost format = { λ _. stored term (λ t. t.term) };
 
@@ -77,9 +77,9 @@ impl Spelled for LexicographicTerm {
 }
 
 impl CanonicalSerialize for LexicographicTerm {
-    ghost use Rattle.ark_math.specs.Format.{stored};
-    ghost use Rattle.ark_math.specs.Layouts.{term};
-    ghost use Rattle.ark_math.proofs.Formats.Modes.{keeps_itself};
+    ghost use Rattle.ark_math_formats.specs.Format.{stored};
+    ghost use Rattle.ark_multi.specs.Layouts.{term};
+    ghost use Rattle.ark_math_formats.proofs.Formats.Modes.{keeps_itself};
 
     fn serialize_with_mode<W: Sink>(
         &self,
@@ -117,11 +117,11 @@ impl CanonicalDeserialize for LexicographicTerm {
 }
 
 impl Term for LexicographicTerm {
-    ghost use Rattle.ark_math.specs.Format.{stored};
-    ghost use Rattle.ark_math.specs.Layouts.{term};
-    ghost use Rattle.ark_math.proofs.Formats.Modes.{one_format};
-    ghost use Rattle.ark_math.proofs.Formats.OneToOne.{lawful_shows};
-    ghost use Rattle.ark_math.proofs.Formats.SeveralVariables.{term_tells};
+    ghost use Rattle.ark_math_formats.specs.Format.{stored};
+    ghost use Rattle.ark_multi.specs.Layouts.{term};
+    ghost use Rattle.ark_math_formats.proofs.Formats.Modes.{one_format};
+    ghost use Rattle.ark_math_formats.proofs.Formats.OneToOne.{lawful_shows};
+    ghost use Rattle.ark_multi.specs.LayoutLaws.{term_tells};
 
     ghost listed = { λ t. t.term };
 

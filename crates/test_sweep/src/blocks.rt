@@ -3,7 +3,7 @@
 use crate::given::{named, size_named};
 use crate::swept::Call;
 use ark_base::{FftField, PolyError};
-use ark_blocks::{BlockRoots, product_of_few};
+use ark_bit_reversed::{BlockRoots, product_of_few};
 use std::alloc::{AllocError, Global};
 use test_cases::answers::Answer;
 use test_cases::words::{elements, no_case, no_fit, text_of, text_of_numbers, told};

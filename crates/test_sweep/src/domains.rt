@@ -3,7 +3,7 @@
 use crate::given::{domain_named, element_named, named, size_named};
 use crate::swept::Call;
 use ark_base::{Compress, FftField, Lanes, PolyError, Work};
-use ark_laws::domain_read_back;
+use ark_poly::laws::domain_read_back;
 use ark_poly::{DenseUVPolynomial, EvaluationDomain};
 use rand_pcg::Pcg64;
 use std::alloc::{AllocError, Global};

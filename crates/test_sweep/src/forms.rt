@@ -4,7 +4,7 @@ use crate::given::{element_named, named};
 use crate::kinds::{Kind, both_named};
 use crate::swept::Call;
 use ark_base::{Compress, Field, PolyError, Polynomial};
-use ark_laws::polynomial_read_back;
+use ark_poly::laws::polynomial_read_back;
 use std::alloc::Global;
 use test_cases::answers::Answer;
 use test_cases::words::{no_case, no_fit, one};

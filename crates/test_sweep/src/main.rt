@@ -75,11 +75,11 @@ fn ended<R: Print>(
     };
     let (form, name) = (form.as_str(), name.as_str());
     match field.as_str() {
-        "5" => over_any::<ark_base::F5, R>(alloc, watched, form, name, given),
-        "25" => attempt::<OfWithin<ark_base::F5, F25>, R>(alloc, watched, name, given),
-        "433" => over_mixed::<ark_base::F433, R>(alloc, watched, form, name, given),
-        "65537" => over_general::<ark_base::F65537, R>(alloc, watched, form, name, given),
-        BLS12_381 => of_protocols::<ark_wide::Bls12_381Scalar, R>(
+        "5" => over_any::<ark_fields::F5, R>(alloc, watched, form, name, given),
+        "25" => attempt::<OfWithin<ark_fields::F5, F25>, R>(alloc, watched, name, given),
+        "433" => over_mixed::<ark_fields::F433, R>(alloc, watched, form, name, given),
+        "65537" => over_general::<ark_fields::F65537, R>(alloc, watched, form, name, given),
+        BLS12_381 => of_protocols::<ark_prime256::Bls12_381Scalar, R>(
             alloc, watched, form, name, given,
         ),
         _ => attempt::<OfProgram, R>(alloc, watched, name, given),

@@ -3,7 +3,7 @@
 use crate::given::{domain_named, named, size_named};
 use crate::swept::Call;
 use ark_base::{FftField, PolyError, Work};
-use ark_parts::Parts;
+use ark_fft_parts::Parts;
 use ark_poly::{EvaluationDomain, Radix2EvaluationDomain};
 use std::alloc::Global;
 use test_cases::answers::Answer;

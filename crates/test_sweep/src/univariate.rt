@@ -5,7 +5,7 @@ use crate::given::{domain_named, named, size_named};
 use crate::kinds::{Kind, both_named};
 use crate::swept::Call;
 use ark_base::{Compress, FftField, PolyError, batch_inversion};
-use ark_laws::values_read_back;
+use ark_poly::laws::values_read_back;
 use ark_poly::univariate::{DenseOrSparsePolynomial, DensePolynomial, SparsePolynomial};
 use ark_poly::{DenseUVPolynomial, EvaluationDomain, Evaluations};
 use rand_pcg::Pcg64;

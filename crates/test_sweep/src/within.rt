@@ -1,13 +1,14 @@
 //! Calls of a prover whose tables lie in a field below that of the challenges.
 
 ghost use Rattle.std.proofs.Common.{lit<, refl};
-ghost use Rattle.ark_extensions.specs.NonResidues.{no_square_by_power};
+ghost use Rattle.ark_base.specs.NonResidues.{no_square_by_power};
 
 use crate::given::{element_named, named, size_named};
 use crate::sum_checks::{Always, lists_of, prover_of, text_of_rounds};
 use crate::swept::Call;
 use crate::transcripts::next_number;
-use ark_base::{F5, Field, Modulus5, PolyError, PrimeModulus};
+use ark_base::{Field, PolyError, PrimeModulus};
+use ark_fields::{F5, Modulus5};
 use ark_extensions::{ExtensionOf, Quadratic, QuadraticModulus};
 use ark_fiat_shamir::{Proved, prove_transcript_within};
 use ark_sum_check::{Proof, Prover, SumCheckError, prove_within};

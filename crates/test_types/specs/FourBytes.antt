@@ -1,9 +1,8 @@
 -- The field of four elements in bytes: every element has a spelling of its own, of one byte.
 use Rattle.std.proofs.Common.{◌≡◌, ℕ, ◌+◌, ◌%◌, ◌<◌, ◌==◌, nat_lt, Bool, true, false, cond, refl, sym, ap, ◌∙◌, lit<}
-use Rattle.ark_math.specs.Format.{IsFormat, IsOneToOne, number, stored}
-use Rattle.ark_math.specs.Layouts.{AreElements}
-use Rattle.ark_math.proofs.Formats.Ends.{number_is_format, lawful_is_format}
-use Rattle.ark_math.proofs.Formats.OneToOne.{number_tells, lawful_tells}
+use Rattle.ark_math_formats.specs.Format.{IsFormat, IsOneToOne, number, stored, AreElements}
+use Rattle.ark_math_formats.proofs.Formats.Ends.{number_is_format, lawful_is_format}
+use Rattle.ark_math_formats.proofs.Formats.OneToOne.{number_tells, lawful_tells}
 use Rattle.test_types.specs.declared.four.Four.{Four}
 use Rattle.test_types.specs.Four.{bits}
 

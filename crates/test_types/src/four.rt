@@ -6,7 +6,7 @@ ghost use Rattle.ark_math.specs.Field.{minus, natural};
 ghost use Rattle.ark_math.specs.Module.{itself};
 ghost use Rattle.test_types.specs.Four.{bits, four, thirds, root_of_four};
 ghost use Rattle.test_types.specs.FourLaws.{four_laws, four_module, four_itself, four_roots, four_greatest, four_equality};
-ghost use Rattle.ark_math.proofs.Formats.Modes.{one_format};
+ghost use Rattle.ark_math_formats.proofs.Formats.Modes.{one_format};
 ghost use Rattle.test_types.specs.FourBytes.{four_elements};
 
 use ark_base::{DomainCoeff, FftField, Field, One, Zero};

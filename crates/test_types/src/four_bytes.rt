@@ -1,7 +1,7 @@
 //! The field of four elements in bytes: an element's number, below four, in one byte.
 
 ghost use Rattle.std.specs.Prelude.{◌≡◌, ◌≤◌, IfSome, IsNone};
-ghost use Rattle.ark_math.specs.Format.{number, stored};
+ghost use Rattle.ark_math_formats.specs.Format.{number, stored};
 ghost use Rattle.test_types.specs.FourBytes.{four_number, four_format, four_tells};
 
 use crate::four::Four;
@@ -53,7 +53,7 @@ impl Spelled for Four {
 }
 
 impl CanonicalSerialize for Four {
-    ghost use Rattle.ark_math.proofs.Formats.Modes.{keeps_itself};
+    ghost use Rattle.ark_math_formats.proofs.Formats.Modes.{keeps_itself};
 
     fn serialize_with_mode<W: Sink>(
         &self,

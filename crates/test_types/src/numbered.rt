@@ -4,7 +4,7 @@ use crate::four::Four;
 use ark_base::{
     FftField, PrimeField, PrimeField32, PrimeModulus, PrimeModulus32, PrimeNumbers, Zero,
 };
-use ark_wide::{PrimeField256, PrimeModulus256};
+use ark_prime256::{PrimeField256, PrimeModulus256};
 use std::fmt::Display;
 
 /// A field whose elements have numbers, which `{}` writes in decimal.

@@ -3,7 +3,8 @@
 //! Only `over_field` names concrete fields, since what names one is dear to check.
 
 use crate::numbered::Numbered;
-use ark_base::{BabyBear, F5, F433, F65537, Field, Goldilocks, KoalaBear, PolyError};
+use ark_base::{Field, PolyError};
+use ark_fields::{BabyBear, F433, F5, F65537, Goldilocks, KoalaBear};
 use rand::Rng;
 use std::alloc::{AllocError, Global};
 

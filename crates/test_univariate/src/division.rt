@@ -2,7 +2,7 @@
 
 use crate::forms::{gave, some};
 use ark_base::{FftField, Field, PolyError};
-use ark_laws::divisions_of_all_forms;
+use ark_poly::laws::divisions_of_all_forms;
 use ark_univariate::Polynomial;
 use ark_univariate::univariate::{DenseOrSparsePolynomial, DensePolynomial, SparsePolynomial};
 use rand_pcg::Pcg64;

@@ -2,7 +2,7 @@
 
 use crate::forms::{Form, gave};
 use ark_base::Field;
-use ark_laws::{dense_and_back, sparse_and_back, values_of_both_forms};
+use ark_poly::laws::{dense_and_back, sparse_and_back, values_of_both_forms};
 use ark_univariate::Polynomial;
 use ark_univariate::univariate::{DensePolynomial, SparsePolynomial};
 use rand_pcg::Pcg64;

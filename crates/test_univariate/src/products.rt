@@ -2,7 +2,7 @@
 
 use crate::forms::{Form, gave, some};
 use ark_base::{FftField, Field};
-use ark_laws::{both_products, degree_of_product};
+use ark_poly::laws::{both_products, degree_of_product};
 use ark_univariate::univariate::{DensePolynomial, SparsePolynomial};
 use ark_univariate::{DenseUVPolynomial, Polynomial};
 use rand_pcg::Pcg64;

@@ -4,7 +4,7 @@
 use crate::calls::coset;
 use crate::forms::{Form, gave, some};
 use ark_base::{FftField, Field};
-use ark_laws::{values_of_all_forms, weighted_sum};
+use ark_poly::laws::{values_of_all_forms, weighted_sum};
 use ark_univariate::univariate::{DenseOrSparsePolynomial, DensePolynomial, SparsePolynomial};
 use ark_univariate::{DenseUVPolynomial, EvaluationDomain, Evaluations, Polynomial};
 use rand_pcg::Pcg64;

@@ -2,7 +2,7 @@
 
 ghost use Rattle.std.specs.Prelude.{◌*◌, length, OnOk};
 ghost use Rattle.ark_math.specs.Cost.{forward};
-ghost use Rattle.ark_traits.specs.Cost.{GrowsByCost};
+ghost use Rattle.ark_fft.specs.Cost.{GrowsByCost};
 ghost use Rattle.rs_code.specs.Cost.{GrowsWithin};
 
 use ark_base::{DomainCoeff, FftField, PolyError, Work};

@@ -1,9 +1,9 @@
 //! Calls of polynomials at points.
 
 ghost use Rattle.std.specs.Prelude.{◌≡◌, length, IfOk};
-ghost use Rattle.ark_math.specs.Linear.{constant, linear_factor};
+ghost use Rattle.ark_math_polynomials.specs.Linear.{constant, linear_factor};
 ghost use Rattle.ark_math.specs.Univariate.{added, of_list, product};
-ghost use Rattle.ark_math.specs.AtPoints.{AreDifferent};
+ghost use Rattle.ark_math_points.specs.AtPoints.{AreDifferent};
 
 use ark_base::{Field, PolyError};
 use ark_points::{PointsError, divide_by_linear, weights_at};

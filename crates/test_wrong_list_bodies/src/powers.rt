@@ -1,10 +1,10 @@
 //! Calls of powers of variables.
 
 ghost use Rattle.std.specs.Prelude.{◌≡◌, ◌↔◌, ℕ, ◌<◌, ◌^◌, IfOk, IsTrue};
-ghost use Rattle.ark_math.specs.Term.{IsWithin, power_of, total_degree};
-ghost use Rattle.ark_lists.specs.Graded.{graded_cmp};
+ghost use Rattle.ark_math_variables.specs.Term.{IsWithin, power_of, total_degree};
+ghost use Rattle.ark_tables.specs.Graded.{graded_cmp};
 
-use ark_lists::powers::{collected_powers, compared_powers, is_within};
+use ark_tables::powers::{collected_powers, compared_powers, is_within};
 use ark_traits::PolyError;
 use std::alloc::Global;
 use std::cmp::Ordering;

@@ -1,12 +1,12 @@
 //! Calls of tables, and of their entries.
 
 ghost use Rattle.std.specs.Prelude.{◌≡◌, ◌↔◌, ℕ, ◌*◌, ◌<◌, ◌^◌, length, IfOk, IsTrue};
-ghost use Rattle.ark_math.specs.Multilinear.{fixed};
+ghost use Rattle.ark_math_variables.specs.Multilinear.{fixed};
 ghost use Rattle.ark_math.specs.Univariate.{IsSparse, of_list, of_pairs};
-ghost use Rattle.ark_lists.specs.Entries.{AreEntries};
+ghost use Rattle.ark_tables.specs.Entries.{AreEntries};
 
-use ark_lists::tables::fixed_table;
-use ark_lists::windows::{are_entries, bind_variables};
+use ark_tables::tables::fixed_table;
+use ark_tables::windows::{are_entries, bind_variables};
 use ark_traits::{Field, PolyError};
 use std::alloc::{AllocError, Global};
 

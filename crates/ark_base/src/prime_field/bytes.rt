@@ -53,7 +53,7 @@ impl<M: PrimeModulus> Spelled for PrimeField<M> {
 }
 
 impl<M: PrimeModulus> CanonicalSerialize for PrimeField<M> {
-    ghost use Rattle.ark_math.proofs.Formats.Modes.{keeps_itself};
+    ghost use Rattle.ark_math_formats.proofs.Formats.Modes.{keeps_itself};
     ghost use Rattle.ark_base.specs.Widths.{residue};
     ghost use Rattle.ark_base.specs.Element.{number};
 

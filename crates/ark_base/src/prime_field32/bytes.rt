@@ -44,7 +44,7 @@ impl<M: PrimeModulus32> Spelled for PrimeField32<M> {
 }
 
 impl<M: PrimeModulus32> CanonicalSerialize for PrimeField32<M> {
-    ghost use Rattle.ark_math.proofs.Formats.Modes.{keeps_itself};
+    ghost use Rattle.ark_math_formats.proofs.Formats.Modes.{keeps_itself};
     ghost use Rattle.ark_base.specs.Widths.{residue};
     ghost use Rattle.ark_base.specs.Element32.{number};
 

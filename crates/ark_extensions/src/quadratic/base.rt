@@ -2,7 +2,7 @@
 
 ghost use Rattle.std.specs.Prelude.{◌≡◌, ◌≢◌, ◌↔◌, IfSome, IsNone};
 
-use crate::embedded::ExtensionOf;
+use ark_traits::ExtensionOf;
 use crate::modulus::QuadraticModulus;
 use crate::quadratic::Quadratic;
 use ark_traits::Field;

@@ -4,7 +4,7 @@ ghost use Rattle.std.specs.Prelude.{◌≡◌};
 
 use crate::modulus::QuadraticModulus;
 use crate::quadratic::Quadratic;
-use ark_base::ConstantZero;
+use ark_traits::ConstantZero;
 use ark_traits::FftField;
 
 impl<F: FftField + ConstantZero, M: QuadraticModulus<F>> FftField for Quadratic<F, M> {

@@ -47,3 +47,6 @@ one_more r = omega arith
 -- the base two logarithm of a number above one is one more than that of the number before it, rounded down
 pub log2_up : (n r : ℕ) → 2 ^ r ≤ n - 1 → n - 1 < 2 * 2 ^ r → 1 < n → IsLog2Up n (r + 1)
 log2_up n r low high some = (omega (arith, pow-suc 2 r, ap (λ t. 2 ^ t) (sym (one_more r))), λ k above. let less : r < k = power_lt r k (omega arith) in omega arith)
+
+pub one_log2 : (n a b : ℕ) → IsLog2Up n a → IsLog2Up n b → a ≡ b
+one_log2 n a b h k = let l : a ≤ b = h.1 b k.0 in let m : b ≤ a = k.1 a h.0 in omega arith

@@ -5,8 +5,8 @@ ghost use Rattle.std.specs.Prelude.{flat_map, if◌then◌else◌, length, max, 
 ghost use Rattle.std.specs.Prelude.{IfErr, IfOk, IfSome, IsOk, IsOkUnless, IsSome, IsTrue, OnErr, OnOk};
 ghost use Rattle.std.specs.Slice.Iter.{iter_rest};
 ghost use Rattle.std.specs.Iterator.Adapters.{IterYieldsInOrder};
-ghost use Rattle.ark_math.specs.Multilinear.{AreAddable, AreWindows, IsConcat, extension, exchanged, fixed};
-ghost use Rattle.ark_math.specs.Multilinear.{table_operations, table_sum, table_scaled, zero_table};
+ghost use Rattle.ark_math_variables.specs.Multilinear.{AreAddable, AreWindows, IsConcat, extension, exchanged, fixed};
+ghost use Rattle.ark_math_variables.specs.Multilinear.{table_operations, table_sum, table_scaled, zero_table};
 ghost use Rattle.ark_math.specs.Univariate.{of_list};
 
 mod bytes;
@@ -14,7 +14,7 @@ mod bytes;
 use crate::multilinear::MultilinearExtension;
 use ark_coeffs::dense::{add_each, add_scaled, negate_each, scale_each, subtract_each};
 use ark_coeffs::draws::push_drawn;
-use ark_lists::tables::{Exchange, fixed_table, relabel_table, value_of_table};
+use ark_tables::tables::{Exchange, fixed_table, relabel_table, value_of_table};
 use ark_traits::{Field, PolyError, Polynomial, log2};
 use rand::Rng;
 use std::alloc::{AllocError, Global};
@@ -58,10 +58,10 @@ impl<F: Field> Debug for DenseMultilinearExtension<F> {
 
 impl<F: Field> Polynomial<F> for DenseMultilinearExtension<F> {
     ghost use Rattle.ark_multi.specs.Extensions.{dense_table};
-    ghost use Rattle.ark_math.specs.Multilinear.{Table};
-    ghost use Rattle.ark_math.proofs.Polynomials.Tables.{multilinear_polynomials};
-    ghost use Rattle.ark_math.proofs.Formats.SeveralVariables.{values_tell};
-    ghost use Rattle.ark_lists.proofs.DenseTables.{equal_tables, listed, same_length};
+    ghost use Rattle.ark_math_variables.specs.Multilinear.{Table};
+    ghost use Rattle.ark_math_variables.proofs.Polynomials.Tables.{multilinear_polynomials};
+    ghost use Rattle.ark_multi.specs.LayoutLaws.{values_tell};
+    ghost use Rattle.ark_tables.proofs.DenseTables.{equal_tables, listed, same_length};
     ghost use Rattle.std.proofs.Common.{ap};
 
     type Point = Vec<F>;
@@ -185,10 +185,10 @@ impl<F: Field> Polynomial<F> for DenseMultilinearExtension<F> {
 
 impl<F: Field> MultilinearExtension<F> for DenseMultilinearExtension<F> {
     ghost use Rattle.ark_multi.specs.Extensions.{dense_table};
-    ghost use Rattle.ark_math.specs.Multilinear.{Table};
+    ghost use Rattle.ark_math_variables.specs.Multilinear.{Table};
     ghost use Rattle.std.proofs.Common.{refl};
     ghost use Rattle.ark_math.proofs.Algebra.Groups.{identity_embeds};
-    ghost use Rattle.ark_lists.proofs.DenseTables.{list_below};
+    ghost use Rattle.ark_tables.proofs.DenseTables.{list_below};
 
     ghost table = { dense_table F.field };
 

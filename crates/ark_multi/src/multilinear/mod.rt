@@ -3,9 +3,9 @@
 ghost use Rattle.std.specs.Prelude.{◌≡◌, ◌↔◌, ◌-◌, ◌<◌, ◌≤◌, ◌^◌, ℕ, List, length};
 ghost use Rattle.std.specs.Prelude.{IfOk, IfSome, IsOkUnless, IsTrue, Vec};
 ghost use Rattle.std.specs.declared.alloc.Global.{Global};
-ghost use Rattle.ark_math.specs.Multilinear.{Table, table_operations};
+ghost use Rattle.ark_math_variables.specs.Multilinear.{Table, table_operations};
 ghost use Rattle.ark_math.specs.Forms.{IsEmbedding, IsShown};
-ghost use Rattle.ark_math.specs.Multilinear.{AreAddable, AreWindows, exchanged, extension, fixed};
+ghost use Rattle.ark_math_variables.specs.Multilinear.{AreAddable, AreWindows, exchanged, extension, fixed};
 ghost use Rattle.ark_math.specs.Univariate.{IsBelow, of_list};
 
 mod dense;

@@ -4,8 +4,8 @@ ghost use Rattle.std.specs.Prelude.{◌≡◌, ◌≢◌, ◌<◌, ◌≤◌, �
 ghost use Rattle.std.specs.Prelude.{All, IfOk, IfSome, IsNone, IsOkUnless, IsSome};
 ghost use Rattle.std.specs.Slice.Iter.{iter_rest};
 ghost use Rattle.std.specs.Iterator.Adapters.{IterYieldsInOrder};
-ghost use Rattle.ark_math.specs.Multilinear.{AreAddable, extension, written};
-ghost use Rattle.ark_math.specs.Multilinear.{table_operations, table_sum, table_scaled};
+ghost use Rattle.ark_math_variables.specs.Multilinear.{AreAddable, extension, written};
+ghost use Rattle.ark_math_variables.specs.Multilinear.{table_operations, table_sum, table_scaled};
 ghost use Rattle.ark_math.specs.Univariate.{HasAtMost, IsSparse, of_list, of_pairs};
 ghost use Rattle.ark_coeffs.specs.Multiples.{factor_of};
 
@@ -14,9 +14,9 @@ mod bytes;
 use crate::multilinear::{DenseMultilinearExtension, MultilinearExtension};
 use ark_coeffs::multiple::Multiple;
 use ark_coeffs::sparse::sum_with_multiple;
-use ark_lists::draws::drawn_entries;
-use ark_lists::tables::Exchange;
-use ark_lists::windows::{
+use ark_tables::draws::drawn_entries;
+use ark_tables::tables::Exchange;
+use ark_tables::windows::{
     bind_variables, relabel_entries, value_at, values_of_entries, written_entries,
 };
 use ark_traits::{Field, PolyError, Polynomial};
@@ -72,11 +72,11 @@ impl<F: Field> Debug for SparseMultilinearExtension<F> {
 
 impl<F: Field> Polynomial<F> for SparseMultilinearExtension<F> {
     ghost use Rattle.ark_multi.specs.Extensions.{sparse_table};
-    ghost use Rattle.ark_math.specs.Multilinear.{Table};
-    ghost use Rattle.ark_math.proofs.Polynomials.Tables.{multilinear_polynomials};
-    ghost use Rattle.ark_math.proofs.Formats.SeveralVariables.{entries_tell};
-    ghost use Rattle.ark_lists.proofs.DenseTables.{same_length};
-    ghost use Rattle.ark_lists.proofs.SparseTables.{equal_entries};
+    ghost use Rattle.ark_math_variables.specs.Multilinear.{Table};
+    ghost use Rattle.ark_math_variables.proofs.Polynomials.Tables.{multilinear_polynomials};
+    ghost use Rattle.ark_multi.specs.LayoutLaws.{entries_tell};
+    ghost use Rattle.ark_tables.proofs.DenseTables.{same_length};
+    ghost use Rattle.ark_tables.proofs.SparseTables.{equal_entries};
     ghost use Rattle.std.proofs.Common.{ap};
 
     type Point = Vec<F>;
@@ -188,7 +188,7 @@ impl<F: Field> MultilinearExtension<F> for SparseMultilinearExtension<F> {
     ghost use Rattle.ark_multi.specs.Extensions.{sparse_table};
     ghost use Rattle.std.proofs.Common.{refl};
     ghost use Rattle.ark_math.proofs.Algebra.Groups.{identity_embeds};
-    ghost use Rattle.ark_math.proofs.Polynomials.Tables.{pairs_below};
+    ghost use Rattle.ark_math_variables.proofs.Polynomials.Tables.{pairs_below};
 
     ghost table = { sparse_table F.field };
 

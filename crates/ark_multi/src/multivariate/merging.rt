@@ -2,9 +2,9 @@
 
 ghost use Rattle.std.specs.Prelude.{◌≡◌, ◌≢◌, [], length, All, IfOk, OnOk, IfSome, IsNone, IsOkUnless};
 ghost use Rattle.std.specs.declared.cmp.Ordering.TheVariants.{Less, Greater};
-ghost use Rattle.ark_math.specs.Multivariate.{single, IsTotalDegree, IsValueAt, of_listed};
+ghost use Rattle.ark_math_variables.specs.Multivariate.{single, IsTotalDegree, IsValueAt, of_listed};
 ghost use Rattle.ark_multi.specs.SortedTerms.{AreRising, IsLeastTerm};
-ghost use Rattle.ark_math.specs.Term.{IsWithin};
+ghost use Rattle.ark_math_variables.specs.Term.{IsWithin};
 ghost use Rattle.ark_math.specs.Univariate.{added, scaled};
 ghost use Rattle.ark_coeffs.specs.Multiples.{factor_of};
 

@@ -2,15 +2,15 @@
 
 ghost use Rattle.std.specs.Prelude.{◌≡◌, ◌↔◌, ◌⊎◌, ◌≤◌, ◌^◌, ℕ, List, [], length, map};
 ghost use Rattle.std.specs.Prelude.{Decides, IfOk, IfErr, IsOkUnless, IsTrue};
-ghost use Rattle.ark_math.specs.Format.{Tells};
-ghost use Rattle.ark_math.specs.Layouts.{AreAlike};
-ghost use Rattle.ark_math.specs.Term.{IsTerm, IsWithin, power_of, term_value, total_degree};
+ghost use Rattle.ark_math_formats.specs.Format.{Tells};
+ghost use Rattle.ark_math_formats.specs.Format.{AreAlike};
+ghost use Rattle.ark_math_variables.specs.Term.{IsTerm, IsWithin, power_of, term_value, total_degree};
 
 mod merging;
 mod sparse;
 mod sparse_term;
 
-use ark_lists::powers::is_within;
+use ark_tables::powers::is_within;
 use ark_traits::{CanonicalDeserialize, CanonicalSerialize, Field, PolyError};
 pub use sparse::SparsePolynomial;
 pub use sparse_term::SparseTerm;

@@ -3,8 +3,8 @@
 ghost use Rattle.std.specs.Prelude.{◌≡◌, ◌≢◌, ℕ, ◌≤◌, ◌<◌, ◌⊎◌, List, [], ◌∷◌, length, map, max, All, AllPairs};
 ghost use Rattle.std.specs.Prelude.{IfOk, IsOk, OnOk, IsOkUnless};
 ghost use Rattle.std.specs.declared.cmp.Ordering.TheVariants.{Less};
-ghost use Rattle.ark_math.specs.Term.{IsOnePower, IsWithin};
-ghost use Rattle.ark_math.specs.Multivariate.{each_listed, of_listed, of_terms, IsValueAt, IsTotalDegree};
+ghost use Rattle.ark_math_variables.specs.Term.{IsOnePower, IsWithin};
+ghost use Rattle.ark_math_variables.specs.Multivariate.{each_listed, of_listed, of_terms, IsValueAt, IsTotalDegree};
 ghost use Rattle.ark_math.specs.Univariate.{added, coefficient_operations, scaled};
 ghost use Rattle.ark_coeffs.specs.Multiples.{factor_of};
 
@@ -60,9 +60,9 @@ impl<F: Field, T: Term> Debug for SparsePolynomial<F, T> {
 }
 
 impl<F: Field, T: Term> Polynomial<F> for SparsePolynomial<F, T> {
-    ghost use Rattle.ark_math.proofs.Polynomials.Multivariate.{multivariate_polynomials};
-    ghost use Rattle.ark_math.proofs.Formats.SeveralVariables.{terms_show};
-    ghost use Rattle.ark_math.proofs.Polynomials.TermLists.{strict_order, sorted_Decides};
+    ghost use Rattle.ark_math_variables.proofs.Polynomials.Multivariate.{multivariate_polynomials};
+    ghost use Rattle.ark_multi.specs.LayoutLaws.{terms_show};
+    ghost use Rattle.ark_multi.specs.TermLists.{strict_order, sorted_Decides};
     ghost use Rattle.std.proofs.Common.{ap};
     ghost use Rattle.std.proofs.Math.Nat.{max-le};
 

@@ -7,14 +7,14 @@ ghost use Rattle.std.specs.Cmp.Lexicographic.{lists_equiv, lists_per};
 ghost use Rattle.std.specs.Hash as fed;
 ghost use Rattle.std.specs.Hash.{and-Alike, items_Alike, on_Alike, same_Alike};
 ghost use Rattle.std.specs.Ordering.{as_partial_cmp};
-ghost use Rattle.ark_math.specs.Multivariate.{same_term};
-ghost use Rattle.ark_lists.specs.Graded.{graded_cmp};
-ghost use Rattle.ark_lists.proofs.GradedOrder.{graded_partial, graded_ties, graded_total, same_term_Decides};
+ghost use Rattle.ark_math_variables.specs.Multivariate.{same_term};
+ghost use Rattle.ark_tables.specs.Graded.{graded_cmp};
+ghost use Rattle.ark_tables.proofs.GradedOrder.{graded_partial, graded_ties, graded_total, same_term_Decides};
 
 mod bytes;
 
 use crate::multivariate::Term;
-use ark_lists::powers::{collected_powers, compared_powers, total_power, value_of_powers};
+use ark_tables::powers::{collected_powers, compared_powers, total_power, value_of_powers};
 use ark_traits::{Field, PolyError};
 use std::alloc::{AllocError, Global};
 use std::cmp::Ordering;
@@ -34,7 +34,7 @@ pub struct SparseTerm {
 
 impl Model for SparseTerm {
     ghost use Rattle.std.specs.Prelude.{ℕ, List};
-    ghost use Rattle.ark_math.specs.Term.{IsTerm};
+    ghost use Rattle.ark_math_variables.specs.Term.{IsTerm};
 
     ghost Value = { List (ℕ × ℕ) };
 
@@ -116,9 +116,9 @@ impl Debug for SparseTerm {
 }
 
 impl Term for SparseTerm {
-    ghost use Rattle.ark_math.specs.Layouts.{term};
-    ghost use Rattle.ark_math.proofs.Formats.Modes.{one_format};
-    ghost use Rattle.ark_math.proofs.Formats.SeveralVariables.{term_tells};
+    ghost use Rattle.ark_multi.specs.Layouts.{term};
+    ghost use Rattle.ark_math_formats.proofs.Formats.Modes.{one_format};
+    ghost use Rattle.ark_multi.specs.LayoutLaws.{term_tells};
 
     ghost listed = { λ t. t };
 

@@ -5,10 +5,10 @@ use Rattle.ark_math.specs.Field.{FieldOn, IsField}
 use Rattle.ark_math.specs.Univariate.{IsQuotient, IsValue, added, of_list, product}
 use Rattle.ark_math.proofs.Algebra.Ring.{ring2}
 use Rattle.ark_math.proofs.Algebra.Solve.{◌⊗◌, ◌⊕◌, nought}
-use Rattle.ark_math.proofs.Polynomials.UnivariateProducts.{value-product}
-use Rattle.ark_math.proofs.Polynomials.UnivariateValues.{has_value, one_value, value-added}
-use Rattle.ark_math.specs.AtPoints.{AreDifferent, HasValues}
-use Rattle.ark_math.specs.Nodes.{nodes}
+use Rattle.ark_math_polynomials.proofs.Polynomials.UnivariateProducts.{value-product}
+use Rattle.ark_math_polynomials.proofs.Polynomials.UnivariateValues.{has_value, one_value, value-added}
+use Rattle.ark_math_points.specs.AtPoints.{AreDifferent, HasValues}
+use Rattle.ark_math_polynomials.specs.Nodes.{nodes}
 use Rattle.ark_subproducts.specs.Tree.{derived, weighed}
 use Rattle.ark_subproducts.proofs.Nodes.{cofactor, cofactor-below, cofactor-other, cofactor-whole, nodes-zero}
 use Rattle.ark_subproducts.proofs.Weighed.{slope-value, weighed-value}

@@ -13,7 +13,7 @@ ghost use Rattle.ark_sum_check.specs.Rounds.{IsTrueRound};
 use crate::addend::Addend;
 use crate::error::SumCheckError;
 use crate::prover::Prover;
-use ark_extensions::ExtensionOf;
+use ark_traits::ExtensionOf;
 use ark_extensions::embedded::bind_first;
 use ark_traits::Field;
 use std::alloc::{AllocError, Global};

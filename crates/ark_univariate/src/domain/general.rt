@@ -44,10 +44,10 @@ macro_rules! over_both {
 }
 
 impl<F: FftField> EvaluationDomain<F> for GeneralEvaluationDomain<F> {
-    ghost use Rattle.ark_math.proofs.Domains.Domains.{same_domain, one_domain, other_kind, radix2_is_not_mixed};
-    ghost use Rattle.ark_math.proofs.Domains.Domains.{radix2_is_domain, mixed_radix_is_domain};
+    ghost use Rattle.ark_math_transforms.proofs.Domains.Domains.{same_domain, one_domain, other_kind, radix2_is_not_mixed};
+    ghost use Rattle.ark_math_transforms.proofs.Domains.Domains.{radix2_is_domain, mixed_radix_is_domain};
     ghost use Rattle.ark_univariate.specs.Domains.{general_domain};
-    ghost use Rattle.ark_math.proofs.Domains.GeneralSizes.{general_sizes, one_general_size};
+    ghost use Rattle.ark_math_transforms.proofs.Domains.GeneralSizes.{general_sizes, one_general_size};
     ghost use Rattle.std.proofs.Common.{refl, sym};
     ghost use Rattle.ark_fft.specs.CosetBytes.{all_fields};
     ghost use Rattle.ark_univariate.specs.Domains.{radix2_domain, mixed_radix_domain};

@@ -10,10 +10,10 @@ ghost use Rattle.ark_math.specs.Domain.{Kind, Domain, IsDomain, IsSize, HasNoSiz
 ghost use Rattle.ark_math.specs.Domain.{elements};
 ghost use Rattle.ark_math.specs.Transform.{transform, IsInverse, IsOnlyInverse};
 ghost use Rattle.ark_math.specs.Univariate.{IsDegree, IsValue, of_list, of_pairs};
-ghost use Rattle.ark_math.specs.Points.{vanishing, AreWeights, IsElement, IsContained, IsFilter, reindexed};
+ghost use Rattle.ark_math_domains.specs.Points.{vanishing, AreWeights, IsElement, IsContained, IsFilter, reindexed};
 ghost use Rattle.ark_math.specs.Cost.{forward, inverse};
-ghost use Rattle.ark_math.specs.Format.{Tells};
-ghost use Rattle.ark_traits.specs.Cost.{GrowsByCost};
+ghost use Rattle.ark_math_formats.specs.Format.{Tells};
+ghost use Rattle.ark_fft.specs.Cost.{GrowsByCost};
 
 pub mod general;
 pub mod mixed_radix;

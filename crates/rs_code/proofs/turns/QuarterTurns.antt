@@ -2,14 +2,13 @@
 use Rattle.std.proofs.Common.{◌≡◌, ℕ, zero, suc, ◌+◌, ◌*◌, ◌<◌, ◌≤◌, Bool, true, false, List, [], ◌∷◌, ◌++◌, length, map, get_or, sym, ◌∙◌, ap, ap₂, refl, subst, arith}
 use Rattle.std.specs.Prelude.{not}
 use Rattle.std.proofs.lemmas.List.{get_or-map, length-append, length-map}
-use Rattle.ark_math.specs.Field.{FieldOn, IsField, power, minus}
+use Rattle.ark_math.specs.Field.{FieldOn, IsField, power, minus, product_below}
 use Rattle.ark_math.specs.Root.{HasOrder}
 use Rattle.ark_math.specs.Domain.{Domain, element}
-use Rattle.ark_math.specs.Multilinear.{product_below}
 use Rattle.ark_math.proofs.Algebra.Powers.{power-add, half_of_order, power-double}
 use Rattle.ark_math.proofs.Algebra.Solve.{◌⊕◌, ◌⊖◌, ◌⊗◌, negative, unit}
 use Rattle.ark_math.proofs.Algebra.Ring.{ring1, ring2, ring3, ring4, ring5, ring6, ring7, ring2_by, ring3_by}
-use Rattle.ark_math.proofs.Polynomials.Cube.{product_below-first, product_below-same}
+use Rattle.ark_math.proofs.Algebra.Products.{product_below-first, product_below-same}
 use Rattle.rs_code.specs.Locator.{lost_from, lost, locator_at}
 use Rattle.rs_code.specs.Turns.{Four, turned, others, marked_first, factor, four, over_four, Sorted, over_erased, over_kept, pushed, nothing_sorted, AreWithin, AreSortedBelow, AreSorted}
 

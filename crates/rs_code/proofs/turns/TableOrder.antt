@@ -7,9 +7,9 @@ use Rattle.ark_math.specs.Domain.{Domain, element}
 use Rattle.ark_math.proofs.Algebra.Powers.{power-mul}
 use Rattle.ark_math.proofs.Algebra.Solve.{◌⊗◌, unit}
 use Rattle.ark_math.proofs.Algebra.Ring.{ring2}
-use Rattle.ark_blocks.specs.Blocks.{IsPowerOfTwo, element_of}
-use Rattle.ark_math.specs.BitReversal.{reversed}
-use Rattle.ark_math.proofs.Numbers.BitReversal.{reversed_low, reversed_high, reversed_even, reversed_odd, reversed_below, reversed_lowest}
+use Rattle.ark_bit_reversed.specs.Blocks.{IsPowerOfTwo, element_of}
+use Rattle.ark_math_transforms.specs.BitReversal.{reversed}
+use Rattle.ark_math_transforms.proofs.Numbers.BitReversal.{reversed_low, reversed_high, reversed_even, reversed_odd, reversed_below, reversed_lowest}
 use Rattle.ark_math.proofs.Numbers.PowersOfTwo.{pow_twice}
 use Rattle.rs_code.specs.Turns.{IsTableOf, turn_place}
 

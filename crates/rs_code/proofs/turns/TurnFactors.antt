@@ -7,9 +7,9 @@ use Rattle.ark_math.specs.Field.{FieldOn, IsField, natural}
 use Rattle.ark_math.specs.Root.{HasOrder}
 use Rattle.ark_math.specs.Domain.{Domain, element}
 use Rattle.ark_math.specs.Univariate.{of_list}
-use Rattle.ark_blocks.specs.Blocks.{element_of}
-use Rattle.ark_math.specs.BitReversal.{reversed}
-use Rattle.ark_math.proofs.Numbers.BitReversal.{reversed_below}
+use Rattle.ark_bit_reversed.specs.Blocks.{element_of}
+use Rattle.ark_math_transforms.specs.BitReversal.{reversed}
+use Rattle.ark_math_transforms.proofs.Numbers.BitReversal.{reversed_below}
 use Rattle.ark_math.proofs.Numbers.PowersOfTwo.{pow_twice}
 use Rattle.rs_code.specs.Locator.{lost, locator_at, derivative_at, IsFactor}
 use Rattle.rs_code.specs.Turns.{AreAtTurns, AreMadeBelow, AreSorted, HoldValues, IsFactorFrom, IsMadeOf, IsTableOf, Sorted, Values, at_turn, erased_from, kept_from, product_of_eight, turn_place}

@@ -14,8 +14,8 @@ mod products;
 mod sorted;
 
 ghost use Rattle.std.specs.Prelude.{◌≡◌, ℕ, ◌+◌, ◌*◌, ◌^◌, ◌<◌, ◌≤◌, true, false, length, get_or, IfOk};
-ghost use Rattle.ark_blocks.specs.Blocks.{IsPowerOfTwo, element_of, size_of};
-ghost use Rattle.ark_math.specs.BitReversal.{reversed};
+ghost use Rattle.ark_bit_reversed.specs.Blocks.{IsPowerOfTwo, element_of, size_of};
+ghost use Rattle.ark_math_transforms.specs.BitReversal.{reversed};
 ghost use Rattle.ark_math.specs.Univariate.{of_list};
 ghost use Rattle.rs_code.specs.Locator.{AreFactors, locator_at};
 ghost use Rattle.rs_code.specs.Turns.{AreAtTurns, AreForFours, ArePlaceValues, AreWithin, HoldValues, IsFactorFrom, IsMadeOf};
@@ -23,10 +23,10 @@ ghost use Rattle.rs_code.specs.Turns.{IsPlaceAhead, IsTableOf, product_of_eight}
 
 use crate::turns::products::values_over;
 use crate::turns::sorted::{Sorted, sorted_by_turns};
-use ark_base::{FftField, Field};
-use ark_blocks::BlockRoots;
+use ark_traits::{FftField, Field};
+use ark_bit_reversed::BlockRoots;
 use ark_coeffs::dense::scale_each;
-use ark_poly::EvaluationDomain;
+use ark_univariate::EvaluationDomain;
 use std::alloc::{AllocError, Global};
 use std::marker::Model;
 

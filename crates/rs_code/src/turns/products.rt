@@ -1,12 +1,12 @@
 //! Values of products of x - r over roots, at the first elements of a table.
 
 ghost use Rattle.std.specs.Prelude.{◌≡◌, ℕ, ◌<◌, ◌≤◌, length, IfOk};
-ghost use Rattle.ark_blocks.specs.Blocks.{IsPowerOfTwo, element_of, size_of};
+ghost use Rattle.ark_bit_reversed.specs.Blocks.{IsPowerOfTwo, element_of, size_of};
 ghost use Rattle.ark_math.specs.Univariate.{of_list};
 ghost use Rattle.rs_code.specs.Locator.{locator_at};
 
-use ark_base::FftField;
-use ark_blocks::BlockRoots;
+use ark_traits::FftField;
+use ark_bit_reversed::BlockRoots;
 use ark_subproducts::product_values;
 use std::alloc::{AllocError, Global};
 

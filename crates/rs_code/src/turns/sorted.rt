@@ -1,15 +1,15 @@
 //! Places by fours of which each is a quarter turn of the last, sorted by how they are erased.
 
 ghost use Rattle.std.specs.Prelude.{◌≡◌, ℕ, ◌+◌, ◌*◌, ◌^◌, ◌<◌, [], length, get_or, map, IfOk, if◌then◌else◌};
-ghost use Rattle.ark_blocks.specs.Blocks.{IsPowerOfTwo, size_of};
-ghost use Rattle.ark_math.specs.BitReversal.{reversed};
+ghost use Rattle.ark_bit_reversed.specs.Blocks.{IsPowerOfTwo, size_of};
+ghost use Rattle.ark_math_transforms.specs.BitReversal.{reversed};
 ghost use Rattle.ark_math.specs.Domain.{Domain};
 ghost use Rattle.ark_math.specs.Root.{HasOrder};
 ghost use Rattle.rs_code.specs.Turns.{AreSorted, IsTableOf, alternating, finished, marked_first, roots_of, turn_place, turned};
 
-use ark_base::{FftField, Field};
-use ark_blocks::BlockRoots;
-use ark_blocks::items::square_each;
+use ark_traits::{FftField, Field};
+use ark_bit_reversed::BlockRoots;
+use ark_bit_reversed::items::square_each;
 use std::alloc::{AllocError, Global};
 use std::marker::Model;
 

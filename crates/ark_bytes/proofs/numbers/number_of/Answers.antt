@@ -1,5 +1,5 @@
 use Rattle.std.proofs.Common.{◌≡◌, ℕ, ◌-◌, ◌≤◌, List, length, drop, ap, ◌∙◌, zero, suc, arith}
-use Rattle.ark_math.specs.Format.{number_of, little_endian}
+use Rattle.ark_math_formats.specs.Format.{number_of, little_endian}
 use Rattle.ark_bytes.proofs.NumberBytes.{rest_below, number_below, spelled_number}
 use Rattle.ark_bytes.proofs.numbers.number_of.Goals as goal
 

@@ -1,6 +1,6 @@
 -- The number of the bytes from i on.
 use Rattle.std.proofs.Common.{◌≡◌, ◌≤◌, length, drop}
-use Rattle.ark_math.specs.Format.{number_of}
+use Rattle.ark_math_formats.specs.Format.{number_of}
 use Rattle.ark_bytes.proofs.numbers.number_of.Given as goal
 
 abbrev pub invariant-loop-i : goal.invariant-loop-i

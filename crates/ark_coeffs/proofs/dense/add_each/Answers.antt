@@ -1,8 +1,8 @@
 use Rattle.std.proofs.Common.{◌≡◌, ◌<◌, length, sym, ap, ap₂, ◌∙◌, arith}
 use Rattle.std.proofs.lemmas.List.{get_or_read}
 use Rattle.ark_math.specs.Univariate.{of_list}
-use Rattle.ark_math.proofs.Polynomials.UnivariateLists.{of_list-past}
-use Rattle.ark_math.proofs.Polynomials.UnivariateLoops.{zipped-begin, zipped-set, zipped-end}
+use Rattle.ark_math_polynomials.proofs.Polynomials.UnivariateLists.{of_list-past}
+use Rattle.ark_math_polynomials.proofs.Polynomials.UnivariateLoops.{zipped-begin, zipped-set, zipped-end}
 use Rattle.ark_coeffs.proofs.dense.add_each.Goals as goal
 
 pub loop-i-init : goal.loop-i-init

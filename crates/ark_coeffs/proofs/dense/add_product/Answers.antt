@@ -1,8 +1,8 @@
 use Rattle.std.proofs.Common.{◌≡◌, ◌<◌, ◌+◌, ◌-◌, set, length, sym, ap, ap₂, ◌∙◌, arith}
 use Rattle.std.proofs.lemmas.List.{get_or_read, length-replicate}
 use Rattle.ark_math.specs.Univariate.{of_list, product}
-use Rattle.ark_math.proofs.Polynomials.UnivariateLists.{of_list-past, of_list-replicate}
-use Rattle.ark_math.proofs.Polynomials.UnivariateLoops.{cut-all, rows-none, rows-begin, rows-end, rows-set}
+use Rattle.ark_math_polynomials.proofs.Polynomials.UnivariateLists.{of_list-past, of_list-replicate}
+use Rattle.ark_math_polynomials.proofs.Polynomials.UnivariateLoops.{cut-all, rows-none, rows-begin, rows-end, rows-set}
 use Rattle.ark_coeffs.proofs.dense.add_product.Goals as goal
 
 pub loop-i-init : goal.loop-i-init

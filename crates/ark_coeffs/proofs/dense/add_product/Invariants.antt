@@ -1,6 +1,6 @@
 use Rattle.std.proofs.Common.{◌≡◌}
 use Rattle.ark_math.specs.Univariate.{of_list, product}
-use Rattle.ark_math.proofs.Polynomials.UnivariateLoops.{cut, rows}
+use Rattle.ark_math_polynomials.proofs.Polynomials.UnivariateLoops.{cut, rows}
 use Rattle.ark_coeffs.proofs.dense.add_product.Given as goal
 
 abbrev pub invariant-loop-i : goal.invariant-loop-i

@@ -1,7 +1,7 @@
 use Rattle.std.proofs.Common.{◌≡◌, ◌-◌, ◌+◌, ◌<◌, ◌≤◌, length, sym, ap, ap₂, subst, ◌∙◌, arith}
 use Rattle.std.proofs.lemmas.List.{get_or_read}
 use Rattle.ark_math.specs.Univariate.{of_list}
-use Rattle.ark_math.proofs.Polynomials.Binomials.{IsCarried, carried-none, carried-set, carried_list}
+use Rattle.ark_math_polynomials.proofs.Polynomials.Binomials.{IsCarried, carried-none, carried-set, carried_list}
 use Rattle.ark_coeffs.proofs.dense.divide_by_binomial.Goals as goal
 
 pub loop-i-init : goal.loop-i-init

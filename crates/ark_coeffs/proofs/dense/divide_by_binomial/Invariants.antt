@@ -1,5 +1,5 @@
 use Rattle.ark_math.specs.Univariate.{of_list}
-use Rattle.ark_math.proofs.Polynomials.Binomials.{IsCarried}
+use Rattle.ark_math_polynomials.proofs.Polynomials.Binomials.{IsCarried}
 use Rattle.ark_coeffs.proofs.dense.divide_by_binomial.Given as goal
 
 abbrev pub invariant-loop-i : goal.invariant-loop-i

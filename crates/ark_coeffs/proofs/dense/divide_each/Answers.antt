@@ -1,8 +1,8 @@
 use Rattle.std.proofs.Common.{◌≡◌, length, subst, ap, ◌∙◌, arith}
 use Rattle.ark_math.specs.Univariate.{of_list}
-use Rattle.ark_math.specs.Points.{IsPlaceQuotient}
+use Rattle.ark_math.specs.Field.{IsPlaceQuotient}
 use Rattle.ark_math.proofs.Lists.Lists.{written_back}
-use Rattle.ark_math.proofs.OverDomains.PlaceValues.{place_quotient-times}
+use Rattle.ark_math.proofs.Algebra.NonZero.{place_quotient-times}
 use Rattle.ark_coeffs.proofs.dense.divide_each.Goals as goal
 
 pub returns-clause-quotients : goal.returns-clause-quotients

@@ -2,7 +2,7 @@ use Rattle.std.proofs.Common.{◌≡◌, ◌++◌, length, take, drop, min, sym,
 use Rattle.std.proofs.lemmas.List.{take_min, drop_min}
 use Rattle.ark_math.specs.Univariate.{of_list, added, product}
 use Rattle.ark_math.proofs.Lists.Lists.{written_back}
-use Rattle.ark_math.proofs.Polynomials.Binomials.{binomial}
+use Rattle.ark_math_polynomials.proofs.Polynomials.Binomials.{binomial}
 use Rattle.ark_coeffs.proofs.dense.divided_by_binomial.Goals as goal
 
 pub returns-clause-division : goal.returns-clause-division

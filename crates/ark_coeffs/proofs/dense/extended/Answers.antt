@@ -1,6 +1,6 @@
 use Rattle.std.proofs.Common.{◌≡◌, ◌≤◌, ◌++◌, length, subst, sym, ap, ◌∙◌}
 use Rattle.ark_math.specs.Univariate.{of_list}
-use Rattle.ark_math.proofs.Polynomials.UnivariateLists.{of_list-padded}
+use Rattle.ark_math_polynomials.proofs.Polynomials.UnivariateLists.{of_list-padded}
 use Rattle.ark_coeffs.proofs.dense.extended.Goals as goal
 
 pub returns-clause-same : goal.returns-clause-same

@@ -1,6 +1,6 @@
 use Rattle.std.proofs.Common.{◌≤◌, length, ap, ◌∙◌, arith}
 use Rattle.ark_math.specs.Univariate.{of_list}
-use Rattle.ark_math.proofs.Polynomials.UnivariateLists.{of_list-padded}
+use Rattle.ark_math_polynomials.proofs.Polynomials.UnivariateLists.{of_list-padded}
 use Rattle.ark_coeffs.proofs.dense.grow.Goals as goal
 
 pub returns-in_ok-resize-clause-same : goal.returns-in_ok-resize-clause-same

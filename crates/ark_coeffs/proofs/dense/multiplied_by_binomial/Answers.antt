@@ -2,7 +2,7 @@ use Rattle.std.proofs.Common.{◌≡◌, ◌-◌, ◌++◌, [], take, replicate,
 use Rattle.std.proofs.lemmas.List.{take_all}
 use Rattle.ark_math.specs.Univariate.{of_list}
 use Rattle.ark_math.proofs.Lists.Lists.{written_back}
-use Rattle.ark_math.proofs.Polynomials.Binomials.{multiplied_list}
+use Rattle.ark_math_polynomials.proofs.Polynomials.Binomials.{multiplied_list}
 use Rattle.ark_coeffs.proofs.dense.multiplied_by_binomial.Goals as goal
 
 pub returns : goal.returns

@@ -3,8 +3,8 @@ use mathlib.Core.Path.{fun_ext}
 use Rattle.std.proofs.lemmas.Bool.{eqb-true}
 use Rattle.ark_math.specs.Field.{FieldOn}
 use Rattle.ark_math.specs.Univariate.{of_list, nothing, product}
-use Rattle.ark_math.proofs.Polynomials.UnivariateLists.{of_list-past}
-use Rattle.ark_math.proofs.Polynomials.UnivariateProducts.{nothing-product, product-nothing}
+use Rattle.ark_math_polynomials.proofs.Polynomials.UnivariateLists.{of_list-past}
+use Rattle.ark_math_polynomials.proofs.Polynomials.UnivariateProducts.{nothing-product, product-nothing}
 use Rattle.ark_coeffs.proofs.dense.naive_product.Goals.{then-is_empty-via-then-is_empty, then-is_empty-via-else-is_empty+then-is_empty-2}
 use Rattle.ark_coeffs.proofs.dense.naive_product.Goals as goal
 

@@ -3,8 +3,8 @@ use Rattle.std.proofs.lemmas.List.{get_or_read}
 use Rattle.ark_math.specs.Univariate.{of_list}
 use Rattle.ark_math.proofs.Algebra.Solve.{nought, negative}
 use Rattle.ark_math.proofs.Algebra.Ring.{ring1}
-use Rattle.ark_math.proofs.Polynomials.UnivariateLists.{of_list-past}
-use Rattle.ark_math.proofs.Polynomials.UnivariateLoops.{zipped-set, zipped-end}
+use Rattle.ark_math_polynomials.proofs.Polynomials.UnivariateLists.{of_list-past}
+use Rattle.ark_math_polynomials.proofs.Polynomials.UnivariateLoops.{zipped-set, zipped-end}
 use Rattle.ark_coeffs.proofs.dense.negate_each.Goals as goal
 
 pub loop-i-preserved : goal.loop-i-preserved

@@ -3,7 +3,7 @@ use Rattle.std.proofs.lemmas.List.{drop_all, get_or_read}
 use Rattle.ark_math.specs.Module.{itself}
 use Rattle.ark_math.specs.Transform.{value_at}
 use Rattle.ark_math.specs.Univariate.{of_list, IsValue}
-use Rattle.ark_math.proofs.Polynomials.UnivariateValues.{value_from, value_from-one, value_from-four, value-of_list}
+use Rattle.ark_math_polynomials.proofs.Polynomials.UnivariateValues.{value_from, value_from-one, value_from-four, value-of_list}
 use Rattle.ark_coeffs.proofs.dense.value_at.Goals as goal
 
 pub loop-k-init : goal.loop-k-init

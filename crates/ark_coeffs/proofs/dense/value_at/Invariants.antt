@@ -1,5 +1,5 @@
 use Rattle.std.proofs.Common.{◌≡◌, ◌+◌, ◌*◌}
-use Rattle.ark_math.proofs.Polynomials.UnivariateValues.{value_from}
+use Rattle.ark_math_polynomials.proofs.Polynomials.UnivariateValues.{value_from}
 use Rattle.ark_coeffs.proofs.dense.value_at.Given as goal
 
 abbrev pub invariant-loop-k : goal.invariant-loop-k

@@ -1,6 +1,6 @@
 use Rattle.std.proofs.Common.{◌≡◌, length, subst₂, sym, ap, ◌∙◌, arith}
 use Rattle.ark_math.specs.Univariate.{of_list}
-use Rattle.ark_math.specs.Points.{IsPlaceQuotient}
+use Rattle.ark_math.specs.Field.{IsPlaceQuotient}
 use Rattle.ark_math.proofs.Lists.Lists.{written_back}
 use Rattle.ark_coeffs.proofs.progressions.inverted_progression_less.Goals as goal
 

@@ -2,7 +2,7 @@ use Rattle.std.proofs.Common.{ℕ, ◌*◌, ◌<◌, length, refl, sym, ap, ◌�
 use Rattle.ark_math.specs.Field.{power}
 use Rattle.ark_math.proofs.Algebra.Solve.{◌⊗◌}
 use Rattle.ark_math.proofs.Algebra.Ring.{ring3}
-use Rattle.ark_math.proofs.Lists.Spaced.{spaced-set, multiple_within}
+use Rattle.ark_coeffs.proofs.Spaced.{spaced-set, multiple_within}
 use Rattle.ark_coeffs.proofs.progressions.spaced_progression.Goals as goal
 
 pub loop-k-preserved : goal.loop-k-preserved

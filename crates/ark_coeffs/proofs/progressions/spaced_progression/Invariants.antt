@@ -1,6 +1,6 @@
 use Rattle.std.proofs.Common.{◌≡◌, ◌+◌, ◌-◌, length}
 use Rattle.ark_math.specs.Field.{power}
-use Rattle.ark_math.proofs.Lists.Spaced.{IsSpaced}
+use Rattle.ark_coeffs.proofs.Spaced.{IsSpaced}
 use Rattle.ark_coeffs.proofs.progressions.spaced_progression.Given as goal
 
 abbrev pub invariant-loop-k : goal.invariant-loop-k

@@ -1,7 +1,7 @@
 use Rattle.std.proofs.Common.{refl, ap, ◌∙◌}
 use Rattle.ark_math.specs.Univariate.{of_pairs, added}
 use Rattle.ark_math.proofs.Outcomes.Results.{IfOk_more}
-use Rattle.ark_math.proofs.Polynomials.Univariate.{scaled-negated_one}
+use Rattle.ark_math_polynomials.proofs.Polynomials.Univariate.{scaled-negated_one}
 use Rattle.ark_coeffs.proofs.sparse.difference_of_terms.Goals as goal
 
 pub returns-clause-difference : goal.returns-clause-difference

@@ -2,7 +2,7 @@ use Rattle.std.proofs.Common.{rules, ℕ, subst, sym, ap, ◌∙◌}
 use Rattle.std.specs.List.Sorted.{IsNonDecreasingBy}
 use Rattle.std.proofs.lemmas.List.Sorted.{IsNonDecreasingBy-from_sort_by_key}
 use Rattle.ark_math.specs.Univariate.{of_pairs}
-use Rattle.ark_math.proofs.Polynomials.SortedPairs.{of_pairs-permutation}
+use Rattle.ark_coeffs.proofs.SortedPairs.{of_pairs-permutation}
 use Rattle.ark_math.proofs.Outcomes.Results.{IfOk_more}
 use Rattle.ark_coeffs.proofs.sparse.gathered_terms.Goals as goal
 

@@ -1,7 +1,7 @@
 use Rattle.std.proofs.Common.{rules, ◌≡◌, ◌<◌, nat_lt, arith}
 use Rattle.std.proofs.lemmas.Bool.Decides.{Decides-ltb}
 use Rattle.std.proofs.lemmas.List.Sorted.{answers_always}
-use Rattle.ark_math.proofs.Lists.Rising.{rising_answer}
+use Rattle.ark_coeffs.proofs.Rising.{rising_answer}
 use Rattle.ark_coeffs.proofs.sparse.is_rising.Goals as goal
 
 pub returns : goal.returns

@@ -1,5 +1,5 @@
 use Rattle.std.proofs.Common.{arith}
-use Rattle.ark_math.proofs.Polynomials.SparseSums.{lowest_first}
+use Rattle.ark_coeffs.proofs.SparseSums.{lowest_first}
 use Rattle.ark_coeffs.proofs.sparse.least_degree.Goals as goal
 
 pub returns-in-Some-Some-clause-left : goal.returns-in-Some-Some-clause-left

@@ -1,5 +1,5 @@
 use Rattle.std.proofs.Common.{◌<◌, length, ap, ◌∙◌}
-use Rattle.ark_math.proofs.Polynomials.SortedPairs.{merged_step_new, merged_step_same}
+use Rattle.ark_coeffs.proofs.SortedPairs.{merged_step_new, merged_step_same}
 use Rattle.ark_coeffs.proofs.sparse.merged_terms.Goals.{then-term-degree+in_ok-push_term, else-term-degree}
 use Rattle.ark_coeffs.proofs.sparse.merged_terms.Goals as goal
 

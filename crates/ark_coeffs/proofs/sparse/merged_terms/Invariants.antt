@@ -1,4 +1,4 @@
-use Rattle.ark_math.proofs.Polynomials.SortedPairs.{IsMerged}
+use Rattle.ark_coeffs.proofs.SortedPairs.{IsMerged}
 use Rattle.ark_coeffs.proofs.sparse.merged_terms.Given as goal
 
 abbrev pub invariant-loop-i : goal.invariant-loop-i

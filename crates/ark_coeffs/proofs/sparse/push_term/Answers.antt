@@ -1,6 +1,6 @@
 use Rattle.std.proofs.Common.{ap, ◌∙◌}
 use Rattle.ark_math.specs.Univariate.{of_pairs}
-use Rattle.ark_math.proofs.Polynomials.UnivariatePairs.{of_pairs-push}
+use Rattle.ark_math_polynomials.proofs.Polynomials.UnivariatePairs.{of_pairs-push}
 use Rattle.ark_coeffs.proofs.sparse.push_term.Goals as goal
 
 pub returns-in_ok-push-clause-sum : goal.returns-in_ok-push-clause-sum

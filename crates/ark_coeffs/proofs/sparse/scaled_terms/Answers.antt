@@ -2,7 +2,7 @@ use Rattle.std.proofs.Common.{ap, ◌∙◌}
 use Rattle.ark_math.specs.Univariate.{of_pairs, added, scaled}
 use Rattle.ark_math.proofs.Algebra.Groups.{zero_plus}
 use Rattle.ark_math.proofs.Outcomes.Results.{IfOk_more}
-use Rattle.ark_math.proofs.Polynomials.Univariate.{coefficients_are_module}
+use Rattle.ark_math_polynomials.proofs.Polynomials.Univariate.{coefficients_are_module}
 use Rattle.ark_coeffs.proofs.sparse.scaled_terms.Goals as goal
 
 pub returns-clause-multiple : goal.returns-clause-multiple

@@ -1,9 +1,9 @@
 use Rattle.std.proofs.Common.{sym, ap, ◌∙◌}
 use Rattle.ark_math.specs.Univariate.{of_pairs, added, monomial}
 use Rattle.ark_math.proofs.Algebra.Groups.{zero_plus}
-use Rattle.ark_math.proofs.Polynomials.Univariate.{coefficients_are_module}
-use Rattle.ark_math.proofs.Polynomials.UnivariatePairs.{monomial-zero}
-use Rattle.ark_math.proofs.Polynomials.SparseSums.{above_lowest, above_taken, none_above, sparse_taken}
+use Rattle.ark_math_polynomials.proofs.Polynomials.Univariate.{coefficients_are_module}
+use Rattle.ark_math_polynomials.proofs.Polynomials.UnivariatePairs.{monomial-zero}
+use Rattle.ark_coeffs.proofs.SparseSums.{above_lowest, above_taken, none_above, sparse_taken}
 use Rattle.ark_coeffs.proofs.sparse.split_at_degree.Goals.{in_default-via-in-Some+else-term-degree, in_default-via-in_default}
 use Rattle.ark_coeffs.proofs.sparse.split_at_degree.Goals as goal
 

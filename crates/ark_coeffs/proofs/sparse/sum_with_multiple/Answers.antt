@@ -1,6 +1,6 @@
 use Rattle.std.proofs.Common.{refl, sym, subst, ap, ◌∙◌}
 use Rattle.ark_math.specs.Univariate.{of_pairs, added, scaled}
-use Rattle.ark_math.proofs.Polynomials.SparseSums.{IsLeft, all_left, none_left, done_below, next_left, fewer_left}
+use Rattle.ark_coeffs.proofs.SparseSums.{IsLeft, all_left, none_left, done_below, next_left, fewer_left}
 use Rattle.ark_coeffs.specs.Multiples.{factor_of}
 use Rattle.ark_coeffs.proofs.sparse.sum_with_multiple.Goals as goal
 

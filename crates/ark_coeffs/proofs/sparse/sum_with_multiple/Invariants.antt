@@ -1,6 +1,6 @@
 use Rattle.std.proofs.Common.{length, ◌+◌}
 use Rattle.ark_math.specs.Univariate.{of_pairs, added, scaled}
-use Rattle.ark_math.proofs.Polynomials.SparseSums.{IsLeft}
+use Rattle.ark_coeffs.proofs.SparseSums.{IsLeft}
 use Rattle.ark_coeffs.specs.Multiples.{factor_of}
 use Rattle.ark_coeffs.proofs.sparse.sum_with_multiple.Given as goal
 

@@ -2,8 +2,8 @@ use Rattle.std.proofs.Common.{◌≡◌, ◌+◌, take, subst, sym, ap, ◌∙�
 use Rattle.std.proofs.lemmas.List.{take_all}
 use Rattle.ark_math.specs.Field.{power}
 use Rattle.ark_math.specs.Univariate.{of_pairs, nothing, IsValue}
-use Rattle.ark_math.proofs.Polynomials.UnivariateValues.{value-nothing}
-use Rattle.ark_math.proofs.Polynomials.UnivariatePairs.{value-of_pairs_take}
+use Rattle.ark_math_polynomials.proofs.Polynomials.UnivariateValues.{value-nothing}
+use Rattle.ark_math_polynomials.proofs.Polynomials.UnivariatePairs.{value-of_pairs_take}
 use Rattle.ark_coeffs.proofs.sparse.value_of_terms.Goals as goal
 
 pub loop-i-init : goal.loop-i-init

@@ -1,9 +1,9 @@
 use Rattle.std.proofs.Common.{◌<◌, length, map, sym, ap, ap₂, ◌∙◌, arith}
 use Rattle.std.proofs.lemmas.List.{length-map}
 use Rattle.ark_math.specs.Univariate.{of_list}
-use Rattle.ark_math.proofs.Polynomials.Multilinear.{bound, bound-below, fixed-one}
-use Rattle.ark_math.proofs.Polynomials.UnivariateLists.{of_list-past}
-use Rattle.ark_math.proofs.Polynomials.UnivariateLoops.{zipped-begin, zipped-set, zipped-end}
+use Rattle.ark_math_variables.proofs.Polynomials.Multilinear.{bound, bound-below, fixed-one}
+use Rattle.ark_math_polynomials.proofs.Polynomials.UnivariateLists.{of_list-past}
+use Rattle.ark_math_polynomials.proofs.Polynomials.UnivariateLoops.{zipped-begin, zipped-set, zipped-end}
 use Rattle.ark_extensions.proofs.BaseLists.{bound_pair}
 use Rattle.ark_extensions.proofs.embedded.bind_pairs.Goals as goal
 

@@ -3,7 +3,7 @@ use Rattle.std.proofs.lemmas.List.{drop_all, length-map}
 use Rattle.ark_math.specs.Module.{itself}
 use Rattle.ark_math.specs.Transform.{value_at}
 use Rattle.ark_math.specs.Univariate.{of_list, IsValue}
-use Rattle.ark_math.proofs.Polynomials.UnivariateValues.{value_from, value_from-one, value_from-four, value-of_list}
+use Rattle.ark_math_polynomials.proofs.Polynomials.UnivariateValues.{value_from, value_from-one, value_from-four, value-of_list}
 use Rattle.ark_extensions.proofs.BaseLists.{embedded_item}
 use Rattle.ark_extensions.proofs.embedded.evaluate.Goals as goal
 

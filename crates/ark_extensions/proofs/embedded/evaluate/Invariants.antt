@@ -1,5 +1,5 @@
 use Rattle.std.proofs.Common.{◌≡◌, ◌+◌, ◌*◌, map}
-use Rattle.ark_math.proofs.Polynomials.UnivariateValues.{value_from}
+use Rattle.ark_math_polynomials.proofs.Polynomials.UnivariateValues.{value_from}
 use Rattle.ark_extensions.proofs.embedded.evaluate.Given as goal
 
 abbrev pub invariant-loop-k : goal.invariant-loop-k

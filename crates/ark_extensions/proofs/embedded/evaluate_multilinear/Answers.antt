@@ -1,9 +1,9 @@
 use Rattle.std.proofs.Common.{◌≡◌, suc, ◌*◌, ◌^◌, length, map, sym, ap, ◌∙◌, arith}
-use Rattle.ark_math.specs.Multilinear.{extension}
+use Rattle.ark_math_variables.specs.Multilinear.{extension}
 use Rattle.ark_math.specs.Univariate.{of_list}
 use Rattle.ark_math.proofs.Outcomes.Results.{IfOk_more}
-use Rattle.ark_math.proofs.Polynomials.Cube.{pow_twice}
-use Rattle.ark_math.proofs.Polynomials.Multilinear.{extension-cons, fixed-one}
+use Rattle.ark_math_variables.proofs.Polynomials.Cube.{pow_twice}
+use Rattle.ark_math_variables.proofs.Polynomials.Multilinear.{extension-cons, fixed-one}
 use Rattle.ark_extensions.proofs.embedded.evaluate_multilinear.Goals as goal
 
 pub bind_first-requires : goal.bind_first-requires

@@ -8,13 +8,13 @@ ghost use Rattle.ark_fft.specs.Coset.{coset_domain};
 ghost use Rattle.ark_math.specs.Field.{FieldOn, power};
 ghost use Rattle.ark_math.specs.Root.{HasOrder, odd_base};
 ghost use Rattle.ark_math.specs.Transform.{transform, IsInverse};
-ghost use Rattle.ark_math.proofs.Transforms.Places.{dft_at};
-ghost use Rattle.ark_math.specs.BitReversal.{reversed};
+ghost use Rattle.ark_math_transforms.proofs.Transforms.Places.{dft_at};
+ghost use Rattle.ark_math_transforms.specs.BitReversal.{reversed};
 ghost use Rattle.ark_fft.specs.Halves.{ArePowers, AreLevels};
 ghost use Rattle.ark_fft.specs.Mixed.{IsLevel, IsPlan, IsPowerTable, joined, mixed_counts};
 ghost use Rattle.ark_math.specs.Module.{ModuleOn, item, sum_below};
 ghost use Rattle.ark_math.specs.Cost.{GrowsBy, counts, butterfly_counts, forward, inverse};
-ghost use Rattle.ark_traits.specs.Cost.{GrowsByCost};
+ghost use Rattle.ark_fft.specs.Cost.{GrowsByCost};
 
 use crate::domain::coset::Coset;
 use crate::domain::mixed_radix::size::odd_base;

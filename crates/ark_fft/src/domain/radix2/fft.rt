@@ -7,13 +7,13 @@ ghost use Rattle.ark_math.specs.Domain.{radix2};
 ghost use Rattle.ark_fft.specs.Coset.{coset_domain};
 ghost use Rattle.ark_math.specs.Field.{FieldOn, power};
 ghost use Rattle.ark_math.specs.Transform.{transform, IsInverse};
-ghost use Rattle.ark_math.proofs.Transforms.Places.{dft_at};
-ghost use Rattle.ark_math.specs.BitReversal.{reversed};
+ghost use Rattle.ark_math_transforms.proofs.Transforms.Places.{dft_at};
+ghost use Rattle.ark_math_transforms.specs.BitReversal.{reversed};
 ghost use Rattle.ark_fft.specs.Columns.{IsColumn, AreColumns};
 ghost use Rattle.ark_fft.specs.Halves.{ArePowers, IsHalfTable, AreLevels, IsDealt};
 ghost use Rattle.ark_math.specs.Module.{ModuleOn, item};
 ghost use Rattle.ark_math.specs.Cost.{GrowsBy, butterfly_counts, forward, inverse};
-ghost use Rattle.ark_traits.specs.Cost.{GrowsByCost};
+ghost use Rattle.ark_fft.specs.Cost.{GrowsByCost};
 
 use crate::domain::coset::Coset;
 use crate::domain::scaling::{scale_by_powers, shift_to_coset};

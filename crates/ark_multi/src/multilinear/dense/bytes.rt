@@ -11,9 +11,9 @@ use std::alloc::Global;
 
 impl<F: Spelled> Spelled for DenseMultilinearExtension<F> {
     ghost use Rattle.std.specs.Prelude.{ℕ, List, map};
-    ghost use Rattle.ark_math.specs.Layouts.{dense_extension};
-    ghost use Rattle.ark_math.proofs.Formats.SeveralVariables.{dense_extension_is_format};
-    ghost use Rattle.ark_math.proofs.Formats.SeveralVariables.{dense_extension_shows};
+    ghost use Rattle.ark_multi.specs.Layouts.{dense_extension};
+    ghost use Rattle.ark_multi.specs.LayoutLaws.{dense_extension_is_format};
+    ghost use Rattle.ark_multi.specs.LayoutLaws.{dense_extension_shows};
 
     ghost format = { λ mode. dense_extension (F.format mode) (λ p. (p.evaluations.items, p.num_vars)) };
 
@@ -29,10 +29,10 @@ impl<F: Spelled> Spelled for DenseMultilinearExtension<F> {
 }
 
 impl<F: CanonicalSerialize> CanonicalSerialize for DenseMultilinearExtension<F> {
-    ghost use Rattle.ark_math.specs.Format.{◌⊗◌, list, word};
-    ghost use Rattle.ark_math.proofs.Formats.Ends.{list_is_format};
-    ghost use Rattle.ark_math.proofs.Formats.Modes.{keeps_by_fields, keeps_in_lists, keeps_in_pairs};
-    ghost use Rattle.ark_math.proofs.Formats.Modes.{keeps_itself};
+    ghost use Rattle.ark_math_formats.specs.Format.{◌⊗◌, list, word};
+    ghost use Rattle.ark_math_formats.proofs.Formats.Ends.{list_is_format};
+    ghost use Rattle.ark_math_formats.proofs.Formats.Modes.{keeps_by_fields, keeps_in_lists, keeps_in_pairs};
+    ghost use Rattle.ark_math_formats.proofs.Formats.Modes.{keeps_itself};
 
     fn serialize_with_mode<W: Sink>(
         &self,

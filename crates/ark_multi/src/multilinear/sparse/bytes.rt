@@ -1,7 +1,7 @@
 //! Multilinear extensions in bytes, by their entries: these, the number of variables, and an element zero.
 
 use crate::multilinear::SparseMultilinearExtension;
-use ark_lists::windows::are_entries;
+use ark_tables::windows::are_entries;
 use ark_traits::{
     CanonicalDeserialize, CanonicalSerialize, Compress, Field, SerializationError, Sink, Source,
     Spelled, Valid, list_size, read_list, write_list,
@@ -10,9 +10,9 @@ use std::alloc::Global;
 
 impl<F: Field> Spelled for SparseMultilinearExtension<F> {
     ghost use Rattle.std.specs.Prelude.{ℕ, List, map};
-    ghost use Rattle.ark_math.specs.Layouts.{sparse_extension};
-    ghost use Rattle.ark_math.proofs.Formats.SeveralVariables.{sparse_extension_is_format};
-    ghost use Rattle.ark_math.proofs.Formats.SeveralVariables.{sparse_extension_shows};
+    ghost use Rattle.ark_multi.specs.Layouts.{sparse_extension};
+    ghost use Rattle.ark_multi.specs.LayoutLaws.{sparse_extension_is_format};
+    ghost use Rattle.ark_multi.specs.LayoutLaws.{sparse_extension_shows};
 
     ghost format = { λ mode. sparse_extension (F.format mode)
         (λ p. (p.evaluations.items, (p.num_vars, p.zero))) };
@@ -29,8 +29,9 @@ impl<F: Field> Spelled for SparseMultilinearExtension<F> {
 }
 
 impl<F: Field> CanonicalSerialize for SparseMultilinearExtension<F> {
-    ghost use Rattle.ark_math.specs.Layouts.{sparse_extension};
-    ghost use Rattle.ark_math.proofs.Formats.Modes.{keeps_alike, sparse_extension_alike};
+    ghost use Rattle.ark_multi.specs.Layouts.{sparse_extension};
+    ghost use Rattle.ark_math_formats.proofs.Formats.Modes.{keeps_alike};
+    ghost use Rattle.ark_multi.specs.LayoutLaws.{sparse_extension_alike};
 
     fn serialize_with_mode<W: Sink>(
         &self,

@@ -2,7 +2,7 @@
 
 ghost use Rattle.std.specs.Prelude.{◌≡◌, ◌≢◌, ◌↔◌, All, AllPairs, IsTrue};
 ghost use Rattle.std.specs.declared.cmp.Ordering.TheVariants.{Less};
-ghost use Rattle.ark_math.specs.Term.{IsWithin};
+ghost use Rattle.ark_math_variables.specs.Term.{IsWithin};
 ghost use Rattle.ark_multi.specs.SortedTerms.{AreTerms};
 
 use crate::multivariate::{SparsePolynomial, Term};
@@ -14,9 +14,9 @@ use std::alloc::Global;
 
 impl<F: Field, T: Term> Spelled for SparsePolynomial<F, T> {
     ghost use Rattle.std.specs.Prelude.{ℕ, List, map};
-    ghost use Rattle.ark_math.specs.Layouts.{multivariate};
-    ghost use Rattle.ark_math.proofs.Formats.SeveralVariables.{multivariate_is_format};
-    ghost use Rattle.ark_math.proofs.Formats.SeveralVariables.{multivariate_shows};
+    ghost use Rattle.ark_multi.specs.Layouts.{multivariate};
+    ghost use Rattle.ark_multi.specs.LayoutLaws.{multivariate_is_format};
+    ghost use Rattle.ark_multi.specs.LayoutLaws.{multivariate_shows};
 
     ghost format = { λ mode. multivariate (F.format mode) (T.format mode)
         (λ p. (p.num_vars, p.terms.items)) };
@@ -34,8 +34,9 @@ impl<F: Field, T: Term> Spelled for SparsePolynomial<F, T> {
 }
 
 impl<F: Field, T: Term> CanonicalSerialize for SparsePolynomial<F, T> {
-    ghost use Rattle.ark_math.specs.Layouts.{multivariate};
-    ghost use Rattle.ark_math.proofs.Formats.Modes.{keeps_alike, multivariate_alike};
+    ghost use Rattle.ark_multi.specs.Layouts.{multivariate};
+    ghost use Rattle.ark_math_formats.proofs.Formats.Modes.{keeps_alike};
+    ghost use Rattle.ark_multi.specs.LayoutLaws.{multivariate_alike};
 
     fn serialize_with_mode<W: Sink>(
         &self,

@@ -1,7 +1,7 @@
 //! Terms in bytes: the list of their pairs of variable and power.
 
 use crate::multivariate::SparseTerm;
-use ark_lists::powers::is_term;
+use ark_tables::powers::is_term;
 use ark_traits::{
     CanonicalDeserialize, CanonicalSerialize, Compress, SerializationError, Sink, Source, Spelled,
     Valid, list_size, read_list, write_list,
@@ -10,8 +10,8 @@ use std::alloc::Global;
 
 impl Spelled for SparseTerm {
     ghost use Rattle.std.specs.Prelude.{ℕ, List};
-    ghost use Rattle.ark_math.specs.Layouts.{term};
-    ghost use Rattle.ark_math.proofs.Formats.SeveralVariables.{term_is_format, term_tells};
+    ghost use Rattle.ark_multi.specs.Layouts.{term};
+    ghost use Rattle.ark_multi.specs.LayoutLaws.{term_is_format, term_tells};
 
     ghost format = { λ _. term };
 
@@ -25,8 +25,8 @@ impl Spelled for SparseTerm {
 }
 
 impl CanonicalSerialize for SparseTerm {
-    ghost use Rattle.ark_math.specs.Layouts.{term};
-    ghost use Rattle.ark_math.proofs.Formats.Modes.{keeps_itself};
+    ghost use Rattle.ark_multi.specs.Layouts.{term};
+    ghost use Rattle.ark_math_formats.proofs.Formats.Modes.{keeps_itself};
 
     fn serialize_with_mode<W: Sink>(
         &self,

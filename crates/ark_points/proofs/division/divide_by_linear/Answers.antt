@@ -1,11 +1,11 @@
 use Rattle.std.proofs.Common.{◌≡◌, ◌+◌, length, sym, ap, subst, ◌∙◌, arith, ℕ}
-use Rattle.ark_math.specs.Linear.{constant}
+use Rattle.ark_math_polynomials.specs.Linear.{constant}
 use Rattle.ark_math.specs.Univariate.{IsValue, of_list}
-use Rattle.ark_math.proofs.Callers.Remainders.{one_quotient_at}
+use Rattle.ark_math_polynomials.proofs.Callers.Remainders.{one_quotient_at}
 use Rattle.ark_math.proofs.Lists.Lists.{written_back}
-use Rattle.ark_math.proofs.Polynomials.UnivariateLists.{of_list-below}
-use Rattle.ark_math.proofs.Polynomials.UnivariateValues.{value_from, value-of_list}
-use Rattle.ark_math.proofs.Polynomials.LinearQuotients.{divided, divided_quotient}
+use Rattle.ark_math_polynomials.proofs.Polynomials.UnivariateLists.{of_list-below}
+use Rattle.ark_math_polynomials.proofs.Polynomials.UnivariateValues.{value_from, value-of_list}
+use Rattle.ark_math_polynomials.proofs.Polynomials.LinearQuotients.{divided, divided_quotient}
 use Rattle.ark_points.proofs.division.divide_by_linear.Goals as goal
 
 pub returns-clause-value : goal.returns-clause-value

@@ -3,9 +3,9 @@ use Rattle.std.proofs.Common.{get_or-set_same, get_or-set_other}
 use Rattle.std.proofs.lemmas.Bool.{cases_eq}
 use Rattle.std.proofs.lemmas.List.{get_or_read, length-set}
 use Rattle.ark_math.specs.Univariate.{of_list}
-use Rattle.ark_math.proofs.Polynomials.UnivariateLists.{of_list-past}
-use Rattle.ark_math.proofs.Polynomials.UnivariateValues.{value_from, value_from-one}
-use Rattle.ark_math.proofs.Polynomials.LinearQuotients.{value_from-past}
+use Rattle.ark_math_polynomials.proofs.Polynomials.UnivariateLists.{of_list-past}
+use Rattle.ark_math_polynomials.proofs.Polynomials.UnivariateValues.{value_from, value_from-one}
+use Rattle.ark_math_polynomials.proofs.Polynomials.LinearQuotients.{value_from-past}
 use Rattle.ark_points.proofs.division.divide_in_place.Goals as goal
 
 pub loop-i-init : goal.loop-i-init

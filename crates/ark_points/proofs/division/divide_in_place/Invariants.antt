@@ -1,5 +1,5 @@
 use Rattle.std.proofs.Common.{◌≡◌, ◌+◌, ◌<◌, ◌≤◌, ℕ, length}
-use Rattle.ark_math.proofs.Polynomials.UnivariateValues.{value_from}
+use Rattle.ark_math_polynomials.proofs.Polynomials.UnivariateValues.{value_from}
 use Rattle.ark_math.specs.Univariate.{of_list}
 use Rattle.ark_points.proofs.division.divide_in_place.Given as goal
 

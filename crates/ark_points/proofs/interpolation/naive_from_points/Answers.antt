@@ -1,9 +1,9 @@
 use Rattle.std.proofs.Common.{◌≡◌, length, map, sym, ap, subst₂, ◌∙◌, true≢false}
 use Rattle.std.proofs.lemmas.List.{length-map}
 use Rattle.ark_math.specs.Univariate.{of_list}
-use Rattle.ark_math.specs.AtPoints.{AreDifferent, HasRepeated, x_of, y_of}
-use Rattle.ark_math.proofs.AtPoints.Newton.{only_interpolation}
-use Rattle.ark_math.proofs.AtPoints.PairParts.{x_of_is}
+use Rattle.ark_math_points.specs.AtPoints.{AreDifferent, HasRepeated, x_of, y_of}
+use Rattle.ark_math_points.proofs.AtPoints.Newton.{only_interpolation}
+use Rattle.ark_math_points.proofs.AtPoints.PairParts.{x_of_is}
 use Rattle.ark_points.proofs.interpolation.naive_from_points.Goals as goal
 
 pub through_different-requires : goal.through_different-requires

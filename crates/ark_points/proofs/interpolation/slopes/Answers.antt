@@ -1,8 +1,8 @@
 use Rattle.std.proofs.Common.{◌≡◌, length, ap, subst, ◌∙◌}
 use Rattle.std.proofs.lemmas.Result.{IfOk-weaker}
 use Rattle.ark_math.specs.Univariate.{of_list}
-use Rattle.ark_math.specs.AtPoints.{HasValues}
-use Rattle.ark_math.specs.Nodes.{nodes}
+use Rattle.ark_math_points.specs.AtPoints.{HasValues}
+use Rattle.ark_math_polynomials.specs.Nodes.{nodes}
 use Rattle.ark_subproducts.specs.Tree.{derived}
 use Rattle.ark_points.proofs.interpolation.slopes.Goals as goal
 

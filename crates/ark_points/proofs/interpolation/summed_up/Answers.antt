@@ -1,10 +1,10 @@
 use Rattle.std.proofs.Common.{◌≡◌, length, sym, ap, subst, subst₂, ◌∙◌, arith}
 use Rattle.std.proofs.lemmas.List.{length-map}
 use Rattle.ark_math.specs.Univariate.{IsBelow, of_list}
-use Rattle.ark_math.specs.AtPoints.{AreDifferent, HasValues, x_of, y_of}
+use Rattle.ark_math_points.specs.AtPoints.{AreDifferent, HasValues, x_of, y_of}
 use Rattle.ark_subproducts.specs.Tree.{weighed}
-use Rattle.ark_math.proofs.AtPoints.Newton.{only_interpolation}
-use Rattle.ark_math.proofs.AtPoints.PairParts.{x_of_is}
+use Rattle.ark_math_points.proofs.AtPoints.Newton.{only_interpolation}
+use Rattle.ark_math_points.proofs.AtPoints.PairParts.{x_of_is}
 use Rattle.ark_subproducts.proofs.Callers.Values.{slopes_differ, weighed_values}
 use Rattle.ark_points.proofs.interpolation.summed_up.Goals as goal
 

@@ -3,8 +3,8 @@ use Rattle.std.proofs.lemmas.Bool.{true_from_ne_false}
 use Rattle.std.proofs.lemmas.List.{get_or_read}
 use Rattle.ark_math.specs.Field.{minus}
 use Rattle.ark_math.specs.Univariate.{of_list, product, IsValue}
-use Rattle.ark_math.specs.AtPoints.{x_of, y_of}
-use Rattle.ark_math.proofs.AtPoints.Newton.{reached-zero, reached-some, reached-suc}
+use Rattle.ark_math_points.specs.AtPoints.{x_of, y_of}
+use Rattle.ark_math_points.proofs.AtPoints.Newton.{reached-zero, reached-some, reached-suc}
 use Rattle.ark_points.proofs.interpolation.through_different.Goals as goal
 
 pub loop-i-init : goal.loop-i-init

@@ -1,6 +1,6 @@
 use Rattle.ark_math.specs.Univariate.{of_list}
-use Rattle.ark_math.specs.AtPoints.{x_of, y_of}
-use Rattle.ark_math.proofs.AtPoints.Newton.{Reached}
+use Rattle.ark_math_points.specs.AtPoints.{x_of, y_of}
+use Rattle.ark_math_points.proofs.AtPoints.Newton.{Reached}
 use Rattle.ark_points.proofs.interpolation.through_different.Given as goal
 
 abbrev pub invariant-loop-i : goal.invariant-loop-i

@@ -1,7 +1,7 @@
 use Rattle.std.proofs.Common.{Err, length, sym, ap, subst, ◌∙◌}
 use Rattle.std.proofs.lemmas.Result.{err_from_is_err_and}
 use Rattle.ark_math.specs.Univariate.{of_list}
-use Rattle.ark_math.specs.AtPoints.{HasRepeated, IsThrough, x_of}
+use Rattle.ark_math_points.specs.AtPoints.{HasRepeated, IsThrough, x_of}
 use Rattle.ark_points.proofs.AtMultiples.{repeated_moved, through_moved}
 use Rattle.ark_points.proofs.interpolation.through_many.Goals as goal
 

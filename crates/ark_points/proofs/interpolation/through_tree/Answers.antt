@@ -1,7 +1,7 @@
 use Rattle.std.proofs.Common.{length, sym, subst}
 use Rattle.ark_math.specs.Univariate.{of_list}
-use Rattle.ark_math.specs.AtPoints.{HasValues}
-use Rattle.ark_math.specs.Nodes.{nodes}
+use Rattle.ark_math_points.specs.AtPoints.{HasValues}
+use Rattle.ark_math_polynomials.specs.Nodes.{nodes}
 use Rattle.ark_subproducts.specs.Tree.{derived}
 use Rattle.ark_points.proofs.interpolation.through_tree.Goals as goal
 

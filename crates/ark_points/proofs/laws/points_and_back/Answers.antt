@@ -1,9 +1,9 @@
 use Rattle.std.proofs.Common.{◌≡◌, length, map, sym, ap, subst, ◌∙◌, arith}
 use Rattle.std.proofs.lemmas.List.{length-map}
 use Rattle.ark_math.specs.Univariate.{of_list, IsValue}
-use Rattle.ark_math.proofs.Polynomials.UnivariateValues.{one_value}
-use Rattle.ark_math.specs.AtPoints.{x_of, y_of}
-use Rattle.ark_math.proofs.AtPoints.PairParts.{same_items, x_of_is, y_of_is}
+use Rattle.ark_math_polynomials.proofs.Polynomials.UnivariateValues.{one_value}
+use Rattle.ark_math_points.specs.AtPoints.{x_of, y_of}
+use Rattle.ark_math_points.proofs.AtPoints.PairParts.{same_items, x_of_is, y_of_is}
 use Rattle.ark_points.proofs.laws.points_and_back.Goals as goal
 
 pub returns-clause-same : goal.returns-clause-same

@@ -2,10 +2,10 @@ use Rattle.std.proofs.Common.{◌≡◌, length, sym, ap, subst₂, ◌∙◌, a
 use Rattle.std.proofs.lemmas.List.{length-map}
 use Rattle.std.proofs.lemmas.Result.{IfOk-weaker}
 use Rattle.ark_math.specs.Univariate.{of_list, IsValue}
-use Rattle.ark_math.proofs.Polynomials.Univariate.{IsBelow-more}
-use Rattle.ark_math.proofs.Polynomials.UnivariateLists.{of_list-below}
-use Rattle.ark_math.specs.AtPoints.{HasRepeated, x_of, y_of}
-use Rattle.ark_math.proofs.AtPoints.PairParts.{x_of_is, y_of_is}
+use Rattle.ark_math_polynomials.proofs.Polynomials.Univariate.{IsBelow-more}
+use Rattle.ark_math_polynomials.proofs.Polynomials.UnivariateLists.{of_list-below}
+use Rattle.ark_math_points.specs.AtPoints.{HasRepeated, x_of, y_of}
+use Rattle.ark_math_points.proofs.AtPoints.PairParts.{x_of_is, y_of_is}
 use Rattle.ark_points.proofs.laws.values_and_back.Goals as goal
 
 pub returns-clause-same : goal.returns-clause-same

@@ -1,7 +1,7 @@
 use Rattle.std.proofs.Common.{◌≡◌, ℕ, length}
-use Rattle.ark_math.specs.Points.{AreValues}
+use Rattle.ark_math_domains.specs.Points.{AreValues}
 use Rattle.ark_math.specs.Univariate.{IsValue, of_list}
-use Rattle.ark_math.specs.AtPoints.{HasValues}
+use Rattle.ark_math_points.specs.AtPoints.{HasValues}
 use Rattle.ark_points.proofs.lookup.looked_up.Given as goal
 
 abbrev pub invariant-loop-i : goal.invariant-loop-i

@@ -1,5 +1,5 @@
 use Rattle.std.proofs.Common.{◌≡◌, ◌<◌, ◌≤◌, ℕ, length}
-use Rattle.ark_math.specs.AtPoints.{x_of, y_of}
+use Rattle.ark_math_points.specs.AtPoints.{x_of, y_of}
 use Rattle.ark_points.proofs.moved.scale_each_x.Given as goal
 
 abbrev pub invariant-loop-i : goal.invariant-loop-i

@@ -5,7 +5,7 @@ use Rattle.ark_math.specs.Field.{power}
 use Rattle.ark_math.specs.Univariate.{of_list}
 use Rattle.ark_math.proofs.Algebra.Powers.{times_zero}
 use Rattle.ark_math.proofs.Lists.Lists.{written_back}
-use Rattle.ark_math.proofs.Polynomials.UnivariateLists.{of_list-past}
+use Rattle.ark_math_polynomials.proofs.Polynomials.UnivariateLists.{of_list-past}
 use Rattle.ark_points.proofs.moved.with_powers.Goals as goal
 
 pub returns : goal.returns

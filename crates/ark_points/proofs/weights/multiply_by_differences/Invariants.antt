@@ -1,6 +1,6 @@
 use Rattle.std.proofs.Common.{◌≡◌, ◌<◌, ◌≤◌, ℕ, length}
 use Rattle.ark_math.specs.Univariate.{of_list}
-use Rattle.ark_math.specs.AtPoints.{differences}
+use Rattle.ark_math_points.specs.AtPoints.{differences}
 use Rattle.ark_points.proofs.weights.multiply_by_differences.Given as goal
 
 abbrev pub invariant-loop-i : goal.invariant-loop-i

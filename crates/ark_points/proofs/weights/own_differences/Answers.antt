@@ -1,7 +1,7 @@
 use Rattle.std.proofs.Common.{◌≡◌, ◌+◌, [], ◌∷◌, length, ap, ◌∙◌, arith, below_more}
 use Rattle.std.proofs.lemmas.List.{get_or_read, get_or_push, get_or_append_left, length-append}
 use Rattle.ark_math.specs.Univariate.{of_list}
-use Rattle.ark_math.specs.AtPoints.{differences}
+use Rattle.ark_math_points.specs.AtPoints.{differences}
 use Rattle.ark_points.proofs.weights.own_differences.Goals as goal
 
 pub loop-i-preserved : goal.loop-i-preserved

@@ -2,7 +2,7 @@ use Rattle.std.proofs.Common.{◌≡◌, sym, ap, ap₂, ◌∙◌}
 use Rattle.std.proofs.lemmas.List.{get_or_read}
 use Rattle.ark_math.specs.Field.{minus}
 use Rattle.ark_math.specs.Univariate.{of_list}
-use Rattle.ark_math.proofs.AtPoints.Basis.{differences-same, differences-other}
+use Rattle.ark_math_points.proofs.AtPoints.Basis.{differences-same, differences-other}
 use Rattle.ark_points.proofs.weights.product_without.Goals as goal
 use Rattle.ark_points.proofs.weights.product_without.Goals.{then-j-place, else-j-place}
 

@@ -1,6 +1,6 @@
 use Rattle.std.proofs.Common.{◌≡◌}
 use Rattle.ark_math.specs.Univariate.{of_list}
-use Rattle.ark_math.specs.AtPoints.{differences}
+use Rattle.ark_math_points.specs.AtPoints.{differences}
 use Rattle.ark_points.proofs.weights.product_without.Given as goal
 
 abbrev pub invariant-loop-j : goal.invariant-loop-j

@@ -1,10 +1,9 @@
 use Rattle.std.proofs.Common.{◌≡◌, ◌<◌, ℕ, length, sym, ap, subst, ◌∙◌, arith, true≢false}
 use Rattle.ark_math.specs.Univariate.{of_list}
 use Rattle.ark_math.proofs.Lists.Lists.{written_back}
-use Rattle.ark_math.specs.AtPoints.{AreDifferent, AreWeightsAt}
-use Rattle.ark_math.specs.AtPoints.{differences}
-use Rattle.ark_math.proofs.AtPoints.Basis.{differences-some}
-use Rattle.ark_math.proofs.AtPoints.Lagrange.{one_list_of_weights, weights_are}
+use Rattle.ark_math_points.specs.AtPoints.{AreDifferent, AreWeightsAt, differences}
+use Rattle.ark_math_points.proofs.AtPoints.Basis.{differences-some}
+use Rattle.ark_math_points.proofs.AtPoints.Lagrange.{one_list_of_weights, weights_are}
 use Rattle.ark_points.proofs.weights.weights_at.Goals as goal
 
 pub returns-then-has_repeated-clause-repeated : goal.returns-then-has_repeated-clause-repeated

@@ -2,7 +2,7 @@ use Rattle.std.proofs.Common.{◌≡◌, ℕ, ◌+◌, ◌<◌, List, length, se
 use Rattle.std.proofs.lemmas.List.{get_or_read, take_all}
 use Rattle.ark_math.specs.Field.{FieldOn, IsField}
 use Rattle.ark_math.specs.Univariate.{added, of_list, of_pairs}
-use Rattle.ark_math.proofs.Polynomials.Conversions.{pair_added, pair_subtracted}
+use Rattle.ark_quotients.proofs.ConvertedLists.{pair_added, pair_subtracted}
 use Rattle.ark_quotients.specs.declared.conversions.Sign.{Sign}
 use Rattle.ark_quotients.specs.declared.conversions.Sign.TheVariants.{Plus, Minus}
 use Rattle.ark_quotients.specs.Signs.{all_signed, signed}

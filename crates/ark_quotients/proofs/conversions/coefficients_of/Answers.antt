@@ -3,8 +3,8 @@ use Rattle.std.proofs.lemmas.List.{length-replicate}
 use Rattle.ark_math.specs.Univariate.{added, of_list, of_pairs}
 use Rattle.ark_math.proofs.Algebra.Groups.{zero_plus}
 use Rattle.ark_math.proofs.Lists.Lists.{written_back}
-use Rattle.ark_math.proofs.Polynomials.Univariate.{coefficients_are_module}
-use Rattle.ark_math.proofs.Polynomials.UnivariateLists.{of_list-replicate}
+use Rattle.ark_math_polynomials.proofs.Polynomials.Univariate.{coefficients_are_module}
+use Rattle.ark_math_polynomials.proofs.Polynomials.UnivariateLists.{of_list-replicate}
 use Rattle.ark_quotients.proofs.conversions.coefficients_of.Goals as goal
 
 pub returns-clause-same : goal.returns-clause-same

@@ -4,9 +4,9 @@ use Rattle.std.specs.Option.{SomeIff}
 use Rattle.std.proofs.lemmas.Bool.{eqb-false}
 use Rattle.std.proofs.lemmas.Option.{slice_get-get_or}
 use Rattle.ark_math.specs.Univariate.{of_pairs, IsDegree}
-use Rattle.ark_math.proofs.Polynomials.Univariate.{one_degree}
-use Rattle.ark_math.proofs.Polynomials.UnivariatePairs.{sparse_last}
-use Rattle.ark_math.proofs.Polynomials.Conversions.{below_last, last_not_zero}
+use Rattle.ark_math_polynomials.proofs.Polynomials.Univariate.{one_degree}
+use Rattle.ark_math_polynomials.proofs.Polynomials.UnivariatePairs.{sparse_last}
+use Rattle.ark_quotients.proofs.ConvertedLists.{below_last, last_not_zero}
 use Rattle.ark_quotients.proofs.conversions.len_for.Given as given
 use Rattle.ark_quotients.proofs.conversions.len_for.Goals as goal
 

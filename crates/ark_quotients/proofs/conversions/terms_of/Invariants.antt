@@ -1,7 +1,7 @@
 use Rattle.std.proofs.Common.{◌≡◌, ◌<◌}
 use Rattle.std.specs.List.{All}
 use Rattle.ark_math.specs.Univariate.{IsSparse, of_list, of_pairs}
-use Rattle.ark_math.proofs.Polynomials.UnivariateLoops.{cut}
+use Rattle.ark_math_polynomials.proofs.Polynomials.UnivariateLoops.{cut}
 use Rattle.ark_quotients.proofs.conversions.terms_of.Given as goal
 
 abbrev pub invariant-loop-i : goal.invariant-loop-i

@@ -1,7 +1,7 @@
 use Rattle.std.specs.Prelude.{is_ok}
 use Rattle.std.proofs.Common.{subst, ap, true≢false}
 use Rattle.ark_math.specs.Univariate.{of_list, IsDivision}
-use Rattle.ark_math.proofs.Polynomials.Quotients.{division_of}
+use Rattle.ark_math_polynomials.proofs.Polynomials.Quotients.{division_of}
 use Rattle.ark_quotients.specs.Divisors.{denoted}
 use Rattle.ark_quotients.proofs.division.divided.Goals as goal
 

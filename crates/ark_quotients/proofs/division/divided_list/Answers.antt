@@ -2,7 +2,7 @@ use Rattle.std.proofs.Common.{◌≡◌, ◌+◌, ◌-◌, length, ap, subst, ar
 use Rattle.std.proofs.lemmas.List.{get_or-take, length-take}
 use Rattle.ark_math.specs.Univariate.{of_list, IsBelow, IsQuotient}
 use Rattle.ark_math.proofs.Outcomes.Results.{IfOk_more}
-use Rattle.ark_math.proofs.Polynomials.UnivariateLists.{of_list-below}
+use Rattle.ark_math_polynomials.proofs.Polynomials.UnivariateLists.{of_list-below}
 use Rattle.ark_quotients.proofs.division.divided_list.Goals as goal
 
 pub returns : goal.returns

@@ -2,9 +2,9 @@ use Rattle.std.proofs.Common.{◌≡◌, ◌<◌, ◌+◌, length, sym, ap, ap�
 use Rattle.std.proofs.lemmas.List.{get_or_read}
 use Rattle.ark_math.specs.Field.{minus}
 use Rattle.ark_math.specs.Univariate.{of_list, difference, monomial, product}
-use Rattle.ark_math.proofs.Polynomials.LongDivision.{subtracted-none, subtracted-as_sum, subtracted-more}
-use Rattle.ark_math.proofs.Polynomials.UnivariateLists.{of_list-past}
-use Rattle.ark_math.proofs.Polynomials.UnivariateLoops.{cut, cut-none, cut-more, cut-all}
+use Rattle.ark_quotients.proofs.LongDivision.{subtracted-none, subtracted-as_sum, subtracted-more}
+use Rattle.ark_math_polynomials.proofs.Polynomials.UnivariateLists.{of_list-past}
+use Rattle.ark_math_polynomials.proofs.Polynomials.UnivariateLoops.{cut, cut-none, cut-more, cut-all}
 use Rattle.ark_quotients.proofs.division.subtract_list.Goals as goal
 
 pub loop-i-init : goal.loop-i-init

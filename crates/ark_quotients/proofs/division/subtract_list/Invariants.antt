@@ -1,6 +1,6 @@
 use Rattle.std.proofs.Common.{◌≡◌}
 use Rattle.ark_math.specs.Univariate.{of_list, difference, monomial, product}
-use Rattle.ark_math.proofs.Polynomials.UnivariateLoops.{cut}
+use Rattle.ark_math_polynomials.proofs.Polynomials.UnivariateLoops.{cut}
 use Rattle.ark_quotients.proofs.division.subtract_list.Given as goal
 
 abbrev pub invariant-loop-i : goal.invariant-loop-i

@@ -2,8 +2,8 @@ use Rattle.std.proofs.Common.{◌≡◌, ◌<◌, ◌+◌, length, take, sym, su
 use Rattle.std.proofs.lemmas.List.{get_or_read, take_all}
 use Rattle.ark_math.specs.Field.{minus}
 use Rattle.ark_math.specs.Univariate.{of_list, of_pairs, difference, monomial, product}
-use Rattle.ark_math.proofs.Polynomials.LongDivision.{subtracted-none, subtracted-as_sum, subtracted-more}
-use Rattle.ark_math.proofs.Polynomials.UnivariatePairs.{of_pairs-push, take_next}
+use Rattle.ark_quotients.proofs.LongDivision.{subtracted-none, subtracted-as_sum, subtracted-more}
+use Rattle.ark_math_polynomials.proofs.Polynomials.UnivariatePairs.{of_pairs-push, take_next}
 use Rattle.ark_quotients.proofs.division.subtract_terms.Goals as goal
 
 pub loop-i-init : goal.loop-i-init

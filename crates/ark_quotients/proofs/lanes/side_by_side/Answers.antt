@@ -5,7 +5,7 @@ use Rattle.ark_math.specs.Module.{tabulate}
 use Rattle.ark_math.specs.Univariate.{of_list}
 use Rattle.ark_math.proofs.Lists.Lists.{read_fitted}
 use Rattle.ark_math.proofs.Lists.Tabulated.{tabulate-push, get_or-tabulate, length-tabulate, is_tabulated}
-use Rattle.ark_math.proofs.Polynomials.UnivariateLists.{of_list-past}
+use Rattle.ark_math_polynomials.proofs.Polynomials.UnivariateLists.{of_list-past}
 use Rattle.ark_quotients.proofs.lanes.side_by_side.Goals as goal
 
 pub loop-i-init : goal.loop-i-init

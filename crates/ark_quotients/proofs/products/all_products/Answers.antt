@@ -1,6 +1,6 @@
 use Rattle.std.proofs.Common.{ap, ◌∙◌, arith}
 use Rattle.ark_math.specs.Univariate.{of_pairs, added, product, monomial}
-use Rattle.ark_math.proofs.Polynomials.PairProducts.{product_rows_none, product_rows_more, product_rows_all}
+use Rattle.ark_math_polynomials.proofs.Polynomials.PairProducts.{product_rows_none, product_rows_more, product_rows_all}
 use Rattle.ark_quotients.proofs.products.all_products.Goals as goal
 
 pub loop-i-init : goal.loop-i-init

@@ -1,6 +1,6 @@
 use Rattle.std.proofs.Common.{sym, ap, ◌∙◌}
 use Rattle.std.specs.Option.{option_copied}
-use Rattle.ark_math.proofs.Polynomials.UnivariatePairs.{sparse_last}
+use Rattle.ark_math_polynomials.proofs.Polynomials.UnivariatePairs.{sparse_last}
 use Rattle.ark_quotients.proofs.products.degree_of_terms.Goals as goal
 
 pub returns-in-Some : goal.returns-in-Some

@@ -2,7 +2,7 @@ use Rattle.std.proofs.Common.{arith}
 use Rattle.ark_traits.specs.declared.error.PolyError.TheVariants.{Memory, Overflow}
 use Rattle.ark_math.specs.Univariate.{of_pairs}
 use Rattle.ark_math.proofs.Outcomes.Results.{no_other_error}
-use Rattle.ark_math.proofs.Polynomials.PairProducts.{exponents_room, no_degrees_past}
+use Rattle.ark_math_polynomials.proofs.Polynomials.PairProducts.{exponents_room, no_degrees_past}
 use Rattle.ark_quotients.proofs.products.product_of_terms.Goals as goal
 
 pub all_products-requires : goal.all_products-requires

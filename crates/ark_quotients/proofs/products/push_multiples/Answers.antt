@@ -1,6 +1,6 @@
 use Rattle.std.proofs.Common.{◌+◌, refl, ap, ◌∙◌, arith}
 use Rattle.ark_math.specs.Univariate.{of_pairs, monomial}
-use Rattle.ark_math.proofs.Polynomials.PairProducts.{multiples_none, multiples_more, multiples_all}
+use Rattle.ark_math_polynomials.proofs.Polynomials.PairProducts.{multiples_none, multiples_more, multiples_all}
 use Rattle.ark_quotients.proofs.products.push_multiples.Goals as goal
 
 pub loop-i-init : goal.loop-i-init

@@ -2,7 +2,7 @@ use Rattle.std.proofs.Common.{◌≡◌, ◌<◌, ◌/◌, ◌%◌, length, ap, 
 use Rattle.std.proofs.lemmas.List.{get_or_read}
 use Rattle.ark_math.specs.Field.{power}
 use Rattle.ark_math.specs.Univariate.{of_list}
-use Rattle.ark_math.proofs.Polynomials.PairProducts.{reduced_zeros, reduced_more, reduced_all}
+use Rattle.ark_math_polynomials.proofs.Polynomials.PairProducts.{reduced_zeros, reduced_more, reduced_all}
 use Rattle.ark_quotients.proofs.products.reduced_terms.Goals as goal
 
 pub loop-i-init : goal.loop-i-init

@@ -1,6 +1,6 @@
 use Rattle.std.proofs.Common.{◌≡◌, length, take}
 use Rattle.ark_math.specs.Univariate.{of_list, of_pairs}
-use Rattle.ark_math.proofs.Polynomials.PairProducts.{IsReduced}
+use Rattle.ark_math_polynomials.proofs.Polynomials.PairProducts.{IsReduced}
 use Rattle.ark_quotients.proofs.products.reduced_terms.Given as goal
 
 abbrev pub invariant-loop-i : goal.invariant-loop-i

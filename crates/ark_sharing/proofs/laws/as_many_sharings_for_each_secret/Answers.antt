@@ -1,5 +1,5 @@
 use Rattle.std.proofs.Common.{◌+◌, length, arith}
-use Rattle.ark_math.specs.AtPoints.{x_of, y_of}
+use Rattle.ark_math_points.specs.AtPoints.{x_of, y_of}
 use Rattle.ark_sharing.proofs.Secrets.{sharing_more, some_sharing}
 use Rattle.ark_sharing.proofs.Sums.{as_many}
 use Rattle.ark_sharing.proofs.laws.as_many_sharings_for_each_secret.Goals as goal

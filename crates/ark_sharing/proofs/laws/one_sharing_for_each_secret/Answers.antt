@@ -1,5 +1,5 @@
 use Rattle.std.proofs.Common.{length}
-use Rattle.ark_math.specs.AtPoints.{x_of, y_of}
+use Rattle.ark_math_points.specs.AtPoints.{x_of, y_of}
 use Rattle.ark_sharing.proofs.Secrets.{only_sharing, some_sharing}
 use Rattle.ark_sharing.proofs.laws.one_sharing_for_each_secret.Goals as goal
 

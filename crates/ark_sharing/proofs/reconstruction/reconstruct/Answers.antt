@@ -1,8 +1,8 @@
 use Rattle.std.proofs.Common.{◌≡◌, Err, length, map, sym, ap, subst₂, ◌∙◌}
 use Rattle.std.proofs.lemmas.List.{length-map}
 use Rattle.ark_math.specs.Univariate.{of_list}
-use Rattle.ark_math.specs.AtPoints.{AreDifferent, AreWeightsAt, HasRepeated, x_of, y_of}
-use Rattle.ark_math.proofs.AtPoints.PairParts.{x_of_is}
+use Rattle.ark_math_points.specs.AtPoints.{AreDifferent, AreWeightsAt, HasRepeated, x_of, y_of}
+use Rattle.ark_math_points.proofs.AtPoints.PairParts.{x_of_is}
 use Rattle.ark_sharing.proofs.Secrets.{secret_is}
 use Rattle.ark_sharing.proofs.reconstruction.reconstruct.Goals as goal
 

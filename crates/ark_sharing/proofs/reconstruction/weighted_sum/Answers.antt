@@ -2,7 +2,7 @@ use Rattle.std.proofs.Common.{◌≡◌, get_or, sym, ap, ap₂, ◌∙◌, arit
 use Rattle.std.proofs.lemmas.List.{get_or_read}
 use Rattle.ark_math.specs.Module.{itself, sum_below}
 use Rattle.ark_math.specs.Univariate.{of_list}
-use Rattle.ark_math.specs.AtPoints.{y_of}
+use Rattle.ark_math_points.specs.AtPoints.{y_of}
 use Rattle.ark_sharing.proofs.reconstruction.weighted_sum.Goals as goal
 
 pub loop-i-preserved : goal.loop-i-preserved

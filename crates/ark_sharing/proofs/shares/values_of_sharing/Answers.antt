@@ -1,8 +1,8 @@
 use Rattle.std.proofs.Common.{◌≡◌, ◌∷◌, [], ◌++◌, length, sym, ap, subst, ◌∙◌, arith}
 use Rattle.std.proofs.lemmas.List.{length-map}
 use Rattle.ark_math.specs.Univariate.{of_list, IsValue}
-use Rattle.ark_math.specs.AtPoints.{x_of, y_of}
-use Rattle.ark_math.proofs.AtPoints.PairParts.{x_of_is, y_of_is}
+use Rattle.ark_math_points.specs.AtPoints.{x_of, y_of}
+use Rattle.ark_math_points.proofs.AtPoints.PairParts.{x_of_is, y_of_is}
 use Rattle.ark_sharing.proofs.shares.values_of_sharing.Goals as goal
 
 pub returns-clause-values : goal.returns-clause-values

@@ -1,9 +1,9 @@
 use Rattle.std.proofs.Common.{◌≡◌, ◌/◌, length, take, drop, sym, ap, ap₂, subst, subst₂, ◌∙◌, arith, IfSome}
 use Rattle.std.proofs.lemmas.List.{length-drop, length-take-le}
-use Rattle.ark_blocks.specs.Blocks.{AreFirstValues, IsPowerOfTwo}
-use Rattle.ark_blocks.proofs.Callers.PowersOfTwo.{two_halves}
+use Rattle.ark_bit_reversed.specs.Blocks.{AreFirstValues, IsPowerOfTwo}
+use Rattle.ark_bit_reversed.proofs.Callers.PowersOfTwo.{two_halves}
 use Rattle.ark_math.specs.Univariate.{of_list, product}
-use Rattle.ark_math.specs.Nodes.{nodes}
+use Rattle.ark_math_polynomials.specs.Nodes.{nodes}
 use Rattle.ark_subproducts.specs.Tree.{AreValuesOver, IsBlockTreeOver, IsProductOver, IsTreeOfPart}
 use Rattle.ark_subproducts.proofs.Nodes.{nodes-halves}
 use Rattle.ark_subproducts.proofs.TableQuotients.{values_of_whole}

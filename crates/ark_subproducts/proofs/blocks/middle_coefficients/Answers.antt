@@ -1,15 +1,15 @@
 use Rattle.std.proofs.Common.{◌≡◌, ℕ, ◌+◌, ◌-◌, length, take, drop, sym, ap, subst, ◌∙◌, arith}
 use Rattle.std.proofs.lemmas.List.{get_or-drop, get_or-take, length-drop, length-take-le}
 use Rattle.std.proofs.lemmas.Result.{IfOk-weaker}
-use Rattle.ark_blocks.specs.Blocks.{AreValuesFrom, IsPowerOfTwo, element_of}
-use Rattle.ark_blocks.proofs.Callers.Runs.{values-product}
+use Rattle.ark_bit_reversed.specs.Blocks.{AreValuesFrom, IsPowerOfTwo, element_of}
+use Rattle.ark_bit_reversed.proofs.Callers.Runs.{values-product}
 use Rattle.ark_math.specs.Univariate.{IsBelow, of_list, product}
 use Rattle.ark_math.proofs.Lists.Lists.{written_back}
-use Rattle.ark_math.proofs.Polynomials.Univariate.{same_below}
-use Rattle.ark_math.proofs.Polynomials.UnivariateLists.{of_list-past}
+use Rattle.ark_math_polynomials.proofs.Polynomials.Univariate.{same_below}
+use Rattle.ark_math_polynomials.proofs.Polynomials.UnivariateLists.{of_list-past}
 use Rattle.ark_subproducts.specs.Tree.{Represents}
 use Rattle.ark_subproducts.proofs.BlockWraps.{wrapped_past}
-use Rattle.ark_blocks.proofs.Callers.PowersOfTwo.{twice_is_power}
+use Rattle.ark_bit_reversed.proofs.Callers.PowersOfTwo.{twice_is_power}
 use Rattle.ark_subproducts.proofs.blocks.middle_coefficients.Goals as goal
 
 pub interpolate-requires-clause-power : goal.interpolate-requires-clause-power

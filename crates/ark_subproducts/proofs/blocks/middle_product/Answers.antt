@@ -1,7 +1,7 @@
 use Rattle.std.proofs.Common.{◌≡◌, ℕ, ◌+◌, ◌-◌, ◌<◌, length, refl, sym, ap, ap₂, subst, ◌∙◌, arith}
-use Rattle.ark_blocks.specs.Blocks.{AreFirstValues}
+use Rattle.ark_bit_reversed.specs.Blocks.{AreFirstValues}
 use Rattle.ark_math.specs.Univariate.{IsBelow, added, product, scaled}
-use Rattle.ark_math.proofs.Polynomials.Univariate.{added-below}
+use Rattle.ark_math_polynomials.proofs.Polynomials.Univariate.{added-below}
 use Rattle.ark_subproducts.specs.Tree.{HasRoom, Represents}
 use Rattle.ark_subproducts.proofs.Multiples.{scaled_by_half}
 use Rattle.ark_subproducts.proofs.Nodes.{own_end}

@@ -1,5 +1,5 @@
 use Rattle.std.proofs.Common.{◌≡◌, ℕ, ◌<◌, List, length, sym, ap, ap₂, subst, subst₂, ◌∙◌, arith}
-use Rattle.ark_blocks.specs.Blocks.{AreFirstValues, element_of}
+use Rattle.ark_bit_reversed.specs.Blocks.{AreFirstValues, element_of}
 use Rattle.ark_math.specs.Univariate.{IsBelow, added, of_list, product}
 use Rattle.ark_math.proofs.Lists.Lists.{written_back}
 use Rattle.ark_subproducts.proofs.BlockWraps.{values_of_sums}

@@ -2,8 +2,8 @@ use Rattle.std.proofs.Common.{◌≡◌, ◌+◌, ◌≤◌, length, sym, ap, su
 use Rattle.std.proofs.lemmas.List.{length-replicate}
 use Rattle.ark_math.specs.Univariate.{IsBelow, of_list, product}
 use Rattle.ark_math.proofs.Lists.Lists.{written_back}
-use Rattle.ark_math.proofs.Polynomials.UnivariateLists.{of_list-past, trimmed_length}
-use Rattle.ark_math.specs.Nodes.{nodes}
+use Rattle.ark_math_polynomials.proofs.Polynomials.UnivariateLists.{of_list-past, trimmed_length}
+use Rattle.ark_math_polynomials.specs.Nodes.{nodes}
 use Rattle.ark_subproducts.proofs.Nodes.{nodes-below}
 use Rattle.ark_subproducts.proofs.PastProducts.{past_points}
 use Rattle.ark_subproducts.proofs.few.product_past.Goals as goal

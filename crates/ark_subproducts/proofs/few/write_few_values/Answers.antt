@@ -1,9 +1,9 @@
 use Rattle.std.proofs.Common.{◌≡◌, ◌+◌, ◌-◌, ◌/◌, ◌++◌, ℕ, length, take, drop, sym, ap, subst, ◌∙◌, arith}
 use Rattle.std.proofs.lemmas.List.{get_or-drop, get_or-take, length-drop, length-replicate, length-take-le, take-append-drop, take_all}
 use Rattle.ark_math.specs.Univariate.{of_list, product, scaled}
-use Rattle.ark_math.proofs.Polynomials.UnivariateLoops.{cut, cut-inside}
-use Rattle.ark_math.specs.Nodes.{nodes}
-use Rattle.ark_math.specs.AtPoints.{HasValues}
+use Rattle.ark_math_polynomials.proofs.Polynomials.UnivariateLoops.{cut, cut-inside}
+use Rattle.ark_math_polynomials.specs.Nodes.{nodes}
+use Rattle.ark_math_points.specs.AtPoints.{HasValues}
 use Rattle.ark_subproducts.specs.Tree.{IsScaledRemainder}
 use Rattle.ark_subproducts.proofs.PointParts.{high_part, low_part, remainder_of_part, values-joined}
 use Rattle.ark_subproducts.proofs.Multiples.{of_list-multiples}

@@ -1,8 +1,8 @@
 use Rattle.std.proofs.Common.{◌≡◌, ◌+◌, ◌-◌, ◌<◌, length, sym, subst, ap, ◌∙◌, arith}
 use Rattle.std.proofs.lemmas.List.{get_or_read}
 use Rattle.ark_math.specs.Univariate.{IsValue, of_list}
-use Rattle.ark_math.proofs.Polynomials.UnivariateValues.{value_from, value_from-one, value-of_list}
-use Rattle.ark_math.proofs.Polynomials.LinearQuotients.{value_from-past}
+use Rattle.ark_math_polynomials.proofs.Polynomials.UnivariateValues.{value_from, value_from-one, value-of_list}
+use Rattle.ark_math_polynomials.proofs.Polynomials.LinearQuotients.{value_from-past}
 use Rattle.ark_subproducts.proofs.few.write_values_of.Goals as goal
 
 pub loop-i-init : goal.loop-i-init

@@ -1,6 +1,6 @@
 use Rattle.std.proofs.Common.{◌≡◌, ◌<◌, ℕ, length}
 use Rattle.ark_math.specs.Univariate.{of_list}
-use Rattle.ark_math.proofs.Polynomials.UnivariateValues.{value_from}
+use Rattle.ark_math_polynomials.proofs.Polynomials.UnivariateValues.{value_from}
 use Rattle.ark_subproducts.proofs.few.write_values_of.Given as goal
 
 abbrev pub invariant-loop-i : goal.invariant-loop-i

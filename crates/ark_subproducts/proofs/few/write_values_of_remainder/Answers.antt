@@ -1,7 +1,7 @@
 use Rattle.std.proofs.Common.{◌≡◌, ℕ, ◌+◌, ◌<◌, subst, ap, ◌∙◌, length, arith}
 use Rattle.ark_math.specs.Univariate.{IsBelow, of_list, product}
-use Rattle.ark_math.proofs.Polynomials.UnivariateLists.{of_list-below}
-use Rattle.ark_math.specs.Nodes.{nodes}
+use Rattle.ark_math_polynomials.proofs.Polynomials.UnivariateLists.{of_list-below}
+use Rattle.ark_math_polynomials.specs.Nodes.{nodes}
 use Rattle.ark_subproducts.proofs.PastProducts.{past_points, values_past}
 use Rattle.ark_subproducts.proofs.few.write_values_of_remainder.Goals as goal
 

@@ -2,7 +2,7 @@ use Rattle.std.proofs.Common.{◌≡◌, ℕ, ◌+◌, ◌-◌, ◌≤◌, lengt
 use Rattle.std.proofs.lemmas.List.{get_or_read}
 use Rattle.ark_math.specs.Module.{itself, sum_below}
 use Rattle.ark_math.specs.Univariate.{of_list}
-use Rattle.ark_math.proofs.Polynomials.UnivariateLists.{of_list-below}
+use Rattle.ark_math_polynomials.proofs.Polynomials.UnivariateLists.{of_list-below}
 use Rattle.ark_subproducts.proofs.PastProducts.{product_by_few}
 use Rattle.ark_subproducts.proofs.parts.write_part.Goals as goal
 

@@ -2,7 +2,7 @@ use Rattle.std.proofs.Common.{rules, ◌≡◌, ◌-◌, ◌/◌, ◌<◌, lengt
 use Rattle.std.proofs.lemmas.List.{length-drop, length-take-le}
 use Rattle.ark_math.specs.Univariate.{product}
 use Rattle.ark_math.proofs.Outcomes.Results.{IfOk_more}
-use Rattle.ark_blocks.proofs.Callers.PowersOfTwo.{half_is_power}
+use Rattle.ark_bit_reversed.proofs.Callers.PowersOfTwo.{half_is_power}
 use Rattle.ark_subproducts.proofs.Nodes.{nodes-parts}
 use Rattle.ark_subproducts.proofs.TableProducts.{enough_for_halves, sixty_four}
 use Rattle.ark_subproducts.proofs.products.+product.Goals as goal

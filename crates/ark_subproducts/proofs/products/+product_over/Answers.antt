@@ -1,6 +1,6 @@
 use Rattle.std.proofs.Common.{◌≤◌, ◌<◌, ◌^◌, ap₂, subst, ◌∙◌, ◌/◌, length, arith}
-use Rattle.ark_blocks.specs.Blocks.{IsPowerOfTwo, size_of}
-use Rattle.ark_blocks.proofs.Callers.PowersOfTwo.{twice_is_power}
+use Rattle.ark_bit_reversed.specs.Blocks.{IsPowerOfTwo, size_of}
+use Rattle.ark_bit_reversed.proofs.Callers.PowersOfTwo.{twice_is_power}
 use Rattle.ark_math.specs.Univariate.{product}
 use Rattle.ark_math.proofs.Outcomes.Results.{IfOk_more}
 use Rattle.ark_subproducts.proofs.Nodes.{nodes-parts}

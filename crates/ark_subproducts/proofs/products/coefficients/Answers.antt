@@ -1,10 +1,10 @@
 use Rattle.std.proofs.Common.{◌≡◌, ℕ, ◌+◌, ◌-◌, ◌++◌, length, take, sym, ap, ap₂, subst, ◌∙◌, arith}
-use Rattle.ark_blocks.specs.Blocks.{AreValuesFrom, element_of}
+use Rattle.ark_bit_reversed.specs.Blocks.{AreValuesFrom, element_of}
 use Rattle.ark_math.specs.Field.{minus}
 use Rattle.ark_math.specs.Univariate.{IsBelow, of_list, product}
 use Rattle.ark_math.proofs.Lists.Lists.{written_back}
-use Rattle.ark_math.proofs.Polynomials.UnivariateLists.{of_list-below}
-use Rattle.ark_math.proofs.Polynomials.UnivariateProducts.{product-below}
+use Rattle.ark_math_polynomials.proofs.Polynomials.UnivariateLists.{of_list-below}
+use Rattle.ark_math_polynomials.proofs.Polynomials.UnivariateProducts.{product-below}
 use Rattle.ark_subproducts.proofs.TableProducts.{truncated, twice_within, unwrapped}
 use Rattle.ark_subproducts.proofs.products.coefficients.Goals as goal
 

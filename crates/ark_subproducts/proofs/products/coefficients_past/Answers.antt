@@ -1,6 +1,6 @@
 use Rattle.std.proofs.Common.{◌≡◌, ◌+◌, ◌-◌, length, drop, ap, ◌∙◌, arith}
 use Rattle.ark_math.specs.Univariate.{of_list, product}
-use Rattle.ark_math.proofs.Polynomials.UnivariateLists.{of_list-past}
+use Rattle.ark_math_polynomials.proofs.Polynomials.UnivariateLists.{of_list-past}
 use Rattle.ark_math.proofs.Lists.Lists.{tail, written_back}
 use Rattle.ark_subproducts.proofs.UpperParts.{past, past-drop, product-past}
 use Rattle.ark_subproducts.proofs.products.coefficients_past.Goals as goal

@@ -1,6 +1,6 @@
 use Rattle.std.proofs.Common.{◌≡◌, ◌+◌, length, sym, ap, ap₂, subst, subst₂, ◌∙◌, arith}
-use Rattle.ark_blocks.specs.Blocks.{AreValuesFrom, element_of}
-use Rattle.ark_blocks.proofs.Callers.Runs.{values-product}
+use Rattle.ark_bit_reversed.specs.Blocks.{AreValuesFrom, element_of}
+use Rattle.ark_bit_reversed.proofs.Callers.Runs.{values-product}
 use Rattle.ark_math.specs.Univariate.{of_list, product}
 use Rattle.ark_math.proofs.Lists.Lists.{written_back}
 use Rattle.ark_subproducts.proofs.TableProducts.{begun_by}

@@ -1,5 +1,5 @@
 use Rattle.std.proofs.Common.{sym, ap, subst, ◌∙◌, arith}
-use Rattle.ark_blocks.specs.Blocks.{AreFirstValues}
+use Rattle.ark_bit_reversed.specs.Blocks.{AreFirstValues}
 use Rattle.ark_math.specs.Univariate.{of_list}
 use Rattle.ark_math.proofs.Outcomes.Results.{IfOk_more}
 use Rattle.ark_subproducts.specs.Tree.{IsBegun}

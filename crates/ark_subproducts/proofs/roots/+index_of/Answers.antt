@@ -1,8 +1,8 @@
 use Rattle.std.proofs.Common.{rules, ◌≢◌, ◌*◌, ◌/◌, ◌<◌, sym, ap, ◌∙◌, arith}
 use Rattle.std.proofs.lemmas.Bool.{false≢true}
-use Rattle.ark_blocks.specs.Blocks.{element_of}
+use Rattle.ark_bit_reversed.specs.Blocks.{element_of}
 use Rattle.ark_math.specs.Field.{power}
-use Rattle.ark_blocks.proofs.Callers.PowersOfTwo.{half_is_power, some_power, two_halves}
+use Rattle.ark_bit_reversed.proofs.Callers.PowersOfTwo.{half_is_power, some_power, two_halves}
 use Rattle.ark_subproducts.proofs.RootPlaces.{second_root, square_of_root}
 use Rattle.ark_subproducts.proofs.roots.+index_of.Goals as goal
 

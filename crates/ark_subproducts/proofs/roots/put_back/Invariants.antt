@@ -1,7 +1,7 @@
 use Rattle.std.proofs.Common.{◌≡◌, ◌≤◌, ℕ, length}
-use Rattle.ark_blocks.specs.Blocks.{AreFirstValues, size_of}
+use Rattle.ark_bit_reversed.specs.Blocks.{AreFirstValues, size_of}
 use Rattle.ark_math.specs.Univariate.{of_list}
-use Rattle.ark_math.specs.AtPoints.{HasValues}
+use Rattle.ark_math_points.specs.AtPoints.{HasValues}
 use Rattle.ark_subproducts.proofs.roots.put_back.Given as goal
 
 abbrev pub invariant-loop-i : goal.invariant-loop-i

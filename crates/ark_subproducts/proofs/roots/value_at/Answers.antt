@@ -1,6 +1,6 @@
 use Rattle.std.proofs.Common.{◌≡◌, ◌+◌, ◌<◌, length, sym, ap, subst₂, ◌∙◌, arith}
 use Rattle.std.proofs.lemmas.List.{get_or_read}
-use Rattle.ark_blocks.specs.Blocks.{element_of}
+use Rattle.ark_bit_reversed.specs.Blocks.{element_of}
 use Rattle.ark_math.specs.Univariate.{IsValue, of_list}
 use Rattle.ark_subproducts.proofs.roots.value_at.Goals as goal
 

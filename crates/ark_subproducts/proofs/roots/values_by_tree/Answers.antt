@@ -1,7 +1,7 @@
 use Rattle.std.proofs.Common.{ap, arith, length, sym, subst, subst₂}
-use Rattle.ark_blocks.specs.Blocks.{AreFirstValues, size_of}
+use Rattle.ark_bit_reversed.specs.Blocks.{AreFirstValues, size_of}
 use Rattle.ark_math.specs.Univariate.{of_list}
-use Rattle.ark_math.proofs.Polynomials.UnivariateLists.{of_list-past}
+use Rattle.ark_math_polynomials.proofs.Polynomials.UnivariateLists.{of_list-past}
 use Rattle.ark_subproducts.proofs.roots.values_by_tree.Goals as goal
 
 pub returns-in-Some-clause-values : goal.returns-in-Some-clause-values

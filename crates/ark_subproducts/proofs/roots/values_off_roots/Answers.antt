@@ -1,8 +1,8 @@
 use Rattle.std.proofs.Common.{◌≡◌, ◌<◌, length, sym, ap, subst, subst₂, ◌∙◌, arith}
-use Rattle.ark_blocks.specs.Blocks.{size_of}
+use Rattle.ark_bit_reversed.specs.Blocks.{size_of}
 use Rattle.ark_math.specs.Univariate.{of_list}
 use Rattle.ark_math.proofs.Lists.Lists.{written_back}
-use Rattle.ark_math.specs.AtPoints.{AreValuesAt, HasValues}
+use Rattle.ark_math_points.specs.AtPoints.{AreValuesAt, HasValues}
 use Rattle.ark_subproducts.specs.Steps.{AreOffRoots, ArePowers}
 use Rattle.ark_subproducts.proofs.roots.values_off_roots.Goals as goal
 

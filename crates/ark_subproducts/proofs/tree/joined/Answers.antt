@@ -1,6 +1,6 @@
 use Rattle.std.proofs.Common.{◌≡◌, ◌/◌, length, take, drop, sym, ap₂, subst, ◌∙◌}
 use Rattle.ark_math.specs.Univariate.{of_list, product}
-use Rattle.ark_math.specs.Nodes.{nodes}
+use Rattle.ark_math_polynomials.specs.Nodes.{nodes}
 use Rattle.ark_subproducts.specs.Tree.{IsTreeOver}
 use Rattle.ark_subproducts.proofs.Nodes.{nodes-halves}
 use Rattle.ark_subproducts.proofs.tree.joined.Goals as goal

@@ -1,6 +1,6 @@
 use Rattle.std.proofs.Common.{◌≡◌, length}
 use Rattle.ark_math.specs.Univariate.{of_list}
-use Rattle.ark_math.specs.AtPoints.{HasValues}
+use Rattle.ark_math_points.specs.AtPoints.{HasValues}
 use Rattle.ark_subproducts.proofs.values.naive_evaluate_at.Given as goal
 
 abbrev pub invariant-loop-i : goal.invariant-loop-i

@@ -2,7 +2,7 @@ use Rattle.std.proofs.Common.{◌≡◌, ◌*◌, ◌/◌, ◌<◌, ◌≤◌, [
 use Rattle.std.specs.Prelude.{All}
 use Rattle.std.proofs.lemmas.List.Elements.{All-nil}
 use Rattle.ark_math.proofs.Lists.Lists.{item_of}
-use Rattle.ark_math.proofs.Polynomials.Multilinear.{fixed-nothing}
+use Rattle.ark_math_variables.proofs.Polynomials.Multilinear.{fixed-nothing}
 use Rattle.ark_sum_check.proofs.EntryTables.{behind-more, bound-more, still_there}
 use Rattle.ark_sum_check.proofs.entries.bind_in_place.Goals as goal
 

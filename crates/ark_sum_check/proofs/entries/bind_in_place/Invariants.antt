@@ -1,6 +1,6 @@
 use Rattle.std.proofs.Common.{◌≡◌, ℕ, ◌*◌, ◌<◌, ◌≤◌, [], ◌∷◌, take, drop}
 use Rattle.std.specs.Prelude.{All}
-use Rattle.ark_math.specs.Multilinear.{fixed}
+use Rattle.ark_math_variables.specs.Multilinear.{fixed}
 use Rattle.ark_math.specs.Univariate.{of_pairs}
 use Rattle.ark_sum_check.specs.Provers.{AreRising}
 use Rattle.ark_sum_check.proofs.EntryTables.{AreBehind}

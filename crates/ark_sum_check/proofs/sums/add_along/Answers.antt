@@ -3,7 +3,7 @@ use mathlib.Core.Path.{fun_ext}
 use Rattle.std.proofs.lemmas.List.{get_or_read}
 use Rattle.ark_math.specs.Field.{natural}
 use Rattle.ark_math.specs.Univariate.{of_list}
-use Rattle.ark_math.proofs.Polynomials.UnivariateLoops.{zipped-begin, zipped-inside, zipped-set}
+use Rattle.ark_math_polynomials.proofs.Polynomials.UnivariateLoops.{zipped-begin, zipped-inside, zipped-set}
 use Rattle.ark_sum_check.specs.Cube.{combined}
 use Rattle.ark_sum_check.specs.Lists.{FitTables, as_sum}
 use Rattle.ark_sum_check.specs.Provers.{addends_of}

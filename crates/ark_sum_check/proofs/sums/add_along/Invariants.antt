@@ -1,7 +1,7 @@
 use Rattle.std.proofs.Common.{◌≡◌, ℕ, length}
 use Rattle.ark_math.specs.Field.{natural}
 use Rattle.ark_math.specs.Univariate.{of_list}
-use Rattle.ark_math.proofs.Polynomials.UnivariateLoops.{zipped}
+use Rattle.ark_math_polynomials.proofs.Polynomials.UnivariateLoops.{zipped}
 use Rattle.ark_sum_check.specs.Cube.{combined}
 use Rattle.ark_sum_check.specs.Lists.{as_sum}
 use Rattle.ark_sum_check.specs.Provers.{addends_of}

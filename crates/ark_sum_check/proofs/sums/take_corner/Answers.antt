@@ -2,8 +2,8 @@ use Rattle.std.proofs.Common.{◌≡◌, ℕ, ◌+◌, ◌*◌, ◌<◌, get_or,
 use Rattle.ark_math.specs.Field.{minus}
 use Rattle.ark_math.specs.Univariate.{nothing, of_list}
 use Rattle.ark_math.proofs.Lists.Lists.{item_of}
-use Rattle.ark_math.proofs.Polynomials.UnivariateLists.{of_list-past}
-use Rattle.ark_math.proofs.Polynomials.UnivariateLoops.{zipped-begin, zipped-end, zipped-set}
+use Rattle.ark_math_polynomials.proofs.Polynomials.UnivariateLists.{of_list-past}
+use Rattle.ark_math_polynomials.proofs.Polynomials.UnivariateLoops.{zipped-begin, zipped-end, zipped-set}
 use Rattle.ark_sum_check.specs.Lists.{as_tables}
 use Rattle.ark_sum_check.proofs.BoundTables.{past_tables}
 use Rattle.ark_sum_check.proofs.Products.{table_is}

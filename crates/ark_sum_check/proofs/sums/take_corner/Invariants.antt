@@ -1,7 +1,7 @@
 use Rattle.std.proofs.Common.{◌≡◌, ℕ, ◌+◌, ◌*◌, get_or}
 use Rattle.ark_math.specs.Field.{minus}
 use Rattle.ark_math.specs.Univariate.{nothing, of_list}
-use Rattle.ark_math.proofs.Polynomials.UnivariateLoops.{zipped}
+use Rattle.ark_math_polynomials.proofs.Polynomials.UnivariateLoops.{zipped}
 use Rattle.ark_sum_check.specs.Lists.{as_tables}
 use Rattle.ark_sum_check.proofs.sums.take_corner.Given as goal
 

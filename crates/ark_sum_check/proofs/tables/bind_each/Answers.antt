@@ -1,5 +1,5 @@
 use Rattle.std.proofs.Common.{◌*◌, [], ◌∷◌, length, sym, ap, ◌∙◌, arith}
-use Rattle.ark_math.specs.Multilinear.{fixed}
+use Rattle.ark_math_variables.specs.Multilinear.{fixed}
 use Rattle.ark_math.specs.Univariate.{of_list}
 use Rattle.ark_sum_check.proofs.BoundTables.{AreBound-halves, AreBound-more, AreBound-next, AreBound-tables}
 use Rattle.ark_sum_check.proofs.tables.bind_each.Goals as goal

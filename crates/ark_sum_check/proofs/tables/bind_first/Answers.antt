@@ -1,5 +1,5 @@
 use Rattle.std.proofs.Common.{◌≡◌, ◌*◌, [], ◌∷◌, length, take, ap, ◌∙◌, arith}
-use Rattle.ark_math.specs.Multilinear.{fixed}
+use Rattle.ark_math_variables.specs.Multilinear.{fixed}
 use Rattle.ark_math.specs.Univariate.{of_list}
 use Rattle.ark_math.proofs.Lists.Lists.{written_back}
 use Rattle.ark_sum_check.proofs.BoundTables.{lower_half}

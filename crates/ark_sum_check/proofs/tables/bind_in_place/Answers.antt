@@ -1,8 +1,8 @@
 use Rattle.std.proofs.Common.{◌≡◌, ◌+◌, ◌*◌, ◌<◌, length, sym, ap, ap₂, ◌∙◌, arith}
 use Rattle.ark_math.specs.Field.{minus}
 use Rattle.ark_math.specs.Univariate.{of_list}
-use Rattle.ark_math.proofs.Polynomials.Multilinear.{bound, fixed-one}
-use Rattle.ark_math.proofs.Polynomials.UnivariateLoops.{zipped-begin, zipped-set, zipped-inside, zipped-outside}
+use Rattle.ark_math_variables.proofs.Polynomials.Multilinear.{bound, fixed-one}
+use Rattle.ark_math_polynomials.proofs.Polynomials.UnivariateLoops.{zipped-begin, zipped-set, zipped-inside, zipped-outside}
 use Rattle.ark_sum_check.proofs.tables.bind_in_place.Goals as goal
 
 pub loop-i-init : goal.loop-i-init

@@ -1,7 +1,7 @@
 use Rattle.std.proofs.Common.{◌≡◌}
 use Rattle.ark_math.specs.Univariate.{of_list}
-use Rattle.ark_math.proofs.Polynomials.Multilinear.{bound}
-use Rattle.ark_math.proofs.Polynomials.UnivariateLoops.{zipped}
+use Rattle.ark_math_variables.proofs.Polynomials.Multilinear.{bound}
+use Rattle.ark_math_polynomials.proofs.Polynomials.UnivariateLoops.{zipped}
 use Rattle.ark_sum_check.proofs.tables.bind_in_place.Given as goal
 
 abbrev pub invariant-loop-i : goal.invariant-loop-i

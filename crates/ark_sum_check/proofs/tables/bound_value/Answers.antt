@@ -2,7 +2,7 @@ use Rattle.std.proofs.Common.{◌≡◌, ◌+◌, ◌*◌, sym, ap, ap₂, ◌�
 use Rattle.std.proofs.lemmas.List.{get_or_read}
 use Rattle.ark_math.specs.Field.{minus}
 use Rattle.ark_math.specs.Univariate.{of_list}
-use Rattle.ark_math.proofs.Polynomials.Multilinear.{fixed-one}
+use Rattle.ark_math_variables.proofs.Polynomials.Multilinear.{fixed-one}
 use Rattle.ark_sum_check.proofs.tables.bound_value.Goals as goal
 
 pub returns : goal.returns

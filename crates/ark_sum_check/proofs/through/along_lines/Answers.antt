@@ -2,7 +2,7 @@ use Rattle.std.proofs.Common.{◌≡◌, ◌+◌, ◌<◌, length, ap, ap₂, �
 use Rattle.std.proofs.lemmas.List.{get_or_read}
 use Rattle.ark_math.specs.Field.{minus, natural}
 use Rattle.ark_math.specs.Univariate.{of_list}
-use Rattle.ark_math.proofs.Polynomials.UnivariateLoops.{zipped-begin, zipped-set, zipped-inside, zipped-outside}
+use Rattle.ark_math_polynomials.proofs.Polynomials.UnivariateLoops.{zipped-begin, zipped-set, zipped-inside, zipped-outside}
 use Rattle.ark_sum_check.proofs.ValuesThrough.{neighbours}
 use Rattle.ark_sum_check.proofs.through.along_lines.Goals as goal
 

@@ -1,6 +1,6 @@
 use Rattle.std.proofs.Common.{◌≡◌}
 use Rattle.ark_math.specs.Univariate.{of_list}
-use Rattle.ark_math.proofs.Polynomials.UnivariateLoops.{zipped}
+use Rattle.ark_math_polynomials.proofs.Polynomials.UnivariateLoops.{zipped}
 use Rattle.ark_sum_check.proofs.ValuesThrough.{neighbours}
 use Rattle.ark_sum_check.proofs.through.along_lines.Given as goal
 

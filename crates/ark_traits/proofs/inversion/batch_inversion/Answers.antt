@@ -6,7 +6,7 @@ use borrow.Author.Count.{falls}
 use Rattle.ark_math.specs.Field.{FieldOn, IsField}
 use Rattle.ark_math.proofs.Algebra.Solve.{◌⊗◌}
 use Rattle.ark_math.proofs.Algebra.Ring.{ring3}
-use Rattle.ark_math.proofs.Algebra.Inversions.{AreInverted, AreProducts, products_not_zero, products_zero, products_some, inverted_zero, inverted_some}
+use Rattle.ark_traits.proofs.Inversions.{AreInverted, AreProducts, products_not_zero, products_zero, products_some, inverted_zero, inverted_some}
 use Rattle.ark_traits.proofs.inversion.batch_inversion.Goals.{then-not-is_zero, else-not-is_zero}
 use Rattle.ark_traits.proofs.inversion.batch_inversion.Goals as goal
 

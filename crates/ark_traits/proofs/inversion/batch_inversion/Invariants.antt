@@ -1,4 +1,4 @@
-use Rattle.ark_math.proofs.Algebra.Inversions.{AreProducts, AreInverted}
+use Rattle.ark_traits.proofs.Inversions.{AreProducts, AreInverted}
 use Rattle.ark_traits.proofs.inversion.batch_inversion.Given as goal
 
 abbrev pub invariant-loop-i : goal.invariant-loop-i

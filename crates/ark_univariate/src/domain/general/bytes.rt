@@ -25,7 +25,7 @@ impl<F: FftField> GeneralEvaluationDomain<F> {
 
 impl<F: FftField> Spelled for GeneralEvaluationDomain<F> {
     ghost use Rattle.std.specs.Prelude.{ℕ, ◌⊎◌};
-    ghost use Rattle.ark_math.specs.Format.{shown_either};
+    ghost use Rattle.ark_math_formats.specs.Format.{shown_either};
     ghost use Rattle.ark_bytes.specs.Either.{sum_of};
     ghost use Rattle.ark_fft.specs.CosetBytes.{all_fields, domain_shown};
     ghost use Rattle.ark_univariate.specs.DomainBytes.{radix2_coset, mixed_radix_coset, either_of};

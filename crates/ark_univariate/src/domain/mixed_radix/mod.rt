@@ -39,9 +39,9 @@ impl<F: FftField> Debug for MixedRadixEvaluationDomain<F> {
 }
 
 impl<F: FftField> EvaluationDomain<F> for MixedRadixEvaluationDomain<F> {
-    ghost use Rattle.ark_math.proofs.Domains.Domains.{same_domain, one_domain, mixed_radix_is_domain};
+    ghost use Rattle.ark_math_transforms.proofs.Domains.Domains.{same_domain, one_domain, mixed_radix_is_domain};
     ghost use Rattle.ark_univariate.specs.Domains.{mixed_radix_domain};
-    ghost use Rattle.ark_math.proofs.Domains.MixedSizes.{mixed_sizes, one_mixed_size};
+    ghost use Rattle.ark_math_transforms.proofs.Domains.MixedSizes.{mixed_sizes, one_mixed_size};
     ghost use Rattle.ark_fft.specs.CosetBytes.{all_fields};
     ghost use Rattle.ark_univariate.specs.DomainBytes.{mixed_radix_coset, coset_told};
 

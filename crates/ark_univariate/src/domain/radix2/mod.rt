@@ -38,7 +38,7 @@ impl<F: FftField> Debug for Radix2EvaluationDomain<F> {
 }
 
 impl<F: FftField> EvaluationDomain<F> for Radix2EvaluationDomain<F> {
-    ghost use Rattle.ark_math.proofs.Domains.Domains.{same_domain, one_domain, radix2_is_domain};
+    ghost use Rattle.ark_math_transforms.proofs.Domains.Domains.{same_domain, one_domain, radix2_is_domain};
     ghost use Rattle.ark_univariate.specs.Domains.{radix2_domain};
     ghost use Rattle.ark_math.proofs.Domains.Sizes.{radix2_sizes, one_radix2_size};
     ghost use Rattle.ark_fft.specs.CosetBytes.{all_fields};

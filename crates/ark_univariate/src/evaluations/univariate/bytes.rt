@@ -11,7 +11,7 @@ use std::alloc::Global;
 
 impl<F: FftField, D: EvaluationDomain<F>> Spelled for Evaluations<F, D> {
     ghost use Rattle.std.specs.Prelude.{List, map};
-    ghost use Rattle.ark_math.specs.Layouts.{evaluations};
+    ghost use Rattle.ark_univariate.specs.Layouts.{evaluations};
     ghost use Rattle.ark_univariate.specs.Values.{list_and_domain, AreAsMany};
     ghost use Rattle.ark_univariate.specs.ValuesBytes.{values_is_format, values_tell};
 

@@ -3,7 +3,8 @@
 ghost use Rattle.std.specs.Prelude.{◌≡◌, ◌↔◌, ◌<◌, ◌&&◌, ◌++◌, ℕ, IsTrue, IfOk, OnOk, OnErr, IsOkUnless};
 ghost use Rattle.std.specs.Prelude.{length, replicate, set};
 ghost use Rattle.ark_math.specs.Field.{minus};
-ghost use Rattle.ark_math.specs.Points.{AreValues, IsPlaceQuotient};
+ghost use Rattle.ark_math_domains.specs.Points.{AreValues};
+ghost use Rattle.ark_math.specs.Field.{IsPlaceQuotient};
 ghost use Rattle.ark_math.specs.Univariate.{IsBelow, of_list};
 ghost use Rattle.std.specs.Cmp.{and_equiv, and_per, on_equiv, on_per};
 ghost use Rattle.std.specs.Cmp.Lexicographic.{pointwise, lists_equiv, lists_per};

@@ -7,9 +7,9 @@ ghost use Rattle.std.specs.Cmp.Lexicographic.{pointwise, lists_equiv, lists_per}
 ghost use Rattle.std.specs.Hash as fed;
 ghost use Rattle.std.specs.Hash.{on_Alike, items_Alike};
 ghost use Rattle.ark_math.specs.Outcome.{IsOkUnlessEither};
-ghost use Rattle.ark_math.specs.NormalForms.{trim};
+ghost use Rattle.ark_math_polynomials.specs.NormalForms.{trim};
 ghost use Rattle.ark_math.specs.Domain.{HasNoSize, IsGeneral};
-ghost use Rattle.ark_math.specs.Points.{AreValues, vanishing};
+ghost use Rattle.ark_math_domains.specs.Points.{AreValues, vanishing};
 ghost use Rattle.ark_univariate.specs.Domains.{general_domain};
 ghost use Rattle.ark_math.specs.Univariate.{IsTrimmed, IsDegree, IsValue, of_list, nothing, added, coefficient_operations};
 ghost use Rattle.ark_math.specs.Univariate.{IsBelow, IsDivision, IsQuotient, product, scaled as multiple};
@@ -107,9 +107,9 @@ impl<F: Field> Debug for DensePolynomial<F> {
 
 impl<F: Field> Polynomial<F> for DensePolynomial<F> {
     ghost use Rattle.std.proofs.Common.{ap, refl};
-    ghost use Rattle.ark_math.proofs.Polynomials.Trimmed.{trim_equality};
-    ghost use Rattle.ark_math.proofs.Polynomials.UnivariateValues.{univariate_polynomials};
-    ghost use Rattle.ark_math.proofs.Formats.Polynomials.{dense_tells};
+    ghost use Rattle.ark_math_polynomials.proofs.Polynomials.Trimmed.{trim_equality};
+    ghost use Rattle.ark_math_polynomials.proofs.Polynomials.UnivariateValues.{univariate_polynomials};
+    ghost use Rattle.ark_univariate.specs.LayoutLaws.{dense_tells};
 
     type Point = F;
 

@@ -2,7 +2,7 @@
 
 ghost use Rattle.std.specs.Prelude.{◌≡◌, ◌≢◌, ◌↔◌, IfOk, IfSome, IsOkUnless, IsTrue, None};
 ghost use Rattle.ark_math.specs.Outcome.{IsOkUnlessEither};
-ghost use Rattle.ark_math.specs.Points.{AreValues};
+ghost use Rattle.ark_math_domains.specs.Points.{AreValues};
 ghost use Rattle.ark_math.specs.Univariate.{IsDegree, IsDivision, IsValue, nothing, of_list, of_pairs};
 ghost use Rattle.ark_quotients.specs.Divisors.{IsKept, denoted as coefficients_denote};
 ghost use Rattle.ark_univariate.specs.DenseOrSparse.{denoted, IsDense};

@@ -8,8 +8,8 @@ ghost use Rattle.std.specs.Cmp.Lexicographic.{pointwise, lists_equiv, lists_per}
 ghost use Rattle.std.specs.Hash as fed;
 ghost use Rattle.std.specs.Hash.{and-Alike, items_Alike, on_Alike, same_Alike};
 ghost use Rattle.ark_math.specs.Outcome.{IsOkUnlessEither};
-ghost use Rattle.ark_math.specs.NormalForms.{gather};
-ghost use Rattle.ark_math.specs.Points.{AreValues};
+ghost use Rattle.ark_math_polynomials.specs.NormalForms.{gather};
+ghost use Rattle.ark_math_domains.specs.Points.{AreValues};
 ghost use Rattle.ark_math.specs.Univariate.{IsSparse, IsDegree, IsValue, of_list, of_pairs};
 ghost use Rattle.ark_math.specs.Univariate.{coefficient_operations, product, scaled as multiple};
 
@@ -107,9 +107,9 @@ impl<F: Field> Debug for SparsePolynomial<F> {
 impl<F: Field> Polynomial<F> for SparsePolynomial<F> {
     ghost use Rattle.std.specs.Prelude.{ℕ};
     ghost use Rattle.std.proofs.Common.{ap, refl};
-    ghost use Rattle.ark_math.proofs.Polynomials.Gathered.{gather_equality};
-    ghost use Rattle.ark_math.proofs.Polynomials.UnivariateValues.{univariate_polynomials};
-    ghost use Rattle.ark_math.proofs.Formats.Polynomials.{sparse_tells};
+    ghost use Rattle.ark_univariate.specs.GatheredLaws.{gather_equality};
+    ghost use Rattle.ark_math_polynomials.proofs.Polynomials.UnivariateValues.{univariate_polynomials};
+    ghost use Rattle.ark_univariate.specs.LayoutLaws.{sparse_tells};
 
     type Point = F;
 

@@ -1,8 +1,7 @@
 use Rattle.std.proofs.Common.{◌≡◌, List, [], ◌∷◌, sym, ap, ◌∙◌}
 use Rattle.std.proofs.lemmas.List.{nil_from_length}
 use Rattle.ark_math.proofs.Outcomes.Results.{IfOk_more}
-use Rattle.ark_math.specs.Field.{FieldOn, IsField}
-use Rattle.ark_extensions.specs.Quadratics.{IsFieldEmbedding}
+use Rattle.ark_math.specs.Field.{FieldOn, IsField, IsFieldEmbedding}
 use Rattle.ark_sum_check.specs.Cube.{SumOfProducts, bound_to, sum_value}
 use Rattle.ark_sum_check.specs.Embedded.{embedded_sum}
 use Rattle.ark_sum_check.specs.Provers.{sum_of}

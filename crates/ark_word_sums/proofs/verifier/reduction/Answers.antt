@@ -2,7 +2,7 @@ use Rattle.std.proofs.Common.{◌≡◌, ◌≢◌, ◌+◌, ◌≤◌, Err, len
 use Rattle.std.proofs.lemmas.Bool.{cases_eq}
 use Rattle.std.proofs.lemmas.List.{length-map}
 use Rattle.ark_bytes.specs.declared.compress.Compress.{Compress}
-use Rattle.ark_math.specs.Format.{list}
+use Rattle.ark_math_formats.specs.Format.{list}
 use Rattle.ark_numbers.proofs.Values.{number_field}
 use Rattle.ark_sum_check.specs.Rounds.{AreAccepted, challenges, rounds_at}
 use Rattle.ark_sum_check.proofs.Accepted.{length-challenges}

@@ -1,6 +1,6 @@
 use Rattle.std.proofs.Common.{◌≡◌, ◌<◌, ◌/◌, ◌↔◌, All, Err, length, map, refl, sym, ap, subst, ◌∙◌, rules}
 use Rattle.ark_math.specs.Module.{tabulate}
-use Rattle.ark_math.specs.Multilinear.{fixed}
+use Rattle.ark_math_variables.specs.Multilinear.{fixed}
 use Rattle.ark_words.specs.declared.error.WordsError.TheVariants.{NotReduced}
 use Rattle.ark_words.specs.Numbers.{in_words, numbers, BothReduced}
 use Rattle.ark_words.specs.Extensions.{FitFixed, AreFixed, corner_values}

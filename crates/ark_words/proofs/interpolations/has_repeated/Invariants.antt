@@ -1,4 +1,4 @@
-use Rattle.ark_math.specs.AtPoints.{AreDifferent}
+use Rattle.ark_math_points.specs.AtPoints.{AreDifferent}
 use Rattle.ark_words.specs.Numbers.{number_at}
 use Rattle.ark_words.proofs.interpolations.has_repeated.Given as goal
 

@@ -1,9 +1,9 @@
 use Rattle.std.proofs.Common.{◌≡◌, length, sym, ap, subst, subst₂, ◌∙◌, arith}
 use Rattle.std.proofs.lemmas.List.{length-map}
 use Rattle.std.proofs.lemmas.Result.{IfOk-weaker}
-use Rattle.ark_math.specs.AtPoints.{AreDifferent, x_of, y_of}
+use Rattle.ark_math_points.specs.AtPoints.{AreDifferent, x_of, y_of}
 use Rattle.ark_math.specs.Univariate.{of_list, IsBelow, IsValue}
-use Rattle.ark_math.proofs.AtPoints.PairParts.{x_of_is, y_of_is}
+use Rattle.ark_math_points.proofs.AtPoints.PairParts.{x_of_is, y_of_is}
 use Rattle.ark_words.proofs.interpolations.through.Goals as goal
 
 pub returns-clause-below : goal.returns-clause-below

@@ -4,7 +4,7 @@ use Rattle.ark_math.specs.Module.{itself}
 use Rattle.ark_numbers.specs.Fields.{operations}
 use Rattle.ark_numbers.specs.Answers.{AreValues}
 use Rattle.ark_numbers.proofs.Values.{number_field, shown_field}
-use Rattle.ark_parts.specs.Parts.{column}
+use Rattle.ark_fft_parts.specs.Parts.{column}
 use Rattle.ark_words.specs.Numbers.{numbers, HaveReduced}
 use Rattle.ark_words.specs.Parts.{FitColumns, HaveParts, of_column, AreColumnsTransformed}
 use Rattle.ark_words.proofs.Multiples.{scaled}

@@ -1,6 +1,6 @@
 use Rattle.std.proofs.Common.{◌∙◌}
 use Rattle.ark_math.specs.Domain.{IsDomain, radix2}
-use Rattle.ark_math.proofs.Domains.Domains.{radix2_is_domain}
+use Rattle.ark_math_transforms.proofs.Domains.Domains.{radix2_is_domain}
 use Rattle.ark_fft.specs.Coset.{coset_domain}
 use Rattle.ark_words.proofs.PartsInNumbers.{some_part}
 use Rattle.ark_words.proofs.parts.parts_of.Goals as goal

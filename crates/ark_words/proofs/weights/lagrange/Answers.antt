@@ -1,5 +1,5 @@
 use Rattle.std.proofs.Common.{◌<◌, ◌/◌, All, length, map, refl, sym, ap, subst, ◌∙◌, mod-eq_of_lt, rules}
-use Rattle.ark_math.specs.Points.{AreWeights}
+use Rattle.ark_math_domains.specs.Points.{AreWeights}
 use Rattle.ark_math.specs.Words.{number_of_words}
 use Rattle.ark_univariate.specs.Domains.{general_domain}
 use Rattle.ark_numbers.specs.Fields.{operations}

@@ -1,8 +1,8 @@
 use Rattle.std.proofs.Common.{◌≡◌, ◌≤◌, ap, arith, subst, length}
 use Rattle.std.proofs.lemmas.Result.{IfOk-weaker}
 use Rattle.ark_math.specs.Univariate.{of_list}
-use Rattle.ark_math.specs.Points.{AreValues}
-use Rattle.ark_math.proofs.Callers.Transforms.{values_of_fft, values_of_ifft}
+use Rattle.ark_math_domains.specs.Points.{AreValues}
+use Rattle.ark_math_domains.proofs.Callers.Transforms.{values_of_fft, values_of_ifft}
 use Rattle.examples.proofs.coset.values_on_coset.Goals as goal
 
 pub returns-clause-values : goal.returns-clause-values

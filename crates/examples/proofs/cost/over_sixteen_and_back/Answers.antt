@@ -4,7 +4,7 @@ use Rattle.ark_math.specs.Root.{Adicity}
 use Rattle.ark_math.specs.Domain.{radix2}
 use Rattle.ark_math.specs.Cost.{forward, inverse, GoesBy}
 use Rattle.ark_math.proofs.Domains.Sizes.{log_of_power}
-use Rattle.ark_base.proofs.Cost.{grown}
+use Rattle.ark_fft.proofs.Cost.{grown}
 use Rattle.examples.proofs.cost.over_sixteen_and_back.Goals as goal
 
 -- two levels of eight butterflies for four items

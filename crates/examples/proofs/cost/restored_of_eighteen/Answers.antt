@@ -5,9 +5,9 @@ use Rattle.std.proofs.Math.Pow.{pow_mono}
 use Rattle.ark_math.specs.Root.{Adicity, IsAdicity, IsSupported, Splits, adicity_of, greatest_size}
 use Rattle.ark_math.specs.Domain.{radix2, mixed_radix, Domain, IsSize, IsGeneral}
 use Rattle.ark_math.specs.Cost.{Counts, GoesBy, inverse}
-use Rattle.ark_math.proofs.Domains.Costs.{one_cost}
-use Rattle.ark_math.proofs.Domains.GeneralSizes.{one_general_size}
-use Rattle.ark_math.proofs.Roots.Roots.{divisor_from_supported}
+use Rattle.ark_math_transforms.proofs.Domains.Costs.{one_cost}
+use Rattle.ark_math_transforms.proofs.Domains.GeneralSizes.{one_general_size}
+use Rattle.ark_base.specs.RootLaws.{divisor_from_supported}
 use Rattle.rs_code.specs.Cost.{GrowsWithin}
 use Rattle.examples.proofs.cost.restored_of_eighteen.Goals as goal
 

@@ -3,8 +3,8 @@ use Rattle.std.proofs.Math.Nat.{mul-div_cancel, mul-mod_left}
 use Rattle.ark_math.specs.Domain.{radix2}
 use Rattle.ark_math.specs.Transform.{transform}
 use Rattle.ark_fft.specs.Coset.{coset_domain}
-use Rattle.ark_parts.specs.Parts.{across, column, of_row, row}
-use Rattle.ark_parts.proofs.Matrices.{across_columns}
+use Rattle.ark_fft_parts.specs.Parts.{across, column, of_row, row}
+use Rattle.ark_fft_parts.proofs.Matrices.{across_columns}
 use Rattle.examples.proofs.in_parts.transformed_in_parts.Goals as goal
 
 pub rows-requires-clause-whole : goal.rows-requires-clause-whole

@@ -1,6 +1,6 @@
 use Rattle.std.proofs.Common.{sym, subst}
 use Rattle.std.proofs.lemmas.Result.{IfOk-weaker}
-use Rattle.ark_math.specs.Points.{AreValues}
+use Rattle.ark_math_domains.specs.Points.{AreValues}
 use Rattle.ark_math.specs.Univariate.{IsBelow, IsValue}
 use Rattle.examples.proofs.interpolation.interpolated_value.Goals as goal
 

@@ -2,7 +2,7 @@ use Rattle.std.proofs.Common.{None, refl}
 use Rattle.ark_math.specs.Root.{adicity_of}
 use Rattle.ark_math.specs.Domain.{radix2, IsRadix2}
 use Rattle.ark_math.proofs.Domains.Sizes.{one_radix2_size}
-use Rattle.ark_math.proofs.Callers.Sizes.{size_of_kind-some, compute_size_of_domain-Some}
+use Rattle.ark_math_transforms.proofs.Callers.Sizes.{size_of_kind-some, compute_size_of_domain-Some}
 use Rattle.examples.proofs.large_field.size_for_a_hundred_million.Goals as goal
 
 pub returns : goal.returns

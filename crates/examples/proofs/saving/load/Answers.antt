@@ -1,8 +1,8 @@
 use Rattle.std.proofs.Common.{ℕ, Ok, ap, ◌∙◌}
 use Rattle.ark_base.specs.declared.Compress.TheVariants.{Yes}
-use Rattle.ark_math.specs.Layouts.{dense}
-use Rattle.ark_math.proofs.Callers.Bytes.{only_spelled}
-use Rattle.ark_math.proofs.Formats.Polynomials.{dense_is_format, dense_tells}
+use Rattle.ark_univariate.specs.Layouts.{dense}
+use Rattle.ark_math_formats.proofs.Callers.Bytes.{only_spelled}
+use Rattle.ark_univariate.specs.LayoutLaws.{dense_is_format, dense_tells}
 use Rattle.ark_base.proofs.ReadBack.{reads_back}
 use Rattle.examples.proofs.saving.load.Goals as goal
 

@@ -1,7 +1,7 @@
 use Rattle.ark_base.specs.declared.Compress.TheVariants.{Yes}
-use Rattle.ark_math.specs.Layouts.{dense}
-use Rattle.ark_math.proofs.Callers.Bytes.{only_spelled}
-use Rattle.ark_math.proofs.Formats.Polynomials.{dense_tells}
+use Rattle.ark_univariate.specs.Layouts.{dense}
+use Rattle.ark_math_formats.proofs.Callers.Bytes.{only_spelled}
+use Rattle.ark_univariate.specs.LayoutLaws.{dense_tells}
 use Rattle.examples.proofs.saving.saved_and_loaded.Goals as goal
 
 -- no two polynomials have one spelling, since no two elements have

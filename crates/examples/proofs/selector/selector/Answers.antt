@@ -1,8 +1,8 @@
 use Rattle.std.proofs.Common.{◌≡◌, [], ◌∷◌, ◌++◌, ap, ◌∙◌}
 use Rattle.std.proofs.lemmas.Result.{IfOk-weaker}
-use Rattle.ark_math.specs.Multilinear.{extension, weight, written}
+use Rattle.ark_math_variables.specs.Multilinear.{extension, weight, written}
 use Rattle.ark_math.proofs.Algebra.Groups.{one_times}
-use Rattle.ark_math.proofs.Polynomials.Tables.{extension-entry}
+use Rattle.ark_math_variables.proofs.Polynomials.Tables.{extension-entry}
 use Rattle.examples.proofs.selector.selector.Goals as goal
 
 pub returns-clause-value : goal.returns-clause-value

@@ -1,6 +1,6 @@
 use Rattle.std.proofs.Common.{◌≡◌, suc, ◌-◌, ◌^◌, ◌∙◌, sym, ap, ap₂, arith}
 use Rattle.ark_math.specs.Module.{itself, sum_below}
-use Rattle.ark_math.proofs.Polynomials.Multilinear.{cube_sum}
+use Rattle.ark_math_variables.proofs.Polynomials.Multilinear.{cube_sum}
 use Rattle.examples.specs.SumCheck.{sum_of_others}
 use Rattle.examples.proofs.sum_check.first_round.Goals as goal
 

@@ -1,6 +1,6 @@
 use Rattle.std.proofs.Common.{◌≡◌, ◌-◌, ◌^◌, ◌∙◌, sym, ap, ap₂}
 use Rattle.ark_math.specs.Field.{minus}
-use Rattle.ark_math.proofs.Polynomials.Multilinear.{cube_sum-affine}
+use Rattle.ark_math_variables.proofs.Polynomials.Multilinear.{cube_sum-affine}
 use Rattle.examples.proofs.sum_check.next_claim.Goals as goal
 
 pub returns : goal.returns

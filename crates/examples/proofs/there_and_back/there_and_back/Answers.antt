@@ -1,6 +1,6 @@
 use Rattle.std.proofs.Common.{◌∙◌, sym}
-use Rattle.ark_math.proofs.Callers.Transforms.{ifft_of_fft, inverse-meanings, same_from_meanings}
-use Rattle.ark_math.proofs.Transforms.Carried.{same_carries, meaning_linear, fit-linear}
+use Rattle.ark_math_domains.proofs.Callers.Transforms.{ifft_of_fft, inverse-meanings, same_from_meanings}
+use Rattle.ark_math_transforms.proofs.Transforms.Carried.{same_carries, meaning_linear, fit-linear}
 use Rattle.examples.proofs.there_and_back.there_and_back.Goals as goal
 
 -- lists of elements are equal where their meanings are

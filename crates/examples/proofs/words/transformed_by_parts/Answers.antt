@@ -4,8 +4,8 @@ use Rattle.ark_math.specs.Module.{itself}
 use Rattle.ark_math.specs.Words.{number_of_words}
 use Rattle.ark_numbers.specs.Fields.{operations}
 use Rattle.ark_numbers.specs.Answers.{AreValues}
-use Rattle.ark_parts.specs.Parts.{across, column, row}
-use Rattle.ark_parts.proofs.Matrices.{across_columns}
+use Rattle.ark_fft_parts.specs.Parts.{across, column, row}
+use Rattle.ark_fft_parts.proofs.Matrices.{across_columns}
 use Rattle.ark_words.specs.Numbers.{numbers}
 use Rattle.ark_words.specs.Parts.{column_at, row_at, of_column, of_row, AreColumns, AreRows}
 use Rattle.examples.proofs.words.transformed_by_parts.Goals as goal

@@ -1,5 +1,5 @@
 use Rattle.std.proofs.Common.{ap, sym, ◌∙◌, inl, inr, refl}
-use Rattle.ark_math.specs.Multilinear.{extension}
+use Rattle.ark_math_variables.specs.Multilinear.{extension}
 use Rattle.polyrun_lib.specs.Commands.{extension_of}
 use Rattle.ark_numbers.proofs.Values.{number_field, shown_field, as_many}
 use Rattle.polyrun_lib.proofs.Values.{outcome_line, outcome_error, gives_extension}

@@ -1,5 +1,5 @@
 use Rattle.std.proofs.Common.{inl, inr, refl}
-use Rattle.ark_math.proofs.Polynomials.UnivariateValues.{value_of_list}
+use Rattle.ark_math_polynomials.proofs.Polynomials.UnivariateValues.{value_of_list}
 use Rattle.polyrun_lib.specs.Commands.{value_of}
 use Rattle.ark_numbers.proofs.Values.{number_field, shown_field}
 use Rattle.polyrun_lib.proofs.Values.{outcome_line, outcome_error, gives_value}

@@ -1,6 +1,6 @@
 use Rattle.std.proofs.Common.{◌-◌, ◌<◌, ◌≤◌, ⊎_elim, arith, subst}
 use Rattle.std.proofs.lemmas.Bool.{cases_lt}
-use Rattle.ark_math.proofs.Domains.LawfulDomains.{lawful_domain, order}
+use Rattle.ark_math_domains.proofs.Domains.LawfulDomains.{lawful_domain, order}
 use Rattle.rs_code.specs.Code.{IsCode}
 use Rattle.rs_code.specs.Codeword.{mark_count}
 use Rattle.rs_code.proofs.Distance.{one_codeword}

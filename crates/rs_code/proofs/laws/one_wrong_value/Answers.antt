@@ -1,5 +1,5 @@
 use Rattle.std.proofs.Common.{subst}
-use Rattle.ark_math.proofs.Domains.LawfulDomains.{lawful_domain, order}
+use Rattle.ark_math_domains.proofs.Domains.LawfulDomains.{lawful_domain, order}
 use Rattle.rs_code.specs.Code.{IsCode}
 use Rattle.rs_code.proofs.Distance.{wrong_value}
 use Rattle.rs_code.proofs.laws.one_wrong_value.Goals as goal

@@ -1,11 +1,12 @@
 use Rattle.std.proofs.Common.{◌≡◌, ◌≤◌, length, subst, ap, sym, ◌∙◌, arith}
 use Rattle.ark_math.specs.Module.{itself}
 use Rattle.ark_math.specs.Univariate.{of_list}
-use Rattle.ark_math.specs.Points.{AreValues, IsPlaceQuotient}
+use Rattle.ark_math_domains.specs.Points.{AreValues}
+use Rattle.ark_math.specs.Field.{IsPlaceQuotient}
 use Rattle.ark_math.proofs.Lists.Lists.{written_back}
-use Rattle.ark_math.proofs.Callers.Transforms.{values_of_fft}
-use Rattle.ark_math.proofs.Domains.LawfulDomains.{lawful_domain, order}
-use Rattle.ark_math.specs.Nodes.{nodes}
+use Rattle.ark_math_domains.proofs.Callers.Transforms.{values_of_fft}
+use Rattle.ark_math_domains.proofs.Domains.LawfulDomains.{lawful_domain, order}
+use Rattle.ark_math_polynomials.specs.Nodes.{nodes}
 use Rattle.rs_code.specs.Locator.{AreFactors, euler, lost}
 use Rattle.rs_code.proofs.Lost.{lost-length}
 use Rattle.rs_code.proofs.Sizes.{nodes_length}

@@ -3,7 +3,7 @@ use Rattle.ark_math.specs.Field.{natural}
 use Rattle.ark_math.specs.Domain.{element}
 use Rattle.ark_math.specs.Univariate.{of_list}
 use Rattle.ark_math.proofs.Lists.Lists.{written_back}
-use Rattle.ark_math.proofs.Domains.LawfulDomains.{lawful_domain, order}
+use Rattle.ark_math_domains.proofs.Domains.LawfulDomains.{lawful_domain, order}
 use Rattle.rs_code.specs.Locator.{IsFactor, lost}
 use Rattle.rs_code.specs.Turns.{AreSorted, AreWithin}
 use Rattle.rs_code.proofs.turns.TableOrder.{four_below, quarter_of}

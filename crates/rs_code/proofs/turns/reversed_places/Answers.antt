@@ -1,7 +1,7 @@
 use Rattle.std.proofs.Common.{◌≡◌, ◌+◌, ◌*◌, ◌/◌, ◌%◌, ◌<◌, ◌++◌, [], ◌∷◌, get_or, length, sym, ◌∙◌, ap, ap₂, arith, below_more}
 use Rattle.std.proofs.lemmas.List.{get_or_append_left, get_or_push, get_or_read, length-append}
-use Rattle.ark_math.specs.BitReversal.{reversed}
-use Rattle.ark_math.proofs.Numbers.BitReversal.{reversed_below, reversed_none}
+use Rattle.ark_math_transforms.specs.BitReversal.{reversed}
+use Rattle.ark_math_transforms.proofs.Numbers.BitReversal.{reversed_below, reversed_none}
 use Rattle.rs_code.proofs.turns.TableOrder.{reversed_next}
 use Rattle.rs_code.proofs.turns.reversed_places.Goals as goal
 use Rattle.rs_code.proofs.turns.reversed_places.Goals.{then-i-eq0, else-i-eq0}

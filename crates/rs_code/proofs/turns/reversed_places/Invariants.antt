@@ -1,5 +1,5 @@
 use Rattle.std.proofs.Common.{◌≡◌, ℕ, ◌^◌, ◌<◌, get_or, length}
-use Rattle.ark_math.specs.BitReversal.{reversed}
+use Rattle.ark_math_transforms.specs.BitReversal.{reversed}
 use Rattle.rs_code.proofs.turns.reversed_places.Given as goal
 
 abbrev pub invariant-loop-i : goal.invariant-loop-i

@@ -1,5 +1,5 @@
 use Rattle.std.proofs.Common.{◌≡◌, suc, ◌∙◌, ap, ap₂, arith}
-use Rattle.ark_blocks.specs.Blocks.{element_of}
+use Rattle.ark_bit_reversed.specs.Blocks.{element_of}
 use Rattle.ark_math.proofs.Numbers.PowersOfTwo.{pow_twice}
 use Rattle.rs_code.specs.Locator.{locator_at}
 use Rattle.rs_code.proofs.turns.values_of.Goals as goal

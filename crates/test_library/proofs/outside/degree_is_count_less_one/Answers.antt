@@ -1,7 +1,7 @@
 use Rattle.std.proofs.Common.{◌≡◌, ◌-◌, length, subst, sym, ap, ◌∙◌}
 use Rattle.std.specs.Cmp.{unsigned_Decides}
 use Rattle.ark_math.specs.Univariate.{IsDegree, of_list}
-use Rattle.ark_math.proofs.Polynomials.UnivariateLists.{trimmed_degree_is}
+use Rattle.ark_math_polynomials.proofs.Polynomials.UnivariateLists.{trimmed_degree_is}
 use Rattle.test_library.proofs.outside.degree_is_count_less_one.Goals as goal
 
 pub returns : goal.returns

@@ -2,7 +2,7 @@ use Rattle.std.proofs.Common.{◌≡◌, ◌-◌, ◌/◌, ◌%◌, ap, sym, ref
 use Rattle.std.proofs.lemmas.Bool.{false≢true}
 use Rattle.ark_math.specs.Field.{power, natural}
 use Rattle.ark_math.specs.Root.{greatest_size}
-use Rattle.ark_math.proofs.Roots.Roots.{supported_from_divisor, divisor_from_supported}
+use Rattle.ark_base.specs.RootLaws.{supported_from_divisor, divisor_from_supported}
 use Rattle.ark_base.specs.Element.{prime_field, generator_of, adicity}
 use Rattle.ark_base.specs.ElementLaws.{prime_roots}
 use Rattle.ark_base.proofs.prime_field.PrimeFieldFftField.get_root_of_unity.Goals as goal

@@ -1,5 +1,5 @@
 use Rattle.std.proofs.Common.{◌/◌, ap, pos_of_ne-zero, refl}
-use Rattle.ark_math.proofs.Numbers.Euclid.{euclid_starts, euclid_steps, euclid_ends}
+use Rattle.ark_base.specs.Euclid.{euclid_starts, euclid_steps, euclid_ends}
 use Rattle.ark_base.specs.Element.{same_from_value}
 use Rattle.ark_base.proofs.Element.{next_factor}
 use Rattle.ark_base.proofs.prime_field.PrimeFieldField.inverse.Goals as goal

@@ -1,4 +1,4 @@
-use Rattle.ark_math.proofs.Numbers.Euclid.{Euclid}
+use Rattle.ark_base.specs.Euclid.{Euclid}
 use Rattle.ark_base.proofs.prime_field.PrimeFieldField.inverse.Given as goal
 
 abbrev pub invariant-divide : goal.invariant-divide

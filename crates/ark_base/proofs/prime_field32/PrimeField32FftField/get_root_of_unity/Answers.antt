@@ -2,7 +2,7 @@ use Rattle.std.proofs.Common.{◌≡◌, ◌-◌, ◌/◌, ◌%◌, ap, sym, ref
 use Rattle.std.proofs.lemmas.Bool.{false≢true}
 use Rattle.ark_math.specs.Field.{power, natural}
 use Rattle.ark_math.specs.Root.{greatest_size}
-use Rattle.ark_math.proofs.Roots.Roots.{supported_from_divisor, divisor_from_supported}
+use Rattle.ark_base.specs.RootLaws.{supported_from_divisor, divisor_from_supported}
 use Rattle.ark_base.specs.Element32.{adicity, numbering, field_of}
 use Rattle.ark_base.specs.Residues.{generator_of}
 use Rattle.ark_base.specs.ResiduesLaws.{residue_roots}

@@ -1,4 +1,4 @@
-use Rattle.ark_math.specs.Format.{list}
+use Rattle.ark_math_formats.specs.Format.{list}
 use Rattle.ark_bytes.proofs.Reading.{reads_fields}
 use Rattle.ark_bytes.proofs.lists.VecCanonicalDeserialize.deserialize_with_mode.Goals as goal
 

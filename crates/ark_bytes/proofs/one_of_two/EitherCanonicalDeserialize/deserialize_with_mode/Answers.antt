@@ -1,6 +1,6 @@
 use Rattle.std.proofs.Common.{◌⊎◌, inl, inr}
 use Rattle.std.proofs.lemmas.Result.{err_from_is_err_and}
-use Rattle.ark_math.specs.Format.{either}
+use Rattle.ark_math_formats.specs.Format.{either}
 use Rattle.ark_bytes.specs.Either.{sum_of}
 use Rattle.ark_bytes.proofs.Reading.{refused_fields, refused_tag, refused_left, refused_right, refused_weaker, same_number}
 use Rattle.ark_bytes.proofs.one_of_two.EitherCanonicalDeserialize.deserialize_with_mode.Goals as goal

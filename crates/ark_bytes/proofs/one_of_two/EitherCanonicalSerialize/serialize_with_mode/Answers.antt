@@ -1,6 +1,6 @@
 use Rattle.std.proofs.Common.{[], ◌∷◌}
 use Rattle.std.proofs.lemmas.Result.{err_from_is_err_and}
-use Rattle.ark_math.specs.Format.{either}
+use Rattle.ark_math_formats.specs.Format.{either}
 use Rattle.ark_bytes.specs.Either.{sum_of}
 use Rattle.ark_bytes.specs.declared.one_of_two.Either.TheVariants.{First, Second}
 use Rattle.ark_bytes.proofs.Writing.{stops_before, write_fields, write_left, write_right}

@@ -1,6 +1,6 @@
 use Rattle.std.proofs.Common.{◌⊎◌, inl, inr}
 use Rattle.std.proofs.lemmas.Result.{err_from_is_err_and}
-use Rattle.ark_math.specs.Format.{◌⊗◌}
+use Rattle.ark_math_formats.specs.Format.{◌⊗◌}
 use Rattle.ark_bytes.proofs.Reading.{refused_first, refused_second, refused_weaker}
 use Rattle.ark_bytes.proofs.pairs.Tuple2CanonicalDeserialize.deserialize_with_mode.Goals as goal
 

@@ -1,5 +1,5 @@
 use Rattle.std.proofs.Common.{sym, ◌∙◌}
-use Rattle.ark_math.proofs.Domains.Exponents.{size_not_zero, few_twos, base_above_one, splits_with_base, splits_without_base}
+use Rattle.ark_math_transforms.proofs.Domains.Exponents.{size_not_zero, few_twos, base_above_one, splits_with_base, splits_without_base}
 use Rattle.ark_fft.proofs.domain.coset.exponents.Goals as goal
 
 pub overflow_shr-size : goal.overflow_shr-size

@@ -5,7 +5,7 @@ use Rattle.ark_math.specs.Module.{item}
 use Rattle.ark_math.proofs.Lists.Lists.{read_at, written_more, written_rest}
 use Rattle.ark_math.proofs.Algebra.Solve.{◌⊗◌}
 use Rattle.ark_math.proofs.Algebra.Ring.{ring3}
-use Rattle.ark_traits.proofs.Cost.{none_grown, grows_twice}
+use Rattle.ark_fft.proofs.Cost.{none_grown, grows_twice}
 use Rattle.ark_fft.proofs.Counts.{ended, none_yet, itself}
 use Rattle.ark_fft.proofs.Radix2.{scaled_by_one}
 use Rattle.ark_fft.proofs.domain.scaling.scale_by_powers.Goals as goal

@@ -1,7 +1,7 @@
 use Rattle.std.proofs.Common.{refl, ◌<◌, ℕ, map, length, ap, sym, subst, ◌∙◌}
 use Rattle.ark_math.specs.Module.{item}
 use Rattle.ark_math.proofs.Lists.Lists.{read_at, written_more, written_rest}
-use Rattle.ark_traits.proofs.Cost.{none_grown, grows_twice}
+use Rattle.ark_fft.proofs.Cost.{none_grown, grows_twice}
 use Rattle.ark_fft.proofs.Counts.{itself, ended, none_yet}
 use borrow.Author.Rules.{scaled_Fits}
 use borrow.Author.Count.{falls}

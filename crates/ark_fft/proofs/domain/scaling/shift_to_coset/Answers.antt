@@ -1,8 +1,8 @@
 use Rattle.std.proofs.Common.{◌≡◌, true, length, map, sym, ◌∙◌, refl, arith}
 use Rattle.ark_math.specs.Domain.{radix2}
 use Rattle.ark_math.specs.Module.{item}
-use Rattle.ark_math.proofs.Transforms.Transforms.{unshifted}
-use Rattle.ark_traits.proofs.Cost.{none_grown}
+use Rattle.ark_math_transforms.proofs.Transforms.Transforms.{unshifted}
+use Rattle.ark_fft.proofs.Cost.{none_grown}
 use Rattle.ark_fft.proofs.Counts.{itself, least}
 use Rattle.ark_fft.proofs.domain.scaling.shift_to_coset.Goals as goal
 

@@ -3,9 +3,9 @@ use Rattle.std.specs.List.{All, Any}
 use Rattle.std.proofs.Math.Nat.{le-max_left, le-max_right, max-le}
 use Rattle.std.proofs.lemmas.Bool.{cases_lt}
 use Rattle.std.proofs.lemmas.List.{take_all}
-use Rattle.ark_math.specs.Term.{total_degree}
+use Rattle.ark_math_variables.specs.Term.{total_degree}
 use Rattle.ark_multi.proofs.SortedTerms.{term_order, bounded_next, reached_next}
-use Rattle.ark_math.proofs.Polynomials.TermLists.{strict_order, sorted_degree}
+use Rattle.ark_multi.specs.TermLists.{strict_order, sorted_degree}
 use Rattle.ark_multi.proofs.multivariate.merging.degree_of_terms.Goals as goal
 
 pub loop-term-preserved : goal.loop-term-preserved

@@ -1,6 +1,6 @@
 use Rattle.std.proofs.Common.{◌≡◌, ◌≤◌, ◌<◌, take}
 use Rattle.std.specs.List.{All, Any}
-use Rattle.ark_math.specs.Term.{total_degree}
+use Rattle.ark_math_variables.specs.Term.{total_degree}
 use Rattle.ark_multi.proofs.multivariate.merging.degree_of_terms.Given as goal
 
 abbrev pub invariant-loop-term : goal.invariant-loop-term

@@ -1,7 +1,7 @@
 use Rattle.std.proofs.Common.{rules, [], sym, subst, arith}
-use Rattle.ark_math.specs.Multivariate.{of_listed}
+use Rattle.ark_math_variables.specs.Multivariate.{of_listed}
 use Rattle.ark_multi.proofs.SortedTerms.{IsGathering, term_order, falling_from_sort_by, gathering_start, gathering_upto, gathering_next, gathering_end}
-use Rattle.ark_math.proofs.Polynomials.TermLists.{keyed-permutation}
+use Rattle.ark_multi.specs.TermLists.{keyed-permutation}
 use Rattle.ark_multi.proofs.multivariate.merging.gathered_terms.Goals as goal
 
 pub loop-next-init : goal.loop-next-init

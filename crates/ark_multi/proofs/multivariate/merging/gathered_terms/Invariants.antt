@@ -1,5 +1,5 @@
 use Rattle.std.proofs.Common.{length}
-use Rattle.ark_math.specs.Multivariate.{of_listed}
+use Rattle.ark_math_variables.specs.Multivariate.{of_listed}
 use Rattle.ark_multi.proofs.SortedTerms.{IsGathering, term_order}
 use Rattle.ark_multi.proofs.multivariate.merging.gathered_terms.Given as goal
 

@@ -1,8 +1,8 @@
 use Rattle.std.proofs.Common.{◌≢◌, sym, subst, ap, ◌∙◌}
 use Rattle.std.specs.List.{All}
 use Rattle.std.specs.declared.cmp.Ordering.TheVariants.{Greater}
-use Rattle.ark_math.specs.Multivariate.{of_listed}
-use Rattle.ark_math.proofs.Polynomials.TermLists.{keyed-push}
+use Rattle.ark_math_variables.specs.Multivariate.{of_listed}
+use Rattle.ark_multi.specs.TermLists.{keyed-push}
 use Rattle.ark_multi.proofs.SortedTerms.{term_order, pushed_upto}
 use Rattle.ark_multi.proofs.multivariate.merging.push_term.Goals as goal
 

@@ -1,5 +1,5 @@
 use Rattle.std.proofs.Common.{length, ◌+◌}
-use Rattle.ark_math.specs.Multivariate.{of_listed}
+use Rattle.ark_math_variables.specs.Multivariate.{of_listed}
 use Rattle.ark_math.specs.Univariate.{added, scaled}
 use Rattle.ark_coeffs.specs.Multiples.{factor_of}
 use Rattle.ark_multi.proofs.SortedTerms.{IsLeft, term_order}

@@ -1,6 +1,6 @@
 use Rattle.std.proofs.Common.{◌≡◌, take}
-use Rattle.ark_math.specs.Multivariate.{sum_at}
-use Rattle.ark_math.proofs.Polynomials.TermLists.{keyed}
+use Rattle.ark_math_variables.specs.Multivariate.{sum_at}
+use Rattle.ark_multi.specs.TermLists.{keyed}
 use Rattle.ark_multi.proofs.multivariate.merging.value_of_terms.Given as goal
 
 abbrev pub invariant-loop-term : goal.invariant-loop-term

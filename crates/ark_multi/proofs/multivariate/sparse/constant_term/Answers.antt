@@ -1,7 +1,7 @@
 use Rattle.std.proofs.Common.{[], ap, ◌∙◌}
-use Rattle.ark_math.specs.Term.{power_of}
+use Rattle.ark_math_variables.specs.Term.{power_of}
 use Rattle.ark_math.proofs.Outcomes.Results.{IfOk_both}
-use Rattle.ark_math.proofs.Polynomials.Terms.{IsTerm-nil, same_powers}
+use Rattle.ark_math_variables.proofs.Polynomials.Terms.{IsTerm-nil, same_powers}
 use Rattle.ark_multi.proofs.multivariate.sparse.constant_term.Goals as goal
 
 pub returns-clause-term : goal.returns-clause-term

@@ -1,8 +1,8 @@
 use Rattle.std.proofs.Common.{[], ◌∷◌, ap, ◌∙◌}
-use Rattle.ark_math.specs.Term.{power_of}
+use Rattle.ark_math_variables.specs.Term.{power_of}
 use Rattle.ark_math.proofs.Outcomes.Results.{IfOk_both}
 use Rattle.ark_multi.proofs.SortedTerms.{one_power-IsTerm}
-use Rattle.ark_math.proofs.Polynomials.Terms.{same_powers}
+use Rattle.ark_math_variables.proofs.Polynomials.Terms.{same_powers}
 use Rattle.ark_multi.proofs.multivariate.sparse.power_of_variable.Goals as goal
 
 pub returns-clause-term : goal.returns-clause-term

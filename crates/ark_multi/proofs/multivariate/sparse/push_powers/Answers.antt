@@ -1,7 +1,7 @@
 use Rattle.std.proofs.Common.{◌≤◌, sym, subst, inr, arith}
 use Rattle.std.specs.List.{All}
 use Rattle.std.proofs.lemmas.List.Elements.{All-push}
-use Rattle.ark_math.specs.Term.{IsOnePower, IsWithin}
+use Rattle.ark_math_variables.specs.Term.{IsOnePower, IsWithin}
 use Rattle.ark_multi.proofs.SortedTerms.{one_power-within}
 use Rattle.ark_multi.proofs.multivariate.sparse.push_powers.Goals as goal
 

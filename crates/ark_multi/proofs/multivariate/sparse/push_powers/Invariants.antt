@@ -1,6 +1,6 @@
 use Rattle.std.proofs.Common.{ℕ, ◌<◌}
 use Rattle.std.specs.List.{All}
-use Rattle.ark_math.specs.Term.{IsOnePower, IsWithin}
+use Rattle.ark_math_variables.specs.Term.{IsOnePower, IsWithin}
 use Rattle.ark_multi.proofs.multivariate.sparse.push_powers.Given as goal
 
 abbrev pub invariant-loop-power : goal.invariant-loop-power

@@ -1,7 +1,7 @@
 use Rattle.std.proofs.Common.{◌≡◌, Decides, sym, subst}
 use Rattle.ark_math.specs.Univariate.{nothing}
-use Rattle.ark_math.proofs.Polynomials.UnivariateLists.{trimmed_none_Decides}
-use Rattle.ark_math.proofs.Polynomials.UnivariatePairs.{sparse_none_Decides}
+use Rattle.ark_math_polynomials.proofs.Polynomials.UnivariateLists.{trimmed_none_Decides}
+use Rattle.ark_math_polynomials.proofs.Polynomials.UnivariatePairs.{sparse_none_Decides}
 use Rattle.ark_quotients.specs.Divisors.{IsKept, denoted}
 use Rattle.ark_quotients.proofs.division.Coefficients.is_zero.Goals as goal
 

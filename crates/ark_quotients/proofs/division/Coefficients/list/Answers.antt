@@ -1,5 +1,5 @@
 use Rattle.std.proofs.Common.{subst}
-use Rattle.ark_math.proofs.Polynomials.UnivariateLists.{trimmed_length}
+use Rattle.ark_math_polynomials.proofs.Polynomials.UnivariateLists.{trimmed_length}
 use Rattle.ark_quotients.specs.Divisors.{IsKept}
 use Rattle.ark_quotients.proofs.division.Coefficients.list.Goals as goal
 

@@ -1,7 +1,7 @@
 use Rattle.std.proofs.Common.{◌≡◌, ◌<◌, ◌≤◌, ◌+◌, ◌-◌, length, subst, ap, ◌∙◌, arith}
 use Rattle.std.proofs.lemmas.List.{get_or_read}
 use Rattle.ark_math.specs.Univariate.{of_list}
-use Rattle.ark_math.proofs.Polynomials.LongDivision.{IsDivided, divided-none, divided-set, divided_list, leading_taken}
+use Rattle.ark_quotients.proofs.LongDivision.{IsDivided, divided-none, divided-set, divided_list, leading_taken}
 use Rattle.ark_quotients.specs.Divisors.{denoted}
 use Rattle.ark_quotients.proofs.Divisors.{denoted-below}
 use Rattle.ark_quotients.proofs.division.Divisor.divide.Goals as goal

@@ -1,6 +1,6 @@
 use Rattle.std.proofs.Common.{ℕ}
 use Rattle.ark_math.specs.Univariate.{of_list}
-use Rattle.ark_math.proofs.Polynomials.LongDivision.{IsDivided}
+use Rattle.ark_quotients.proofs.LongDivision.{IsDivided}
 use Rattle.ark_quotients.specs.Divisors.{Divides}
 use Rattle.ark_quotients.proofs.division.Divisor.divide.Given as goal
 

@@ -1,6 +1,6 @@
 use Rattle.std.proofs.Common.{length, ap, arith}
 use Rattle.std.proofs.lemmas.Bool.{true≢false}
-use Rattle.ark_math.proofs.Polynomials.UnivariateLists.{trimmed_nothing}
+use Rattle.ark_math_polynomials.proofs.Polynomials.UnivariateLists.{trimmed_nothing}
 use Rattle.ark_quotients.proofs.division.Divisor.of_list.Goals as goal
 
 pub returns-clause-none : goal.returns-clause-none

@@ -1,7 +1,7 @@
 use Rattle.std.proofs.Common.{length, sym, subst, ap, ◌∙◌, arith}
 use Rattle.std.proofs.lemmas.Bool.{true≢false}
 use Rattle.ark_math.specs.Univariate.{IsSparse, of_pairs}
-use Rattle.ark_math.proofs.Polynomials.UnivariatePairs.{before_last, last_coefficient, without_last, past_last, sparse_nothing}
+use Rattle.ark_math_polynomials.proofs.Polynomials.UnivariatePairs.{before_last, last_coefficient, without_last, past_last, sparse_nothing}
 use Rattle.ark_quotients.proofs.division.Divisor.of_terms.Goals as goal
 
 pub returns-clause-some : goal.returns-clause-some

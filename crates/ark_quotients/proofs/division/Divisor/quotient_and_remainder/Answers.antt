@@ -2,7 +2,7 @@ use Rattle.std.proofs.Common.{◌≡◌, ◌≤◌, ◌++◌, length, take, drop
 use Rattle.std.proofs.lemmas.List.{take_min, drop_min, length-take}
 use Rattle.ark_math.specs.Univariate.{of_list, added, product}
 use Rattle.ark_math.proofs.Lists.Lists.{written_back}
-use Rattle.ark_math.proofs.Polynomials.LongDivision.{divided_quotient}
+use Rattle.ark_quotients.proofs.LongDivision.{divided_quotient}
 use Rattle.ark_quotients.proofs.division.Divisor.quotient_and_remainder.Goals as goal
 
 pub returns : goal.returns

@@ -1,9 +1,9 @@
 use Rattle.std.proofs.Common.{rules, ℕ, ◌≡◌, ◌/◌, ◌++◌, List, length, take, drop, sym, ap, ap₂, subst, subst₂, ◌∙◌, arith, IfOk, IfSome}
 use Rattle.std.proofs.lemmas.List.{length-drop, length-take-le, take-append-drop}
 use Rattle.std.proofs.lemmas.Result.{IfOk-weaker}
-use Rattle.ark_blocks.specs.Blocks.{AreFirstValues}
+use Rattle.ark_bit_reversed.specs.Blocks.{AreFirstValues}
 use Rattle.ark_math.specs.Univariate.{of_list}
-use Rattle.ark_math.specs.Nodes.{nodes}
+use Rattle.ark_math_polynomials.specs.Nodes.{nodes}
 use Rattle.ark_subproducts.specs.Tree.{AreFactors, weighed}
 use Rattle.ark_subproducts.specs.declared.blocks.Factors.{Factors}
 use Rattle.ark_subproducts.proofs.BlockWeighed.{AreWeighedParts, weighed_by_parts}

@@ -1,7 +1,7 @@
 use Rattle.std.proofs.Common.{rules, arith, ap, ◌/◌, IfSome, length, take, drop}
 use Rattle.std.proofs.lemmas.List.{length-drop, length-take-le}
-use Rattle.ark_blocks.specs.Blocks.{AreFirstValues}
-use Rattle.ark_math.specs.Nodes.{nodes}
+use Rattle.ark_bit_reversed.specs.Blocks.{AreFirstValues}
+use Rattle.ark_math_polynomials.specs.Nodes.{nodes}
 use Rattle.ark_subproducts.specs.Tree.{IsBlockTreeOver}
 use Rattle.ark_subproducts.proofs.MiddleProducts.{from_half}
 use Rattle.ark_subproducts.proofs.blocks.BlockTree+F.+with_values.Goals as goal

@@ -2,7 +2,7 @@ use Rattle.std.proofs.Common.{rules, ◌≡◌, ◌-◌, ◌/◌, ◌<◌, ◌++
 use Rattle.std.proofs.lemmas.List.{length-drop, length-take-le}
 use Rattle.std.proofs.lemmas.Result.{on_ok_weaker}
 use Rattle.ark_math.specs.Univariate.{scaled}
-use Rattle.ark_math.specs.Nodes.{nodes}
+use Rattle.ark_math_polynomials.specs.Nodes.{nodes}
 use Rattle.ark_subproducts.specs.Tree.{AreValuesOver, IsGivenTo, IsScaledRemainderBefore, IsScaledRemainder, Represents, RepresentsMultiple}
 use Rattle.ark_subproducts.proofs.PointParts.{high_part, low_part, values-joined}
 use Rattle.ark_subproducts.proofs.MiddleProducts.{half-count, half-middle, halves-joined, tree_of_half, values_of_half, values_over_half}

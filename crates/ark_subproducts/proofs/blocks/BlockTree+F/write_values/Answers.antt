@@ -1,7 +1,7 @@
 use Rattle.std.proofs.Common.{length, refl, ap, ◌∙◌, arith}
 use Rattle.std.proofs.lemmas.Result.{on_ok_weaker}
 use Rattle.ark_math.specs.Univariate.{of_list, scaled}
-use Rattle.ark_math.proofs.Polynomials.UnivariateLists.{of_list-past}
+use Rattle.ark_math_polynomials.proofs.Polynomials.UnivariateLists.{of_list-past}
 use Rattle.ark_subproducts.proofs.Multiples.{scaled-one}
 use Rattle.ark_subproducts.proofs.Nodes.{own_end}
 use Rattle.ark_subproducts.proofs.blocks.BlockTree+F.write_values.Goals as goal

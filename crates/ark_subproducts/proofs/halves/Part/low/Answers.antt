@@ -1,6 +1,6 @@
 use Rattle.std.proofs.Common.{◌/◌, length, arith}
 use Rattle.std.proofs.lemmas.List.{length-take-le}
-use Rattle.ark_blocks.proofs.Callers.PowersOfTwo.{half_is_power}
+use Rattle.ark_bit_reversed.proofs.Callers.PowersOfTwo.{half_is_power}
 use Rattle.ark_subproducts.proofs.halves.Part.low.Goals as goal
 
 pub returns-clause-part : goal.returns-clause-part

@@ -1,8 +1,8 @@
 use Rattle.std.proofs.Common.{◌≡◌, ◌+◌, length, sym, ap, ap₂, subst, ◌∙◌, arith}
-use Rattle.ark_blocks.specs.Blocks.{AreFirstValues, size_of}
-use Rattle.ark_math.specs.Nodes.{nodes}
+use Rattle.ark_bit_reversed.specs.Blocks.{AreFirstValues, size_of}
+use Rattle.ark_math_polynomials.specs.Nodes.{nodes}
 use Rattle.ark_math.specs.Univariate.{IsBelow, of_list}
-use Rattle.ark_math.proofs.Polynomials.UnivariateLists.{trimmed_length}
+use Rattle.ark_math_polynomials.proofs.Polynomials.UnivariateLists.{trimmed_length}
 use Rattle.ark_subproducts.specs.Tree.{IsHalved}
 use Rattle.ark_subproducts.proofs.Nodes.{nodes-below}
 use Rattle.ark_subproducts.proofs.TableQuotients.{values_of_whole}

@@ -1,11 +1,11 @@
 use Rattle.std.proofs.Common.{◌≡◌, length, sym, ap, subst, ◌∙◌, arith}
 use Rattle.std.proofs.lemmas.List.{length-replicate}
-use Rattle.ark_blocks.specs.Blocks.{AreFirstValues, element_of, size_of}
-use Rattle.ark_math.specs.Nodes.{nodes}
+use Rattle.ark_bit_reversed.specs.Blocks.{AreFirstValues, element_of, size_of}
+use Rattle.ark_math_polynomials.specs.Nodes.{nodes}
 use Rattle.ark_math.specs.Field.{minus}
 use Rattle.ark_math.specs.Univariate.{of_list}
 use Rattle.ark_math.proofs.Lists.Lists.{written_back}
-use Rattle.ark_math.specs.AtPoints.{HasValues}
+use Rattle.ark_math_points.specs.AtPoints.{HasValues}
 use Rattle.ark_subproducts.proofs.TableQuotients.{AreElements, AreMadeByQuotients, values_by_quotients}
 use Rattle.ark_subproducts.proofs.table.BlockTree+F.values.Goals as goal
 

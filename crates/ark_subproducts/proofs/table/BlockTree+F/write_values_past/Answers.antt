@@ -1,8 +1,8 @@
 use Rattle.std.proofs.Common.{◌≡◌, ℕ, ◌+◌, ◌-◌, ◌≤◌, length, take, drop, sym, ap, subst, subst₂, ◌∙◌, arith}
 use Rattle.std.proofs.lemmas.List.{get_or-drop, length-drop, take_all}
 use Rattle.std.proofs.lemmas.Result.{on_ok_weaker}
-use Rattle.ark_blocks.specs.Blocks.{AreFirstValues, size_of}
-use Rattle.ark_math.specs.Nodes.{nodes}
+use Rattle.ark_bit_reversed.specs.Blocks.{AreFirstValues, size_of}
+use Rattle.ark_math_polynomials.specs.Nodes.{nodes}
 use Rattle.ark_math.proofs.Lists.Lists.{written_back}
 use Rattle.ark_math.specs.Univariate.{IsBelow, of_list, product, scaled}
 use Rattle.ark_subproducts.specs.Tree.{IsScaledRemainderBefore}

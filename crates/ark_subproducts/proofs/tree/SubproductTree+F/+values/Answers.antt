@@ -1,8 +1,8 @@
 use Rattle.std.proofs.Common.{◌≡◌, ◌-◌, ◌/◌, ◌++◌, length, take, drop, sym, ap, subst, ◌∙◌, arith}
 use Rattle.std.proofs.lemmas.List.{length-drop, take_all}
 use Rattle.ark_math.specs.Univariate.{of_list}
-use Rattle.ark_math.specs.Nodes.{nodes}
-use Rattle.ark_math.specs.AtPoints.{AreValuesAt}
+use Rattle.ark_math_polynomials.specs.Nodes.{nodes}
+use Rattle.ark_math_points.specs.AtPoints.{AreValuesAt}
 use Rattle.ark_subproducts.specs.Tree.{IsTreeOver}
 use Rattle.ark_subproducts.proofs.Remainders.{values_by_halves}
 use Rattle.ark_subproducts.proofs.tree.SubproductTree+F.+values.Goals as goal

@@ -1,7 +1,7 @@
 use Rattle.std.proofs.Common.{◌≡◌, ◌-◌, ◌/◌, length, take, drop, sym, subst, ap₂, ◌∙◌, arith}
 use Rattle.std.proofs.lemmas.List.{length-drop, take_all}
 use Rattle.ark_math.specs.Univariate.{IsBelow, added, of_list, product}
-use Rattle.ark_math.specs.Nodes.{nodes}
+use Rattle.ark_math_polynomials.specs.Nodes.{nodes}
 use Rattle.ark_subproducts.specs.Tree.{IsTreeOver, weighed}
 use Rattle.ark_subproducts.proofs.Weighed.{weighed-below, weighed-halves}
 use Rattle.ark_subproducts.proofs.tree.SubproductTree+F.+weighed.Goals as goal

@@ -2,7 +2,7 @@ use Rattle.std.proofs.Common.{◌+◌, ap, sym, ◌∙◌, drop}
 use Rattle.ark_math.specs.Field.{power}
 use Rattle.ark_math.specs.Words.{number_of_words}
 use Rattle.ark_math.proofs.Algebra.Groups.{one_times}
-use Rattle.ark_math.proofs.Algebra.WordPowers.{odd_kept, even_kept, halved_within, all_bits, words_split, no_words}
+use Rattle.ark_traits.proofs.WordPowers.{odd_kept, even_kept, halved_within, all_bits, words_split, no_words}
 use Rattle.ark_traits.proofs.field.Field.pow_words.Goals.{then-left-eq1, else-left-eq1}
 use Rattle.ark_traits.proofs.field.Field.pow_words.Goals as goal
 

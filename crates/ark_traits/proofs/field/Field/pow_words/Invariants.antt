@@ -1,7 +1,7 @@
 use Rattle.std.proofs.Common.{◌≡◌, ◌+◌, ◌-◌, ◌*◌, ◌^◌, drop}
 use Rattle.ark_math.specs.Field.{power}
 use Rattle.ark_math.specs.Words.{number_of_words}
-use Rattle.ark_math.proofs.Algebra.WordPowers.{IsWithin}
+use Rattle.ark_traits.proofs.WordPowers.{IsWithin}
 use Rattle.ark_traits.proofs.field.Field.pow_words.Given as goal
 
 abbrev pub invariant-words : goal.invariant-words

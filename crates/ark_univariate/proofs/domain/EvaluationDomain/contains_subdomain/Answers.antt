@@ -1,7 +1,7 @@
 use Rattle.std.proofs.Common.{◌≡◌, ◌<◌, ◌%◌, ◌∙◌, sym, ap₂, subst}
 use Rattle.std.proofs.lemmas.Bool.{eqb-true}
 use Rattle.ark_math.specs.Field.{power}
-use Rattle.ark_math.proofs.Domains.LawfulDomains.{lawful_domain, some_size, is_contained, contained_divides, contained_power}
+use Rattle.ark_math_domains.proofs.Domains.LawfulDomains.{lawful_domain, some_size, is_contained, contained_divides, contained_power}
 use Rattle.ark_math.proofs.Outcomes.Tests.{decided}
 use Rattle.ark_univariate.proofs.domain.EvaluationDomain.contains_subdomain.Goals as goal
 

@@ -1,6 +1,6 @@
 use Rattle.std.proofs.Common.{ℕ, ◌<◌, ◌∙◌, sym, ap, ap₂, subst, refl}
 use Rattle.ark_math.specs.Field.{power}
-use Rattle.ark_math.proofs.Domains.LawfulDomains.{IsLawful, lawful_domain, one_weights, weights_of_indicator, weights_of_inverses}
+use Rattle.ark_math_domains.proofs.Domains.LawfulDomains.{IsLawful, lawful_domain, one_weights, weights_of_indicator, weights_of_inverses}
 use Rattle.ark_math.proofs.Outcomes.Results.{IfOk_both, IfOk_more}
 use Rattle.ark_univariate.proofs.domain.EvaluationDomain.evaluate_all_lagrange_coefficients.Given as given
 use Rattle.ark_univariate.proofs.domain.EvaluationDomain.evaluate_all_lagrange_coefficients.Goals as goal

@@ -2,8 +2,8 @@ use Rattle.std.proofs.Common.{◌≡◌, ◌≢◌, ◌∙◌, refl, sym, ap, ap
 use Rattle.std.proofs.lemmas.Bool.{true_from_ne_false}
 use Rattle.ark_math.specs.Field.{power, natural}
 use Rattle.ark_math.specs.Univariate.{IsValue}
-use Rattle.ark_math.proofs.Domains.Elements.{times_not_zero}
-use Rattle.ark_math.proofs.Domains.LawfulDomains.{IsLawful, lawful_domain, scale_not_zero, filter_inside, filter_elsewhere}
+use Rattle.ark_math.proofs.Algebra.NonZero.{times_not_zero}
+use Rattle.ark_math_domains.proofs.Domains.LawfulDomains.{IsLawful, lawful_domain, scale_not_zero, filter_inside, filter_elsewhere}
 use Rattle.ark_univariate.proofs.domain.EvaluationDomain.evaluate_filter_polynomial.Given as given
 use Rattle.ark_univariate.proofs.domain.EvaluationDomain.evaluate_filter_polynomial.Goals as goal
 

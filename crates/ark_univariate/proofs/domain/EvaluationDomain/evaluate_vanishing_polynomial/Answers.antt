@@ -1,9 +1,9 @@
 use Rattle.std.proofs.Common.{◌≡◌, ◌∙◌, sym, ap, ap₂, subst}
 use Rattle.ark_math.specs.Field.{power, minus}
 use Rattle.ark_math.specs.Univariate.{IsValue}
-use Rattle.ark_math.specs.Points.{vanishing}
-use Rattle.ark_math.proofs.Domains.Elements.{value-vanishing}
-use Rattle.ark_math.proofs.Domains.LawfulDomains.{lawful_domain, vanishing_zero}
+use Rattle.ark_math_domains.specs.Points.{vanishing}
+use Rattle.ark_math_domains.proofs.OverDomains.AtElements.{value-vanishing}
+use Rattle.ark_math_domains.proofs.Domains.LawfulDomains.{lawful_domain, vanishing_zero}
 use Rattle.ark_math.proofs.Outcomes.Tests.{decided}
 use Rattle.ark_univariate.proofs.domain.EvaluationDomain.evaluate_vanishing_polynomial.Goals as goal
 

@@ -1,7 +1,7 @@
 use Rattle.std.proofs.Common.{◌∙◌, ap, sym, map, take, length}
 use Rattle.std.proofs.lemmas.List.{take-map, length-map}
 use Rattle.ark_math.specs.Transform.{transform}
-use Rattle.ark_math.proofs.Domains.Domains.{transform-take}
+use Rattle.ark_math_transforms.proofs.Domains.Domains.{transform-take}
 use Rattle.ark_math.proofs.Lists.Tabulated.{length-tabulate}
 use Rattle.ark_univariate.proofs.domain.EvaluationDomain.fft.Goals as goal
 

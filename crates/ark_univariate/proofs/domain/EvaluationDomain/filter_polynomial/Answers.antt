@@ -1,7 +1,7 @@
 use Rattle.std.proofs.Common.{◌<◌, ◌%◌, ◌∙◌, refl, sym, ap, ap₂, subst, true≢false}
 use Rattle.ark_math.specs.Field.{power}
-use Rattle.ark_math.specs.Points.{IsFilter}
-use Rattle.ark_math.proofs.Domains.LawfulDomains.{IsLawful, lawful_domain, some_size, contained_divides, filter_of_spaced, filter_degree, only_filter}
+use Rattle.ark_math_domains.specs.Points.{IsFilter}
+use Rattle.ark_math_domains.proofs.Domains.LawfulDomains.{IsLawful, lawful_domain, some_size, contained_divides, filter_of_spaced, filter_degree, only_filter}
 use Rattle.ark_univariate.proofs.domain.EvaluationDomain.filter_polynomial.Given as given
 use Rattle.ark_univariate.proofs.domain.EvaluationDomain.filter_polynomial.Goals as goal
 

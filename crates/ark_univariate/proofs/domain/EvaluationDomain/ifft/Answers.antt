@@ -1,6 +1,6 @@
 use Rattle.std.proofs.Common.{◌∙◌, ap, sym, map, take}
 use Rattle.std.proofs.lemmas.List.{take-map, length-map}
-use Rattle.ark_math.proofs.Domains.Domains.{inverse-take, only-take}
+use Rattle.ark_math_transforms.proofs.Domains.Domains.{inverse-take, only-take}
 use Rattle.ark_univariate.proofs.domain.EvaluationDomain.ifft.Goals as goal
 
 pub returns-clause-inverse : goal.returns-clause-inverse

@@ -1,6 +1,6 @@
 use Rattle.std.proofs.Common.{◌≡◌, ℕ, ◌+◌, ◌-◌, ◌/◌, ◌*◌, ◌%◌, ◌<◌, ◌≤◌, ◌∙◌, get_or, sym, ap, ap₂, arith}
-use Rattle.ark_math.specs.Points.{reindexed}
-use Rattle.ark_math.proofs.Domains.Reindexed.{reindexed_first, reindexed_rest, reindexed_below}
+use Rattle.ark_math_domains.specs.Points.{reindexed}
+use Rattle.ark_univariate.proofs.Reindexed.{reindexed_first, reindexed_rest, reindexed_below}
 use Rattle.ark_univariate.proofs.domain.EvaluationDomain.reindex_by_subdomain.Goals as goal
 
 -- an index past the first ones goes to a place of the domain

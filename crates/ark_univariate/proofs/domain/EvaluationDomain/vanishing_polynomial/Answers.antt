@@ -1,8 +1,8 @@
 use Rattle.std.proofs.Common.{◌≡◌, ℕ, [], ◌∷◌, ◌++◌, ap, ap₂, ◌∙◌}
 use Rattle.ark_math.specs.Field.{power}
 use Rattle.ark_math.specs.Univariate.{of_pairs}
-use Rattle.ark_math.specs.Points.{vanishing}
-use Rattle.ark_math.proofs.Polynomials.UnivariatePairs.{of_pairs-difference}
+use Rattle.ark_math_domains.specs.Points.{vanishing}
+use Rattle.ark_math_polynomials.proofs.Polynomials.UnivariatePairs.{of_pairs-difference}
 use Rattle.ark_math.proofs.Outcomes.Results.{IfOk_more}
 use Rattle.ark_univariate.proofs.domain.EvaluationDomain.vanishing_polynomial.Goals as goal
 

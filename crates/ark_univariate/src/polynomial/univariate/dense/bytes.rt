@@ -11,8 +11,8 @@ use std::alloc::Global;
 
 impl<F: Field> Spelled for DensePolynomial<F> {
     ghost use Rattle.std.specs.Prelude.{List, map};
-    ghost use Rattle.ark_math.specs.Layouts.{dense};
-    ghost use Rattle.ark_math.proofs.Formats.Polynomials.{dense_is_format, dense_shows};
+    ghost use Rattle.ark_univariate.specs.Layouts.{dense};
+    ghost use Rattle.ark_univariate.specs.LayoutLaws.{dense_is_format, dense_shows};
 
     ghost format = { λ mode. dense F.field (F.format mode) };
 
@@ -26,8 +26,9 @@ impl<F: Field> Spelled for DensePolynomial<F> {
 }
 
 impl<F: Field> CanonicalSerialize for DensePolynomial<F> {
-    ghost use Rattle.ark_math.specs.Layouts.{dense};
-    ghost use Rattle.ark_math.proofs.Formats.Modes.{dense_alike, keeps_alike};
+    ghost use Rattle.ark_univariate.specs.Layouts.{dense};
+    ghost use Rattle.ark_math_formats.proofs.Formats.Modes.{keeps_alike};
+    ghost use Rattle.ark_univariate.specs.LayoutLaws.{dense_alike};
 
     fn serialize_with_mode<W: Sink>(
         &self,

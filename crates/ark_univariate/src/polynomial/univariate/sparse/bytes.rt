@@ -12,8 +12,8 @@ use std::alloc::Global;
 
 impl<F: Field> Spelled for SparsePolynomial<F> {
     ghost use Rattle.std.specs.Prelude.{ℕ, List, map};
-    ghost use Rattle.ark_math.specs.Layouts.{sparse};
-    ghost use Rattle.ark_math.proofs.Formats.Polynomials.{sparse_is_format, sparse_shows};
+    ghost use Rattle.ark_univariate.specs.Layouts.{sparse};
+    ghost use Rattle.ark_univariate.specs.LayoutLaws.{sparse_is_format, sparse_shows};
 
     ghost format = { λ mode. sparse F.field (F.format mode) };
 
@@ -27,8 +27,9 @@ impl<F: Field> Spelled for SparsePolynomial<F> {
 }
 
 impl<F: Field> CanonicalSerialize for SparsePolynomial<F> {
-    ghost use Rattle.ark_math.specs.Layouts.{sparse};
-    ghost use Rattle.ark_math.proofs.Formats.Modes.{sparse_alike, keeps_alike};
+    ghost use Rattle.ark_univariate.specs.Layouts.{sparse};
+    ghost use Rattle.ark_math_formats.proofs.Formats.Modes.{keeps_alike};
+    ghost use Rattle.ark_univariate.specs.LayoutLaws.{sparse_alike};
 
     fn serialize_with_mode<W: Sink>(
         &self,

@@ -1,6 +1,6 @@
 use Rattle.std.proofs.Common.{◌≡◌, subst, IfSome}
 use Rattle.ark_math.specs.Words.{number_of_words}
-use Rattle.ark_wide.specs.Element.{numbering}
+use Rattle.ark_prime256.specs.Element.{numbering}
 use Rattle.ark_words.proofs.WordLists.{four_words}
 use Rattle.ark_words.proofs.element.PrimeField256WordElement.from_words.Goals as goal
 

@@ -1,6 +1,6 @@
 -- The word begins with the message, and all places but the first k are marked.
 use Rattle.std.proofs.Common.{◌≡◌, ◌≤◌, length, map, take, subst, sym, ap, ◌∙◌, arith}
-use Rattle.ark_math.proofs.Callers.Transforms.{transform-length}
+use Rattle.ark_math_domains.proofs.Callers.Transforms.{transform-length}
 use Rattle.ark_math.proofs.Outcomes.Results.{IfOk_both, IfOk_more}
 use Rattle.rs_code.specs.Codeword.{AgreesElsewhere, IsCodeword, mark_count}
 use Rattle.rs_code.proofs.FirstPlaces.{agrees_by_message, begins_with_message, mark_count-after_first}

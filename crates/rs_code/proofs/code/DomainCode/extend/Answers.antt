@@ -1,7 +1,7 @@
 -- The codeword is what it begins with, and what stands behind that.
 use Rattle.std.proofs.Common.{◌≡◌, ◌≤◌, ◌++◌, length, map, drop, subst, sym, ap, ap₂, ◌∙◌, arith}
 use Rattle.std.proofs.lemmas.List.{drop-map, length-take-le, take-append-drop}
-use Rattle.ark_math.proofs.Callers.Transforms.{transform-length}
+use Rattle.ark_math_domains.proofs.Callers.Transforms.{transform-length}
 use Rattle.rs_code.specs.Codeword.{IsCodeword}
 use Rattle.rs_code.proofs.FirstPlaces.{behind_first, first_of, slice_from}
 use Rattle.rs_code.proofs.code.DomainCode.extend.Goals as goal

@@ -3,7 +3,7 @@ use Rattle.std.proofs.lemmas.List.{get_or_past, length-map}
 use Rattle.ark_math.specs.Module.{item}
 use Rattle.ark_math.specs.Transform.{transform, IsInverse, IsOnlyInverse}
 use Rattle.ark_math.proofs.Lists.Lists.{written_back, tail}
-use Rattle.ark_math.proofs.Domains.LawfulDomains.{lawful_domain, order}
+use Rattle.ark_math_domains.proofs.Domains.LawfulDomains.{lawful_domain, order}
 use Rattle.rs_code.specs.Codeword.{AgreesElsewhere, IsCodeword, mark_count}
 use Rattle.rs_code.specs.Cost.{GrowsWithin}
 use Rattle.rs_code.specs.Locator.{by_factors, lost}

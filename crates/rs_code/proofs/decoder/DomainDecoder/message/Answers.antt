@@ -6,8 +6,8 @@ use Rattle.ark_math.specs.Univariate.{of_list}
 use Rattle.ark_math.specs.Domain.{element}
 use Rattle.ark_math.specs.Transform.{transform, fit, IsOnlyInverse}
 use Rattle.ark_math.proofs.Lists.Lists.{written_back}
-use Rattle.ark_math.proofs.Callers.Transforms.{transform-length}
-use Rattle.ark_math.proofs.Domains.LawfulDomains.{lawful_domain, order, some_size}
+use Rattle.ark_math_domains.proofs.Callers.Transforms.{transform-length}
+use Rattle.ark_math_domains.proofs.Domains.LawfulDomains.{lawful_domain, order, some_size}
 use Rattle.rs_code.specs.Codeword.{AgreesElsewhere}
 use Rattle.rs_code.specs.Locator.{by_factors, euler, filled, lost}
 use Rattle.rs_code.proofs.Locators.{value, value-same}

@@ -4,8 +4,8 @@ use Rattle.ark_math.specs.Module.{item}
 use Rattle.ark_math.specs.Univariate.{of_list}
 use Rattle.ark_math.specs.Transform.{transform}
 use Rattle.ark_math.proofs.Lists.Lists.{written_back}
-use Rattle.ark_math.proofs.Callers.Transforms.{transform-length}
-use Rattle.ark_math.proofs.Domains.LawfulDomains.{lawful_domain, order}
+use Rattle.ark_math_domains.proofs.Callers.Transforms.{transform-length}
+use Rattle.ark_math_domains.proofs.Domains.LawfulDomains.{lawful_domain, order}
 use Rattle.rs_code.specs.Codeword.{AgreesElsewhere, IsCodeword}
 use Rattle.rs_code.specs.Cost.{GrowsWithin}
 use Rattle.rs_code.specs.Locator.{by_factors, euler, filled, lost}

@@ -1,9 +1,9 @@
 use Rattle.std.proofs.Common.{◌≡◌, ◌+◌, subst, arith}
-use Rattle.ark_blocks.specs.Blocks.{element_of}
-use Rattle.ark_math.specs.Nodes.{nodes}
+use Rattle.ark_bit_reversed.specs.Blocks.{element_of}
+use Rattle.ark_math_polynomials.specs.Nodes.{nodes}
 use Rattle.ark_math.specs.Univariate.{IsValue, of_list}
 use Rattle.ark_math.proofs.Outcomes.Results.{IfOk_more}
-use Rattle.ark_math.proofs.Polynomials.UnivariateValues.{one_value}
+use Rattle.ark_math_polynomials.proofs.Polynomials.UnivariateValues.{one_value}
 use Rattle.rs_code.specs.Locator.{locator_at}
 use Rattle.rs_code.proofs.Factors.{nodes-value}
 use Rattle.rs_code.proofs.turns.products.values_over.Goals as goal

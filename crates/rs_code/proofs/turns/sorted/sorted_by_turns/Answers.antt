@@ -2,9 +2,9 @@ use Rattle.std.proofs.Common.{◌≡◌, ℕ, ◌+◌, ◌*◌, ◌^◌, ◌<◌
 use Rattle.std.proofs.Math.Pow.{pow_pos}
 use Rattle.std.proofs.lemmas.List.{get_or-map}
 use Rattle.ark_math.specs.Domain.{element}
-use Rattle.ark_blocks.specs.Blocks.{element_of}
-use Rattle.ark_math.specs.BitReversal.{reversed}
-use Rattle.ark_math.proofs.Numbers.BitReversal.{reversed_none}
+use Rattle.ark_bit_reversed.specs.Blocks.{element_of}
+use Rattle.ark_math_transforms.specs.BitReversal.{reversed}
+use Rattle.ark_math_transforms.proofs.Numbers.BitReversal.{reversed_none}
 use Rattle.ark_math.proofs.Numbers.PowersOfTwo.{pow_twice}
 use Rattle.rs_code.specs.Turns.{AreSorted, AreSortedBelow, finished, finished_from, pushed, roots_of, turn_place, turned}
 use Rattle.rs_code.proofs.turns.TurnedPlaces.{four_read}

@@ -1,7 +1,7 @@
 use Rattle.std.proofs.Common.{◌≡◌, length, map, arith, sym, ◌∙◌, ap, subst}
 use Rattle.ark_math.specs.Module.{itself}
 use Rattle.std.proofs.lemmas.List.{length-map}
-use Rattle.ark_math.proofs.Callers.Transforms.{transform-length}
+use Rattle.ark_math_domains.proofs.Callers.Transforms.{transform-length}
 use Rattle.ark_rows.specs.Lanewise.{lanewise}
 use Rattle.ark_rows.specs.Row.{lanes}
 use Rattle.rs_code.specs.Code.{CodeOver}

@@ -1,6 +1,6 @@
 use Rattle.std.proofs.Common.{◌≡◌, ◌≢◌, ℕ, ◌+◌, ◌*◌, ◌<◌, ◌≤◌, length, map, get_or, arith, rules, sym, ◌∙◌, ap, subst}
 use Rattle.std.proofs.lemmas.List.{length-map}
-use Rattle.ark_math.specs.AtPoints.{AreDifferent}
+use Rattle.ark_math_points.specs.AtPoints.{AreDifferent}
 use Rattle.ark_math.specs.Field.{natural}
 use Rattle.ark_math.specs.Univariate.{value_below}
 use Rattle.ark_rows.specs.Row.{lanes}

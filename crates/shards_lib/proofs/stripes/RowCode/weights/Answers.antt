@@ -1,5 +1,5 @@
 use Rattle.std.proofs.Common.{rules, ◌≡◌, ◌≢◌, ℕ, ◌*◌, ◌+◌, ◌<◌, ◌≤◌, List, map, ◌++◌, get_or, length, arith, sym, ◌∙◌, ap, subst, below_more}
-use Rattle.ark_math.specs.AtPoints.{AreDifferent}
+use Rattle.ark_math_points.specs.AtPoints.{AreDifferent}
 use Rattle.ark_math.specs.Univariate.{of_list}
 use Rattle.shards_lib.specs.Numbers.{numbered, place_element}
 use Rattle.shards_lib.specs.Weights.{AreWeights, GiveAt}

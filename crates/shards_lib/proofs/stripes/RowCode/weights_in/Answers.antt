@@ -1,5 +1,5 @@
 use Rattle.std.proofs.Common.{◌≡◌, length, sym, ◌∙◌, ap, subst, refl}
-use Rattle.ark_math.specs.AtPoints.{AreWeightsAt}
+use Rattle.ark_math_points.specs.AtPoints.{AreWeightsAt}
 use Rattle.ark_math.specs.Univariate.{of_list}
 use Rattle.shards_lib.proofs.PointsMemory.{points_memory}
 use Rattle.shards_lib.proofs.stripes.RowCode.weights_in.Goals as goal

@@ -1,7 +1,7 @@
 use Rattle.std.proofs.Common.{arith, rules, refl, false, inl, inr}
 use Rattle.ark_math.specs.Domain.{IsDomain}
-use Rattle.ark_math.proofs.Domains.Domains.{radix2_is_domain}
-use Rattle.ark_math.proofs.Domains.LawfulDomains.{lawful_domain, elements_differ}
+use Rattle.ark_math_transforms.proofs.Domains.Domains.{radix2_is_domain}
+use Rattle.ark_math_domains.proofs.Domains.LawfulDomains.{lawful_domain, elements_differ}
 use Rattle.rs_code.specs.Code.{IsCode}
 use Rattle.shards_lib.proofs.DomainSizes.{same_domain, number_domain, domain_room, has_size, no_size_below}
 use Rattle.shards_lib.proofs.stripes.RowCodeStripeCode.new.Goals as goal

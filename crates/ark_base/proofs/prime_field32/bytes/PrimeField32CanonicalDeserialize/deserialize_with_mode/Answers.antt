@@ -1,5 +1,5 @@
 use Rattle.std.proofs.Common.{◌<◌, ◌≤◌, subst, ◌∙◌, mod-eq_of_lt}
-use Rattle.ark_math.specs.Format.{number}
+use Rattle.ark_math_formats.specs.Format.{number}
 use Rattle.ark_bytes.specs.Reading.{source_state, TakesSpelling}
 use Rattle.ark_base.specs.Element32.{numbering}
 use Rattle.ark_base.proofs.ElementBytes.{read_element, past_the_modulus}

@@ -1,6 +1,6 @@
 use Rattle.std.proofs.Common.{◌⊎◌, inl, inr}
 use Rattle.std.proofs.lemmas.Result.{err_from_is_err_and}
-use Rattle.ark_math.specs.Format.{◌⊗◌}
+use Rattle.ark_math_formats.specs.Format.{◌⊗◌}
 use Rattle.ark_bytes.proofs.Reading.{refused_fields, refused_weaker}
 use Rattle.ark_extensions.specs.Elements.{coefficients}
 use Rattle.ark_extensions.proofs.quadratic.bytes.QuadraticCanonicalDeserialize.deserialize_with_mode.Goals as goal

@@ -1,4 +1,4 @@
-use Rattle.ark_math.proofs.Domains.MixedSizes.{exponent_of_two}
+use Rattle.ark_math_transforms.proofs.Domains.MixedSizes.{exponent_of_two}
 use Rattle.ark_fft.proofs.domain.coset.Coset.log_size_of_group.Goals as goal
 
 pub returns : goal.returns

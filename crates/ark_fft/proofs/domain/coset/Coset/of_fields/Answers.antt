@@ -1,6 +1,6 @@
 use Rattle.std.proofs.Common.{◌≡◌, sym, ap, ◌∙◌}
 use Rattle.std.proofs.lemmas.Bool.{false≢true}
-use Rattle.ark_math.proofs.Formats.Domains.{offset_of, fields_decide, one_kept}
+use Rattle.ark_fft.specs.LayoutLaws.{offset_of, fields_decide, one_kept}
 use Rattle.ark_fft.specs.CosetBytes.{all_fields}
 use Rattle.ark_fft.proofs.domain.coset.Coset.of_fields.Goals as goal
 

@@ -2,7 +2,7 @@ use Rattle.std.proofs.Common.{◌≡◌, ◌<◌, ◌∙◌, sym, ap}
 use Rattle.ark_math.specs.Field.{power}
 use Rattle.ark_math.specs.Root.{IsSupported}
 use Rattle.ark_math.proofs.Roots.Order.{root_not_zero}
-use Rattle.ark_math.proofs.Domains.Elements.{positive}
+use Rattle.ark_math.proofs.Algebra.NonZero.{positive}
 use Rattle.ark_math.proofs.Algebra.Powers.{power-one}
 use Rattle.ark_math.proofs.Outcomes.Tests.{refuted}
 use Rattle.std.proofs.lemmas.Bool.{true_from_ne_false}

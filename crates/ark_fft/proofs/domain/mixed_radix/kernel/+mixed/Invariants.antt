@@ -1,7 +1,7 @@
 use Rattle.std.proofs.Common.{◌≡◌, ℕ, map, ◌+◌, ◌-◌, ◌*◌, ◌/◌, ◌^◌, ◌≤◌, ◌<◌}
 use Rattle.ark_fft.specs.Halves.{AreLevels}
 use Rattle.ark_fft.specs.Mixed.{IsPowerTable, mixed_counts}
-use Rattle.ark_math.proofs.Transforms.Places.{dft_at}
+use Rattle.ark_math_transforms.proofs.Transforms.Places.{dft_at}
 use Rattle.ark_math.specs.Field.{power}
 use Rattle.ark_math.specs.Cost.{GrowsBy}
 use Rattle.ark_math.specs.Module.{item}

@@ -1,7 +1,7 @@
 use Rattle.std.proofs.Common.{refl, ◌≡◌, ◌≢◌, ℕ, map, get_or, ◌+◌, ◌*◌, ◌-◌, ◌<◌, ◌≤◌, ap, sym, ◌∙◌, arith, subst, ⊎_elim}
 use Rattle.std.proofs.lemmas.Bool.{cases_eq}
 use Rattle.ark_math.specs.Module.{item}
-use Rattle.ark_traits.proofs.Cost.{grows_twice}
+use Rattle.ark_fft.proofs.Cost.{grows_twice}
 use borrow.Author.Count.{falls}
 use Rattle.ark_fft.proofs.Counts.{none_yet, no_part, ended}
 use Rattle.ark_fft.proofs.domain.mixed_radix.kernel.apply_all_twiddles.Goals as goal

@@ -4,7 +4,7 @@ use Rattle.std.proofs.lemmas.List.{get_or_read}
 use Rattle.ark_math.specs.Module.{item}
 use Rattle.ark_math.proofs.Lists.Lists.{read_at, written_same, written_other}
 use Rattle.ark_fft.proofs.Parts.{place_below, twist_below, next_place, next_twist, columns_differ, rows_differ}
-use Rattle.ark_traits.proofs.Cost.{none_grown}
+use Rattle.ark_fft.proofs.Cost.{none_grown}
 use Rattle.ark_fft.proofs.Counts.{one_round_more}
 use Rattle.ark_fft.proofs.domain.mixed_radix.kernel.apply_twiddles.Goals as goal
 

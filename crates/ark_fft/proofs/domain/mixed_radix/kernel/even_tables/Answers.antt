@@ -3,7 +3,7 @@ use Rattle.std.proofs.Math.Nat.{mul-div_cancel_left}
 use Rattle.std.proofs.Math.Pow.{pow_pos}
 use Rattle.ark_math.specs.Field.{power}
 use Rattle.ark_math.specs.Root.{odd_base}
-use Rattle.ark_math.proofs.Domains.MixedSizes.{base_positive}
+use Rattle.ark_math_transforms.proofs.Domains.MixedSizes.{base_positive}
 use Rattle.ark_math.proofs.Numbers.GreatestPowers.{few_factors}
 use Rattle.ark_math.proofs.Outcomes.Results.{IfOk_more}
 use Rattle.ark_fft.specs.Halves.{ArePowers, AreLevels}

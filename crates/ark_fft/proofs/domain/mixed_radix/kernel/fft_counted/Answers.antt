@@ -3,14 +3,14 @@ use Rattle.ark_math.specs.Domain.{Domain, mixed_radix}
 use Rattle.ark_math.specs.Field.{power}
 use Rattle.ark_fft.specs.Halves.{ArePowers, AreLevels}
 use Rattle.ark_math.specs.Root.{HasOrder, odd_base}
-use Rattle.ark_math.proofs.Domains.MixedSizes.{base_above}
+use Rattle.ark_math_transforms.proofs.Domains.MixedSizes.{base_above}
 use Rattle.ark_math.specs.Module.{item}
 use Rattle.ark_math.proofs.Lists.Lists.{written_back}
 use Rattle.ark_fft.proofs.Mixed as mixed_kernel
 use Rattle.ark_fft.proofs.Mixed.{scaled_cost}
 use Rattle.ark_fft.proofs.Counts.{positive}
 use Rattle.ark_math.specs.Cost.{forward}
-use Rattle.ark_math.proofs.Transforms.Transforms.{AreShifted}
+use Rattle.ark_math_transforms.proofs.Transforms.Transforms.{AreShifted}
 use Rattle.ark_fft.proofs.domain.mixed_radix.kernel.fft_counted.Goals as goal
 
 pub returns-clause-transform : goal.returns-clause-transform

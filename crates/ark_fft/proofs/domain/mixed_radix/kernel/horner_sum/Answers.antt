@@ -3,7 +3,7 @@ use Rattle.ark_math.specs.Field.{power}
 use Rattle.ark_math.specs.Module.{item, sum_below}
 use Rattle.ark_math.proofs.Lists.Lists.{read_as}
 use Rattle.ark_fft.proofs.Parts.{place_before, sum_before, sum_last, sum_all}
-use Rattle.ark_traits.proofs.Cost.{none_grown}
+use Rattle.ark_fft.proofs.Cost.{none_grown}
 use Rattle.ark_fft.proofs.Counts.{one_round_more}
 use Rattle.ark_fft.proofs.domain.mixed_radix.kernel.horner_sum.Goals as goal
 

@@ -1,10 +1,10 @@
 use Rattle.std.proofs.Common.{rules, ◌≡◌, ℕ, map, length, Some, ◌<◌, ◌*◌, ◌^◌, arith, sym, ap, subst, ◌∙◌}
 use Rattle.ark_math.specs.Domain.{Domain, mixed_radix}
 use Rattle.ark_math.specs.Field.{natural, power}
-use Rattle.ark_math.proofs.Roots.Orthogonal.{order_of_inverse}
+use Rattle.ark_math_transforms.proofs.Roots.Orthogonal.{order_of_inverse}
 use Rattle.ark_fft.specs.Halves.{ArePowers, AreLevels}
 use Rattle.ark_math.specs.Root.{HasOrder, odd_base}
-use Rattle.ark_math.proofs.Domains.MixedSizes.{base_above}
+use Rattle.ark_math_transforms.proofs.Domains.MixedSizes.{base_above}
 use Rattle.ark_math.specs.Cost.{inverse}
 use Rattle.ark_math.specs.Module.{item}
 use Rattle.ark_math.specs.Transform.{IsInverse}

@@ -3,7 +3,7 @@ use Rattle.std.proofs.lemmas.Bool.{cases_eq}
 use Rattle.ark_math.specs.Cost.{Counts, GrowsBy, counts}
 use Rattle.ark_fft.specs.Mixed.{joined}
 use Rattle.ark_math.specs.Module.{item}
-use Rattle.ark_traits.proofs.Cost.{none_grown, grows_twice}
+use Rattle.ark_fft.proofs.Cost.{none_grown, grows_twice}
 use Rattle.ark_fft.proofs.Counts.{positive, none_below, none_yet, ended, not_last, no_places}
 use Rattle.ark_fft.proofs.Parts.{joined_twisted, rows_less}
 use Rattle.ark_fft.proofs.domain.mixed_radix.kernel.join.Goals as goal

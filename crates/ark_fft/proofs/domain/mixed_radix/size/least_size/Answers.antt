@@ -1,6 +1,6 @@
 use Rattle.std.proofs.Common.{◌≡◌, ◌↔◌, ◌+◌, Bool, IsTrue, false, arith, Some, IsSome, sym, ap, subst, refl}
 use Rattle.ark_math.specs.Root.{odd_most}
-use Rattle.ark_math.proofs.Domains.MixedSizes.{IsLeastBelow, base_above, least_below-none, least_below-more, least_below-kept, least_below-same, least_of_all, none_of_all}
+use Rattle.ark_math_transforms.proofs.Domains.MixedSizes.{IsLeastBelow, base_above, least_below-none, least_below-more, least_below-kept, least_below-same, least_of_all, none_of_all}
 use Rattle.ark_fft.proofs.domain.mixed_radix.size.least_size.Goals as goal
 use Rattle.ark_fft.proofs.domain.mixed_radix.size.least_size.Goals.{in-Some+then-improves, in-Some+else-improves, in_default}
 

@@ -1,4 +1,4 @@
-use Rattle.ark_math.proofs.Domains.MixedSizes.{IsLeastBelow}
+use Rattle.ark_math_transforms.proofs.Domains.MixedSizes.{IsLeastBelow}
 use Rattle.ark_fft.proofs.domain.mixed_radix.size.least_size.Given as goal
 
 abbrev pub invariant-loop-odds : goal.invariant-loop-odds

@@ -2,7 +2,7 @@ use Rattle.std.proofs.Common.{◌≡◌, ℕ, ◌^◌, ◌<◌, ◌≤◌, inl, 
 use Rattle.std.proofs.lemmas.Bool.{cases_lt}
 use Rattle.ark_math.specs.Root.{Splits, odd_base}
 use Rattle.ark_math.specs.Domain.{IsLeast, IsSizeWith}
-use Rattle.ark_math.proofs.Domains.MixedSizes.{base_positive, none_past_power, none_past_word, none_past_adicity, none_past_product, least_with, splits_with}
+use Rattle.ark_math_transforms.proofs.Domains.MixedSizes.{base_positive, none_past_power, none_past_word, none_past_adicity, none_past_product, least_with, splits_with}
 use Rattle.ark_math.proofs.Numbers.Factors.{power_positive}
 use Rattle.ark_math.proofs.Domains.Sizes.{two_of}
 use Rattle.ark_fft.proofs.domain.mixed_radix.size.least_with.Goals as goal

@@ -1,5 +1,5 @@
 use Rattle.std.proofs.Common.{◌≡◌, ℕ, suc, ◌-◌, ◌*◌, ◌/◌, ◌<◌, ◌^◌, ◌++◌, length, length-append, get_or, refl, subst, sym, ◌∙◌, arith}
-use Rattle.ark_math.specs.BitReversal.{reversed}
+use Rattle.ark_math_transforms.specs.BitReversal.{reversed}
 use Rattle.ark_fft.proofs.Places.{AreQuarters, quarters_restored, sixteenth}
 use Rattle.ark_fft.proofs.domain.radix2.fft.bit_reverse.Goals as goal
 

@@ -1,7 +1,7 @@
 use Rattle.std.proofs.Common.{◌≡◌, ◌≢◌, ℕ, ◌+◌, ◌-◌, ◌*◌, ◌<◌, ◌≤◌, ◌^◌, List, get_or, ap, ◌∙◌, arith, subst, sym}
-use Rattle.ark_math.specs.BitReversal.{reversed}
+use Rattle.ark_math_transforms.specs.BitReversal.{reversed}
 use Rattle.ark_fft.proofs.Places.{IsRestored, restored_first, restored_same, restored_swap}
-use Rattle.ark_math.proofs.Numbers.BitReversal.{reversed_below, reversed_none}
+use Rattle.ark_math_transforms.proofs.Numbers.BitReversal.{reversed_below, reversed_none}
 use Rattle.ark_fft.proofs.domain.radix2.fft.bit_reverse_fours.Goals as goal
 use Rattle.ark_fft.proofs.domain.radix2.fft.bit_reverse_fours.Goals.{then-i-j, else-i-j}
 

@@ -1,5 +1,5 @@
 use Rattle.std.proofs.Common.{◌≡◌, ℕ, ◌-◌, ◌<◌, ◌*◌, ◌+◌, get_or}
-use Rattle.ark_math.specs.BitReversal.{reversed}
+use Rattle.ark_math_transforms.specs.BitReversal.{reversed}
 use Rattle.ark_fft.proofs.Places.{IsRestored}
 use Rattle.ark_fft.proofs.domain.radix2.fft.bit_reverse_fours.Given as goal
 

@@ -1,7 +1,7 @@
 use Rattle.std.proofs.Common.{refl, ◌≡◌, ◌<◌, ℕ, map, length, get_or, ap₂, sym, subst, ◌∙◌}
 use Rattle.std.proofs.lemmas.List.{get_or_read}
 use Rattle.ark_math.specs.Module.{item}
-use Rattle.ark_traits.proofs.Cost.{none_grown, grows_twice}
+use Rattle.ark_fft.proofs.Cost.{none_grown, grows_twice}
 use Rattle.ark_fft.proofs.Counts.{ended}
 use Rattle.ark_fft.proofs.Butterflies.{none_crossed, one_crossed}
 use Rattle.ark_fft.proofs.domain.radix2.fft.butterflies.Goals as goal

@@ -1,9 +1,9 @@
 use Rattle.std.proofs.Common.{◌≡◌, ◌≢◌, ◌+◌, ◌*◌, map, inl, inr, subst, sym, refl, ◌∙◌, ⊎_elim, arith}
 use Rattle.std.proofs.lemmas.Bool.{cases_eq}
 use Rattle.ark_math.specs.Module.{item}
-use Rattle.ark_math.proofs.Transforms.Places.{dft_at}
-use Rattle.ark_traits.proofs.Cost.{none_grown, grows_twice}
-use Rattle.ark_math.specs.BitReversal.{reversed}
+use Rattle.ark_math_transforms.proofs.Transforms.Places.{dft_at}
+use Rattle.ark_fft.proofs.Cost.{none_grown, grows_twice}
+use Rattle.ark_math_transforms.specs.BitReversal.{reversed}
 use Rattle.ark_fft.proofs.Counts.{none_yet}
 use Rattle.ark_fft.proofs.Fours.{same_block}
 use Rattle.ark_fft.proofs.domain.radix2.fft.fours.Goals as goal

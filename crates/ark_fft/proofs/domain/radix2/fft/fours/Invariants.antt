@@ -1,8 +1,8 @@
 use Rattle.std.proofs.Common.{◌≡◌, map, ◌+◌, ◌*◌, ◌≤◌, ◌<◌, ℕ}
 use Rattle.ark_math.specs.Cost.{GrowsBy, butterfly_counts}
 use Rattle.ark_math.specs.Module.{item}
-use Rattle.ark_math.proofs.Transforms.Places.{dft_at}
-use Rattle.ark_math.specs.BitReversal.{reversed}
+use Rattle.ark_math_transforms.proofs.Transforms.Places.{dft_at}
+use Rattle.ark_math_transforms.specs.BitReversal.{reversed}
 use Rattle.ark_fft.specs.Halves.{AreLevels}
 use Rattle.ark_fft.proofs.domain.radix2.fft.fours.Given as goal
 

@@ -1,6 +1,6 @@
 use Rattle.std.proofs.Common.{◌≡◌, ◌<◌, ◌^◌, arith, length, map, sym, ap, ◌∙◌}
 use Rattle.ark_math.specs.Module.{item}
-use Rattle.ark_math.proofs.Transforms.Places.{dft_at}
+use Rattle.ark_math_transforms.proofs.Transforms.Places.{dft_at}
 use Rattle.ark_fft.proofs.Halving.{few_levels, all_levels}
 use Rattle.ark_fft.proofs.domain.radix2.fft.in_order.Goals as goal
 

@@ -9,7 +9,7 @@ use Rattle.ark_fft.proofs.Radix2 as radix2_kernel
 use Rattle.ark_fft.proofs.Radix2.{scaled_cost}
 use Rattle.ark_math.specs.Cost.{forward}
 use Rattle.ark_math.proofs.Domains.Sizes.{power_of_two, log_of_long}
-use Rattle.ark_math.proofs.Transforms.Transforms.{AreShifted}
+use Rattle.ark_math_transforms.proofs.Transforms.Transforms.{AreShifted}
 use Rattle.ark_fft.proofs.domain.radix2.fft.in_order_fft_in_place.Goals as goal
 
 pub in_order-requires-clause-size : goal.in_order-requires-clause-size

@@ -1,5 +1,5 @@
 use Rattle.std.proofs.Common.{refl, ap, ◌∙◌}
-use Rattle.ark_traits.proofs.Cost.{grows_twice}
+use Rattle.ark_fft.proofs.Cost.{grows_twice}
 use Rattle.ark_fft.proofs.domain.radix2.fft.join.Goals as goal
 
 pub add-requires : goal.add-requires

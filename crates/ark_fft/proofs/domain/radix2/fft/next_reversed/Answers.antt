@@ -1,7 +1,7 @@
 use Rattle.std.proofs.Common.{◌≡◌, ◌+◌, ◌<◌, ◌≤◌, ◌^◌, arith}
 use Rattle.std.proofs.Math.Pow.{pow_mono}
-use Rattle.ark_math.specs.BitReversal.{reversed}
-use Rattle.ark_math.proofs.Numbers.BitReversal.{reversed_below}
+use Rattle.ark_math_transforms.specs.BitReversal.{reversed}
+use Rattle.ark_math_transforms.proofs.Numbers.BitReversal.{reversed_below}
 use Rattle.ark_fft.proofs.Carries.{carried_more, carried_last}
 use Rattle.ark_fft.proofs.domain.radix2.fft.next_reversed.Goals as goal
 

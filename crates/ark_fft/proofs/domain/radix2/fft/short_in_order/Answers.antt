@@ -3,7 +3,7 @@ use Rattle.std.proofs.Math.Pow.{pow_mono, pow_pos}
 use Rattle.std.proofs.lemmas.Nat.{pow-add}
 use Rattle.ark_math.specs.Field.{power}
 use Rattle.ark_math.specs.Module.{item}
-use Rattle.ark_math.specs.BitReversal.{reversed}
+use Rattle.ark_math_transforms.specs.BitReversal.{reversed}
 use Rattle.ark_fft.proofs.Halving.{few_levels, shifted}
 use Rattle.ark_fft.proofs.Joining.{AreBlocks, blocks_spread, first_items}
 use Rattle.ark_fft.proofs.domain.radix2.fft.short_in_order.Goals as goal

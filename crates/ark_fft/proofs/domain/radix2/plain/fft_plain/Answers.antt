@@ -4,7 +4,7 @@ use Rattle.std.proofs.lemmas.List.{length-map}
 use Rattle.ark_math.specs.Domain.{Domain, radix2}
 use Rattle.ark_math.specs.Module.{item}
 use Rattle.ark_math.proofs.Lists.Lists.{read_fitted, written_back}
-use Rattle.ark_math.proofs.Transforms.Transforms.{is_plain_transform}
+use Rattle.ark_math_transforms.proofs.Transforms.Transforms.{is_plain_transform}
 use Rattle.ark_fft.proofs.domain.radix2.plain.fft_plain.Goals as goal
 
 pub returns-clause-transform : goal.returns-clause-transform

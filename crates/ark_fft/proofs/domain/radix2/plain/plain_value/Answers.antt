@@ -3,7 +3,7 @@ use Rattle.std.proofs.Common.{refl, ◌<◌, ℕ, length, map, sym, ap, ap₂, �
 use Rattle.ark_math.specs.Field.{power}
 use Rattle.ark_math.specs.Module.{item, sum_below}
 use Rattle.ark_math.proofs.Lists.Lists.{read_as}
-use Rattle.ark_traits.proofs.Cost.{grows_twice}
+use Rattle.ark_fft.proofs.Cost.{grows_twice}
 use Rattle.ark_fft.proofs.Counts.{below_is_within}
 use borrow.Author.Count.{falls}
 use Rattle.ark_fft.proofs.domain.radix2.plain.plain_value.Goals as goal

@@ -5,7 +5,7 @@ use Rattle.ark_math.specs.Transform.{value_at}
 use Rattle.ark_math.proofs.Lists.Lists.{written_more}
 use Rattle.ark_math.proofs.Algebra.Solve.{◌⊗◌}
 use Rattle.ark_math.proofs.Algebra.Ring.{ring3}
-use Rattle.ark_traits.proofs.Cost.{grows_twice}
+use Rattle.ark_fft.proofs.Cost.{grows_twice}
 use Rattle.ark_fft.proofs.domain.radix2.plain.plain_values.Goals as goal
 
 pub loop-i-preserved : goal.loop-i-preserved

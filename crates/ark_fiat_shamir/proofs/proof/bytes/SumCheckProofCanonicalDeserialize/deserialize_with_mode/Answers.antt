@@ -1,5 +1,5 @@
 use Rattle.std.proofs.lemmas.Result.{err_from_is_err_and}
-use Rattle.ark_math.specs.Format.{list}
+use Rattle.ark_math_formats.specs.Format.{list}
 use Rattle.ark_bytes.proofs.Reading.{refused_fields}
 use Rattle.ark_fiat_shamir.specs.ProofBytes.{round_format}
 use Rattle.ark_fiat_shamir.proofs.proof.bytes.SumCheckProofCanonicalDeserialize.deserialize_with_mode.Goals as goal

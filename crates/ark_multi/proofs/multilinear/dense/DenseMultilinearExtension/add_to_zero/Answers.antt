@@ -1,7 +1,7 @@
 use Rattle.std.proofs.Common.{sym, ◌∙◌}
 use Rattle.std.proofs.lemmas.Bool.{false≢true}
-use Rattle.ark_math.specs.Multilinear.{table_scaled}
-use Rattle.ark_math.proofs.Polynomials.Tables.{AreAddable-scaled, left_zero, right_zero}
+use Rattle.ark_math_variables.specs.Multilinear.{table_scaled}
+use Rattle.ark_math_variables.proofs.Polynomials.Tables.{AreAddable-scaled, left_zero, right_zero}
 use Rattle.ark_multi.specs.Extensions.{dense_table}
 use Rattle.ark_multi.proofs.multilinear.dense.DenseMultilinearExtension.add_to_zero.Goals as goal
 

@@ -9,7 +9,7 @@ use Rattle.ark_math.proofs.Outcomes.Results.{no_other_error}
 use Rattle.ark_math.specs.Cost.{IsLog2Up}
 use Rattle.ark_math.specs.Field.{FieldOn}
 use Rattle.ark_math.specs.Univariate.{of_list}
-use Rattle.ark_lists.proofs.DenseTables.{is_listing}
+use Rattle.ark_tables.proofs.DenseTables.{is_listing}
 use Rattle.ark_multi.specs.declared.multilinear.dense.DenseMultilinearExtension.{DenseMultilinearExtension}
 use Rattle.ark_multi.specs.Extensions.{dense_table, dense_values, values_of}
 use Rattle.ark_multi.proofs.multilinear.dense.DenseMultilinearExtension.concat.Goals as goal

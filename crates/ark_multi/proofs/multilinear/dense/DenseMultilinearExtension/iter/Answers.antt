@@ -1,5 +1,5 @@
 use Rattle.std.proofs.Common.{◌∙◌}
-use Rattle.ark_lists.proofs.DenseTables.{is_listing}
+use Rattle.ark_tables.proofs.DenseTables.{is_listing}
 use Rattle.ark_multi.proofs.multilinear.dense.DenseMultilinearExtension.iter.Goals as goal
 
 pub returns-clause-values : goal.returns-clause-values

@@ -1,6 +1,6 @@
 use Rattle.std.proofs.Common.{◌≡◌, ◌*◌, ◌-◌, ◌^◌, length, sym, ap, ◌∙◌, arith}
-use Rattle.ark_math.proofs.Polynomials.Cube.{pow_rest}
-use Rattle.ark_lists.proofs.TableLists.{pow_left}
+use Rattle.ark_math_variables.proofs.Polynomials.Cube.{pow_rest}
+use Rattle.ark_tables.proofs.TableLists.{pow_left}
 use Rattle.ark_multi.proofs.multilinear.dense.DenseMultilinearExtensionMultilinearExtension.fix_variables.Goals as goal
 
 pub fixed_table-requires : goal.fixed_table-requires

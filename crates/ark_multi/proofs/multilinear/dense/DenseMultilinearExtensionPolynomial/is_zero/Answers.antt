@@ -1,6 +1,6 @@
 use Rattle.std.proofs.Common.{◌≡◌, Decides, sym, subst, ap, arith}
 use Rattle.std.proofs.lemmas.Bool.{false≢true}
-use Rattle.ark_lists.proofs.DenseTables.{decides_zero}
+use Rattle.ark_tables.proofs.DenseTables.{decides_zero}
 use Rattle.ark_multi.proofs.multilinear.dense.DenseMultilinearExtensionPolynomial.is_zero.Goals as goal
 
 pub returns-then-self-gt0 : goal.returns-then-self-gt0

@@ -1,6 +1,6 @@
 use Rattle.std.proofs.Common.{◌≡◌, OnOk, subst, ap, ◌∙◌}
-use Rattle.ark_math.specs.Multilinear.{table_scaled, table_sum}
-use Rattle.ark_math.proofs.Polynomials.Tables.{table_opposite-scaled}
+use Rattle.ark_math_variables.specs.Multilinear.{table_scaled, table_sum}
+use Rattle.ark_math_variables.proofs.Polynomials.Tables.{table_opposite-scaled}
 use Rattle.ark_multi.specs.Extensions.{dense_table}
 use Rattle.ark_multi.proofs.multilinear.dense.DenseMultilinearExtensionPolynomial.sub_assign.Goals as goal
 

@@ -1,5 +1,5 @@
 use Rattle.std.proofs.Common.{◌^◌, ◌∙◌}
-use Rattle.ark_lists.proofs.SparseTables.{written_within}
+use Rattle.ark_tables.proofs.SparseTables.{written_within}
 use Rattle.ark_multi.proofs.multilinear.sparse.SparseMultilinearExtension.from_evaluations.Goals as goal
 
 pub invariant_of-result : goal.invariant_of-result

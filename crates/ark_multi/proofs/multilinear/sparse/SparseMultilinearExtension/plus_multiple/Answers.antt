@@ -1,7 +1,7 @@
 use Rattle.std.proofs.Common.{rules, ◌≡◌, ◌<◌, ◌^◌, All, max, sym, subst, ap₂, ◌∙◌, arith}
 use Rattle.ark_math.specs.Univariate.{of_pairs, added, scaled}
 use Rattle.ark_coeffs.specs.Multiples.{factor_of}
-use Rattle.ark_lists.proofs.SparseTables.{sum_within}
+use Rattle.ark_tables.proofs.SparseTables.{sum_within}
 use Rattle.ark_multi.proofs.multilinear.sparse.SparseMultilinearExtension.plus_multiple.Goals as goal
 
 pub invariant_of-result : goal.invariant_of-result

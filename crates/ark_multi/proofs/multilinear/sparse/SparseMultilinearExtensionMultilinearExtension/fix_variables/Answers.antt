@@ -1,7 +1,7 @@
 use Rattle.std.proofs.Common.{ap, ◌∙◌, arith}
-use Rattle.ark_math.specs.Multilinear.{fixed}
+use Rattle.ark_math_variables.specs.Multilinear.{fixed}
 use Rattle.ark_math.specs.Univariate.{of_pairs}
-use Rattle.ark_lists.proofs.SparseTables.{fixed_within}
+use Rattle.ark_tables.proofs.SparseTables.{fixed_within}
 use Rattle.ark_multi.proofs.multilinear.sparse.SparseMultilinearExtensionMultilinearExtension.fix_variables.Goals as goal
 
 pub invariant_of-result : goal.invariant_of-result

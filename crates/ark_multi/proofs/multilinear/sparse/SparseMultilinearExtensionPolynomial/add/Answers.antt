@@ -1,8 +1,8 @@
 use Rattle.std.proofs.Common.{ap, ◌∙◌}
-use Rattle.ark_math.specs.Multilinear.{table_sum}
+use Rattle.ark_math_variables.specs.Multilinear.{table_sum}
 use Rattle.ark_math.proofs.Outcomes.Results.{IfOk_more}
-use Rattle.ark_math.proofs.Polynomials.Tables.{table_scaled-one}
-use Rattle.ark_lists.proofs.SparseTables.{stored}
+use Rattle.ark_math_variables.proofs.Polynomials.Tables.{table_scaled-one}
+use Rattle.ark_tables.proofs.SparseTables.{stored}
 use Rattle.ark_multi.proofs.multilinear.sparse.SparseMultilinearExtensionPolynomial.add.Goals as goal
 
 pub returns-clause-sum : goal.returns-clause-sum

@@ -1,5 +1,5 @@
 use Rattle.std.proofs.Common.{◌==◌, ap, ◌∙◌, arith}
-use Rattle.ark_lists.proofs.SparseTables.{decides_zero}
+use Rattle.ark_tables.proofs.SparseTables.{decides_zero}
 use Rattle.ark_multi.proofs.multilinear.sparse.SparseMultilinearExtensionPolynomial.is_zero.Goals as goal
 
 pub returns : goal.returns

@@ -1,8 +1,8 @@
 use Rattle.std.proofs.Common.{refl, sym, ◌∙◌}
-use Rattle.ark_math.specs.Multilinear.{table_opposite}
+use Rattle.ark_math_variables.specs.Multilinear.{table_opposite}
 use Rattle.ark_math.proofs.Outcomes.Results.{IfOk_more}
-use Rattle.ark_math.proofs.Polynomials.Tables.{left_zero}
-use Rattle.ark_lists.proofs.SparseTables.{stored}
+use Rattle.ark_math_variables.proofs.Polynomials.Tables.{left_zero}
+use Rattle.ark_tables.proofs.SparseTables.{stored}
 use Rattle.ark_multi.proofs.multilinear.sparse.SparseMultilinearExtensionPolynomial.neg.Goals as goal
 
 pub returns-clause-opposite : goal.returns-clause-opposite

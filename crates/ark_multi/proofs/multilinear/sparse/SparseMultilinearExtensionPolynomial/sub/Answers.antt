@@ -1,8 +1,8 @@
 use Rattle.std.proofs.Common.{ap, ◌∙◌}
-use Rattle.ark_math.specs.Multilinear.{table_sum}
+use Rattle.ark_math_variables.specs.Multilinear.{table_sum}
 use Rattle.ark_math.proofs.Outcomes.Results.{IfOk_more}
-use Rattle.ark_math.proofs.Polynomials.Tables.{table_opposite-scaled}
-use Rattle.ark_lists.proofs.SparseTables.{stored}
+use Rattle.ark_math_variables.proofs.Polynomials.Tables.{table_opposite-scaled}
+use Rattle.ark_tables.proofs.SparseTables.{stored}
 use Rattle.ark_multi.proofs.multilinear.sparse.SparseMultilinearExtensionPolynomial.sub.Goals as goal
 
 pub returns-clause-difference : goal.returns-clause-difference

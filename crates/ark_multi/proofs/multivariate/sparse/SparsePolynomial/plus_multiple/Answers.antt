@@ -1,6 +1,6 @@
 use Rattle.std.proofs.Common.{rules, ◌≡◌, ◌≤◌, max, sym, subst, ap₂, ◌∙◌}
 use Rattle.std.proofs.Math.Nat.{le-max_left, le-max_right}
-use Rattle.ark_math.specs.Multivariate.{of_listed}
+use Rattle.ark_math_variables.specs.Multivariate.{of_listed}
 use Rattle.ark_math.specs.Univariate.{added, scaled}
 use Rattle.ark_coeffs.specs.Multiples.{factor_of}
 use Rattle.ark_multi.proofs.SortedTerms.{term_order, sum_within}

@@ -1,5 +1,5 @@
 use Rattle.std.proofs.Common.{refl}
-use Rattle.ark_math.specs.Term.{IsWithin}
+use Rattle.ark_math_variables.specs.Term.{IsWithin}
 use Rattle.ark_multi.proofs.SortedTerms.{term_order, keyed_clones, rising_like, All_like}
 use Rattle.ark_multi.proofs.multivariate.sparse.SparsePolynomialClone.clone.Goals as goal
 

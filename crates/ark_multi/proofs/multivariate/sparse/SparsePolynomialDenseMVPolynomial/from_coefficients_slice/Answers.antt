@@ -1,6 +1,6 @@
 use Rattle.std.proofs.Common.{ap, ◌∙◌}
-use Rattle.ark_math.specs.Multivariate.{of_terms}
-use Rattle.ark_math.specs.Term.{IsWithin}
+use Rattle.ark_math_variables.specs.Multivariate.{of_terms}
+use Rattle.ark_math_variables.specs.Term.{IsWithin}
 use Rattle.ark_math.proofs.Outcomes.Results.{IfOk_more}
 use Rattle.ark_multi.proofs.SortedTerms.{term_order, keyed_clones, All_like}
 use Rattle.ark_multi.proofs.multivariate.sparse.SparsePolynomialDenseMVPolynomial.from_coefficients_slice.Goals as goal

@@ -1,4 +1,4 @@
-use Rattle.ark_math.specs.Term.{IsWithin}
+use Rattle.ark_math_variables.specs.Term.{IsWithin}
 use Rattle.ark_multi.proofs.SortedTerms.{term_order, same_sum_All, cases_within}
 use Rattle.ark_multi.proofs.multivariate.sparse.SparsePolynomialDenseMVPolynomial.from_coefficients_vec.Goals as goal
 

@@ -1,6 +1,6 @@
 use Rattle.std.proofs.Common.{◌<◌, arith}
 use Rattle.std.proofs.lemmas.List.Elements.{All-map}
-use Rattle.ark_math.specs.Term.{IsOnePower}
+use Rattle.ark_math_variables.specs.Term.{IsOnePower}
 use Rattle.ark_math.proofs.Outcomes.Results.{IfOk_more}
 use Rattle.ark_multi.proofs.SortedTerms.{term_order, same_sum_All, cases_one_power}
 use Rattle.ark_multi.proofs.multivariate.sparse.SparsePolynomialDenseMVPolynomial.rand.Goals as goal

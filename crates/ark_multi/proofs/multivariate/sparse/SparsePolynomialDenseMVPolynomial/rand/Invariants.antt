@@ -1,5 +1,5 @@
 use Rattle.std.specs.List.{All}
-use Rattle.ark_math.specs.Term.{IsOnePower, IsWithin}
+use Rattle.ark_math_variables.specs.Term.{IsOnePower, IsWithin}
 use Rattle.ark_multi.proofs.multivariate.sparse.SparsePolynomialDenseMVPolynomial.rand.Given as goal
 
 abbrev pub invariant-loop-variable : goal.invariant-loop-variable

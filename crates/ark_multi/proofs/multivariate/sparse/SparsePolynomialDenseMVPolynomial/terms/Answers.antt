@@ -1,5 +1,5 @@
 use Rattle.std.proofs.lemmas.List.Elements.{All-map}
-use Rattle.ark_math.specs.Term.{IsWithin}
+use Rattle.ark_math_variables.specs.Term.{IsWithin}
 use Rattle.ark_multi.proofs.multivariate.sparse.SparsePolynomialDenseMVPolynomial.terms.Goals as goal
 
 pub returns-clause-within : goal.returns-clause-within

@@ -1,8 +1,8 @@
 use Rattle.std.proofs.Common.{ap, ◌∙◌}
-use Rattle.ark_math.specs.Multivariate.{of_listed}
+use Rattle.ark_math_variables.specs.Multivariate.{of_listed}
 use Rattle.ark_math.specs.Univariate.{added}
 use Rattle.ark_math.proofs.Outcomes.Results.{IfOk_more}
-use Rattle.ark_math.proofs.Polynomials.Univariate.{coefficients_are_module}
+use Rattle.ark_math_polynomials.proofs.Polynomials.Univariate.{coefficients_are_module}
 use Rattle.ark_multi.proofs.multivariate.sparse.SparsePolynomialPolynomial.add.Goals as goal
 
 pub returns-clause-sum : goal.returns-clause-sum

@@ -1,5 +1,5 @@
 use Rattle.std.proofs.Common.{◌≡◌, ◌==◌, length, ap, ◌∙◌, arith}
-use Rattle.ark_math.proofs.Polynomials.TermLists.{strict_order, sorted_none_Decides}
+use Rattle.ark_multi.specs.TermLists.{strict_order, sorted_none_Decides}
 use Rattle.ark_multi.proofs.multivariate.sparse.SparsePolynomialPolynomial.is_zero.Goals as goal
 
 pub returns : goal.returns

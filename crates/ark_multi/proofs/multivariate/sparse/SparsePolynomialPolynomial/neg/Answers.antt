@@ -1,9 +1,9 @@
 use Rattle.std.proofs.Common.{ap, ◌∙◌}
-use Rattle.ark_math.specs.Multivariate.{of_listed}
+use Rattle.ark_math_variables.specs.Multivariate.{of_listed}
 use Rattle.ark_math.specs.Univariate.{added, opposite}
 use Rattle.ark_math.proofs.Algebra.Groups.{zero_plus}
 use Rattle.ark_math.proofs.Outcomes.Results.{IfOk_more}
-use Rattle.ark_math.proofs.Polynomials.Univariate.{coefficients_are_module}
+use Rattle.ark_math_polynomials.proofs.Polynomials.Univariate.{coefficients_are_module}
 use Rattle.ark_multi.proofs.multivariate.sparse.SparsePolynomialPolynomial.neg.Goals as goal
 
 pub returns-clause-opposite : goal.returns-clause-opposite

@@ -1,8 +1,8 @@
 use Rattle.std.proofs.Common.{refl, ap, ◌∙◌}
-use Rattle.ark_math.specs.Multivariate.{of_listed}
+use Rattle.ark_math_variables.specs.Multivariate.{of_listed}
 use Rattle.ark_math.specs.Univariate.{added}
 use Rattle.ark_math.proofs.Outcomes.Results.{IfOk_more}
-use Rattle.ark_math.proofs.Polynomials.Univariate.{scaled-negated_one}
+use Rattle.ark_math_polynomials.proofs.Polynomials.Univariate.{scaled-negated_one}
 use Rattle.ark_multi.proofs.multivariate.sparse.SparsePolynomialPolynomial.sub.Goals as goal
 
 pub returns-clause-difference : goal.returns-clause-difference

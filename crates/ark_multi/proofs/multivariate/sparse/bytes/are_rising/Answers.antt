@@ -1,7 +1,7 @@
 use Rattle.std.proofs.Common.{rules}
 use Rattle.std.specs.Ordering.{is_lt}
 use Rattle.std.proofs.lemmas.List.Sorted.{answers_always}
-use Rattle.ark_math.proofs.Lists.Rising.{rising_answer}
+use Rattle.ark_coeffs.proofs.Rising.{rising_answer}
 use Rattle.ark_multi.proofs.Bytes.{is_below, Decides-below, below_joined}
 use Rattle.ark_multi.proofs.multivariate.sparse.bytes.are_rising.Goals as goal
 

@@ -1,6 +1,6 @@
 use Rattle.std.proofs.Common.{refl}
 use Rattle.std.proofs.lemmas.Option.{IfSome_then}
-use Rattle.ark_math.proofs.Domains.GeneralSizes.{general_from_radix2, general_from_mixed, general_none}
+use Rattle.ark_math_transforms.proofs.Domains.GeneralSizes.{general_from_radix2, general_from_mixed, general_none}
 use Rattle.ark_univariate.proofs.domain.general.GeneralEvaluationDomainEvaluationDomain.compute_size_of_domain.Goals as goal
 
 pub returns-in-Some-clause-none : goal.returns-in-Some-clause-none

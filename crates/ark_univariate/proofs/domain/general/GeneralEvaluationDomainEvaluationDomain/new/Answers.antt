@@ -1,7 +1,7 @@
 use Rattle.std.proofs.Common.{ap, refl}
 use Rattle.std.specs.Option.{is_some}
 use Rattle.ark_math.specs.Domain.{radix2, mixed_radix}
-use Rattle.ark_math.proofs.Domains.GeneralSizes.{general_from_mixed, general_none}
+use Rattle.ark_math_transforms.proofs.Domains.GeneralSizes.{general_from_mixed, general_none}
 use Rattle.ark_univariate.proofs.domain.general.GeneralEvaluationDomainEvaluationDomain.new.Goals as goal
 
 pub returns-in-Some-clause-none : goal.returns-in-Some-clause-none

@@ -1,7 +1,7 @@
 use Rattle.std.proofs.Common.{ap}
 use Rattle.std.specs.Option.{is_some}
 use Rattle.ark_math.specs.Domain.{mixed_radix}
-use Rattle.ark_math.proofs.Domains.MixedSizes.{mixed_none}
+use Rattle.ark_math_transforms.proofs.Domains.MixedSizes.{mixed_none}
 use Rattle.ark_univariate.proofs.domain.mixed_radix.MixedRadixEvaluationDomainEvaluationDomain.compute_size_of_domain.Goals as goal
 
 pub returns-in_err-size-clause-none : goal.returns-in_err-size-clause-none

@@ -1,6 +1,6 @@
 use Rattle.std.proofs.lemmas.Result.{on_ok_weaker}
-use Rattle.ark_math.proofs.Domains.Domains.{mixed_radix_is_domain}
-use Rattle.ark_math.proofs.Domains.LawfulDomains.{lawful_domain, only_inverse}
+use Rattle.ark_math_transforms.proofs.Domains.Domains.{mixed_radix_is_domain}
+use Rattle.ark_math_domains.proofs.Domains.LawfulDomains.{lawful_domain, only_inverse}
 use Rattle.ark_univariate.proofs.domain.mixed_radix.MixedRadixEvaluationDomainEvaluationDomain.ifft_counted.Goals as goal
 
 pub returns-clause-only : goal.returns-clause-only

@@ -1,7 +1,7 @@
 use Rattle.std.proofs.Common.{subst, sym, ap}
 use Rattle.std.specs.Option.{is_some}
 use Rattle.ark_math.specs.Domain.{mixed_radix, IsLeast, IsSize}
-use Rattle.ark_math.proofs.Domains.MixedSizes.{mixed_none}
+use Rattle.ark_math_transforms.proofs.Domains.MixedSizes.{mixed_none}
 use Rattle.ark_univariate.proofs.domain.mixed_radix.MixedRadixEvaluationDomainEvaluationDomain.new.Goals as goal
 
 pub returns-in_err-size-clause-none : goal.returns-in_err-size-clause-none

@@ -1,5 +1,5 @@
-use Rattle.ark_math.proofs.Domains.Domains.{radix2_is_domain}
-use Rattle.ark_math.proofs.Domains.LawfulDomains.{lawful_domain, elements_differ}
+use Rattle.ark_math_transforms.proofs.Domains.Domains.{radix2_is_domain}
+use Rattle.ark_math_domains.proofs.Domains.LawfulDomains.{lawful_domain, elements_differ}
 use Rattle.ark_univariate.proofs.domain.radix2.Radix2EvaluationDomainEvaluationDomain.elements.Goals as goal
 
 pub returns-clause-different : goal.returns-clause-different

@@ -1,6 +1,6 @@
 use Rattle.std.proofs.Common.{◌<◌, subst, sym, ap, ◌∙◌}
 use Rattle.ark_math.specs.Univariate.{of_list}
-use Rattle.ark_math.specs.Points.{IsPlaceQuotient}
+use Rattle.ark_math.specs.Field.{IsPlaceQuotient}
 use Rattle.ark_univariate.proofs.evaluations.univariate.Evaluations.div.Goals as goal
 
 pub div_assign-requires : goal.div_assign-requires

@@ -1,7 +1,7 @@
 use Rattle.std.proofs.Common.{◌≡◌, length, subst, subst₂, sym, ap, ◌∙◌, arith}
 use Rattle.std.proofs.lemmas.Result.{on_ok_weaker, on_err_weaker}
 use Rattle.ark_math.specs.Univariate.{of_list}
-use Rattle.ark_math.specs.Points.{IsPlaceQuotient}
+use Rattle.ark_math.specs.Field.{IsPlaceQuotient}
 use Rattle.ark_math.proofs.Lists.Lists.{written_back}
 use Rattle.ark_univariate.proofs.evaluations.univariate.Evaluations.div_assign.Goals as goal
 

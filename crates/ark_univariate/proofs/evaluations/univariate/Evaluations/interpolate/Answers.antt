@@ -1,9 +1,9 @@
 use Rattle.std.proofs.Common.{◌≡◌, length, map, subst, sym, ap, ◌∙◌}
-use Rattle.ark_math.specs.Points.{AreValues}
+use Rattle.ark_math_domains.specs.Points.{AreValues}
 use Rattle.ark_math.specs.Transform.{IsInverse}
 use Rattle.ark_math.specs.Univariate.{IsBelow}
-use Rattle.ark_math.proofs.Callers.Transforms.{values_of_ifft}
-use Rattle.ark_math.proofs.Domains.LawfulDomains.{lawful_domain, only_interpolation}
+use Rattle.ark_math_domains.proofs.Callers.Transforms.{values_of_ifft}
+use Rattle.ark_math_domains.proofs.Domains.LawfulDomains.{lawful_domain, only_interpolation}
 use Rattle.ark_univariate.proofs.evaluations.univariate.Evaluations.interpolate.Goals as goal
 
 pub returns-clause-values : goal.returns-clause-values

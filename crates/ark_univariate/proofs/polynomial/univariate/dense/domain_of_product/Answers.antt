@@ -2,7 +2,7 @@ use Rattle.std.proofs.Common.{◌≡◌, ◌+◌, ◌-◌, ap, subst, sym, arith
 use Rattle.std.proofs.lemmas.Option.{IfSome_then}
 use Rattle.std.specs.Option.{is_some}
 use Rattle.ark_math.specs.Domain.{HasNoSize, IsGeneral}
-use Rattle.ark_math.proofs.Domains.GeneralSizes.{general_sizes, general_fits}
+use Rattle.ark_math_transforms.proofs.Domains.GeneralSizes.{general_sizes, general_fits}
 use Rattle.ark_univariate.proofs.polynomial.univariate.dense.domain_of_product.Goals as goal
 
 pub returns-in_err-checked_add-clause-none : goal.returns-in_err-checked_add-clause-none

@@ -1,9 +1,9 @@
 use Rattle.std.proofs.Common.{◌≡◌, map, sym, ◌∙◌, subst}
 use Rattle.std.proofs.lemmas.Bool.{true≢false}
 use Rattle.std.proofs.lemmas.Result.{err_from_is_err_and}
-use Rattle.ark_math.specs.Format.{word, list}
-use Rattle.ark_math.proofs.Formats.Ends.{list_is_format}
-use Rattle.ark_math.proofs.Formats.SeveralVariables.{values_show}
+use Rattle.ark_math_formats.specs.Format.{word, list}
+use Rattle.ark_math_formats.proofs.Formats.Ends.{list_is_format}
+use Rattle.ark_multi.specs.LayoutLaws.{values_show}
 use Rattle.ark_multi.proofs.Bytes.{refused_in_first, refused_in_second, fault_in_both, IsWhole, whole_alike}
 use Rattle.ark_multi.proofs.multilinear.dense.bytes.DenseMultilinearExtensionCanonicalDeserialize.deserialize_with_mode.Goals as goal
 

@@ -1,6 +1,6 @@
 use Rattle.std.proofs.Common.{refl}
 use Rattle.std.proofs.lemmas.Result.{err_from_is_err_and}
-use Rattle.ark_math.specs.Format.{word, list}
+use Rattle.ark_math_formats.specs.Format.{word, list}
 use Rattle.ark_multi.proofs.Bytes.{stops_in_first, write_both}
 use Rattle.ark_multi.proofs.multilinear.dense.bytes.DenseMultilinearExtensionCanonicalSerialize.serialize_with_mode.Goals as goal
 

@@ -1,10 +1,10 @@
 use Rattle.std.proofs.Common.{◌≡◌, ◌⊎◌, sym, ◌∙◌, subst}
 use Rattle.std.proofs.lemmas.Bool.{true≢false}
 use Rattle.std.proofs.lemmas.Result.{err_from_is_err_and}
-use Rattle.ark_math.specs.Format.{word, ◌⊗◌, list}
-use Rattle.ark_math.proofs.Formats.Ends.{number_is_format, pair_is_format, list_is_format}
-use Rattle.ark_math.proofs.Formats.SeveralVariables.{entries_tell}
-use Rattle.ark_lists.specs.Entries.{AreEntries}
+use Rattle.ark_math_formats.specs.Format.{word, ◌⊗◌, list}
+use Rattle.ark_math_formats.proofs.Formats.Ends.{number_is_format, pair_is_format, list_is_format}
+use Rattle.ark_multi.specs.LayoutLaws.{entries_tell}
+use Rattle.ark_tables.specs.Entries.{AreEntries}
 use Rattle.ark_multi.proofs.Bytes.{refused_in_first, refused_in_second, fault_in_both}
 use Rattle.ark_multi.proofs.multilinear.sparse.bytes.SparseMultilinearExtensionCanonicalDeserialize.deserialize_with_mode.Goals as goal
 

@@ -1,10 +1,10 @@
 use Rattle.std.proofs.Common.{◌≡◌, sym, ◌∙◌, subst}
 use Rattle.std.proofs.lemmas.Bool.{true≢false}
 use Rattle.std.proofs.lemmas.Result.{err_from_is_err_and}
-use Rattle.ark_math.specs.Format.{word, ◌⊗◌, list}
-use Rattle.ark_math.proofs.Formats.Ends.{number_is_format}
-use Rattle.ark_math.proofs.Formats.SeveralVariables.{terms_show}
-use Rattle.ark_math.proofs.Polynomials.TermLists.{keyed}
+use Rattle.ark_math_formats.specs.Format.{word, ◌⊗◌, list}
+use Rattle.ark_math_formats.proofs.Formats.Ends.{number_is_format}
+use Rattle.ark_multi.specs.LayoutLaws.{terms_show}
+use Rattle.ark_multi.specs.TermLists.{keyed}
 use Rattle.ark_multi.specs.SortedTerms.{AreTerms}
 use Rattle.ark_multi.proofs.SortedTerms.{term_order}
 use Rattle.ark_multi.proofs.Bytes.{refused_in_first, refused_in_second, fault_in_both, terms_like}

@@ -1,8 +1,8 @@
 use Rattle.std.proofs.Common.{◌≡◌, sym, ◌∙◌, subst}
 use Rattle.std.proofs.lemmas.Bool.{true≢false}
-use Rattle.ark_math.specs.Format.{word, ◌⊗◌, list}
-use Rattle.ark_math.specs.Term.{IsTerm}
-use Rattle.ark_math.proofs.Formats.SeveralVariables.{pairs_tell}
+use Rattle.ark_math_formats.specs.Format.{word, ◌⊗◌, list}
+use Rattle.ark_math_variables.specs.Term.{IsTerm}
+use Rattle.ark_multi.specs.LayoutLaws.{pairs_tell}
 use Rattle.ark_multi.proofs.Bytes.{fault_by_fields}
 use Rattle.ark_multi.proofs.multivariate.sparse_term.bytes.SparseTermCanonicalDeserialize.deserialize_with_mode.Goals as goal
 

@@ -1,6 +1,6 @@
 use Rattle.std.proofs.Common.{sym}
-use Rattle.ark_math.specs.Format.{word, ◌⊗◌, list}
-use Rattle.ark_math.specs.Term.{IsTerm}
+use Rattle.ark_math_formats.specs.Format.{word, ◌⊗◌, list}
+use Rattle.ark_math_variables.specs.Term.{IsTerm}
 use Rattle.ark_multi.proofs.Bytes.{write_value}
 use Rattle.ark_multi.proofs.multivariate.sparse_term.bytes.SparseTermCanonicalSerialize.serialize_with_mode.Goals as goal
 

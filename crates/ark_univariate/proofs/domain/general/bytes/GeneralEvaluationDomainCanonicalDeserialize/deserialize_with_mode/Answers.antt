@@ -1,6 +1,6 @@
 use Rattle.std.proofs.Common.{◌⊎◌, inl, inr}
 use Rattle.std.proofs.lemmas.Result.{err_from_is_err_and}
-use Rattle.ark_math.specs.Layouts.{general_domain}
+use Rattle.ark_univariate.specs.Layouts.{general_domain}
 use Rattle.ark_bytes.specs.Either.{sum_of}
 use Rattle.ark_bytes.proofs.Reading.{refused_fields, refused_weaker}
 use Rattle.ark_fft.specs.CosetBytes.{all_fields}

@@ -1,7 +1,7 @@
 use Rattle.std.proofs.Common.{◌≡◌, ap, subst, ◌∙◌}
 use Rattle.std.proofs.lemmas.Result.{err_from_is_err_and}
 use Rattle.ark_math.specs.Root.{Splits}
-use Rattle.ark_math.proofs.Domains.Costs.{one_split}
+use Rattle.ark_math_transforms.proofs.Domains.Costs.{one_split}
 use Rattle.ark_bytes.proofs.Reading.{refused_fields, unlawful}
 use Rattle.ark_fft.specs.CosetBytes.{all_fields, domain_format, domain_tells}
 use Rattle.ark_univariate.specs.DomainBytes.{radix2_coset}

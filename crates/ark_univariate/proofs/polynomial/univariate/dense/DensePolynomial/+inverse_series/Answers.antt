@@ -1,7 +1,7 @@
 use Rattle.std.proofs.Common.{◌≤◌, [], ◌∷◌, ap, ◌∙◌, arith}
 use Rattle.ark_math.specs.Univariate.{of_list}
 use Rattle.ark_quotients.proofs.PowerSeries.{inverse_constant}
-use Rattle.ark_math.proofs.Polynomials.UnivariateLists.{of_list-past}
+use Rattle.ark_math_polynomials.proofs.Polynomials.UnivariateLists.{of_list-past}
 use Rattle.ark_univariate.proofs.polynomial.univariate.dense.DensePolynomial.+inverse_series.Goals as goal
 
 pub returns-then-len-eq1-clause-inverse : goal.returns-then-len-eq1-clause-inverse

@@ -1,6 +1,6 @@
 use Rattle.std.proofs.Common.{◌≡◌, [], true≢false, refl, ap, ◌∙◌}
 use Rattle.ark_math.specs.Univariate.{of_list, nothing}
-use Rattle.ark_math.proofs.Polynomials.Quotients.{division_of, zero_division}
+use Rattle.ark_math_polynomials.proofs.Polynomials.Quotients.{division_of, zero_division}
 use Rattle.ark_univariate.proofs.polynomial.univariate.dense.DensePolynomial.divide_by_transforms.Goals as goal
 
 pub returns-in-Some-clause-division : goal.returns-in-Some-clause-division

@@ -1,11 +1,11 @@
 use Rattle.std.proofs.Common.{◌<◌, length, subst, sym, ap, ap₂, ◌∙◌}
-use Rattle.ark_math.specs.Points.{vanishing}
+use Rattle.ark_math_domains.specs.Points.{vanishing}
 use Rattle.ark_math.specs.Univariate.{of_list, added, product, IsBelow}
-use Rattle.ark_math.proofs.Domains.LawfulDomains.{lawful_domain, some_size}
-use Rattle.ark_math.proofs.OverDomains.Vanishing.{vanishing-quotient}
-use Rattle.ark_math.proofs.Polynomials.Binomials.{binomial}
-use Rattle.ark_math.proofs.Polynomials.Quotients.{one_quotient}
-use Rattle.ark_math.proofs.Polynomials.UnivariateLists.{of_list-below}
+use Rattle.ark_math_domains.proofs.Domains.LawfulDomains.{lawful_domain, some_size}
+use Rattle.ark_math_domains.proofs.OverDomains.Vanishing.{vanishing-quotient}
+use Rattle.ark_math_polynomials.proofs.Polynomials.Binomials.{binomial}
+use Rattle.ark_math_polynomials.proofs.Polynomials.Quotients.{one_quotient}
+use Rattle.ark_math_polynomials.proofs.Polynomials.UnivariateLists.{of_list-below}
 use Rattle.ark_univariate.proofs.polynomial.univariate.dense.DensePolynomial.divide_by_vanishing_poly.Goals as goal
 
 pub divided_by_binomial-requires : goal.divided_by_binomial-requires

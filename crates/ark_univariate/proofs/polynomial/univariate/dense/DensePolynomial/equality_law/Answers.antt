@@ -1,4 +1,4 @@
-use Rattle.ark_math.proofs.Polynomials.Trimmed.{trim_equality}
+use Rattle.ark_math_polynomials.proofs.Polynomials.Trimmed.{trim_equality}
 use Rattle.ark_univariate.proofs.polynomial.univariate.dense.DensePolynomial.equality_law.Goals as goal
 
 pub returns : goal.returns

@@ -1,9 +1,9 @@
 use Rattle.std.proofs.Common.{◌<◌, length, subst, sym, ap, ◌∙◌}
 use Rattle.std.proofs.lemmas.List.{length-map}
-use Rattle.ark_math.specs.Points.{AreValues}
+use Rattle.ark_math_domains.specs.Points.{AreValues}
 use Rattle.ark_math.specs.Univariate.{of_list}
-use Rattle.ark_math.proofs.Callers.Transforms.{transform-length, values_of_reduced}
-use Rattle.ark_math.proofs.Domains.LawfulDomains.{lawful_domain, order, some_size}
+use Rattle.ark_math_domains.proofs.Callers.Transforms.{transform-length, values_of_reduced}
+use Rattle.ark_math_domains.proofs.Domains.LawfulDomains.{lawful_domain, order, some_size}
 use Rattle.ark_univariate.proofs.polynomial.univariate.dense.DensePolynomial.evaluate_over_domain.Goals as goal
 
 pub reduce_by_binomial-requires : goal.reduce_by_binomial-requires

@@ -1,7 +1,7 @@
 use Rattle.std.proofs.Common.{◌≡◌, length, ap, rules, subst, IsNone}
 use Rattle.std.proofs.lemmas.List.{nil_from_length}
 use Rattle.ark_math.specs.Univariate.{of_list, IsTrimmed}
-use Rattle.ark_math.proofs.Polynomials.UnivariateLists.{trimmed_nothing}
+use Rattle.ark_math_polynomials.proofs.Polynomials.UnivariateLists.{trimmed_nothing}
 use Rattle.ark_univariate.proofs.polynomial.univariate.dense.DensePolynomial.leading_inverse.Goals as goal
 
 pub returns-clause-none : goal.returns-clause-none

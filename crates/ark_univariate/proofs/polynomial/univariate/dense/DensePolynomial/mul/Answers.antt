@@ -1,7 +1,7 @@
 use Rattle.std.proofs.Common.{◌≡◌, sym, ap, rules, refl, ◌∙◌, ◌==◌}
 use Rattle.ark_math.specs.Univariate.{of_list, nothing, product}
-use Rattle.ark_math.proofs.Polynomials.UnivariateLists.{trimmed_none_Decides}
-use Rattle.ark_math.proofs.Polynomials.UnivariateProducts.{nothing-product, product-nothing}
+use Rattle.ark_math_polynomials.proofs.Polynomials.UnivariateLists.{trimmed_none_Decides}
+use Rattle.ark_math_polynomials.proofs.Polynomials.UnivariateProducts.{nothing-product, product-nothing}
 use Rattle.ark_math.proofs.Outcomes.Results.{IfOk_more}
 use Rattle.ark_univariate.proofs.polynomial.univariate.dense.DensePolynomial.mul.Goals.{then-is_empty-via-then-is_empty, then-is_empty-via-else-is_empty+then-is_empty-2}
 use Rattle.ark_univariate.proofs.polynomial.univariate.dense.DensePolynomial.mul.Goals as goal

@@ -1,9 +1,9 @@
 use Rattle.std.proofs.Common.{◌≡◌, sym, ap, ap₂, ◌∙◌, ◌==◌}
-use Rattle.ark_math.specs.Points.{vanishing}
+use Rattle.ark_math_domains.specs.Points.{vanishing}
 use Rattle.ark_math.specs.Univariate.{of_list, nothing, product}
-use Rattle.ark_math.proofs.Polynomials.Binomials.{binomial}
-use Rattle.ark_math.proofs.Polynomials.UnivariateLists.{trimmed_none_Decides}
-use Rattle.ark_math.proofs.Polynomials.UnivariateProducts.{nothing-product}
+use Rattle.ark_math_polynomials.proofs.Polynomials.Binomials.{binomial}
+use Rattle.ark_math_polynomials.proofs.Polynomials.UnivariateLists.{trimmed_none_Decides}
+use Rattle.ark_math_polynomials.proofs.Polynomials.UnivariateProducts.{nothing-product}
 use Rattle.ark_math.proofs.Outcomes.Results.{IfOk_more}
 use Rattle.ark_univariate.proofs.polynomial.univariate.dense.DensePolynomial.mul_by_vanishing_poly.Goals as goal
 

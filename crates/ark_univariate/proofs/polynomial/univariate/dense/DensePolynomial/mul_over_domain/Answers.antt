@@ -1,5 +1,5 @@
 use Rattle.std.proofs.Common.{◌≡◌, ◌∙◌}
-use Rattle.ark_math.proofs.Domains.LawfulDomains.{lawful_domain, places_quotient, places_remainder, places_product}
+use Rattle.ark_math_domains.proofs.Domains.LawfulDomains.{lawful_domain, places_quotient, places_remainder, places_product}
 use Rattle.ark_math.proofs.Outcomes.Results.{IfOk_both}
 use Rattle.ark_univariate.proofs.polynomial.univariate.dense.DensePolynomial.mul_over_domain.Goals as goal
 

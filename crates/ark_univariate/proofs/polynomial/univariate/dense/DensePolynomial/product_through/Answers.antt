@@ -1,15 +1,15 @@
 use Rattle.std.proofs.Common.{◌≤◌, ◌+◌, ◌-◌, length, subst, sym, ap, ap₂, ◌∙◌, arith, map}
 use Rattle.std.proofs.lemmas.List.{length-map}
-use Rattle.ark_math.specs.Points.{AreValues}
+use Rattle.ark_math_domains.specs.Points.{AreValues}
 use Rattle.ark_math.specs.Transform.{transform}
 use Rattle.ark_math.specs.Univariate.{IsBelow, of_list, product}
-use Rattle.ark_math.proofs.Callers.Lanes.{lanes, side_by_side, values_of_lanes}
-use Rattle.ark_math.proofs.Callers.Transforms.{transform-length}
-use Rattle.ark_math.proofs.Domains.LawfulDomains.{lawful_domain, only_interpolation}
+use Rattle.ark_univariate.proofs.Lanes.{lanes, side_by_side, values_of_lanes}
+use Rattle.ark_math_domains.proofs.Callers.Transforms.{transform-length}
+use Rattle.ark_math_domains.proofs.Domains.LawfulDomains.{lawful_domain, only_interpolation}
 use Rattle.ark_math.proofs.Outcomes.Results.{IfOk_both}
-use Rattle.ark_math.proofs.Polynomials.Univariate.{IsBelow-more}
-use Rattle.ark_math.proofs.Polynomials.UnivariateLists.{of_list-below}
-use Rattle.ark_math.proofs.Polynomials.UnivariateProducts.{product-below}
+use Rattle.ark_math_polynomials.proofs.Polynomials.Univariate.{IsBelow-more}
+use Rattle.ark_math_polynomials.proofs.Polynomials.UnivariateLists.{of_list-below}
+use Rattle.ark_math_polynomials.proofs.Polynomials.UnivariateProducts.{product-below}
 use Rattle.ark_univariate.proofs.polynomial.univariate.dense.DensePolynomial.product_through.Goals as goal
 
 pub from_vec_and_domain-requires : goal.from_vec_and_domain-requires

@@ -2,7 +2,7 @@ use Rattle.std.proofs.Common.{◌≡◌, ◌+◌, ◌-◌, length, sym, ap, refl
 use Rattle.ark_math.specs.Univariate.{of_list, IsBelow}
 use Rattle.ark_math.proofs.Outcomes.Results.{IfOk_both}
 use Rattle.ark_quotients.proofs.Backwards.{quotient_of_lengths, backwards-inside}
-use Rattle.ark_math.proofs.Polynomials.UnivariateLists.{of_list-below}
+use Rattle.ark_math_polynomials.proofs.Polynomials.UnivariateLists.{of_list-below}
 use Rattle.ark_univariate.proofs.polynomial.univariate.dense.DensePolynomial.quotient_by_series.Goals as goal
 
 pub returns-clause-quotient : goal.returns-clause-quotient

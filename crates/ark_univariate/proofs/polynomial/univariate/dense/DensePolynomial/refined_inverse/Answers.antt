@@ -1,7 +1,7 @@
 use Rattle.std.proofs.Common.{◌+◌, ap, ◌∙◌, arith}
 use Rattle.ark_math.specs.Univariate.{of_list, opposite}
 use Rattle.ark_quotients.proofs.PowerSeries.{newton_step}
-use Rattle.ark_math.proofs.Polynomials.UnivariateLists.{of_list-past}
+use Rattle.ark_math_polynomials.proofs.Polynomials.UnivariateLists.{of_list-past}
 use Rattle.ark_univariate.proofs.polynomial.univariate.dense.DensePolynomial.refined_inverse.Goals as goal
 
 pub returns-clause-inverse : goal.returns-clause-inverse

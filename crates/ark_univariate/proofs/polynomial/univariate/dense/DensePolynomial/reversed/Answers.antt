@@ -1,7 +1,7 @@
 use Rattle.std.proofs.Common.{◌-◌, sym, ap, ◌∙◌, arith}
 use Rattle.ark_math.specs.Univariate.{of_list}
 use Rattle.ark_quotients.proofs.Backwards.{backwards-inside}
-use Rattle.ark_math.proofs.Polynomials.UnivariateLists.{of_list-past}
+use Rattle.ark_math_polynomials.proofs.Polynomials.UnivariateLists.{of_list-past}
 use Rattle.ark_univariate.proofs.polynomial.univariate.dense.DensePolynomial.reversed.Goals as goal
 
 pub returns-clause-same : goal.returns-clause-same

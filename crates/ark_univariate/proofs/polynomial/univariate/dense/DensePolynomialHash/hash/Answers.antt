@@ -1,7 +1,7 @@
 use Rattle.std.proofs.Common.{sym, ap, ◌∙◌}
 use Rattle.std.specs.List.{fold}
 use Rattle.std.specs.Hash as fed
-use Rattle.ark_math.proofs.Polynomials.Trimmed.{trim_of-trimmed, zero_test}
+use Rattle.ark_math_polynomials.proofs.Polynomials.Trimmed.{trim_of-trimmed, zero_test}
 use Rattle.ark_univariate.proofs.polynomial.univariate.dense.DensePolynomialHash.hash.Goals as goal
 
 pub returns : goal.returns

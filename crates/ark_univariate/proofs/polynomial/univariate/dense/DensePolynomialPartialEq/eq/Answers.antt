@@ -1,6 +1,6 @@
 use Rattle.std.proofs.Common.{sym, ap₂, ◌∙◌}
 use Rattle.std.specs.Cmp.Lexicographic.{pointwise}
-use Rattle.ark_math.proofs.Polynomials.Trimmed.{trim_of-trimmed, zero_test}
+use Rattle.ark_math_polynomials.proofs.Polynomials.Trimmed.{trim_of-trimmed, zero_test}
 use Rattle.ark_univariate.proofs.polynomial.univariate.dense.DensePolynomialPartialEq.eq.Goals as goal
 
 pub returns : goal.returns

@@ -1,5 +1,5 @@
 use Rattle.std.proofs.Common.{ap, ◌∙◌, ◌==◌}
-use Rattle.ark_math.proofs.Polynomials.UnivariateLists.{trimmed_none_Decides}
+use Rattle.ark_math_polynomials.proofs.Polynomials.UnivariateLists.{trimmed_none_Decides}
 use Rattle.ark_univariate.proofs.polynomial.univariate.dense.DensePolynomialPolynomial.is_zero.Goals as goal
 
 pub returns : goal.returns

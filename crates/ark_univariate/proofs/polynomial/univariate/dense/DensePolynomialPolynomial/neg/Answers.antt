@@ -1,7 +1,7 @@
 use Rattle.std.proofs.Common.{ap, ◌∙◌}
 use Rattle.ark_math.specs.Univariate.{of_list, added, opposite}
 use Rattle.ark_math.proofs.Algebra.Groups.{zero_plus}
-use Rattle.ark_math.proofs.Polynomials.Univariate.{coefficients_are_module}
+use Rattle.ark_math_polynomials.proofs.Polynomials.Univariate.{coefficients_are_module}
 use Rattle.ark_math.proofs.Outcomes.Results.{IfOk_more}
 use Rattle.ark_univariate.proofs.polynomial.univariate.dense.DensePolynomialPolynomial.neg.Goals as goal
 

@@ -1,6 +1,6 @@
 use Rattle.std.proofs.Common.{sym, subst}
 use Rattle.std.proofs.lemmas.Result.{IfOk-weaker}
-use Rattle.ark_math.specs.Points.{AreValues}
+use Rattle.ark_math_domains.specs.Points.{AreValues}
 use Rattle.ark_math.specs.Univariate.{of_pairs}
 use Rattle.ark_univariate.specs.DenseOrSparse.{denoted}
 use Rattle.ark_univariate.proofs.polynomial.univariate.dense_or_sparse.DenseOrSparsePolynomial.evaluate_over_domain.Goals as goal

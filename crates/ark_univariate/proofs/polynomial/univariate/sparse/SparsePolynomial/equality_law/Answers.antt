@@ -1,4 +1,4 @@
-use Rattle.ark_math.proofs.Polynomials.Gathered.{gather_equality}
+use Rattle.ark_univariate.specs.GatheredLaws.{gather_equality}
 use Rattle.ark_univariate.proofs.polynomial.univariate.sparse.SparsePolynomial.equality_law.Goals as goal
 
 pub returns : goal.returns

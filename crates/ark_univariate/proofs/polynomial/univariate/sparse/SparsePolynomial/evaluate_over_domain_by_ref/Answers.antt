@@ -1,11 +1,11 @@
 use Rattle.std.proofs.Common.{◌<◌, length, subst, sym, ap, ◌∙◌}
 use Rattle.std.proofs.lemmas.List.{length-map}
-use Rattle.ark_math.specs.Points.{AreValues}
+use Rattle.ark_math_domains.specs.Points.{AreValues}
 use Rattle.ark_math.specs.Univariate.{of_list, of_pairs, IsQuotient}
-use Rattle.ark_math.proofs.Polynomials.Binomials.{binomial}
-use Rattle.ark_math.proofs.Polynomials.PairProducts.{pairs_bound}
-use Rattle.ark_math.proofs.Callers.Transforms.{transform-length, values_of_remainder}
-use Rattle.ark_math.proofs.Domains.LawfulDomains.{lawful_domain, order, some_size}
+use Rattle.ark_math_polynomials.proofs.Polynomials.Binomials.{binomial}
+use Rattle.ark_math_polynomials.proofs.Polynomials.PairProducts.{pairs_bound}
+use Rattle.ark_math_domains.proofs.Callers.Transforms.{transform-length, values_of_remainder}
+use Rattle.ark_math_domains.proofs.Domains.LawfulDomains.{lawful_domain, order, some_size}
 use Rattle.ark_univariate.proofs.polynomial.univariate.sparse.SparsePolynomial.evaluate_over_domain_by_ref.Goals as goal
 
 pub reduced_terms-requires : goal.reduced_terms-requires

@@ -1,8 +1,8 @@
 use Rattle.std.proofs.Common.{◌++◌, sym, ap, ◌∙◌}
 use Rattle.std.specs.List.{fold}
 use Rattle.std.specs.Hash as fed
-use Rattle.ark_math.proofs.Polynomials.Trimmed.{zero_test}
-use Rattle.ark_math.proofs.Polynomials.Gathered.{gather_of-sparse}
+use Rattle.ark_math_polynomials.proofs.Polynomials.Trimmed.{zero_test}
+use Rattle.ark_univariate.specs.GatheredLaws.{gather_of-sparse}
 use Rattle.ark_univariate.proofs.polynomial.univariate.sparse.SparsePolynomialHash.hash.Goals as goal
 
 pub returns : goal.returns

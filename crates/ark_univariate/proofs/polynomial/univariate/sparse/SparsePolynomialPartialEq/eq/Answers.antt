@@ -1,7 +1,7 @@
 use Rattle.std.proofs.Common.{◌==◌, ◌&&◌, sym, ap₂, ◌∙◌}
 use Rattle.std.specs.Cmp.Lexicographic.{pointwise}
-use Rattle.ark_math.proofs.Polynomials.Trimmed.{zero_test}
-use Rattle.ark_math.proofs.Polynomials.Gathered.{gather_of-sparse}
+use Rattle.ark_math_polynomials.proofs.Polynomials.Trimmed.{zero_test}
+use Rattle.ark_univariate.specs.GatheredLaws.{gather_of-sparse}
 use Rattle.ark_univariate.proofs.polynomial.univariate.sparse.SparsePolynomialPartialEq.eq.Goals as goal
 
 pub returns : goal.returns

@@ -1,6 +1,6 @@
 use Rattle.std.proofs.Common.{◌≡◌, ap, ap₂, ◌∙◌}
 use Rattle.ark_math.specs.Univariate.{of_pairs, added, scaled}
-use Rattle.ark_math.proofs.Polynomials.Univariate.{coefficients_are_module}
+use Rattle.ark_math_polynomials.proofs.Polynomials.Univariate.{coefficients_are_module}
 use Rattle.ark_univariate.proofs.polynomial.univariate.sparse.SparsePolynomialPolynomial.add.Goals as goal
 
 pub returns-clause-sum : goal.returns-clause-sum

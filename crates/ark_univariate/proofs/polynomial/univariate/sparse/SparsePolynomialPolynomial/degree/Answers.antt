@@ -1,7 +1,7 @@
 use Rattle.std.proofs.Common.{◌-◌, length, sym, ap, ◌∙◌}
 use Rattle.std.specs.List.{slice_get}
 use Rattle.std.specs.Option.{option_copied}
-use Rattle.ark_math.proofs.Polynomials.UnivariatePairs.{sparse_last}
+use Rattle.ark_math_polynomials.proofs.Polynomials.UnivariatePairs.{sparse_last}
 use Rattle.ark_univariate.proofs.polynomial.univariate.sparse.SparsePolynomialPolynomial.degree.Goals as goal
 
 pub returns-in-Some : goal.returns-in-Some

@@ -2,8 +2,8 @@ use Rattle.std.proofs.Common.{sym, ◌∙◌, subst}
 use Rattle.std.proofs.lemmas.Bool.{true≢false}
 use Rattle.std.proofs.lemmas.Result.{err_from_is_err_and}
 use Rattle.ark_math.specs.Univariate.{IsTrimmed}
-use Rattle.ark_math.specs.Format.{list}
-use Rattle.ark_math.proofs.Formats.OneToOne.{list_tells}
+use Rattle.ark_math_formats.specs.Format.{list}
+use Rattle.ark_math_formats.proofs.Formats.OneToOne.{list_tells}
 use Rattle.ark_bytes.proofs.Reading.{refused_fields, unlawful_value}
 use Rattle.ark_univariate.proofs.polynomial.univariate.dense.bytes.DensePolynomialCanonicalDeserialize.deserialize_with_mode.Goals as goal
 

@@ -2,9 +2,9 @@ use Rattle.std.proofs.Common.{sym, ◌∙◌, subst}
 use Rattle.std.proofs.lemmas.Bool.{true≢false}
 use Rattle.std.proofs.lemmas.Result.{err_from_is_err_and}
 use Rattle.ark_math.specs.Univariate.{IsSparse}
-use Rattle.ark_math.specs.Format.{word, ◌⊗◌, list}
-use Rattle.ark_math.proofs.Formats.Ends.{number_is_format, pair_is_format}
-use Rattle.ark_math.proofs.Formats.OneToOne.{number_tells, pair_tells, list_tells}
+use Rattle.ark_math_formats.specs.Format.{word, ◌⊗◌, list}
+use Rattle.ark_math_formats.proofs.Formats.Ends.{number_is_format, pair_is_format}
+use Rattle.ark_math_formats.proofs.Formats.OneToOne.{number_tells, pair_tells, list_tells}
 use Rattle.ark_bytes.proofs.Reading.{refused_fields, unlawful_value}
 use Rattle.ark_univariate.proofs.polynomial.univariate.sparse.bytes.SparsePolynomialCanonicalDeserialize.deserialize_with_mode.Goals as goal
 

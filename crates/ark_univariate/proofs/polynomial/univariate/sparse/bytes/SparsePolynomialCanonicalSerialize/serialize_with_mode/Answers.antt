@@ -1,6 +1,6 @@
 use Rattle.std.proofs.Common.{sym, ◌∙◌, subst}
 use Rattle.ark_math.specs.Univariate.{IsSparse}
-use Rattle.ark_math.specs.Format.{word, ◌⊗◌, list}
+use Rattle.ark_math_formats.specs.Format.{word, ◌⊗◌, list}
 use Rattle.ark_bytes.proofs.Writing.{write_fields}
 use Rattle.ark_univariate.proofs.polynomial.univariate.sparse.bytes.SparsePolynomialCanonicalSerialize.serialize_with_mode.Goals as goal
 

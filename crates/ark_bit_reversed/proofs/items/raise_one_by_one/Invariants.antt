@@ -1,0 +1,13 @@
+use Rattle.std.proofs.Common.{◌≡◌, ◌<◌, ◌≤◌, ℕ, length}
+use Rattle.ark_math.specs.Field.{power}
+use Rattle.ark_math.specs.Univariate.{of_list}
+use Rattle.ark_bit_reversed.proofs.items.raise_one_by_one.Given as goal
+
+abbrev pub invariant-loop-i : goal.invariant-loop-i
+invariant-loop-i g l =
+    let K = g.F.Field.field in
+    record {
+      len : length l.items ≡ length l.initial.items;
+      done : (k : ℕ) → k < l.i → of_list K l.items k ≡ power K (of_list K l.initial.items k) l.exponent;
+      rest : (k : ℕ) → l.i ≤ k → of_list K l.items k ≡ of_list K l.initial.items k;
+    }

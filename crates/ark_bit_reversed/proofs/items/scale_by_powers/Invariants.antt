@@ -1,0 +1,14 @@
+use Rattle.std.proofs.Common.{◌≡◌, ◌<◌, ◌≤◌, ℕ, length}
+use Rattle.ark_math.specs.Field.{power}
+use Rattle.ark_math.specs.Univariate.{of_list}
+use Rattle.ark_bit_reversed.proofs.items.scale_by_powers.Given as goal
+
+abbrev pub invariant-loop-i : goal.invariant-loop-i
+invariant-loop-i g l =
+    let K = g.F.Field.field in
+    record {
+      len : length l.items ≡ length l.initial.items;
+      next : l.next ≡ power K l.factor l.i;
+      done : (k : ℕ) → k < l.i → of_list K l.items k ≡ K.times (power K l.factor k) (of_list K l.initial.items k);
+      rest : (k : ℕ) → l.i ≤ k → of_list K l.items k ≡ of_list K l.initial.items k;
+    }

@@ -1,4 +1,0 @@
-use Rattle.ark_blocks.proofs.backward.+backward.Given as goal
-
-abbrev pub decreases-backward : goal.decreases-backward
-decreases-backward g l = l.levels

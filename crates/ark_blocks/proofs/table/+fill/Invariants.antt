@@ -1,5 +1,0 @@
-use Rattle.std.proofs.Common.{length}
-use Rattle.ark_blocks.proofs.table.+fill.Given as goal
-
-abbrev pub decreases-fill : goal.decreases-fill
-decreases-fill g l = length l.roots.now

@@ -1,4 +1,0 @@
-use Rattle.ark_lists.proofs.draws.new_index.Given as goal
-
-abbrev pub invariant-loop : goal.invariant-loop
-invariant-loop g l = Unit {0}

@@ -1,5 +1,0 @@
-use Rattle.ark_lists.proofs.Doubled.{IsDoubling}
-use Rattle.ark_lists.proofs.windows.double_weights.Given as goal
-
-abbrev pub invariant-loop-i : goal.invariant-loop-i
-invariant-loop-i g l = IsDoubling g.F.Field.field l.item l.initial.weights.items l.weights.items l.i

@@ -1,6 +1,0 @@
-use Rattle.std.proofs.Common.{take}
-use Rattle.ark_lists.proofs.Doubled.{AreWeights}
-use Rattle.ark_lists.proofs.windows.weights.Given as goal
-
-abbrev pub invariant-loop-i : goal.invariant-loop-i
-invariant-loop-i g l = AreWeights g.F.Field.field (take l.i l.point) l.weights.items

@@ -1,9 +1,0 @@
-use Rattle.std.proofs.Common.{◌≡◌, take}
-use Rattle.ark_math.specs.Multilinear.{written}
-use Rattle.ark_lists.specs.Held.{held}
-use Rattle.ark_lists.proofs.windows.written_entries.Given as goal
-
-abbrev pub invariant-loop-i : goal.invariant-loop-i
-invariant-loop-i g l =
-    let K = g.F.Field.field in
-    held K l.table ≡ written K.zero (take l.i l.pairs)

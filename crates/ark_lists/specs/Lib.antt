@@ -1,4 +1,0 @@
--- Words of the lists behind polynomials of several variables.
-pub mod Entries
-pub mod Graded
-pub mod Held

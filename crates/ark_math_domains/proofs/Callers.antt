@@ -1,0 +1,2 @@
+-- What callers of transforms need.
+pub mod Transforms

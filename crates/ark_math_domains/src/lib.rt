@@ -1,0 +1,2 @@
+//! Polynomials at the elements of a domain: definitions and lemmas, no code.
+#![tactic(auto)]

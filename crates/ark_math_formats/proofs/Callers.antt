@@ -1,0 +1,2 @@
+-- What callers that compare bytes need.
+pub mod Bytes

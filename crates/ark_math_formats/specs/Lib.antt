@@ -1,0 +1,2 @@
+-- How values are spelled in bytes, and where reading stops.
+pub mod Format

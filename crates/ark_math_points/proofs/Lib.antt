@@ -1,0 +1,2 @@
+-- Lemmas on polynomials at points of a caller's own, over plain variables.
+pub mod AtPoints

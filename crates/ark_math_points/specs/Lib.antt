@@ -1,0 +1,2 @@
+-- Polynomials at points of a caller's own.
+pub mod AtPoints

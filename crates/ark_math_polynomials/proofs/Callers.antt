@@ -1,0 +1,2 @@
+-- What callers of quotients need.
+pub mod Remainders

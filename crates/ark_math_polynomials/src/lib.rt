@@ -1,0 +1,2 @@
+//! Polynomials in one variable: definitions and lemmas, no code.
+#![tactic(auto)]

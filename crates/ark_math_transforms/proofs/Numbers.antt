@@ -1,0 +1,2 @@
+-- Numbers with their bits turned round.
+pub mod BitReversal

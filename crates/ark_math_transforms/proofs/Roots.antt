@@ -1,0 +1,2 @@
+-- Sums of the powers of a root of unity.
+pub mod Orthogonal

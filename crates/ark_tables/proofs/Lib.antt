@@ -1,0 +1,10 @@
+-- Lemmas about lists of powers and of values, and entries of tables, each stated once over plain variables.
+pub mod Doubled
+pub mod GatheredPowers
+pub mod GradedOrder
+pub mod HeldTables
+pub mod PowerLists
+pub mod SparseTables
+pub mod TableLists
+pub mod DenseTables
+pub mod Exchanged

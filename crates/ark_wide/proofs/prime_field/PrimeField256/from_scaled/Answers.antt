@@ -1,6 +1,0 @@
-use Rattle.std.proofs.Common.{◌∙◌}
-use Rattle.ark_wide.proofs.Element.{unit_times}
-use Rattle.ark_wide.proofs.prime_field.PrimeField256.from_scaled.Goals as goal
-
-pub returns-then-is_below-clause-some : goal.returns-then-is_below-clause-some
-returns-then-is_below-clause-some g c = unit_times {g = g.M.PrimeModulus256} g.M.PrimeModulus256.modulus _ ∙ c.new-value.ensures

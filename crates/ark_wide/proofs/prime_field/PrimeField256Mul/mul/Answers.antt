@@ -1,5 +1,0 @@
-use Rattle.ark_wide.proofs.Element.{product_is}
-use Rattle.ark_wide.proofs.prime_field.PrimeField256Mul.mul.Goals as goal
-
-pub returns : goal.returns
-returns g c = product_is g.M.PrimeModulus256.modulus c.args.self c.args.rhs _ c.montgomery_product.ensures.residue

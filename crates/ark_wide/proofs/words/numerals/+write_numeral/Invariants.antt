@@ -1,5 +1,0 @@
-use Rattle.ark_wide.specs.Words.{integer}
-use Rattle.ark_wide.proofs.words.numerals.+write_numeral.Given as goal
-
-abbrev pub decreases-write_numeral : goal.decreases-write_numeral
-decreases-write_numeral g l = integer l.number
