@@ -22,4 +22,7 @@ mod whole;
 pub use challenger::TranscriptChallenger;
 pub use laws::{one_challenge_a_round, one_transcript_after};
 pub use proof::SumCheckProof;
-pub use whole::{Proved, prove_transcript, prove_transcript_within, verify_transcript};
+pub use whole::{
+    Proved, prove_transcript, prove_transcript_within, prove_transcript_within_from,
+    verify_transcript,
+};

@@ -1,6 +1,6 @@
 //! All rounds of a sum-check, by the challenges of a transcript.
 
-ghost use Rattle.std.specs.Prelude.{◌≡◌, ◌≢◌, ◌↔◌, ℕ, List, ◌+◌, ◌<◌, ◌≤◌, length, max, Vec};
+ghost use Rattle.std.specs.Prelude.{◌≡◌, ◌≢◌, ◌↔◌, ℕ, List, ◌+◌, ◌-◌, ◌<◌, ◌≤◌, length, max, Vec};
 ghost use Rattle.std.specs.Prelude.{IfOk, IsOkUnless, OnErr, Err};
 ghost use Rattle.std.specs.declared.alloc.Global.{Global};
 ghost use Rattle.ark_bytes.specs.declared.compress.Compress.{Compress};
@@ -8,7 +8,8 @@ ghost use Rattle.ark_transcript.specs.Calls.{Call};
 ghost use Rattle.ark_sum_check.specs.Cube.{SumOfProducts, cube_sum, degree_of, sum_value};
 ghost use Rattle.ark_sum_check.specs.Embedded.{embedded_sum};
 ghost use Rattle.ark_sum_check.specs.Provers.{sum_of, variables_of};
-ghost use Rattle.ark_sum_check.specs.Rounds.{AreAccepted, AreDifferent, AreTrueRounds, IsRefusedAt, IsSound, rounds_at};
+ghost use Rattle.ark_sum_check.specs.Rounds.{AreAccepted, AreDifferent, AreTrueRounds, IsRefusedAt, IsSound};
+ghost use Rattle.ark_sum_check.specs.Rounds.{IsTrueRound, rounds_at};
 ghost use Rattle.ark_sum_check.specs.Verdicts.{IfReduced};
 ghost use Rattle.ark_sum_check.specs.declared.verifier.Verdict.{Verdict};
 ghost use Rattle.ark_fiat_shamir.specs.Derived.{AreDerived, claim_of, claim_within};
@@ -16,7 +17,9 @@ ghost use Rattle.ark_fiat_shamir.specs.Derived.{AreDerived, claim_of, claim_with
 use crate::challenger::TranscriptChallenger;
 use crate::proof::SumCheckProof;
 use ark_traits::ExtensionOf;
-use ark_sum_check::{Claim, Prover, SumCheckError, Verdict, prove, prove_within, verify};
+use ark_sum_check::{
+    Claim, Prover, SumCheckError, Verdict, prove, prove_within_from, verify,
+};
 use ark_traits::Field;
 use ark_transcript::Transcript;
 use std::alloc::Global;
@@ -98,13 +101,44 @@ pub fn prove_transcript_within<F: Field, E: ExtensionOf<F>>(
     ensures kept { OnErr result (transcript.new ≡ transcript.old) }
     ensures memory { IsOkUnless result SumCheckError.Memory }
 {
+    let first = prover.first_round(alloc)?;
+    prove_transcript_within_from(alloc, prover, &first, sum, transcript)
+}
+
+/// All rounds, as `prove_transcript_within` makes them, where the values of the first one are known, as
+/// `Prover::first_round` made them: they are not computed again.
+pub fn prove_transcript_within_from<F: Field, E: ExtensionOf<F>>(
+    alloc: Global,
+    prover: &Prover<F>,
+    first: &[F],
+    sum: F,
+    transcript: &mut Transcript,
+) -> Result<Proved<E>, SumCheckError>
+    requires first { 0 < variables_of prover.now → IsTrueRound F.field
+        (max 1 (degree_of (sum_of F.field prover.now))) (variables_of prover.now - 1)
+        (sum_of F.field prover.now) first.now }
+    ensures rounds { IfOk result (λ made. length made.proof.rounds.items ≡ variables_of prover.now) }
+    ensures point { IfOk result (λ made. length made.point.items ≡ variables_of prover.now) }
+    ensures truth { IfOk result (λ made. AreTrueRounds E.field (max 1 (degree_of (sum_of F.field prover.now)))
+        (embedded_sum E.within (sum_of F.field prover.now))
+        (rounds_at made.proof.rounds.items made.point.items)) }
+    ensures accepted { IfOk result (λ made. AreAccepted E.field (max 1 (degree_of (sum_of F.field prover.now)))
+        (cube_sum E.field (variables_of prover.now) (embedded_sum E.within (sum_of F.field prover.now)))
+        (rounds_at made.proof.rounds.items made.point.items)
+        (sum_value E.field (embedded_sum E.within (sum_of F.field prover.now)) made.point.items)) }
+    ensures derived { IfOk result (λ made. AreDerived E.field (E.format Compress.Yes) E.element_size
+        (claim_within F.field E.within prover.now sum) transcript.old
+        (rounds_at made.proof.rounds.items made.point.items) transcript.new) }
+    ensures kept { OnErr result (transcript.new ≡ transcript.old) }
+    ensures memory { IsOkUnless result SumCheckError.Memory }
+{
     let claim = Claim {
         num_vars: prover.num_vars(),
         degree: prover.degree(),
         sum: E::embed(sum),
     };
     let mut challenger = TranscriptChallenger::of_claim(alloc, &claim, transcript)?;
-    let made = prove_within(alloc, prover, &mut challenger)?;
+    let made = prove_within_from(alloc, prover, first, &mut challenger)?;
     *transcript = challenger.into_transcript();
     Ok(Proved {
         proof: SumCheckProof {

@@ -1,6 +1,7 @@
 //! An addend of a sum of products.
 
 ghost use Rattle.std.specs.Prelude.{◌≡◌, ◌<◌, ◌^◌, ◌↔◌, All, length, IsTrue};
+ghost use Rattle.ark_math.specs.Module.{tabulate};
 ghost use Rattle.ark_math.specs.Univariate.{of_list};
 ghost use Rattle.ark_sum_check.specs.Cube.{all_of, combined, longest, picked_product};
 ghost use Rattle.ark_sum_check.specs.Lists.{AreWithin, as_products};
@@ -31,6 +32,31 @@ fn are_below(indices: &[usize], count: usize) -> bool
     ensures { IsTrue result ↔ All (λ i. i < count) indices.now }
 {
     indices.iter().all(|index| *index < count)
+}
+
+// Whether these are one addend alone, the product of so many tables, each once and in their order.
+pub(crate) fn is_product_of_all<F: Field>(addends: &[Addend<F>], count: usize) -> bool
+    ensures { IsTrue result → as_products addends.now ≡ all_of F.field count }
+{
+    match addends {
+        [addend] => addend.coefficient.is_one() && are_in_order(&addend.factors, count),
+        _ => false,
+    }
+}
+
+// Whether these are 0, 1, .., count - 1.
+fn are_in_order(indices: &[usize], count: usize) -> bool
+    ensures { IsTrue result → indices.now ≡ tabulate count (λ i. i) }
+{
+    if indices.len() != count {
+        return false;
+    }
+    for i in 0..count {
+        if indices[i] != i {
+            return false;
+        }
+    }
+    true
 }
 
 // How many factors the longest addend has.

@@ -27,4 +27,4 @@ pub use proof::Proof;
 pub use prover::Prover;
 pub use sparse::SparseProver;
 pub use verifier::{Claim, Verdict, Verifier, verify};
-pub use whole::{prove, prove_sparse, prove_within};
+pub use whole::{prove, prove_sparse, prove_within, prove_within_from};

@@ -5,7 +5,7 @@ ghost use Rattle.std.specs.Prelude.{IfOk, IfSome, IsOkUnless, IsTrue, is_some};
 
 mod within;
 
-use crate::addend::{Addend, are_within};
+use crate::addend::{Addend, are_within, is_product_of_all};
 use crate::error::SumCheckError;
 use crate::pairs::round_of_two;
 use crate::sums::{degree_of_sum, round_of_sum, sum_of_products};
@@ -67,7 +67,8 @@ impl<F: Field> Prover<F> {
     }
 
     /// The prover of the sum of these addends, products of these tables. `None` where an index is that of no
-    /// table. Takes no memory.
+    /// table. The one product of all tables is taken as `new` takes it, whose rounds are quicker. Takes no
+    /// memory.
     pub fn of_sum(num_vars: usize, tables: Vec<Vec<F>>, addends: Vec<Addend<F>>) -> Option<Self>
         requires few { num_vars < 64 }
         requires whole { All (λ t. length t.items ≡ 2 ^ num_vars) tables.items }
@@ -78,6 +79,9 @@ impl<F: Field> Prover<F> {
     {
         if !are_within(&addends, tables.len()) {
             return None;
+        }
+        if is_product_of_all(&addends, tables.len()) {
+            return Some(Prover::new(num_vars, tables));
         }
         Some(Prover {
             tables,
@@ -116,6 +120,20 @@ impl<F: Field> Prover<F> {
             return round_of_two(alloc, &self.tables[0], &self.tables[1], half);
         }
         round_of_sum(alloc, &self.tables, &self.addends, self.degree(), half)
+    }
+
+    /// The first round, as `round` makes it, and no values where there is no variable: for a caller who needs the
+    /// sum over the cube, which is that of the values at 0 and 1, and then hands the round on.
+    pub fn first_round(&self, alloc: Global) -> Result<Vec<F>, SumCheckError>
+        ensures truth { 0 < variables_of self.now → IfOk result (λ values.
+            IsTrueRound F.field (max 1 (degree_of (sum_of F.field self.now)))
+            (variables_of self.now - 1) (sum_of F.field self.now) values.items) }
+        ensures memory { IsOkUnless result SumCheckError.Memory }
+    {
+        if self.num_vars == 0 {
+            return Ok(Vec::new(alloc));
+        }
+        self.round(alloc)
     }
 
     /// Binds the first variable to the challenge, in each table in place.

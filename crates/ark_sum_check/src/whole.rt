@@ -1,10 +1,10 @@
 //! A prover's rounds from the first to the last.
 
-ghost use Rattle.std.specs.Prelude.{◌≡◌, [], ◌∷◌, length, max, IfOk, IsOkUnless};
+ghost use Rattle.std.specs.Prelude.{◌≡◌, ◌-◌, ◌<◌, [], ◌∷◌, length, max, IfOk, IsOkUnless};
 ghost use Rattle.ark_sum_check.specs.Cube.{cube_sum, degree_of, sum_value};
 ghost use Rattle.ark_sum_check.specs.Embedded.{embedded_sum};
 ghost use Rattle.ark_sum_check.specs.Provers.{factor_of, sum_of, variables_of};
-ghost use Rattle.ark_sum_check.specs.Rounds.{AreAccepted, AreChallenged, AreTrueRounds, rounds_in};
+ghost use Rattle.ark_sum_check.specs.Rounds.{AreAccepted, AreChallenged, AreTrueRounds, IsTrueRound, rounds_in};
 
 use crate::challenger::Challenger;
 use crate::error::SumCheckError;
@@ -96,10 +96,37 @@ pub fn prove_within<F: Field, E: ExtensionOf<F>, C: Challenger<E>>(
         AreChallenged C.challenge_gives challenger.old (rounds_in proof) challenger.new) }
     ensures memory { IsOkUnless result SumCheckError.Memory }
 {
+    let first = prover.first_round(alloc)?;
+    prove_within_from(alloc, prover, &first, challenger)
+}
+
+/// All rounds, as `prove_within` makes them, where the values of the first one are known, as `first_round` made
+/// them: they are not computed again.
+pub fn prove_within_from<F: Field, E: ExtensionOf<F>, C: Challenger<E>>(
+    alloc: Global,
+    prover: &Prover<F>,
+    first: &[F],
+    challenger: &mut C,
+) -> Result<Proof<E>, SumCheckError>
+    requires first { 0 < variables_of prover.now → IsTrueRound F.field
+        (max 1 (degree_of (sum_of F.field prover.now))) (variables_of prover.now - 1)
+        (sum_of F.field prover.now) first.now }
+    ensures rounds { IfOk result (λ proof. length proof.rounds.items ≡ variables_of prover.now) }
+    ensures point { IfOk result (λ proof. length proof.point.items ≡ variables_of prover.now) }
+    ensures truth { IfOk result (λ proof. AreTrueRounds E.field (max 1 (degree_of (sum_of F.field prover.now)))
+        (embedded_sum E.within (sum_of F.field prover.now)) (rounds_in proof)) }
+    ensures accepted { IfOk result (λ proof. AreAccepted E.field (max 1 (degree_of (sum_of F.field prover.now)))
+        (cube_sum E.field (variables_of prover.now) (embedded_sum E.within (sum_of F.field prover.now)))
+        (rounds_in proof)
+        (sum_value E.field (embedded_sum E.within (sum_of F.field prover.now)) proof.point.items)) }
+    ensures drawn { IfOk result (λ proof.
+        AreChallenged C.challenge_gives challenger.old (rounds_in proof) challenger.new) }
+    ensures memory { IsOkUnless result SumCheckError.Memory }
+{
     if prover.num_vars() == 0 {
         return Ok(no_rounds(alloc));
     }
-    let values = prover.round_within(alloc)?;
+    let values = prover.embedded_round(alloc, first)?;
     let challenge = challenger.challenge(&values);
     let left = prover.bind_within(alloc, challenge)?;
     let rest = prove(alloc, left, challenger)?;

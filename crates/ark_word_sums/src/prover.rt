@@ -14,10 +14,10 @@ ghost use Rattle.ark_word_sums.specs.Sums.{AreAddends, AreTables, HasSum, IsCube
 use crate::element::{SumElement, SumNumbers};
 use crate::error::SumsError;
 use crate::proofs::{bytes_of, proof_size, transcript_of};
-use crate::sums::{prover_of, sum_over_cube};
+use crate::sums::{prover_of, sum_by_round};
 use crate::values::value_within;
 use crate::words::{challenges, put_challenge};
-use ark_fiat_shamir::prove_transcript_within;
+use ark_fiat_shamir::prove_transcript_within_from;
 use ark_words::{WordElement, are_reduced};
 use std::alloc::Global;
 
@@ -108,9 +108,12 @@ fn proof_of_sum<F: SumElement>(
         (IsReducedSum F.spelled num_vars degree tables.now addends.now)) }
 {
     let prover = prover_of::<F>(alloc, num_vars, degree, tables, addends)?;
-    let total = sum_over_cube(alloc, &prover)?;
+    let first = prover.first_round(alloc)?;
+    let total = sum_by_round(alloc, &prover, &first)?;
     let mut transcript = transcript_of(label, statement);
-    let made = prove_transcript_within::<F, F::Challenge>(alloc, &prover, total, &mut transcript)?;
+    let made = prove_transcript_within_from::<F, F::Challenge>(
+        alloc, &prover, &first, total, &mut transcript,
+    )?;
     let bytes = bytes_of(alloc, &made.proof)?;
     Ok((total, bytes))
 }

@@ -1,10 +1,11 @@
 //! A prover, and its sum over the cube, from words.
 
-ghost use Rattle.std.specs.Prelude.{◌≡◌, ◌≢◌, ◌↔◌, ℕ, List, ◌*◌, ◌/◌, ◌^◌, ◌<◌, ◌≤◌, All, IfErr, IfOk};
+ghost use Rattle.std.specs.Prelude.{◌≡◌, ◌≢◌, ◌↔◌, ℕ, List, ◌-◌, ◌*◌, ◌/◌, ◌^◌, ◌<◌, ◌≤◌, All, IfErr, IfOk};
 ghost use Rattle.std.specs.Prelude.{IfSome, IsOkUnless, drop, length, map, max, take, Err};
 ghost use Rattle.ark_sum_check.specs.Cube.{Product, cube_sum, degree_of, longest};
 ghost use Rattle.ark_sum_check.specs.Embedded.{embedded_sum};
 ghost use Rattle.ark_sum_check.specs.Provers.{sum_of, variables_of};
+ghost use Rattle.ark_sum_check.specs.Rounds.{IsTrueRound};
 ghost use Rattle.ark_words.specs.Numbers.{AreReduced, numbers};
 ghost use Rattle.ark_word_sums.specs.Faults.{IsRefusalOfNumbers};
 ghost use Rattle.ark_word_sums.specs.Read.{numbered, table_lists};
@@ -108,8 +109,15 @@ fn refusal_of_sum<F: WordElement>(tables: &[u64], addends: &[u64]) -> SumsError
     }
 }
 
-/// The sum over the cube of a prover's sum: by its first round, of which the values at 0 and 1 add up to it.
-pub fn sum_over_cube<F: Field>(alloc: Global, prover: &Prover<F>) -> Result<F, SumCheckError>
+/// The sum over the cube of a prover's sum, by its first round: the values at 0 and 1 add up to it.
+pub fn sum_by_round<F: Field>(
+    alloc: Global,
+    prover: &Prover<F>,
+    first: &[F],
+) -> Result<F, SumCheckError>
+    requires first { 0 < variables_of prover.now → IsTrueRound F.field
+        (max 1 (degree_of (sum_of F.field prover.now))) (variables_of prover.now - 1)
+        (sum_of F.field prover.now) first.now }
     ensures sum { IfOk result (λ sum. sum
         ≡ cube_sum F.field (variables_of prover.now) (sum_of F.field prover.now)) }
     ensures memory { IsOkUnless result SumCheckError.Memory }
@@ -117,6 +125,5 @@ pub fn sum_over_cube<F: Field>(alloc: Global, prover: &Prover<F>) -> Result<F, S
     if prover.num_vars() == 0 {
         return prover.last_value(alloc);
     }
-    let values = prover.round(alloc)?;
-    Ok(values[0] + values[1])
+    Ok(first[0] + first[1])
 }

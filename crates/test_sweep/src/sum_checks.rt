@@ -91,7 +91,9 @@ impl<F: Numbered> Call for OfSumChecks<F> {
 
     fn call(&mut self, alloc: Global, name: &str) -> Result<Answered<F>, PolyError> {
         match name {
-            "prover round" | "prover last_value" | "prove" => self.of_tables(alloc, name),
+            "prover round" | "prover first_round" | "prover last_value" | "prove" => {
+                self.of_tables(alloc, name)
+            }
             "sparse_prover round" | "prove_sparse" => self.of_entries(alloc, name),
             "prove_transcript" => self.proved(alloc),
             "verify_transcript" => self.verified(alloc),
@@ -151,6 +153,7 @@ impl<F: Numbered> OfSumChecks<F> {
                 Err(error) => refused(error),
             },
             "prover round" if prover.num_vars() > 0 => values_answer(prover.round(alloc)),
+            "prover first_round" => values_answer(prover.first_round(alloc)),
             _ => Ok(Answered::NoFit),
         }
     }

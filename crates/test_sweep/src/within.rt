@@ -10,8 +10,8 @@ use crate::transcripts::next_number;
 use ark_base::{Field, PolyError, PrimeModulus};
 use ark_fields::{F5, Modulus5};
 use ark_extensions::{ExtensionOf, Quadratic, QuadraticModulus};
-use ark_fiat_shamir::{Proved, prove_transcript_within};
-use ark_sum_check::{Proof, Prover, SumCheckError, prove_within};
+use ark_fiat_shamir::{Proved, prove_transcript_within, prove_transcript_within_from};
+use ark_sum_check::{Proof, Prover, SumCheckError, prove_within, prove_within_from};
 use ark_transcript::Transcript;
 use std::alloc::Global;
 use std::fmt::Display;
@@ -125,6 +125,19 @@ impl<F: Numbered, E: ExtensionOf<F> + Display> OfWithin<F, E> {
                 Ok(proof) => Answered::Proof(proof),
                 Err(error) => Answered::Refused(error),
             },
+            "prove_within_from" => match all_from_first(alloc, prover, challenge) {
+                Ok(proof) => Answered::Proof(proof),
+                Err(error) => Answered::Refused(error),
+            },
+            "prove_transcript_within_from" => match proved_from_first(
+                alloc,
+                prover,
+                self.claim,
+                &mut self.transcript,
+            ) {
+                Ok(made) => Answered::Proved(made),
+                Err(error) => Answered::Refused(error),
+            },
             "prove_transcript_within" => match prove_transcript_within(
                 alloc,
                 prover,
@@ -141,4 +154,25 @@ impl<F: Numbered, E: ExtensionOf<F> + Display> OfWithin<F, E> {
             other => Ok(other),
         }
     }
+}
+
+// All rounds, by a first one that is handed on.
+fn all_from_first<F: Numbered, E: ExtensionOf<F>>(
+    alloc: Global,
+    prover: &Prover<F>,
+    challenge: E,
+) -> Result<Proof<E>, SumCheckError> {
+    let first = prover.first_round(alloc)?;
+    prove_within_from(alloc, prover, &first, &mut Always { challenge })
+}
+
+// The same by the challenges of a transcript.
+fn proved_from_first<F: Numbered, E: ExtensionOf<F>>(
+    alloc: Global,
+    prover: &Prover<F>,
+    claim: F,
+    transcript: &mut Transcript,
+) -> Result<Proved<E>, SumCheckError> {
+    let first = prover.first_round(alloc)?;
+    prove_transcript_within_from(alloc, prover, &first, claim, transcript)
 }

@@ -28,7 +28,24 @@ impl<F: Field> Prover<F> {
         ensures memory { IsOkUnless result SumCheckError.Memory }
     {
         let values = self.round(alloc)?;
-        let embedded = embedded_values(alloc, &values)?;
+        self.embedded_round(alloc, &values)
+    }
+
+    // This round, as elements of a greater field.
+    pub(crate) fn embedded_round<E: ExtensionOf<F>>(
+        &self,
+        alloc: Global,
+        values: &[F],
+    ) -> Result<Vec<E>, SumCheckError>
+        requires some { 0 < variables_of self.now }
+        requires truth { IsTrueRound F.field (max 1 (degree_of (sum_of F.field self.now)))
+            (variables_of self.now - 1) (sum_of F.field self.now) values.now }
+        ensures truth { IfOk result (λ embedded. IsTrueRound E.field
+            (max 1 (degree_of (sum_of F.field self.now))) (variables_of self.now - 1)
+            (embedded_sum E.within (sum_of F.field self.now)) embedded.items) }
+        ensures memory { IsOkUnless result SumCheckError.Memory }
+    {
+        let embedded = embedded_values(alloc, values)?;
         Ok(embedded)
     }
 

@@ -12,6 +12,11 @@ use Rattle.ark_word_sums.proofs.Numbers.{by_number, number_of_cube_sum}
 use Rattle.ark_word_sums.proofs.SumFaults.{for_memory}
 use Rattle.ark_word_sums.proofs.prover.proof_of_sum.Goals as goal
 
+pub returns-in_err-first-clause-fault : goal.returns-in_err-first-clause-fault
+returns-in_err-first-clause-fault g c =
+    for_memory g.F.WordElement.spelled c.args.num_vars c.args.degree c.args.tables.now c.args.addends.now c.from_residual-in_err-first.result
+    c.in_ok-prover.ensures.taken c.from_residual-in_err-first.ensures.1
+
 pub returns-in_err-total-clause-fault : goal.returns-in_err-total-clause-fault
 returns-in_err-total-clause-fault g c =
     for_memory g.F.WordElement.spelled c.args.num_vars c.args.degree c.args.tables.now c.args.addends.now c.from_residual-in_err-total.result
@@ -62,7 +67,7 @@ returns-clause-proof g c ps spelled =
     made_proof checked m c.args.degree c.in_ok-made.made.proof c.in_ok-made.made.point.items
     (c.in_ok-made.ensures.rounds ∙ variables) (c.in_ok-made.ensures.point ∙ variables) c.in_ok-bytes.bytes.items c.in_ok-bytes.ensures.bytes
     c.args.label.now c.args.statement.now (F.numbering.number total) prover.variables _ (w total) _ (embedded_sum w s) (sum_over checked m c.args.tables.now ps)
-    c.transcript_of-transcript.result c.prove_transcript_within.new.transcript
+    c.transcript_of-transcript.result c.prove_transcript_within_from.new.transcript
     variables c.in_ok-prover.ensures.degree of_number
     (total_within S L w embeds prover.variables s total c.in_ok-total.ensures.sum)
     (sum_within S L w embeds s (sum_by f m c.args.tables.now ps) (c.in_ok-prover.ensures.sum ps spelled))

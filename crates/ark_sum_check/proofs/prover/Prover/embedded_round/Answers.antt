@@ -1,10 +1,10 @@
-use Rattle.std.proofs.Common.{◌-◌, map, max, sym, subst, ap, ◌∙◌}
+use Rattle.std.proofs.Common.{◌-◌, max, sym, subst}
 use Rattle.ark_sum_check.specs.Cube.{degree_of}
 use Rattle.ark_sum_check.specs.Embedded.{embedded_sum}
 use Rattle.ark_sum_check.specs.Provers.{sum_of, variables_of}
 use Rattle.ark_sum_check.specs.Rounds.{IsTrueRound}
 use Rattle.ark_sum_check.proofs.Embeddings.{true_round_kept}
-use Rattle.ark_sum_check.proofs.prover.Prover.round_within.Goals as goal
+use Rattle.ark_sum_check.proofs.prover.Prover.embedded_round.Goals as goal
 
 pub returns-clause-truth : goal.returns-clause-truth
 returns-clause-truth g c =
@@ -15,5 +15,5 @@ returns-clause-truth g c =
     let s = sum_of K p in
     let d = max 1 (degree_of s) in
     let m = variables_of p - 1 in
-    subst (IsTrueRound E d m (embedded_sum e s)) (sym (c.in_ok-embedded.ensures ∙ ap (map e) c.deref.ensures.value))
-    (true_round_kept K E e g.met.E.ExtensionOf.embeds g.met.F.Field.field_laws g.met.E.Field.field_laws d m s c.in_ok-values.values.items c.in_ok-values.ensures.truth)
+    subst (IsTrueRound E d m (embedded_sum e s)) (sym c.in_ok-embedded.ensures)
+    (true_round_kept K E e g.met.E.ExtensionOf.embeds g.met.F.Field.field_laws g.met.E.Field.field_laws d m s c.args.values.now c.requires.truth)

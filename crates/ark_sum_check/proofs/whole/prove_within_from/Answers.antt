@@ -6,7 +6,7 @@ use Rattle.ark_sum_check.specs.Rounds.{AreAccepted, AreChallenged, AreTrueRounds
 use Rattle.ark_sum_check.proofs.Embeddings.{first_true, longest_kept, true_lists_accepted}
 use Rattle.ark_sum_check.proofs.TrueRounds.{cube_sum-none}
 use Rattle.ark_sum_check.proofs.Verified.{length-rounds_at}
-use Rattle.ark_sum_check.proofs.whole.prove_within.Goals as goal
+use Rattle.ark_sum_check.proofs.whole.prove_within_from.Goals as goal
 
 pub returns-then-num_vars-eq0-clause-truth : goal.returns-then-num_vars-eq0-clause-truth
 returns-then-num_vars-eq0-clause-truth g c =

@@ -4,7 +4,7 @@ use Rattle.ark_math.proofs.Outcomes.Results.{IfOk_more}
 use Rattle.ark_sum_check.specs.Cube.{cube_sum, round_value}
 use Rattle.ark_sum_check.specs.Provers.{sum_of, variables_of}
 use Rattle.ark_sum_check.proofs.TrueRounds.{cube_sum-halves, cube_sum-none, natural-one}
-use Rattle.ark_word_sums.proofs.sums.sum_over_cube.Goals as goal
+use Rattle.ark_word_sums.proofs.sums.sum_by_round.Goals as goal
 
 pub returns-then-num_vars-eq0-clause-sum : goal.returns-then-num_vars-eq0-clause-sum
 returns-then-num_vars-eq0-clause-sum g c =
@@ -21,8 +21,8 @@ returns-clause-sum g c =
     let N = g.met.F.Field.field_laws in
     let s = sum_of K c.args.prover.now in
     let m = variables_of c.args.prover.now - 1 in
-    let vs = c.in_ok-values.values.items in
-    let t = c.in_ok-values.ensures.truth in
+    let vs = c.args.first.now in
+    let t = c.requires (omega arith) in
     let low = get_or_read vs 0 c.index.result.now (omega (arith, t.count)) c.index.ensures K.zero ∙ t.sums 0 (omega arith) in
     let high = get_or_read vs 1 c.index-2.result.now (omega (arith, t.count)) c.index-2.ensures K.zero ∙ t.sums 1 (omega arith) ∙ ap (round_value K m s) (natural-one K N) in
     let whole : suc m ≡ variables_of c.args.prover.now = omega arith in
