@@ -1,4 +1,4 @@
--- Lemmas of this crate, beside those of `ark_math`.
+-- Lemmas of this crate, beside those of `ark_math`, and those of `ark_bytes` that callers need.
 pub mod Element
 pub mod Element32
 pub mod ElementBytes

@@ -1,4 +1,5 @@
--- What a prime field's elements are, with their laws beside them, and the words of the crate that this one shows again.
+-- What a prime field's elements and generators are, with their laws beside them, and the words of the crates that this one
+-- shows again.
 pub mod Modulus
 pub mod Lucas
 pub mod ModulusLaws

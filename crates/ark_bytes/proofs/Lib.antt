@@ -1,4 +1,4 @@
--- Lemmas of this crate, beside those of `ark_math`.
+-- Lemmas of this crate, beside those of `ark_math_formats`.
 pub mod NumberBytes
 pub mod ReadBack
 pub mod Reading

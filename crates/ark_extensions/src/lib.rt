@@ -1,5 +1,5 @@
 //! Quadratic extensions of fields, F[x]/(x^2 - w) where no element's square is w, and towers of them.
-//! `ark_traits` has the traits, and `ark_extension_fields` ready ones.
+//! `ark_traits` has the traits, and `ark_extension_fields` ready extensions.
 #![tactic(auto)]
 
 pub mod embedded;

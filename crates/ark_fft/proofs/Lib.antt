@@ -1,4 +1,4 @@
--- Lemmas of the kernels, over plain lists and tables: the transform by halves (Levels, Butterflies, Halving, Columns, Fours, Carries, Places, Joining, Radix2, Short), its inverse (Inverse), by parts (Split, Parts, Blocks, Mixed), what their loops count (Counts), the iterator over a domain (Yielded), and what reading a domain gives (DomainReading).
+-- Lemmas of the kernels, over plain lists and tables: the transform by halves (Levels, Butterflies, Halving, Columns, Fours, Carries, Places, Joining, Radix2, Short), its inverse (Inverse), by parts (Split, Parts, Blocks, Mixed), what their loops count (Counts), the cost of a transform (Cost), the iterator over a domain (Yielded), how a domain is spelled (DomainFormats), and what reading one gives (DomainReading).
 pub mod Blocks
 pub mod Butterflies
 pub mod Carries

@@ -1,4 +1,4 @@
--- Rings and modules: equations by computation, sums, powers, inverses of many values.
+-- Rings, fields and modules: equations by computation, sums, powers, products, values that aren't zero.
 pub mod Groups
 pub mod Powers
 pub mod Regrouped

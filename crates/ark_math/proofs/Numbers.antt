@@ -1,4 +1,4 @@
--- Natural numbers: bits read backwards, primes, division, powers of two, residues and powers under a modulus, multiples.
+-- Natural numbers: factors, powers that divide, powers of two, primes, searches below a number.
 pub mod Factors
 pub mod GreatestPowers
 pub mod PowersOfTwo

@@ -1,6 +1,6 @@
--- The definitions that contracts speak of, each in the words of a textbook, in the order in which they are met: numbers
+-- The definitions that the lowest crates cite, each in the words of a textbook, in the order in which they are met: numbers
 -- of several words; fields, modules and roots of unity; domains, transforms and cost; polynomials in one variable; what all
--- forms of polynomials share; what calls answer; the numbers of a prime field.
+-- forms of polynomials share; what calls answer; values that are drawn; primes.
 pub mod Words
 pub mod Field
 pub mod Module

@@ -1,3 +1,3 @@
-//! The mathematics of fields, modules, domains and transforms: definitions (`specs/`) and the lemmas (`proofs/`) that
-//! the lowest crates cite, no code.
+//! The mathematics that the lowest crates cite, of fields, modules, domains, transforms and polynomials in one
+//! variable: definitions (`specs/`) and lemmas (`proofs/`), no code.
 #![tactic(auto)]

@@ -1,4 +1,5 @@
--- What contracts see of the values of the crates that this one shows again.
+-- What contracts see of the values of the crates that this one shows again, and examples that are computed from the
+-- definitions.
 pub use Rattle.ark_fft.specs.CosetBytes
 pub use Rattle.ark_univariate.specs.DenseOrSparse
 pub use Rattle.ark_univariate.specs.DomainBytes

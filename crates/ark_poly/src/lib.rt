@@ -1,5 +1,5 @@
 //! Domains with their transforms, evaluations over them, and polynomials in one and in several variables, at the paths
-//! that their users know.
+//! that their users know; and laws of their calls.
 #![tactic(auto)]
 
 pub mod domain;

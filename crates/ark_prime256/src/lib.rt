@@ -1,5 +1,6 @@
 //! Prime fields of four words: the integers modulo an odd prime below 2^255, kept in Montgomery's form.
-//! Contracts see an element's number below the prime alone. `ark_base` has the traits, and fields of one word.
+//! Contracts see an element's number below the prime alone. `ark_base` has the traits, and the
+//! types of fields of one word.
 #![tactic(auto)]
 
 pub mod bls12_381;

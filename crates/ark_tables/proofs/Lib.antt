@@ -1,4 +1,5 @@
--- Lemmas about lists of powers and of values, and entries of tables, each stated once over plain variables.
+-- Lemmas about lists of powers and of values, entries of tables, and exchanged variables, each stated once over plain
+-- variables.
 pub mod Doubled
 pub mod GatheredPowers
 pub mod GradedOrder

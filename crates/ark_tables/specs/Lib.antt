@@ -1,4 +1,4 @@
--- Words of the lists behind polynomials of several variables.
+-- Words of the lists behind polynomials of several variables, and of tables whose variables are exchanged.
 pub mod Entries
 pub mod Graded
 pub mod Held

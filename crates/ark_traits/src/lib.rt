@@ -1,5 +1,5 @@
-//! Fields and modules with laws, the trait of polynomials, counts and errors: what all crates above share. It
-//! shows what writes and reads bytes again.
+//! Fields, their extensions and modules with laws, the trait of polynomials, counts and errors: what all crates
+//! above share. It shows what writes and reads bytes again.
 #![tactic(auto)]
 
 mod constants;

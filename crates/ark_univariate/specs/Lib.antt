@@ -1,4 +1,4 @@
--- What contracts see of this crate's own types, and how these are spelled in bytes.
+-- What contracts see of this crate's own types, how these are spelled in bytes, and laws of gathered pairs.
 pub mod DenseOrSparse
 pub mod Domains
 pub mod DomainBytes
