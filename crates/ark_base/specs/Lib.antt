@@ -16,6 +16,13 @@ pub mod Element32
 pub mod Element32Laws
 pub mod ElementBytes
 pub mod Numerals
+pub mod Euclid
+pub mod Generator
+pub mod GeneratorLaws
+pub mod NonResidues
+pub mod PowerMod
+pub mod ResidueNumbers
+pub mod RootLaws
 pub use Rattle.ark_bytes.specs.Either
 pub use Rattle.ark_bytes.specs.IoSink
 pub use Rattle.ark_bytes.specs.IoSource
@@ -25,10 +32,3 @@ pub use Rattle.ark_bytes.specs.Transfer
 pub use Rattle.ark_bytes.specs.Writing
 pub use Rattle.ark_traits.specs.Lanes
 pub use Rattle.ark_traits.specs.declared.error.PolyError
-pub mod Euclid
-pub mod Generator
-pub mod GeneratorLaws
-pub mod NonResidues
-pub mod PowerMod
-pub mod ResidueNumbers
-pub mod RootLaws

@@ -30,7 +30,7 @@ mod pieces;
 mod status;
 mod sums;
 
-use ark_fields::{BabyBear, F433, F5, F65537, Goldilocks, KoalaBear};
+use ark_fields::{BabyBear, F5, F433, F65537, Goldilocks, KoalaBear};
 use ark_prime256::{Bls12_381Scalar, Bn254Scalar};
 use ark_words::{
     divide, domain_size, encode, encode_systematic, evaluate, fft, fft_columns, fft_rows, ifft,

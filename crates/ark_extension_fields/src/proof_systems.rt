@@ -6,9 +6,11 @@ ghost use Rattle.ark_base.specs.Element32.{field_of};
 ghost use Rattle.ark_extensions.specs.Elements.{extension};
 ghost use Rattle.ark_base.specs.NonResidues.{no_square_by_power, root_of_minus_one};
 
-use ark_extensions::{Quadratic, QuadraticModulus, Quartic, QuarticModulus};
 use ark_base::{PrimeField32, PrimeModulus, PrimeModulus32};
-use ark_fields::{BabyBear, BabyBearModulus, Goldilocks, GoldilocksModulus, KoalaBear, KoalaBearModulus};
+use ark_extensions::{Quadratic, QuadraticModulus, Quartic, QuarticModulus};
+use ark_fields::{
+    BabyBear, BabyBearModulus, Goldilocks, GoldilocksModulus, KoalaBear, KoalaBearModulus,
+};
 
 // The sum `a * b + c * d` over a field on words of 32 bits, each coefficient's four products reduced once.
 #[inline(always)]

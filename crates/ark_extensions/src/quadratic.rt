@@ -11,8 +11,7 @@ mod operators;
 mod roots;
 
 use crate::modulus::QuadraticModulus;
-use ark_traits::ConstantZero;
-use ark_traits::{One, Zero};
+use ark_traits::{ConstantZero, One, Zero};
 use std::alloc::AllocError;
 use std::default::Default;
 use std::marker::PhantomData;

@@ -16,11 +16,8 @@ ghost use Rattle.ark_fiat_shamir.specs.Derived.{AreDerived, claim_of, claim_with
 
 use crate::challenger::TranscriptChallenger;
 use crate::proof::SumCheckProof;
-use ark_traits::ExtensionOf;
-use ark_sum_check::{
-    Claim, Prover, SumCheckError, Verdict, prove, prove_within_from, verify,
-};
-use ark_traits::Field;
+use ark_sum_check::{Claim, Prover, SumCheckError, Verdict, prove, prove_within_from, verify};
+use ark_traits::{ExtensionOf, Field};
 use ark_transcript::Transcript;
 use std::alloc::Global;
 

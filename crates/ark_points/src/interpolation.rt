@@ -14,11 +14,11 @@ use crate::moved::{moved_pairs, with_powers};
 use crate::pairs::first_parts;
 use crate::repeated::has_repeated;
 use crate::values::values_with_tree;
-use ark_traits::{FftField, Field, PolyError, Polynomial, batch_inversion};
 use ark_bit_reversed::items::has_zero;
+use ark_subproducts::{SubproductTree, constant};
+use ark_traits::{FftField, Field, PolyError, Polynomial, batch_inversion};
 use ark_univariate::polynomial::univariate::DensePolynomial;
 use ark_univariate::{DenseUVPolynomial, EvaluationDomain, GeneralEvaluationDomain};
-use ark_subproducts::{SubproductTree, constant};
 use std::alloc::{AllocError, Global};
 
 // Up to so many pairs are taken one by one.

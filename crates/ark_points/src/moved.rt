@@ -8,8 +8,8 @@ ghost use Rattle.std.specs.Prelude.{◌≡◌, IfOk};
 ghost use Rattle.ark_math.specs.Univariate.{of_list};
 ghost use Rattle.ark_points.specs.Steps.{ArePairsMoved, at_multiple};
 
-use ark_traits::Field;
 use ark_bit_reversed::items::scale_by_powers;
+use ark_traits::Field;
 use ark_univariate::DenseUVPolynomial;
 use ark_univariate::polynomial::univariate::DensePolynomial;
 use std::alloc::{AllocError, Global};

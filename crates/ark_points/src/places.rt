@@ -4,8 +4,8 @@ ghost use Rattle.std.specs.Prelude.{◌≡◌, ℕ, ◌+◌, ◌*◌, ◌/◌, �
 ghost use Rattle.ark_math.specs.Field.{power};
 ghost use Rattle.ark_math.specs.Univariate.{of_list};
 
-use ark_traits::Field;
 use ark_bit_reversed::items::raise_each;
+use ark_traits::Field;
 use std::alloc::{AllocError, Global};
 
 // A place's digits are to bases of at most so much.

@@ -6,11 +6,11 @@ ghost use Rattle.ark_math_points.specs.AtPoints.{AreValuesAt, HasValues};
 ghost use Rattle.ark_subproducts.specs.Tree.{IsTreeOver};
 
 use crate::lookup::values_by_lookup;
-use ark_traits::{FftField, PolyError};
 use ark_bit_reversed::BlockRoots;
+use ark_subproducts::{SubproductTree, naive_evaluate_at, remainder, values_by_table};
+use ark_traits::{FftField, PolyError};
 use ark_univariate::polynomial::univariate::DensePolynomial;
 use ark_univariate::{DenseUVPolynomial, EvaluationDomain, GeneralEvaluationDomain};
-use ark_subproducts::{SubproductTree, naive_evaluate_at, remainder, values_by_table};
 use std::alloc::Global;
 
 // Up to so many points or coefficients each value is found for itself.

@@ -2,8 +2,8 @@
 
 ghost use Rattle.std.specs.Prelude.{◌≡◌};
 
-use ark_traits::PolyError;
 use ark_points::PointsError;
+use ark_traits::PolyError;
 use std::alloc::{AllocError, AllocFailed};
 use thiserror::Error;
 

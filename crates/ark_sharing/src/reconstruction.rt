@@ -8,8 +8,8 @@ ghost use Rattle.ark_math_points.specs.AtPoints.{AreDifferent, HasRepeated, x_of
 ghost use Rattle.ark_sharing.specs.Sharing.{AreShares, IsSharing};
 
 use crate::error::SharingError;
-use ark_traits::Field;
 use ark_points::{PointsError, first_parts, weights_at};
+use ark_traits::Field;
 use std::alloc::Global;
 
 /// The secret, from any of its shares that are `k` or more, in any order. `RepeatedPoint` where two shares

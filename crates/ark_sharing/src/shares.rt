@@ -9,9 +9,9 @@ ghost use Rattle.ark_math.specs.Draws.{AreDrawn};
 ghost use Rattle.ark_sharing.specs.Sharing.{AreNotZero, AreShares, HasZero, IsSharing};
 
 use crate::error::SharingError;
-use ark_traits::Field;
 use ark_bit_reversed::items::has_zero;
 use ark_points::{has_repeated, naive_evaluate_at, paired};
+use ark_traits::Field;
 use ark_univariate::DenseUVPolynomial;
 use ark_univariate::polynomial::univariate::DensePolynomial;
 use rand::CryptoRng;

@@ -11,8 +11,7 @@ use crate::error::SumCheckError;
 use crate::proof::Proof;
 use crate::prover::Prover;
 use crate::sparse::SparseProver;
-use ark_traits::ExtensionOf;
-use ark_traits::Field;
+use ark_traits::{ExtensionOf, Field};
 use std::alloc::Global;
 
 /// All rounds, with challenges as they come, each of which the challenger gives for the values of its round.

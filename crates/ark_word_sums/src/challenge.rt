@@ -5,8 +5,8 @@ ghost use Rattle.std.specs.List.{flat_map};
 ghost use Rattle.ark_bytes.specs.declared.compress.Compress.{Compress};
 
 use ark_extensions::{ExtensionOf, Quadratic, QuadraticModulus};
-use ark_traits::Field;
 use ark_prime256::{PrimeField256, PrimeModulus256};
+use ark_traits::Field;
 
 /// A field that `F` lies in, or `F` itself, whose elements are so many coefficients of `F`.
 pub trait ChallengeOf<F: Field>: ExtensionOf<F> {

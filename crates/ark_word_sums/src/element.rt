@@ -5,8 +5,8 @@ ghost use Rattle.ark_bytes.specs.declared.compress.Compress.{Compress};
 ghost use Rattle.ark_word_sums.specs.Challenges.{Checked, element_words};
 
 use crate::challenge::ChallengeOf;
-use ark_fields::{BabyBear, Goldilocks, KoalaBear};
 use ark_extension_fields::{BabyBear4, Goldilocks2, KoalaBear4};
+use ark_fields::{BabyBear, Goldilocks, KoalaBear};
 use ark_prime256::{Bls12_381Scalar, Bn254Scalar};
 use ark_words::WordElement;
 

@@ -112,7 +112,11 @@ fn proof_of_sum<F: SumElement>(
     let total = sum_by_round(alloc, &prover, &first)?;
     let mut transcript = transcript_of(label, statement);
     let made = prove_transcript_within_from::<F, F::Challenge>(
-        alloc, &prover, &first, total, &mut transcript,
+        alloc,
+        &prover,
+        &first,
+        total,
+        &mut transcript,
     )?;
     let bytes = bytes_of(alloc, &made.proof)?;
     Ok((total, bytes))

@@ -4,8 +4,8 @@ use ark_base::{
     FftField, Field, Lanes, PolyError, PrimeField, PrimeField32, PrimeModulus, PrimeModulus32,
 };
 use ark_extensions::Quadratic;
-use ark_rows::Row;
 use ark_prime256::{PrimeField256, PrimeModulus256};
+use ark_rows::Row;
 use std::alloc::Global;
 use std::io::Print;
 use std::time::{Clock, Instant};

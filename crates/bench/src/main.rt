@@ -17,9 +17,9 @@ mod sums;
 mod transforms;
 
 use ark_base::{CanonicalSerialize, Compress, DomainCoeff, Field, Polynomial};
-use ark_fields::{BabyBear, F433, F65537, Goldilocks, KoalaBear};
-use ark_extensions::ExtensionOf;
 use ark_extension_fields::{BabyBear4, Goldilocks2};
+use ark_extensions::ExtensionOf;
+use ark_fields::{BabyBear, F433, F65537, Goldilocks, KoalaBear};
 use ark_poly::univariate::{DensePolynomial, SparsePolynomial};
 use ark_poly::{
     DenseMultilinearExtension, DenseUVPolynomial, EvaluationDomain, MixedRadixEvaluationDomain,

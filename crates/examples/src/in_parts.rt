@@ -7,8 +7,8 @@ ghost use Rattle.ark_fft.specs.Coset.{coset_domain};
 ghost use Rattle.ark_fft_parts.specs.Parts.{AreInParts, row};
 
 use ark_base::{DomainCoeff, FftField, PolyError, Work};
-use ark_fields::F65537;
 use ark_fft_parts::{Parts, parts_make_the_transform};
+use ark_fields::F65537;
 use ark_poly::{EvaluationDomain, Radix2EvaluationDomain};
 use std::alloc::Global;
 

@@ -6,9 +6,9 @@ ghost use Rattle.ark_base.specs.NonResidues.{no_square_by_power};
 ghost use Rattle.ark_math.specs.Univariate.{IsValue, of_list};
 
 use ark_base::{Field, PrimeModulus};
-use ark_fields::{F433, Modulus433};
 use ark_extensions::embedded::evaluate;
 use ark_extensions::{ExtensionOf, Quadratic, QuadraticModulus};
+use ark_fields::{F433, Modulus433};
 
 /// 5, which is no square modulo 433.
 #[derive(Clone, Copy)]

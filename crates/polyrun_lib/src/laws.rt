@@ -7,7 +7,7 @@ ghost use Rattle.polyrun_lib.specs.Answer.{Names, Writes, HasAtMostOne};
 ghost use Rattle.polyrun_lib.specs.Check.{row_of, IsChecked, IsAnswer};
 
 use ark_base::PrimeNumbers;
-use ark_fields::{BabyBear, F433, F5, F65537, Goldilocks, KoalaBear};
+use ark_fields::{BabyBear, F5, F433, F65537, Goldilocks, KoalaBear};
 use ark_prime256::{Bls12_381Scalar, Bn254Scalar};
 
 /// Words have one answer at most: no other text or status is one.

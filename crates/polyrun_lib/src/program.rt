@@ -26,7 +26,7 @@ use crate::rows::check_rows;
 use crate::vectors::vectors_of;
 use crate::words::number;
 use ark_base::{FftField, Field, PolyError, PrimeNumbers, Sink, Work};
-use ark_fields::{BabyBear, F433, F5, F65537, Goldilocks, KoalaBear};
+use ark_fields::{BabyBear, F5, F433, F65537, Goldilocks, KoalaBear};
 use ark_poly::univariate::{DenseOrSparsePolynomial, DensePolynomial};
 use ark_poly::{
     DenseMultilinearExtension, DenseUVPolynomial, EvaluationDomain, GeneralEvaluationDomain,

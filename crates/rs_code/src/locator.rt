@@ -10,10 +10,10 @@ ghost use Rattle.rs_code.specs.Locator.{AreFactors, lost};
 use crate::marks::count_marked;
 use crate::restore::scale_by_exponents;
 use crate::turns::factors_by_turns;
-use ark_traits::{FftField, Field, PolyError, Work, batch_inversion};
 use ark_bit_reversed::BlockRoots;
-use ark_univariate::{DenseUVPolynomial, EvaluationDomain};
 use ark_subproducts::product_over;
+use ark_traits::{FftField, Field, PolyError, Work, batch_inversion};
+use ark_univariate::{DenseUVPolynomial, EvaluationDomain};
 use std::alloc::{AllocError, Global};
 
 // Of fewer places all go by derivatives.

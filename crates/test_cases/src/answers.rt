@@ -2,7 +2,7 @@
 
 use crate::words::{no_case, words_of};
 use ark_base::{PolyError, PrimeField, PrimeField32, PrimeModulus, PrimeModulus32};
-use ark_fields::{BabyBearModulus, Modulus433, Modulus5, Modulus65537};
+use ark_fields::{BabyBearModulus, Modulus5, Modulus433, Modulus65537};
 use ark_prime256::{Bls12_381ScalarModulus, PrimeField256, PrimeModulus256};
 use std::alloc::{AllocError, Global};
 use std::env::Env;

@@ -1,11 +1,11 @@
 //! Cases of multilinear extensions, spelled by their tables.
 
 use ark_base::{PolyError, Polynomial};
+use ark_multi::{MultilinearExtension, SparseMultilinearExtension};
 use ark_poly::laws::{
     Exchange, only_multilinear, value_at_corner, values_with_bound_variables,
     values_with_exchanged_variables,
 };
-use ark_multi::{MultilinearExtension, SparseMultilinearExtension};
 use std::alloc::Global;
 use test_cases::answers::Answer;
 use test_cases::words::{elements, no_case, no_fit, one, size, table_of};

@@ -12,8 +12,8 @@ use ark_base::{
     CanonicalDeserialize, CanonicalSerialize, Compress, Field, PolyError, SerializationError, Sink,
     Source, Spelled, Valid,
 };
-use ark_tables::powers::compared_pairs;
 use ark_multi::multivariate::{SparseTerm, Term};
+use ark_tables::powers::compared_pairs;
 use std::alloc::{AllocError, Global};
 use std::cmp::Ordering;
 

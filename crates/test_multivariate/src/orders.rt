@@ -3,8 +3,8 @@
 use crate::building::{Powers, Terms, has_terms, polynomial, term};
 use crate::lexicographic::LexicographicTerm;
 use ark_base::{Field, PolyError, Polynomial};
-use ark_poly::laws::graded_order;
 use ark_multi::multivariate::{SparseTerm, Term};
+use ark_poly::laws::graded_order;
 use std::alloc::Global;
 use std::cmp::Ordering;
 use std::hash::{DefaultHasher, Hash, Hasher};

@@ -4,7 +4,7 @@
 
 use crate::numbered::Numbered;
 use ark_base::{Field, PolyError};
-use ark_fields::{BabyBear, F433, F5, F65537, Goldilocks, KoalaBear};
+use ark_fields::{BabyBear, F5, F433, F65537, Goldilocks, KoalaBear};
 use rand::Rng;
 use std::alloc::{AllocError, Global};
 

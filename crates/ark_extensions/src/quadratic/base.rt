@@ -2,10 +2,9 @@
 
 ghost use Rattle.std.specs.Prelude.{◌≡◌, ◌≢◌, ◌↔◌, IfSome, IsNone};
 
-use ark_traits::ExtensionOf;
 use crate::modulus::QuadraticModulus;
 use crate::quadratic::Quadratic;
-use ark_traits::Field;
+use ark_traits::{ExtensionOf, Field};
 
 impl<F: Field, M: QuadraticModulus<F>> Quadratic<F, M> {
     ghost use Rattle.ark_extensions.specs.Elements.{embedded, extension};

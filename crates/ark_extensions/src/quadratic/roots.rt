@@ -4,8 +4,7 @@ ghost use Rattle.std.specs.Prelude.{◌≡◌};
 
 use crate::modulus::QuadraticModulus;
 use crate::quadratic::Quadratic;
-use ark_traits::ConstantZero;
-use ark_traits::FftField;
+use ark_traits::{ConstantZero, FftField};
 
 impl<F: FftField + ConstantZero, M: QuadraticModulus<F>> FftField for Quadratic<F, M> {
     ghost use Rattle.std.proofs.Common.{option_map, refl};

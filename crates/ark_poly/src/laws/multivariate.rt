@@ -8,9 +8,9 @@ ghost use Rattle.ark_math_variables.specs.Multilinear.{place};
 ghost use Rattle.ark_math_variables.specs.Term.{IsAbove};
 ghost use Rattle.ark_math_variables.specs.Multivariate.{IsValueAt};
 
-use ark_tables::tables::Exchange;
 use ark_multi::MultilinearExtension;
 use ark_multi::multivariate::{SparseTerm, Term};
+use ark_tables::tables::Exchange;
 use ark_traits::{Field, PolyError};
 use std::alloc::Global;
 use std::cmp::Ordering;

@@ -13,9 +13,8 @@ ghost use Rattle.ark_sum_check.specs.Rounds.{IsTrueRound};
 use crate::addend::Addend;
 use crate::error::SumCheckError;
 use crate::prover::Prover;
-use ark_traits::ExtensionOf;
 use ark_extensions::embedded::bind_first;
-use ark_traits::Field;
+use ark_traits::{ExtensionOf, Field};
 use std::alloc::{AllocError, Global};
 
 impl<F: Field> Prover<F> {

@@ -23,9 +23,9 @@ ghost use Rattle.rs_code.specs.Turns.{IsPlaceAhead, IsTableOf, product_of_eight}
 
 use crate::turns::products::values_over;
 use crate::turns::sorted::{Sorted, sorted_by_turns};
-use ark_traits::{FftField, Field};
 use ark_bit_reversed::BlockRoots;
 use ark_coeffs::dense::scale_each;
+use ark_traits::{FftField, Field};
 use ark_univariate::EvaluationDomain;
 use std::alloc::{AllocError, Global};
 use std::marker::Model;

@@ -5,9 +5,9 @@ ghost use Rattle.ark_bit_reversed.specs.Blocks.{IsPowerOfTwo, element_of, size_o
 ghost use Rattle.ark_math.specs.Univariate.{of_list};
 ghost use Rattle.rs_code.specs.Locator.{locator_at};
 
-use ark_traits::FftField;
 use ark_bit_reversed::BlockRoots;
 use ark_subproducts::product_values;
+use ark_traits::FftField;
 use std::alloc::{AllocError, Global};
 
 /// The values at the first `count` elements of the product of x - r over the roots.

@@ -7,9 +7,9 @@ ghost use Rattle.ark_math.specs.Domain.{Domain};
 ghost use Rattle.ark_math.specs.Root.{HasOrder};
 ghost use Rattle.rs_code.specs.Turns.{AreSorted, IsTableOf, alternating, finished, marked_first, roots_of, turn_place, turned};
 
-use ark_traits::{FftField, Field};
 use ark_bit_reversed::BlockRoots;
 use ark_bit_reversed::items::square_each;
+use ark_traits::{FftField, Field};
 use std::alloc::{AllocError, Global};
 use std::marker::Model;
 
