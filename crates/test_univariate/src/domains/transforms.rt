@@ -3,7 +3,7 @@
 use crate::calls::coset;
 use crate::plain::{agrees, forward, inverse};
 use ark_base::{DomainCoeff, FftField, Field, Lanes, PolyError};
-use ark_fft::domain::radix2::fft::powers;
+use ark_fft::domain::radix2::tables::powers;
 use ark_univariate::EvaluationDomain;
 use rand_pcg::Pcg64;
 use std::alloc::{AllocError, Global};

@@ -18,7 +18,9 @@ ghost use Rattle.ark_fft.specs.Cost.{GrowsByCost};
 
 use crate::domain::coset::Coset;
 use crate::domain::mixed_radix::size::odd_base;
-use crate::domain::radix2::fft::{bit_reverse, halves, level_tables, powers};
+use crate::domain::radix2::bit_reversal::bit_reverse;
+use crate::domain::radix2::frequency::halves;
+use crate::domain::radix2::tables::{level_tables, powers};
 use crate::domain::scaling::{scale_by_powers, shift_to_coset};
 use ark_traits::{FftField, PolyError, Summand, Work};
 use std::alloc::{AllocError, Global};

@@ -1,4 +1,0 @@
-use Rattle.ark_fft.proofs.domain.radix2.fft.+halves.Given as goal
-
-abbrev pub decreases-halves : goal.decreases-halves
-decreases-halves g l = l.levels
