@@ -101,7 +101,7 @@ module _ {F : Type 0} (e other : Format F) (A : AreAlike e other) where
   pub sparse_extension_alike : {E : Type 0} (fields : E → List (ℕ × F) × (ℕ × F)) → AreAlike (sparse_extension e fields) (sparse_extension other fields)
   sparse_extension_alike fields =
       lawful_alike fields (λ _. Unit {0}) (list (word ⊗ e) ⊗ (word ⊗ e)) (list (word ⊗ other) ⊗ (word ⊗ other))
-      (pair_alike (list (word ⊗ e)) (list (word ⊗ other)) (word ⊗ e) (word ⊗ other) pairs_alike e other A (pair_alike word word e other (one_format word) A))
+      (pair_alike (list (word ⊗ e)) (list (word ⊗ other)) (word ⊗ e) (word ⊗ other) (pairs_alike e other A) (pair_alike word word e other (one_format word) A))
 
   pub multivariate_alike : {T P : Type 0} (t also : Format T) → AreAlike t also → (fields : P → ℕ × List (F × T)) → AreAlike (multivariate e t fields) (multivariate other also fields)
   multivariate_alike t also B fields =

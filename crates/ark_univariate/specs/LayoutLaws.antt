@@ -42,4 +42,4 @@ module _ {F : Type 0} (e other : Format F) (A : AreAlike e other) where
   dense_alike K = lawful_alike (λ cs. cs) (IsTrimmed K) (list e) (list other) (list_alike e other A)
 
   pub sparse_alike : (K : FieldOn F) → AreAlike (sparse K e) (sparse K other)
-  sparse_alike K = lawful_alike (λ ps. ps) (IsSparse K) (list (word ⊗ e)) (list (word ⊗ other)) pairs_alike e other A
+  sparse_alike K = lawful_alike (λ ps. ps) (IsSparse K) (list (word ⊗ e)) (list (word ⊗ other)) (pairs_alike e other A)
