@@ -1,6 +1,6 @@
 -- Multilinear extensions: polynomials in m variables, each with no power above one, by their values at the 2 ^ m corners
 -- of the cube. Bit i of a corner's index is the value of variable i.
-use Rattle.std.specs.Prelude.{◌≡◌, ◌≢◌, ◌⊎◌, ℕ, suc, zero, max, ◌+◌, ◌-◌, ◌*◌, ◌/◌, ◌^◌, ◌%◌, ◌<◌, ◌≤◌, ◌==◌, ◌&&◌, Bool, List, [], ◌∷◌}
+use Rattle.std.specs.Prelude.{◌≡◌, ◌≢◌, ◌⊎◌, ℕ, max, ◌+◌, ◌-◌, ◌*◌, ◌/◌, ◌^◌, ◌%◌, ◌<◌, ◌≤◌, ◌==◌, ◌&&◌, Bool, List, [], ◌∷◌}
 use Rattle.std.specs.Prelude.{if◌then◌else◌, length, flat_map, nat_le, nat_lt, All, AllPairs}
 use Rattle.ark_math.specs.Field.{FieldOn, minus, product_below}
 use Rattle.ark_math.specs.Module.{ModuleOn, itself, sum_below, item, tabulate}

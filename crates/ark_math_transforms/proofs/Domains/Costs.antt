@@ -5,7 +5,7 @@ use Rattle.std.proofs.lemmas.Bool.{cases_lt}
 use Rattle.std.proofs.lemmas.Nat.{pow_pos}
 use Rattle.ark_math.specs.Root.{Adicity, IsAdicity, Splits, odd_base, odd_most, IsGreatestPower}
 use Rattle.ark_math.specs.Domain.{Kind, radix2, mixed_radix, IsExponentOfTwo}
-use Rattle.ark_math.specs.Cost.{Direction, GoesBy, IsLog2Up}
+use Rattle.ark_math.specs.Cost.{Direction, GoesBy}
 use Rattle.ark_math.proofs.Numbers.Factors.{power_positive}
 use Rattle.ark_math_transforms.proofs.Domains.MixedSizes.{exponent_of_two}
 use Rattle.ark_math.proofs.Numbers.GreatestPowers.{greatest_power, one_log2}

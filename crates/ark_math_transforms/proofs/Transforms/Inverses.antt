@@ -7,7 +7,7 @@ use Rattle.ark_math.specs.Domain.{Domain}
 use Rattle.ark_math.specs.Root.{HasOrder}
 use Rattle.ark_math.specs.Transform.{transform, IsInverse}
 use Rattle.ark_math_transforms.proofs.Transforms.Places.{dft_at}
-use Rattle.ark_math.proofs.Algebra.Powers.{powers_inverse, times_zero}
+use Rattle.ark_math.proofs.Algebra.Powers.{powers_inverse}
 use Rattle.ark_math.proofs.Algebra.Sums.{sum_below-same, sum_below-scale}
 use Rattle.ark_math.proofs.Lists.Tabulated.{length-tabulate, is_tabulated}
 use Rattle.ark_math_transforms.proofs.Transforms.Transforms.{AreShifted, transform-at}
