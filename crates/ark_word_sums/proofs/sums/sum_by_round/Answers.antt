@@ -22,9 +22,9 @@ returns-clause-sum g c =
     let s = sum_of K c.args.prover.now in
     let m = variables_of c.args.prover.now - 1 in
     let vs = c.args.first.now in
-    let t = c.requires (omega arith) in
-    let low = get_or_read vs 0 c.index.result.now (omega (arith, t.count)) c.index.ensures K.zero ∙ t.sums 0 (omega arith) in
-    let high = get_or_read vs 1 c.index-2.result.now (omega (arith, t.count)) c.index-2.ensures K.zero ∙ t.sums 1 (omega arith) ∙ ap (round_value K m s) (natural-one K N) in
+    let t = c.requires.first (omega arith) in
+    let low = get_or_read vs 0 c.index-first-0.result (omega (arith, t.count)) c.index-first-0.is K.zero ∙ t.sums 0 (omega arith) in
+    let high = get_or_read vs 1 c.index-first-1.result (omega (arith, t.count)) c.index-first-1.is K.zero ∙ t.sums 1 (omega arith) ∙ ap (round_value K m s) (natural-one K N) in
     let whole : suc m ≡ variables_of c.args.prover.now = omega arith in
     g.met.F.Field.add_law _ _ _ c.add.ensures
     ∙ ap₂ K.plus low high
